@@ -1,0 +1,90 @@
+ghost use Rattle.std.specs.Prelude.{◌≡◌, ◌<◌, ◌^◌, IfOk, IfErr, OnOk, IsUtf8, Some, None, false, length, position, slice_get, vec_len};
+ghost use Rattle.perm_base.specs.LineEnds.{has_line_end};
+ghost use Rattle.perm_base.specs.Rule.{line_end_of, IsFirstLineEnd};
+
+use crate::fault::NoMemory;
+use crate::text::Text;
+use std::alloc::Global;
+use std::marker::Model;
+
+/// A rule: fewer than 2^32 texts, none of which holds CR or LF. Contracts see the list of its texts.
+#[derive(Drop)]
+pub struct Rule {
+    fields: Vec<Text>,
+}
+
+impl Model for Rule {
+    ghost use Rattle.std.specs.Prelude.{List, ℕ};
+    ghost use Rattle.perm_base.specs.LineEnds.{AreFields};
+
+    ghost Value = { List (List ℕ) };
+
+    ghost view = { λ r. r.fields.items };
+
+    ghost invariant = { λ r. AreFields r.fields.items };
+}
+
+/// Why texts are no rule.
+#[derive(Clone, Copy, Debug, PartialEq, Eq)]
+pub enum RuleFault {
+    /// The first text that holds CR or LF, counted from 1.
+    LineEnd { field: u32 },
+}
+
+impl Rule {
+    /// The rule of these texts. It takes no memory; where a text holds CR or LF, the texts are dropped.
+    pub fn from_fields(fields: Vec<Text>) -> Result<Rule, RuleFault>
+        requires { vec_len fields < 2 ^ 32 }
+        ensures found { IfOk result (λ rule. rule ≡ fields.items) }
+        ensures whole_lines { OnOk result (line_end_of fields.items ≡ None) }
+        ensures line_end { IfErr result (IsFirstLineEnd fields.items) }
+    {
+        match first_line_end(&fields) {
+            None => Ok(Rule { fields }),
+            Some(at) => Err(RuleFault::LineEnd {
+                field: at as u32 + 1,
+            }),
+        }
+    }
+
+    /// How many texts it has.
+    pub fn len(&self) -> u32
+        ensures { result ≡ length self.now }
+    {
+        self.fields.len() as u32
+    }
+
+    /// The text at a place, counted from 0.
+    pub fn field(&self, at: u32) -> &[u8]
+        requires { at < length self.now }
+        ensures value { slice_get self.now at ≡ Some result.now }
+        ensures whole_line { has_line_end result.now ≡ false }
+        ensures utf8 { IsUtf8 result.now }
+    {
+        self.fields[at as usize].bytes()
+    }
+
+    /// The same rule once more.
+    pub fn copy(&self, alloc: Global) -> Result<Rule, NoMemory>
+        ensures { IfOk result (λ copy. copy ≡ self.now) }
+    {
+        let mut fields = Vec::with_capacity(alloc, self.fields.len())?;
+        for field in &self.fields {
+            fields.push(Text::from_str(alloc, field.as_str())?)?;
+        }
+        Ok(Rule { fields })
+    }
+}
+
+// The place of the first text that holds CR or LF.
+fn first_line_end(fields: &[Text]) -> Option<usize>
+    ensures { result ≡ position has_line_end fields.now }
+{
+    fields.iter().position(|field| has_line_end(field.bytes()))
+}
+
+fn has_line_end(text: &[u8]) -> bool
+    ensures { result ≡ has_line_end text.now }
+{
+    text.iter().any(|byte| *byte == b'\r' || *byte == b'\n')
+}
