@@ -24,3 +24,7 @@ OfFile (Some files) name fact = (bytes : List ℕ) × (files name ≡ Some bytes
 abbrev pub file_of : List (List ℕ × List ℕ) → Files
 file_of [] name = None
 file_of (entry ∷ entries) name = if bytes_eq entry.0 name then Some entry.1 else file_of entries name
+
+-- after a file was put under the name, each other name has what it had
+abbrev pub Puts : List ℕ → List ℕ → Files → Files → Type 0
+Puts name bytes before after = (other : List ℕ) → after other ≡ (if bytes_eq name other then Some bytes else before other)

@@ -5,4 +5,6 @@ pub mod Fields
 pub mod LineEnds
 pub mod Rule
 pub mod Files
+pub mod Fetch
+pub mod Entries
 pub mod Listed

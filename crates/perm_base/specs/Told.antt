@@ -1,5 +1,5 @@
 -- Bytes that an object of the outside may tell: those that are left in a source, those that a sink has taken.
-use Rattle.std.specs.Prelude.{◌≡◌, List, ◌++◌, ℕ, Option, option_map}
+use Rattle.std.specs.Prelude.{◌≡◌, ◌<◌, List, ◌++◌, length, ℕ, Option, option_map}
 
 -- told bytes with these in front of them; nothing where nothing is told
 abbrev pub with_front : List ℕ → Option (List ℕ) → Option (List ℕ)
@@ -13,6 +13,12 @@ with_back told back = option_map (λ (had : List ℕ). had ++ back) told
 pub record HasRead (before now : Option (List ℕ)) : Type 0 where
   pub bytes : List ℕ
   pub read : before ≡ with_front bytes now
+
+-- the same, where more than so many bytes were read
+pub record HasReadMore (most : ℕ) (before now : Option (List ℕ)) : Type 0 where
+  pub bytes : List ℕ
+  pub read : before ≡ with_front bytes now
+  pub more : most < length bytes
 
 -- a sink took, after what it had, a front of the text
 pub record TookFront (before now : Option (List ℕ)) (text : List ℕ) : Type 0 where

@@ -2,15 +2,19 @@
 #![tactic(auto)]
 
 mod fault;
+mod memory;
 mod rule;
 mod rules;
+mod shelf;
 mod sink;
 mod source;
 mod text;
 
 pub use fault::{Failed, NoMemory};
+pub use memory::{ListShelf, ListSink, ListSource, SureShelf, SureSink, SureSource};
 pub use rule::{Rule, RuleFault};
 pub use rules::Rules;
-pub use sink::Sink;
-pub use source::Source;
+pub use shelf::{Fetch, Shelf};
+pub use sink::{Sink, push_all};
+pub use source::{ReadStop, Source, read_all};
 pub use text::Text;

@@ -21,3 +21,17 @@ pub trait Sink {
         ensures counted { faults self.old ≤ faults self.new }
         ensures failed { OnErr result (Rose (faults self.old) (faults self.new)) };
 }
+
+/// Pushes all the bytes in their order. It takes no memory; after a failure the sink took some of the first.
+pub fn push_all<K: Sink>(sink: &mut K, bytes: &[u8]) -> Result<(), Failed>
+    ensures took { OnOk result (K.taken sink.new ≡ with_back (K.taken sink.old) bytes.now) }
+    ensures stopped { OnErr result (TookFront (K.taken sink.old) (K.taken sink.new) bytes.now) }
+    ensures counted { K.faults sink.old ≤ K.faults sink.new }
+    ensures failed { OnErr result (Rose (K.faults sink.old) (K.faults sink.new)) }
+{
+    let mut at = 0;
+    while at < bytes.len() {
+        at += sink.push(&bytes[at..])?;
+    }
+    Ok(())
+}

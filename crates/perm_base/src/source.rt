@@ -1,9 +1,13 @@
 ghost use Rattle.std.specs.Prelude.{◌≡◌, ◌<◌, ◌≤◌, ℕ, [], List, Option, IfOk, IfErr, IfSome, OnOk, OnErr, IsErrOf, length, take};
 ghost use Rattle.perm_base.specs.Faults.{Rose};
-ghost use Rattle.perm_base.specs.Told.{with_front, HasRead};
+ghost use Rattle.perm_base.specs.Told.{with_front, HasRead, HasReadMore};
+ghost use Rattle.perm_base.specs.declared.source.ReadStop.TheVariants as stops;
 
 use crate::fault::{Failed, NoMemory};
 use std::alloc::Global;
+
+// How many bytes are asked for at once.
+const PIECE: usize = 4096;
 
 /// Bytes that come from outside, as a file's or a stream's.
 pub trait Source {
@@ -22,4 +26,57 @@ pub trait Source {
         ensures kept { OnErr result (left self.new ≡ left self.old) }
         ensures counted { faults self.old ≤ faults self.new }
         ensures failed { OnErr result (Rose (faults self.old) (faults self.new)) };
+}
+
+/// Why the bytes of a source were not read to their end.
+#[derive(Clone, Copy, Debug, PartialEq, Eq)]
+pub enum ReadStop {
+    /// The source failed, and counted it.
+    Failed,
+    /// There are more bytes than were allowed.
+    TooLong,
+    NoMemory,
+}
+
+impl From<Failed> for ReadStop {
+    ghost from_gives = { λ _ stop. stop ≡ stops.Failed };
+
+    fn from(_: Failed) -> ReadStop {
+        ReadStop::Failed
+    }
+}
+
+impl From<NoMemory> for ReadStop {
+    ghost from_gives = { λ _ stop. stop ≡ stops.NoMemory };
+
+    fn from(_: NoMemory) -> ReadStop {
+        ReadStop::NoMemory
+    }
+}
+
+/// Reads a source to its end, where at most `most` bytes are left in it. After a stop some of its first bytes
+/// were read.
+pub fn read_all<S: Source>(alloc: Global, source: &mut S, most: u64) -> Result<Vec<u8>, ReadStop>
+    ensures read { IfOk result (λ bytes. S.left source.old ≡ with_front bytes.items (S.left source.new)) }
+    ensures ended { OnOk result (IfSome (S.left source.new) (λ rest. rest ≡ [])) }
+    ensures within { IfOk result (λ bytes. length bytes.items ≤ most) }
+    ensures stopped { OnErr result (HasRead (S.left source.old) (S.left source.new)) }
+    ensures counted { S.faults source.old ≤ S.faults source.new }
+    ensures failed { IsErrOf result ReadStop.Failed → Rose (S.faults source.old) (S.faults source.new) }
+    ensures too_long { IsErrOf result ReadStop.TooLong → HasReadMore most (S.left source.old) (S.left source.new) }
+{
+    let mut bytes = Vec::new(alloc);
+    let mut piece = [0; PIECE];
+    loop {
+        let count = source.pull(&mut piece)?;
+        if count == 0 {
+            return Ok(bytes);
+        }
+        bytes
+            .extend_from_slice(&piece[..count])
+            .map_err(NoMemory::from)?;
+        if bytes.len() as u64 > most {
+            return Err(ReadStop::TooLong);
+        }
+    }
 }
