@@ -1,3 +1,4 @@
 pub mod Tests
 pub mod Outside
 pub mod EntryLemmas
+pub mod LineLemmas

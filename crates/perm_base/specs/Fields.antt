@@ -1,5 +1,5 @@
 -- Plain fields of a line, joined by a comma and a blank. A plain field needs no quotes.
-use Rattle.std.specs.Prelude.{◌≡◌, ℕ, ◌-◌, ◌<◌, ◌≤◌, Bool, true, false, ◌==◌, ◌||◌, ◌&&◌, not, nat_le, nat_lt, List, [], ◌∷◌, length, IsTrue, All, IsUtf8, slice_index}
+use Rattle.std.specs.Prelude.{◌≡◌, ℕ, ◌-◌, ◌<◌, Bool, ◌==◌, ◌||◌, ◌&&◌, not, nat_le, nat_lt, List, [], ◌∷◌, length, IsTrue, All, IsUtf8, slice_index}
 use Rattle.std.specs.List.{list_all, join_by}
 
 -- the texts, joined by a comma and a blank

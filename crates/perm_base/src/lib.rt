@@ -3,6 +3,9 @@
 
 mod fault;
 mod memory;
+mod lines;
+#[cfg(test)]
+mod lines_tests;
 mod rule;
 mod rules;
 mod shelf;
@@ -12,6 +15,7 @@ mod text;
 
 pub use fault::{Failed, NoMemory};
 pub use memory::{ListShelf, ListSink, ListSource, SureShelf, SureSink, SureSource};
+pub use lines::{lines_with_ends, lines_without_last_end, next_full_line, next_line};
 pub use rule::{Rule, RuleFault};
 pub use rules::Rules;
 pub use shelf::{Fetch, Shelf};
