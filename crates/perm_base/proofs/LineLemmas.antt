@@ -14,7 +14,7 @@ none_before byte text at e =
     let before : k < at = omega (arith, length-take at text) in
     rw (get_or-take at text k d before) ((position-Some (λ b. eqb b byte) text at d e).2 k before))
 
--- no byte of a list passes where the first does not and no later one does
+-- a byte that is no LF makes the first line longer
 lines_of-byte : (test more : Bool) (byte : ℕ) (line : List ℕ) (lines rest : List (List ℕ)) → (more ≡ false → lines ≡ line ∷ rest) → (test || more) ≡ false → cond test ([] ∷ lines) (onto_first byte lines) ≡ (byte ∷ line) ∷ rest
 lines_of-byte true more byte line lines rest later none = absurd cc
 lines_of-byte false more byte line lines rest later none = rw (later none) refl

@@ -1,10 +1,21 @@
 -- Plain fields of a line, joined by a comma and a blank. A plain field needs no quotes.
-use Rattle.std.specs.Prelude.{◌≡◌, ℕ, ◌-◌, ◌<◌, Bool, ◌==◌, ◌||◌, ◌&&◌, not, nat_le, nat_lt, List, [], ◌∷◌, length, IsTrue, All, IsUtf8, slice_index}
-use Rattle.std.specs.List.{list_all, join_by}
+use Rattle.std.specs.Prelude.{◌≡◌, ℕ, ◌-◌, ◌<◌, Bool, false, ◌==◌, ◌||◌, ◌&&◌, not, nat_le, nat_lt, List, [], ◌∷◌, length, IsTrue, All, IsUtf8, slice_index}
+use Rattle.std.specs.List.{list_any, join_by}
+use Rattle.perm_base.specs.Lines.{has_byte}
+use Rattle.perm_base.specs.declared.fields.JoinFault.{JoinFault}
+use Rattle.perm_base.specs.declared.fields.JoinFault.TheVariants as join
+use Rattle.perm_base.specs.declared.fields.PlainFault.{PlainFault}
+use Rattle.perm_base.specs.declared.fields.PlainFault.TheVariants as plain
 
 -- the texts, joined by a comma and a blank
 abbrev pub joined : List (List ℕ) → List ℕ
 joined texts = join_by (λ (text : List ℕ). text) (44 ∷ 32 ∷ []) texts
+
+-- the line is these texts joined, at least one, and none holds a comma
+pub record IsJoined (line : List ℕ) (texts : List (List ℕ)) : Type 0 where
+  pub some : 0 < length texts
+  pub whole : All (λ (text : List ℕ). has_byte 44 text ≡ false) texts
+  pub spelled : line ≡ joined texts
 
 -- space or tab
 abbrev pub is_blank : ℕ → Bool
@@ -14,10 +25,17 @@ is_blank byte = byte == 32 || byte == 9
 abbrev pub is_special : ℕ → Bool
 is_special byte = byte == 44 || byte == 34 || byte == 13 || byte == 10
 
--- 1 to 4,096 bytes, none of them special, with no blank at either end and no `#` at the front
+-- the text holds such a byte
+abbrev pub has_special : List ℕ → Bool
+has_special text = list_any is_special text
+
+-- no blank at either end, and no `#` at the front
+abbrev pub has_plain_ends : List ℕ → Bool
+has_plain_ends field = not (slice_index field 0 == 35) && not (is_blank (slice_index field 0)) && not (is_blank (slice_index field (length field - 1)))
+
+-- 1 to 4,096 bytes, none of them special, with plain ends
 abbrev pub is_plain : List ℕ → Bool
-is_plain field = nat_lt 0 (length field) && nat_le (length field) 4096 && list_all (λ byte. not (is_special byte)) field
-    && not (slice_index field 0 == 35) && not (is_blank (slice_index field 0)) && not (is_blank (slice_index field (length field - 1)))
+is_plain field = nat_lt 0 (length field) && nat_le (length field) 4096 && not (has_special field) && has_plain_ends field
 
 -- a plain field is such a text
 pub record IsPlainField (field : List ℕ) : Type 0 where
@@ -30,3 +48,8 @@ pub record IsPlainLine (columns : ℕ) (line : List ℕ) (fields : List (List �
   pub some : 0 < columns
   pub plain : All IsPlainField fields
   pub spelled : line ≡ joined fields
+
+-- a line that is not joined is no plain line
+abbrev pub plain_fault_of : JoinFault → PlainFault
+plain_fault_of join.NotJoined = plain.NotPlain
+plain_fault_of join.NoMemory = plain.NoMemory

@@ -1,0 +1,187 @@
+ghost use Rattle.std.specs.Prelude.{◌≡◌, ◌<◌, ◌++◌, ℕ, List, ◌∷◌, All, IfOk, IfSome, IfNone, IsErrOf, MatchResult, OnOk, length, map};
+ghost use Rattle.perm_base.specs.Fields.{IsJoined, IsPlainField, IsPlainLine, has_plain_ends, has_special, is_blank, is_plain, is_special, joined};
+
+use crate::fault::NoMemory;
+use crate::lines::cut_at;
+use crate::rule::Rule;
+use crate::text::Text;
+use std::alloc::Global;
+
+// The greatest number of bytes of a plain field.
+const LONGEST_FIELD: usize = 4096;
+
+/// Why a line is not cut into texts.
+#[derive(Clone, Copy, Debug, PartialEq, Eq)]
+pub enum JoinFault {
+    /// The line is not texts joined by a comma and a blank.
+    NotJoined,
+    /// Memory ran out.
+    NoMemory,
+}
+
+impl From<NoMemory> for JoinFault {
+    ghost use Rattle.perm_base.specs.declared.fields.JoinFault.TheVariants.{NoMemory};
+
+    ghost from_gives = { λ _ fault. fault ≡ NoMemory };
+
+    fn from(_: NoMemory) -> JoinFault {
+        JoinFault::NoMemory
+    }
+}
+
+/// Why a line is not read as a rule.
+#[derive(Clone, Copy, Debug, PartialEq, Eq)]
+pub enum PlainFault {
+    /// The line is not plain fields, as many as were wanted.
+    NotPlain,
+    /// Memory ran out.
+    NoMemory,
+}
+
+impl From<NoMemory> for PlainFault {
+    ghost use Rattle.perm_base.specs.declared.fields.PlainFault.TheVariants.{NoMemory};
+
+    ghost from_gives = { λ _ fault. fault ≡ NoMemory };
+
+    fn from(_: NoMemory) -> PlainFault {
+        PlainFault::NoMemory
+    }
+}
+
+impl From<JoinFault> for PlainFault {
+    ghost use Rattle.perm_base.specs.Fields.{plain_fault_of};
+
+    ghost from_gives = { λ fault plain. plain ≡ plain_fault_of fault };
+
+    fn from(fault: JoinFault) -> PlainFault {
+        match fault {
+            JoinFault::NotJoined => PlainFault::NotPlain,
+            JoinFault::NoMemory => PlainFault::NoMemory,
+        }
+    }
+}
+
+/// Cuts a line into the texts that are joined in it by a comma and a blank.
+pub fn cut_joined(alloc: Global, line: &[u8]) -> Result<Vec<&[u8]>, JoinFault>
+    ensures found { IfOk result (λ texts. IsJoined line.now (map (λ text. text.now) texts.items)) }
+    ensures only { (texts : List (List ℕ)) → IsJoined line.now texts
+        → MatchResult result (λ found. map (λ text. text.now) found.items ≡ texts) (λ fault. fault ≡ JoinFault.NoMemory) }
+    ensures refused { IsErrOf result JoinFault.NotJoined → (texts : List (List ℕ)) → ¬ (IsJoined line.now texts) }
+{
+    let mut texts = Vec::new(alloc);
+    let mut rest = line;
+    while let Some((text, after)) = cut_at(rest, b',') {
+        texts.push(text).map_err(NoMemory::from)?;
+        let Some(behind) = behind_blank(after) else {
+            return Err(JoinFault::NotJoined);
+        };
+        rest = behind;
+    }
+    texts.push(rest).map_err(NoMemory::from)?;
+    Ok(texts)
+}
+
+/// The law that a line is at most one list of joined texts.
+pub fn joined_texts_are_unique()
+    ensures { (line : List ℕ) (first second : List (List ℕ)) → IsJoined line first → IsJoined line second → first ≡ second }
+{}
+
+/// Reads a line of exactly so many plain fields as a rule.
+pub fn read_plain_fields(alloc: Global, line: &[u8], columns: u32) -> Result<Rule, PlainFault>
+    ensures found { IfOk result (λ rule. IsPlainLine columns line.now rule) }
+    ensures only { (fields : List (List ℕ)) → IsPlainLine columns line.now fields
+        → MatchResult result (λ rule. rule ≡ fields) (λ fault. fault ≡ PlainFault.NoMemory) }
+    ensures refused { IsErrOf result PlainFault.NotPlain → (fields : List (List ℕ)) → ¬ (IsPlainLine columns line.now fields) }
+{
+    let texts = cut_joined(alloc, line)?;
+    if texts.len() != columns as usize {
+        return Err(PlainFault::NotPlain);
+    }
+    let fields = plain_fields(alloc, &texts)?;
+    // Plain fields hold neither CR nor LF.
+    let Ok(rule) = Rule::from_fields(fields) else {
+        unreachable!()
+    };
+    Ok(rule)
+}
+
+/// Appends the texts of a rule, joined by a comma and a blank.
+pub fn push_joined(text: &mut Vec<u8>, rule: &Rule) -> Result<(), NoMemory>
+    ensures ok { OnOk result (text.new.items ≡ text.old.items ++ joined rule.now) }
+{
+    for at in 0..rule.len() {
+        if at > 0 {
+            text.extend_from_slice(b", ")?;
+        }
+        text.extend_from_slice(rule.field(at))?;
+    }
+    Ok(())
+}
+
+// What stands behind the blank that the text begins with.
+fn behind_blank(text: &[u8]) -> Option<&[u8]>
+    ensures found { IfSome result (λ behind. text.now ≡ 32 ∷ behind.now) }
+    ensures none { IfNone result ((behind : List ℕ) → ¬ (text.now ≡ 32 ∷ behind)) }
+{
+    text.strip_prefix(b" ")
+}
+
+// The texts as plain fields.
+fn plain_fields(alloc: Global, texts: &[&[u8]]) -> Result<Vec<Text>, PlainFault>
+    ensures found { IfOk result (λ fields. fields.items ≡ map (λ text. text.now) texts.now) }
+    ensures plain { OnOk result (All IsPlainField (map (λ text. text.now) texts.now)) }
+    ensures refused { IsErrOf result PlainFault.NotPlain → ¬ (All IsPlainField (map (λ text. text.now) texts.now)) }
+{
+    let mut fields = Vec::new(alloc);
+    for text in texts {
+        let field = plain_field(alloc, text)?;
+        fields.push(field).map_err(NoMemory::from)?;
+    }
+    Ok(fields)
+}
+
+// The text as a plain field.
+fn plain_field(alloc: Global, text: &[u8]) -> Result<Text, PlainFault>
+    ensures found { IfOk result (λ field. field ≡ text.now) }
+    ensures plain { OnOk result (IsPlainField text.now) }
+    ensures refused { IsErrOf result PlainFault.NotPlain → ¬ (IsPlainField text.now) }
+{
+    if !is_plain(text) {
+        return Err(PlainFault::NotPlain);
+    }
+    let Ok(text) = str::from_utf8(text) else {
+        return Err(PlainFault::NotPlain);
+    };
+    Ok(Text::from_str(alloc, text)?)
+}
+
+fn is_plain(text: &[u8]) -> bool
+    ensures { result ≡ is_plain text.now }
+{
+    !text.is_empty() && text.len() <= LONGEST_FIELD && !has_special(text) && has_plain_ends(text)
+}
+
+fn has_special(text: &[u8]) -> bool
+    ensures { result ≡ has_special text.now }
+{
+    text.iter().any(|byte| is_special(*byte))
+}
+
+fn has_plain_ends(text: &[u8]) -> bool
+    requires { 0 < length text.now }
+    ensures { result ≡ has_plain_ends text.now }
+{
+    text[0] != b'#' && !is_blank(text[0]) && !is_blank(text[text.len() - 1])
+}
+
+fn is_special(byte: u8) -> bool
+    ensures { result ≡ is_special byte }
+{
+    matches!(byte, b',' | b'"' | b'\r' | b'\n')
+}
+
+fn is_blank(byte: u8) -> bool
+    ensures { result ≡ is_blank byte }
+{
+    byte == b' ' || byte == b'\t'
+}
