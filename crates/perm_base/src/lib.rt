@@ -2,11 +2,11 @@
 #![tactic(auto)]
 
 mod fault;
-mod memory;
 mod fields;
 mod lines;
 #[cfg(test)]
 mod lines_tests;
+mod memory;
 mod rule;
 mod rules;
 mod shelf;
@@ -15,11 +15,11 @@ mod source;
 mod text;
 
 pub use fault::{Failed, NoMemory};
-pub use memory::{ListShelf, ListSink, ListSource, SureShelf, SureSink, SureSource};
 pub use fields::{
     JoinFault, PlainFault, cut_joined, joined_texts_are_unique, push_joined, read_plain_fields,
 };
 pub use lines::{lines_with_ends, lines_without_last_end, next_full_line, next_line};
+pub use memory::{ListShelf, ListSink, ListSource, SureShelf, SureSink, SureSource};
 pub use rule::{Rule, RuleFault};
 pub use rules::Rules;
 pub use shelf::{Fetch, Shelf};
