@@ -1,4 +1,4 @@
-ghost use Rattle.std.specs.Prelude.{◌≡◌, ◌<◌, ◌++◌, ℕ, List, ◌∷◌, All, IfOk, IfSome, IfNone, IsErrOf, MatchResult, OnOk, length, map};
+ghost use Rattle.std.specs.Prelude.{◌≡◌, ◌<◌, ◌++◌, ℕ, List, ◌∷◌, All, IfOk, IfSome, IfNone, IsErrOf, MatchResult, OnErr, OnOk, length, map};
 ghost use Rattle.perm_base.specs.Fields.{IsJoined, IsPlainField, IsPlainLine, has_plain_ends, has_special, is_blank, is_plain, is_special, joined};
 
 use crate::fault::NoMemory;
@@ -10,7 +10,7 @@ use std::alloc::Global;
 // The greatest number of bytes of a plain field.
 const LONGEST_FIELD: usize = 4096;
 
-/// Why a line is not cut into texts.
+/// Why a line is not cut into joined texts.
 #[derive(Clone, Copy, Debug, PartialEq, Eq)]
 pub enum JoinFault {
     /// The line is not texts joined by a comma and a blank.
@@ -61,11 +61,13 @@ impl From<JoinFault> for PlainFault {
     }
 }
 
-/// Cuts a line into the texts that are joined in it by a comma and a blank.
+/// Cuts a line into the texts that are joined in it by a comma and a blank. No text holds a comma, and an empty
+/// line is one empty text.
 pub fn cut_joined(alloc: Global, line: &[u8]) -> Result<Vec<&[u8]>, JoinFault>
     ensures found { IfOk result (λ texts. IsJoined line.now (map (λ text. text.now) texts.items)) }
     ensures only { (texts : List (List ℕ)) → IsJoined line.now texts
-        → MatchResult result (λ found. map (λ text. text.now) found.items ≡ texts) (λ fault. fault ≡ JoinFault.NoMemory) }
+        → MatchResult result (λ found. map (λ text. text.now) found.items ≡ texts)
+        (λ fault. fault ≡ JoinFault.NoMemory) }
     ensures refused { IsErrOf result JoinFault.NotJoined → (texts : List (List ℕ)) → ¬ (IsJoined line.now texts) }
 {
     let mut texts = Vec::new(alloc);
@@ -83,15 +85,19 @@ pub fn cut_joined(alloc: Global, line: &[u8]) -> Result<Vec<&[u8]>, JoinFault>
 
 /// The law that a line is at most one list of joined texts.
 pub fn joined_texts_are_unique()
-    ensures { (line : List ℕ) (first second : List (List ℕ)) → IsJoined line first → IsJoined line second → first ≡ second }
+    ensures { (line : List ℕ) (first second : List (List ℕ)) → IsJoined line first → IsJoined line second
+        → first ≡ second }
 {}
 
-/// Reads a line of exactly so many plain fields as a rule.
+/// Reads a line as a rule: exactly so many plain fields, joined by a comma and a blank. A plain field is UTF-8 of
+/// 1 to 4,096 bytes, without a comma, a double quote, CR or LF, with no space or tab at either end and no `#` at
+/// the front.
 pub fn read_plain_fields(alloc: Global, line: &[u8], columns: u32) -> Result<Rule, PlainFault>
     ensures found { IfOk result (λ rule. IsPlainLine columns line.now rule) }
     ensures only { (fields : List (List ℕ)) → IsPlainLine columns line.now fields
         → MatchResult result (λ rule. rule ≡ fields) (λ fault. fault ≡ PlainFault.NoMemory) }
-    ensures refused { IsErrOf result PlainFault.NotPlain → (fields : List (List ℕ)) → ¬ (IsPlainLine columns line.now fields) }
+    ensures refused { IsErrOf result PlainFault.NotPlain → (fields : List (List ℕ))
+        → ¬ (IsPlainLine columns line.now fields) }
 {
     let texts = cut_joined(alloc, line)?;
     if texts.len() != columns as usize {
@@ -105,9 +111,11 @@ pub fn read_plain_fields(alloc: Global, line: &[u8], columns: u32) -> Result<Rul
     Ok(rule)
 }
 
-/// Appends the texts of a rule, joined by a comma and a blank.
+/// Appends the texts of a rule, joined by a comma and a blank. Where memory runs out, a part of them stands
+/// behind what the text held.
 pub fn push_joined(text: &mut Vec<u8>, rule: &Rule) -> Result<(), NoMemory>
     ensures ok { OnOk result (text.new.items ≡ text.old.items ++ joined rule.now) }
+    ensures err { OnErr result ((part : List ℕ) × (text.new.items ≡ text.old.items ++ part)) }
 {
     for at in 0..rule.len() {
         if at > 0 {

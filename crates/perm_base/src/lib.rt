@@ -3,6 +3,8 @@
 
 mod fault;
 mod fields;
+#[cfg(test)]
+mod fields_tests;
 mod lines;
 #[cfg(test)]
 mod lines_tests;
