@@ -1,0 +1,24 @@
+//! IPv4 addresses as text.
+
+ghost use Rattle.std.specs.Prelude.{◌≡◌, ℕ, IfSome, Some};
+ghost use Rattle.ip_match.specs.Addresses.{IsV4};
+
+use crate::numeral::read_decimal;
+use crate::parts::cut;
+
+const MOST: u8 = 255;
+
+/// The number of an IPv4 address.
+pub fn read_v4(text: &[u8]) -> Option<u32>
+    ensures found { IfSome result (λ number. IsV4 text.now number) }
+    ensures only { (number : ℕ) → IsV4 text.now number → result ≡ Some number }
+{
+    let (first, rest) = cut(text, b'.')?;
+    let (second, rest) = cut(rest, b'.')?;
+    let (third, fourth) = cut(rest, b'.')?;
+    let first = read_decimal(first, MOST)?;
+    let second = read_decimal(second, MOST)?;
+    let third = read_decimal(third, MOST)?;
+    let fourth = read_decimal(fourth, MOST)?;
+    Some(u32::from_be_bytes([first, second, third, fourth]))
+}
