@@ -52,11 +52,11 @@ one_family text m n h k =
     cc (octets.parts, one)
 
 -- `/`, which is 47, stands in no address
-no_slash : (text : List ℕ) (address : Address) → IsAddress text address → Lacks 47 text
+pub no_slash : (text : List ℕ) (address : Address) → IsAddress text address → Lacks 47 text
 no_slash text (V4 number) h = v4_lacks 47 text number (omega arith) refl h
 no_slash text (V6 number) h = v6_lacks 47 text number (omega arith) refl h
 
-prefix_parts : (text : List ℕ) (block : Block) (p : HasPrefix text block) → parts_of 47 text ≡ p.0 ∷ parts_of 47 (decimal block.bits)
+pub prefix_parts : (text : List ℕ) (block : Block) (p : HasPrefix text block) → parts_of 47 text ≡ p.0 ∷ parts_of 47 (decimal block.bits)
 prefix_parts text block p =
     ap (parts_of 47) (p.2 ∙ append_assoc p.0 (47 ∷ []) (decimal block.bits)) ∙ parts_cut 47 p.0 (decimal block.bits) (no_slash p.0 block.address p.1)
 

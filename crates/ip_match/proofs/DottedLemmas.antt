@@ -28,8 +28,14 @@ octets_of (a ∷ []) text number four small spelled value = absurd (omega arith)
 octets_of (a ∷ b ∷ []) text number four small spelled value = absurd (omega arith)
 octets_of (a ∷ b ∷ c ∷ []) text number four small spelled value = absurd (omega arith)
 octets_of (a ∷ b ∷ c ∷ d ∷ []) text number four small spelled value = record {
-  a = a; b = b; c = c; d = d;
-  a_small = small.0; b_small = small.1.0; c_small = small.1.1.0; d_small = small.1.1.1.0;
+  a = a;
+  b = b;
+  c = c;
+  d = d;
+  a_small = small.0;
+  b_small = small.1.0;
+  c_small = small.1.1.0;
+  d_small = small.1.1.1.0;
   parts = ap (parts_of 46) spelled ∙ parts_joined 46 (decimal a) (decimal b ∷ decimal c ∷ decimal d ∷ [])
       (no_dot a small.0, (no_dot b small.1.0, (no_dot c small.1.1.0, (no_dot d small.1.1.1.0, tt))));
   value = value;

@@ -5,4 +5,6 @@ pub mod DottedLemmas
 pub mod GapLemmas
 pub mod GroupLemmas
 pub mod ShortenedLemmas
+pub mod ColonLemmas
 pub mod AddressLemmas
+pub mod UniqueLemmas

@@ -3,6 +3,7 @@ use Rattle.std.specs.Prelude.{◌≡◌, ℕ, ◌+◌, ◌≤◌, ◌⊎◌, Lis
 use Rattle.std.specs.List.{AllByRecursion, join_with_byte}
 use Rattle.std.specs.Int.Digits.{number_from_digits}
 use Rattle.std.specs.Str.Parse.{IsNumeral, digits_value}
+use Rattle.ip_match.specs.Parts.{dot, colon}
 use Rattle.ip_match.specs.declared.address.Address.{Address}
 use Rattle.ip_match.specs.declared.address.Address.TheVariants.{V4, V6}
 
@@ -11,7 +12,7 @@ pub record IsV4 (text : List ℕ) (number : ℕ) : Type 0 where
   pub octets : List ℕ
   pub four : length octets ≡ 4
   pub small : AllByRecursion (λ octet. octet ≤ 255) octets
-  pub spelled : text ≡ join_with_byte 46 (map decimal octets)
+  pub spelled : text ≡ join_with_byte dot (map decimal octets)
   pub value : number ≡ number_from_digits 256 octets
 
 -- one to four hexadecimal digits in either case
@@ -20,7 +21,7 @@ IsGroup text = IsNumeral 16 text × (length text ≤ 4)
 
 -- groups joined by colons; no group is the empty text
 abbrev pub AreGroups : List ℕ → List (List ℕ) → Type 0
-AreGroups text groups = AllByRecursion IsGroup groups × (text ≡ join_with_byte 58 groups)
+AreGroups text groups = AllByRecursion IsGroup groups × (text ≡ join_with_byte colon groups)
 
 -- the numbers that groups write
 abbrev pub group_numbers : List (List ℕ) → List ℕ

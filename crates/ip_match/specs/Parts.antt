@@ -2,10 +2,18 @@
 use Rattle.std.specs.Prelude.{◌≡◌, ◌≢◌, ℕ, ◌+◌, ◌==◌, List, slice_index}
 use Rattle.std.specs.List.{slice_split}
 
+-- `.`
+abbrev pub dot : ℕ
+dot = 46
+
+-- `:`
+abbrev pub colon : ℕ
+colon = 58
+
 -- the parts of a text between the separators, one more than there are separators
 abbrev pub parts_of : ℕ → List ℕ → List (List ℕ)
 parts_of separator text = slice_split (λ byte. byte == separator) text
 
--- no colon, which is 58, stands right behind another
+-- no colon stands right behind another
 abbrev pub HasNoGap : List ℕ → Type 0
-HasNoGap text = (k : ℕ) → slice_index text k ≡ 58 → slice_index text (k + 1) ≢ 58
+HasNoGap text = (k : ℕ) → slice_index text k ≡ colon → slice_index text (k + 1) ≢ colon

@@ -1,6 +1,7 @@
 //! Addresses as text.
 
-ghost use Rattle.std.specs.Prelude.{◌≡◌, IfSome, Some};
+ghost use Rattle.std.specs.Prelude.{◌≡◌, ℕ, List, IfSome, Some};
+ghost use Rattle.ip_match.specs.Addresses.{IsAddress};
 
 use crate::colons::read_v6;
 use crate::dotted::read_v4;
@@ -28,8 +29,6 @@ impl Address {
     }
 }
 
-ghost use Rattle.ip_match.specs.Addresses.{IsAddress};
-
 /// The address that the whole text writes, or `None` where it writes no address: four decimal numbers joined by dots,
 /// or hexadecimal groups joined by colons (RFC 4291, section 2.2), without a zone and without a dotted tail.
 pub fn read_address(text: &[u8]) -> Option<Address>
@@ -44,9 +43,7 @@ pub fn read_address(text: &[u8]) -> Option<Address>
     }
 }
 
-/// A text writes one address at most.
-pub fn address_is_unique(text: &[u8])
-    ensures { (a b : Address) → IsAddress text.now a → IsAddress text.now b → a ≡ b }
-{
-    let _ = read_address(text);
-}
+/// A law: a text writes one address at most.
+pub fn address_is_unique()
+    ensures { (text : List ℕ) (a b : Address) → IsAddress text a → IsAddress text b → a ≡ b }
+{}

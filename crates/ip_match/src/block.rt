@@ -1,6 +1,6 @@
 //! Blocks of addresses as text.
 
-ghost use Rattle.std.specs.Prelude.{◌≡◌, ◌↔◌, ◌≤◌, ◌/◌, ◌^◌, ℕ, IfSome, IsTrue, Some};
+ghost use Rattle.std.specs.Prelude.{◌≡◌, ◌↔◌, ◌≤◌, ◌/◌, ◌^◌, ℕ, List, IfSome, IsTrue, Some};
 ghost use Rattle.ip_match.specs.Blocks.{IsBlock, IsInside, width_of};
 
 use crate::address::{Address, read_address};
@@ -41,12 +41,10 @@ pub fn read_block(text: &[u8]) -> Option<Block>
     }
 }
 
-/// A text writes one block at most.
-pub fn block_is_unique(text: &[u8])
-    ensures { (a b : Block) → IsBlock text.now a → IsBlock text.now b → a ≡ b }
-{
-    let _ = read_block(text);
-}
+/// A law: a text writes one block at most.
+pub fn block_is_unique()
+    ensures { (text : List ℕ) (a b : Block) → IsBlock text a → IsBlock text b → a ≡ b }
+{}
 
 fn same_quotients(a: u128, b: u128, bits_behind: u32) -> bool
     ensures { IsTrue result ↔ (a / 2 ^ bits_behind ≡ b / 2 ^ bits_behind) }

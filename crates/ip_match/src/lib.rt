@@ -9,8 +9,8 @@ mod matching;
 mod numeral;
 mod parts;
 
-pub use address::{Address, read_address};
-pub use block::{Block, read_block};
+pub use address::{Address, address_is_unique, read_address};
+pub use block::{Block, block_is_unique, read_block};
 pub use matching::{IpFault, ip_match};
 
 #[cfg(test)]

@@ -52,8 +52,8 @@ pub returns-clause-found : goal.returns-clause-found
 returns-clause-found c =
     let group = c.in_ok-read_group-2.ensures in
     IfSome-from_iff c.push-2.result _ _ _ c.push-2.ensures (λ room is.
-        let all = walked_all _ _ _ _ c.loop-part.invariant c.in_default.ensures.parts group.0 room in
-        (all.groups, all.spelled, same_read _ _ _ _ all.count_is (omega (arith, group.1, all.number_is))))
+    let all = walked_all _ _ _ _ c.loop-part.invariant c.in_default.ensures.parts group.0 room in
+    (all.groups, all.spelled, same_read _ _ _ _ all.count_is (omega (arith, group.1, all.number_is))))
 
 pub returns-clause-only : goal.returns-clause-only
 returns-clause-only c = λ groups h most.
@@ -68,5 +68,5 @@ pub returns-clause-small : goal.returns-clause-small
 returns-clause-small c =
     let group = c.in_ok-read_group-2.ensures in
     IfSome-from_iff c.push-2.result _ _ _ c.push-2.ensures (λ room is.
-        let all = walked_all _ _ _ _ c.loop-part.invariant c.in_default.ensures.parts group.0 room in
-        rw group.1 all.small)
+    let all = walked_all _ _ _ _ c.loop-part.invariant c.in_default.ensures.parts group.0 room in
+    rw group.1 all.small)

@@ -16,10 +16,10 @@ pub returns-clause-found : goal.returns-clause-found
 returns-clause-found c =
     let read = c.in_ok-number.ensures in
     let first : get_or c.args.text.now 0 0 ≡ 48 → length c.args.text.now ≡ 1 =
-        elim c.else-text-gt1.branch [
-          | else-text-gt1-via-then-text-gt1+else-text-eq48 w ↦ λ h. absurd (w.if-text-eq48.false h)
-          | else-text-gt1-via-else-text-gt1 w ↦ λ h. omega arith
-        ]
+    elim c.else-text-gt1.branch [
+      | else-text-gt1-via-then-text-gt1+else-text-eq48 w ↦ λ h. absurd (w.if-text-eq48.false h)
+      | else-text-gt1-via-else-text-gt1 w ↦ λ h. omega arith
+    ]
     in
     (rw read.1 (sym (decimal_of_digits c.args.text.now read.0.0 (omega arith) first)), omega arith)
 
