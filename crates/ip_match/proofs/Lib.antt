@@ -8,3 +8,4 @@ pub mod ShortenedLemmas
 pub mod ColonLemmas
 pub mod AddressLemmas
 pub mod UniqueLemmas
+pub mod PlainLemmas

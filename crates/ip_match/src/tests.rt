@@ -1,5 +1,8 @@
+mod plain;
+
 use super::*;
 use std::net::{Ipv4Addr, Ipv6Addr};
+use std::test::Fail;
 
 const LOOPBACK: Option<Address> = Some(Address::V6(1));
 
@@ -341,5 +344,51 @@ fn matches(rt: HostRuntime) {
         ("10.0.0.1", "10.0.0.0/08", Err(IpFault::BadBlock)),
     ] {
         assert_eq!(rt; ip_match(a.as_bytes(), b.as_bytes()), want, "{a} in {b}");
+    }
+}
+
+#[test]
+fn plain_texts_are_read(rt: HostRuntime) -> Result<(), Fail> {
+    for (octets, want) in [
+        ([0, 0, 0, 0], 0),
+        ([192, 168, 2, 123], 0xc0a8_027b),
+        ([255, 10, 0, 99], 0xff0a_0063),
+    ] {
+        let [a, b, c, d] = octets;
+        let text = plain::dotted(rt.alloc(), a, b, c, d)?;
+        assert_eq!(rt;
+            read_address(text.as_bytes()),
+            Some(Address::V4(want)),
+            "{text}"
+        );
+    }
+    let text = plain::shortened(rt.alloc(), 0xff, 0x20, 1)?;
+    assert_eq!(rt; text.as_str(), "FF:20::1");
+    let want = Address::V6(0x00ff_0020_0000_0000_0000_0000_0000_0001);
+    assert_eq!(rt; read_address(text.as_bytes()), Some(want));
+    Ok(())
+}
+
+#[test]
+fn dropping_bits_one_by_one_agrees(rt: HostRuntime) {
+    for (a, b, want) in [
+        ("192.168.2.123", "192.168.2.0/24", true),
+        ("192.168.2.123", "192.168.3.0/24", false),
+        ("192.24.31.255", "192.24.0.0/19", true),
+        ("192.24.32.0", "192.24.0.0/19", false),
+        ("10.0.0.1", "0.0.0.0/0", true),
+        ("2001:db8::1", "2001:db8::/32", true),
+        ("2001:db9::", "2001:db8::/32", false),
+        ("ffff::", "::/0", true),
+        ("::2", "::3", false),
+        ("::1", "0.0.0.0/0", false),
+    ] {
+        let Some(address) = read_address(a.as_bytes()) else {
+            panic!(rt; "{a} is an address");
+        };
+        let Some(block) = read_block(b.as_bytes()) else {
+            panic!(rt; "{b} is a block");
+        };
+        assert_eq!(rt; plain::inside(address, block), want, "{a} in {b}");
     }
 }
