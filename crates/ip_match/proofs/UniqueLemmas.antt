@@ -1,5 +1,5 @@
 -- A text writes one address at most, and one block at most.
-use Rattle.std.proofs.Common.{◌≡◌, ℕ, ◌<◌, ◌≤◌, ◌^◌, List, ◌∷◌, [], decimal, inl, inr, refl, sym, ap, ◌∙◌, arith}
+use Rattle.std.proofs.Common.{◌≡◌, ℕ, ◌<◌, ◌≤◌, ◌^◌, List, decimal, inl, inr, sym, ap, ◌∙◌, arith}
 use Rattle.std.proofs.lemmas.Fmt.{decimal_injective}
 use Rattle.ip_match.specs.declared.address.Address.{Address}
 use Rattle.ip_match.specs.declared.address.Address.TheVariants.{V4, V6}

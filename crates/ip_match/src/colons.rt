@@ -81,6 +81,7 @@ fn read_shortened(front: &[u8], back: &[u8]) -> Option<u128>
     if left.count + right.count >= EIGHT {
         return None;
     }
+    // A shift by all 128 bits has no meaning.
     if left.count == 0 {
         return Some(right.number);
     }

@@ -6,7 +6,7 @@ ghost use Rattle.ip_match.specs.Addresses.{IsV4};
 use crate::numeral::read_decimal;
 use crate::parts::cut;
 
-const MOST: u8 = 255;
+const LARGEST_OCTET: u8 = 255;
 
 /// The number of an IPv4 address.
 pub fn read_v4(text: &[u8]) -> Option<u32>
@@ -16,9 +16,9 @@ pub fn read_v4(text: &[u8]) -> Option<u32>
     let (first, rest) = cut(text, b'.')?;
     let (second, rest) = cut(rest, b'.')?;
     let (third, fourth) = cut(rest, b'.')?;
-    let first = read_decimal(first, MOST)?;
-    let second = read_decimal(second, MOST)?;
-    let third = read_decimal(third, MOST)?;
-    let fourth = read_decimal(fourth, MOST)?;
+    let first = read_decimal(first, LARGEST_OCTET)?;
+    let second = read_decimal(second, LARGEST_OCTET)?;
+    let third = read_decimal(third, LARGEST_OCTET)?;
+    let fourth = read_decimal(fourth, LARGEST_OCTET)?;
     Some(u32::from_be_bytes([first, second, third, fourth]))
 }

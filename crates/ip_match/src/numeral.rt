@@ -5,6 +5,8 @@ ghost use Rattle.std.specs.Option.{SomeIff};
 ghost use Rattle.std.specs.Str.Parse.{IsNumeral, digits_value};
 ghost use Rattle.ip_match.specs.Addresses.{IsGroup};
 
+const ZERO: u8 = b'0';
+
 /// What the digits write, where it is at most `most`.
 fn read_digits(text: &[u8], radix: u32, most: u32) -> Option<u32>
     requires radix_above { 2 ≤ radix }
@@ -32,7 +34,7 @@ pub fn read_decimal(text: &[u8], most: u8) -> Option<u8>
     ensures found { IfSome result (λ number. (text.now ≡ decimal number) × (number ≤ most)) }
     ensures only { (number : ℕ) → number ≤ most → text.now ≡ decimal number → result ≡ Some number }
 {
-    if text.len() > 1 && text[0] == b'0' {
+    if text.len() > 1 && text[0] == ZERO {
         return None;
     }
     let number = read_digits(text, 10, u32::from(most))?;

@@ -1,4 +1,4 @@
-use Rattle.std.proofs.Common.{◌≡◌, ℕ, List, Option, Some, ap}
+use Rattle.std.proofs.Common.{◌≡◌, ℕ, List, Some, ap}
 use Rattle.std.proofs.lemmas.Option.{same_Some}
 use Rattle.ip_match.specs.declared.address.Address.{Address}
 use Rattle.ip_match.specs.declared.address.Address.TheVariants.{V4, V6}

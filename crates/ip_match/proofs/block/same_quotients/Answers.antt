@@ -1,4 +1,4 @@
-use Rattle.std.proofs.Common.{◌≡◌, ◌/◌, ◌^◌, ◌≤◌, ◌<◌, ◌+◌, ℕ, le-leb, zero-add, sym, ◌∙◌, arith}
+use Rattle.std.proofs.Common.{◌≡◌, ◌/◌, ◌^◌, ◌≤◌, ◌<◌, ℕ, le-leb, zero-add, sym, ◌∙◌, arith}
 use Rattle.std.proofs.Math.Nat.{pow-le-pow_right}
 use Rattle.std.proofs.lemmas.Nat.{shr_below}
 use Rattle.ip_match.proofs.block.same_quotients.Goals as goal

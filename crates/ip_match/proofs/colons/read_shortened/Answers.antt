@@ -1,4 +1,4 @@
-use Rattle.std.proofs.Common.{◌≡◌, ◌+◌, ◌*◌, ◌-◌, ◌%◌, ◌^◌, ◌<◌, ◌≤◌, ℕ, length, Some, subst, ap, arith}
+use Rattle.std.proofs.Common.{◌≡◌, ◌+◌, ◌*◌, ◌-◌, ◌%◌, ◌^◌, ◌<◌, ℕ, Some, subst, ap, arith}
 use Rattle.std.proofs.lemmas.Option.{same_Some}
 use Rattle.ip_match.specs.declared.colons.Groups.{Groups}
 use Rattle.ip_match.proofs.ShortenedLemmas.{shortened_value, shortened_from, shift_whole, sum_fits}

@@ -1,4 +1,4 @@
-use Rattle.std.proofs.Common.{ℕ, List, ◌∷◌, [], ◌++◌, inl, inr}
+use Rattle.std.proofs.Common.{◌∷◌, [], ◌++◌, inl, inr}
 use Rattle.ip_match.specs.Addresses.{IsShortened}
 use Rattle.ip_match.proofs.GapLemmas.{NoGap-from_spec}
 use Rattle.ip_match.proofs.ColonLemmas.{no_gap_in, whole_has_none, none_before, same_sides}

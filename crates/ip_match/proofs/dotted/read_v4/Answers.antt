@@ -1,5 +1,4 @@
-use Rattle.std.proofs.Common.{◌≡◌, ◌≤◌, ℕ, [], ◌∷◌, Some, None, decimal, refl, sym, ap, ◌∙◌, arith}
-use Rattle.std.specs.Int.Digits.{number_from_digits}
+use Rattle.std.proofs.Common.{◌≡◌, ℕ, [], ◌∷◌, Some, decimal, refl, ap, arith}
 use Rattle.std.proofs.lemmas.Option.{none-some, same_Some}
 use Rattle.ip_match.proofs.DottedLemmas.{HasOctets, octets_in, dotted_text, cuts_are}
 use Rattle.ip_match.proofs.dotted.read_v4.Goals.{In_ok-third}

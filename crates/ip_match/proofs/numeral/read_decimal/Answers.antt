@@ -1,11 +1,11 @@
-use Rattle.std.proofs.Common.{◌≡◌, ◌≤◌, ◌<◌, ℕ, Some, length, get_or, decimal, sym, ap, arith}
+use Rattle.std.proofs.Common.{◌≡◌, Some, length, get_or, sym, ap, arith}
 use Rattle.ip_match.proofs.NumeralLemmas.{decimal_first, digits_of_decimal, decimal_of_digits}
-use Rattle.ip_match.proofs.numeral.read_decimal.Goals.{else-text-gt1-via-then-text-gt1+else-text-eq48, else-text-gt1-via-else-text-gt1}
+use Rattle.ip_match.proofs.numeral.read_decimal.Goals.{else-text-gt1-via-then-text-gt1+else-text-eq-ZERO, else-text-gt1-via-else-text-gt1}
 use Rattle.ip_match.proofs.numeral.read_decimal.Goals as goal
 
-pub returns-then-text-eq48-clause-only : goal.returns-then-text-eq48-clause-only
-returns-then-text-eq48-clause-only c = λ n small spelled.
-    absurd (decimal_first n (omega arith) (rw (← spelled) (omega arith)) (rw (← spelled) c.if-text-eq48.true))
+pub returns-then-text-eq-ZERO-clause-only : goal.returns-then-text-eq-ZERO-clause-only
+returns-then-text-eq-ZERO-clause-only c = λ n small spelled.
+    absurd (decimal_first n (omega arith) (rw (← spelled) (omega arith)) (rw (← spelled) c.if-text-eq-ZERO.true))
 
 pub returns-in_err-number-clause-only : goal.returns-in_err-number-clause-only
 returns-in_err-number-clause-only c = λ n small spelled.
@@ -17,7 +17,7 @@ returns-clause-found c =
     let read = c.in_ok-number.ensures in
     let first : get_or c.args.text.now 0 0 ≡ 48 → length c.args.text.now ≡ 1 =
     elim c.else-text-gt1.branch [
-      | else-text-gt1-via-then-text-gt1+else-text-eq48 w ↦ λ h. absurd (w.if-text-eq48.false h)
+      | else-text-gt1-via-then-text-gt1+else-text-eq-ZERO w ↦ λ h. absurd (w.if-text-eq-ZERO.false h)
       | else-text-gt1-via-else-text-gt1 w ↦ λ h. omega arith
     ]
     in

@@ -1,9 +1,8 @@
-use Rattle.std.proofs.Common.{◌≡◌, ◌+◌, ◌≤◌, eqb, length, drop, None, Some, sym, ap, ◌∙◌, arith, rules, tests}
+use Rattle.std.proofs.Common.{◌≡◌, ◌+◌, eqb, None, Some, sym, ◌∙◌, rules, tests}
 use Rattle.std.specs.List.{position}
 use Rattle.std.proofs.lemmas.Iterator.{YieldsList-from_slice}
 use Rattle.std.proofs.lemmas.Iterator.Search.{position_from_yields_List}
 use Rattle.std.proofs.lemmas.List.{take_rest}
-use Rattle.ip_match.specs.Parts.{parts_of}
 use Rattle.ip_match.proofs.PartLemmas.{parts_at, parts_whole}
 use Rattle.ip_match.proofs.parts.cut.Goals as goal
 

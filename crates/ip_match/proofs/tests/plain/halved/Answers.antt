@@ -1,4 +1,4 @@
-use Rattle.std.proofs.Common.{◌≡◌, ℕ, ◌/◌, ◌^◌, ◌+◌, ap, ◌∙◌, arith}
+use Rattle.std.proofs.Common.{ℕ, ◌/◌, ap, ◌∙◌}
 use Rattle.std.proofs.lemmas.Nat.{shr-shr}
 use Rattle.ip_match.proofs.tests.plain.halved.Goals as goal
 
