@@ -89,6 +89,12 @@ pub fn joined_texts_are_unique()
         → first ≡ second }
 {}
 
+/// The law that a line is at most one list of plain fields.
+pub fn plain_fields_are_unique()
+    ensures { (columns width : ℕ) (line : List ℕ) (first second : List (List ℕ)) → IsPlainLine columns line first → IsPlainLine width line second
+        → first ≡ second }
+{}
+
 /// Reads a line as a rule: exactly so many plain fields, joined by a comma and a blank. A plain field is UTF-8 of
 /// 1 to 4,096 bytes, without a comma, a double quote, CR or LF, with no space or tab at either end and no `#` at
 /// the front.

@@ -9,6 +9,8 @@ mod lines;
 #[cfg(test)]
 mod lines_tests;
 mod memory;
+#[cfg(test)]
+mod memory_tests;
 mod rule;
 mod rules;
 mod shelf;
@@ -18,7 +20,8 @@ mod text;
 
 pub use fault::{Failed, NoMemory};
 pub use fields::{
-    JoinFault, PlainFault, cut_joined, joined_texts_are_unique, push_joined, read_plain_fields,
+    JoinFault, PlainFault, cut_joined, joined_texts_are_unique, plain_fields_are_unique,
+    push_joined, read_plain_fields,
 };
 pub use lines::{lines_with_ends, lines_without_last_end, next_full_line, next_line};
 pub use memory::{ListShelf, ListSink, ListSource, SureShelf, SureSink, SureSource};
