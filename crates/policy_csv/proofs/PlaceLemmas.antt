@@ -1,14 +1,15 @@
 -- Rules that are the same, and the first places of a list of rules.
-use Rattle.std.proofs.Common.{◌≡◌, ◌≢◌, ◌≤◌, ◌<◌, ◌↔◌, ◌+◌, ◌&&◌, ◌||◌, ℕ, suc, Bool, true, false, cond, not, List, [], ◌∷◌, ◌++◌, length, drop, get_or, refl, sym, ap, ◌∙◌, subst, arith, rules, tests}
-use Rattle.std.specs.Prelude.{filter, bytes_eq, Contains, AllPairs, All}
+use Rattle.std.proofs.Common.{◌≡◌, ◌≢◌, ◌≤◌, ◌<◌, ◌↔◌, ◌+◌, ◌&&◌, ◌||◌, ℕ, suc, Bool, true, false, cond, not, List, [], ◌∷◌, ◌++◌, length, drop, get_or, Some, refl, sym, ap, ◌∙◌, subst, arith, rules, tests}
+use Rattle.std.specs.Prelude.{filter, bytes_eq, slice_get, Contains, AllPairs, All}
 use Rattle.std.specs.Bool.{Decides}
 use Rattle.std.specs.List.{list_any}
-use Rattle.std.proofs.lemmas.Bool.{false≢true}
+use Rattle.std.proofs.lemmas.Bool.{not-false, not-true}
 use Rattle.std.proofs.lemmas.Bool.Decides.{Decides-by_or}
 use Rattle.std.proofs.lemmas.List.{append_assoc, append-nil, drop_more, length-append}
-use Rattle.std.proofs.lemmas.List.Elements.{Contains-get_or, Decides-contains, filter-append}
+use Rattle.std.proofs.lemmas.List.Elements.{All-cons, All-filter, All-head, All-nil, All-tail, Contains-get_or, Decides-contains, filter-append}
 use Rattle.std.proofs.lemmas.List.Quantifiers.{all_pairs_push}
 use Rattle.std.proofs.lemmas.Map.Views.{any-filter_same}
+use Rattle.std.proofs.lemmas.Option.{get_or_from_slice_get, slice_get_within}
 use Rattle.std.proofs.lemmas.Slice.Eq.{bytes_eq-Decides, slice_eq-Decides}
 use Rattle.policy_csv.specs.FirstPlaces.{first_places, same_rule, stands}
 
@@ -25,9 +26,22 @@ same_rule-lengths (f ∷ first) (s ∷ second) other =
     rw (same_rule-lengths first second (λ e. other (ap suc e))) (search (rules, tests))
 
 -- at the next field
-pub same_rule-drop : (first second : List (List ℕ)) (at : ℕ) (f s : List ℕ) → at < length first → at < length second → f ≡ get_or first at f → s ≡ get_or second at s → same_rule (drop at first) (drop at second) ≡ (bytes_eq f s && same_rule (drop (at + 1) first) (drop (at + 1) second))
-same_rule-drop first second at f s in_first in_second is_f is_s =
-    rw (drop_more first at f in_first, drop_more second at s in_second, ← is_f, ← is_s) refl
+pub same_rule-drop : (first second : List (List ℕ)) (at : ℕ) (f s : List ℕ) → slice_get first at ≡ Some f → slice_get second at ≡ Some s → same_rule (drop at first) (drop at second) ≡ (bytes_eq f s && same_rule (drop (at + 1) first) (drop (at + 1) second))
+same_rule-drop first second at f s here there =
+    rw (drop_more first at f (slice_get_within first at f here), drop_more second at s (slice_get_within second at s there), get_or_from_slice_get first at f f here, get_or_from_slice_get second at s s there) refl
+
+-- where the fields at a place differ, and where they are the same
+pub same_rule-differs : (first second : List (List ℕ)) (at : ℕ) (f s : List ℕ) → same_rule (drop at first) (drop at second) ≡ same_rule first second → slice_get first at ≡ Some f → slice_get second at ≡ Some s → not (bytes_eq f s) ≡ true → false ≡ same_rule first second
+same_rule-differs first second at f s so_far here there differ =
+    let next = same_rule-drop first second at f s here there in
+    let other : bytes_eq f s ≡ false = not-true (bytes_eq f s) differ in
+    sym (rw other at next) ∙ so_far
+
+pub same_rule-more : (first second : List (List ℕ)) (at : ℕ) (f s : List ℕ) → same_rule (drop at first) (drop at second) ≡ same_rule first second → slice_get first at ≡ Some f → slice_get second at ≡ Some s → not (bytes_eq f s) ≡ false → same_rule (drop (at + 1) first) (drop (at + 1) second) ≡ same_rule first second
+same_rule-more first second at f s so_far here there same =
+    let next = same_rule-drop first second at f s here there in
+    let is : bytes_eq f s ≡ true = not-false (bytes_eq f s) same in
+    sym (rw is at next) ∙ so_far
 
 -- a rule is among the rules exactly where the test says so
 pub stands-Decides : (rules : List (List (List ℕ))) (rule : List (List ℕ)) → Decides (stands rules rule) (Contains rules rule)
@@ -120,3 +134,10 @@ stands-absent rules rule absent = not_among (stands rules rule) (λ told. absent
     not_among : (test : Bool) → ¬ (test ≡ true) → test ≡ false
     not_among true none = absurd (none refl)
     not_among false none = refl
+
+-- what holds of each rule of a list holds of each first place
+pub All-first_places : (P : List (List ℕ) → Type 0) (rules : List (List (List ℕ))) → All P rules → All P (first_places rules)
+unfolding first_places
+All-first_places P [] all = all
+All-first_places P (rule ∷ rules) all =
+    All-cons P rule _ (All-head P rule rules all) (All-filter (λ (other : List (List ℕ)). not (same_rule rule other)) P (first_places rules) (All-first_places P rules (All-tail P rule rules all)))
