@@ -1,12 +1,11 @@
 -- Rules that are the same, and the first places of a list of rules.
-use Rattle.std.proofs.Common.{◌≡◌, ◌≢◌, ◌≤◌, ◌<◌, ◌↔◌, ◌+◌, ◌&&◌, ◌||◌, ℕ, suc, Bool, true, false, cond, not, List, [], ◌∷◌, ◌++◌, length, drop, get_or, Some, refl, sym, ap, ◌∙◌, subst, arith, rules, tests}
+use Rattle.std.proofs.Common.{◌≡◌, ◌≢◌, ◌≤◌, ◌↔◌, ◌+◌, ◌&&◌, ◌||◌, ℕ, suc, Bool, true, false, cond, not, List, [], ◌∷◌, ◌++◌, length, drop, Some, refl, sym, ap, ◌∙◌, subst, arith, rules, tests}
 use Rattle.std.specs.Prelude.{filter, bytes_eq, slice_get, Contains, AllPairs, All}
 use Rattle.std.specs.Bool.{Decides}
-use Rattle.std.specs.List.{list_any}
 use Rattle.std.proofs.lemmas.Bool.{not-false, not-true}
 use Rattle.std.proofs.lemmas.Bool.Decides.{Decides-by_or}
 use Rattle.std.proofs.lemmas.List.{append_assoc, append-nil, drop_more, length-append}
-use Rattle.std.proofs.lemmas.List.Elements.{All-cons, All-filter, All-head, All-nil, All-tail, Contains-get_or, Decides-contains, filter-append}
+use Rattle.std.proofs.lemmas.List.Elements.{All-cons, All-filter, All-head, All-tail, Contains-get_or, Decides-contains, filter-append}
 use Rattle.std.proofs.lemmas.List.Quantifiers.{all_pairs_push}
 use Rattle.std.proofs.lemmas.Map.Views.{any-filter_same}
 use Rattle.std.proofs.lemmas.Option.{get_or_from_slice_get, slice_get_within}
@@ -105,9 +104,9 @@ once-push rules rule true is once = subst (AllPairs (λ (a : List (List ℕ)) (b
 once-push rules rule false is once =
     subst (AllPairs (λ (a : List (List ℕ)) (b : List (List ℕ)). a ≢ b)) (sym (first_places-new rules rule is))
     (all_pairs_push (λ (a : List (List ℕ)) (b : List (List ℕ)). a ≢ b) (first_places rules) rule once (λ k d inside e.
-        let among : Contains (first_places rules) rule = subst (Contains (first_places rules)) e (Contains-get_or (first_places rules) k d inside) in
-        let told : stands rules rule ≡ true = sym (stands-first_places rules rule) ∙ (stands-Decides (first_places rules) rule).1 among in
-        absurd cc))
+    let among : Contains (first_places rules) rule = subst (Contains (first_places rules)) e (Contains-get_or (first_places rules) k d inside) in
+    let told : stands rules rule ≡ true = sym (stands-first_places rules rule) ∙ (stands-Decides (first_places rules) rule).1 among in
+    absurd cc))
 
 once-append : (front back : List (List (List ℕ))) → AllPairs (λ (a : List (List ℕ)) (b : List (List ℕ)). a ≢ b) (first_places front) → AllPairs (λ (a : List (List ℕ)) (b : List (List ℕ)). a ≢ b) (first_places (front ++ back))
 once-append front [] once = rw append-nil once
@@ -124,9 +123,10 @@ first_places-once rules = once-append [] rules (rw first_places-nil (λ i j d be
 
 -- first places have the members of the list
 pub first_places-members : (rules : List (List (List ℕ))) (rule : List (List ℕ)) → Contains (first_places rules) rule ↔ Contains rules rule
-first_places-members rules rule =
-    ( λ among. (stands-Decides rules rule).0 (sym (stands-first_places rules rule) ∙ (stands-Decides (first_places rules) rule).1 among)
-    , λ among. (stands-Decides (first_places rules) rule).0 (stands-first_places rules rule ∙ (stands-Decides rules rule).1 among) )
+first_places-members rules rule = (
+  λ among. (stands-Decides rules rule).0 (sym (stands-first_places rules rule) ∙ (stands-Decides (first_places rules) rule).1 among),
+  λ among. (stands-Decides (first_places rules) rule).0 (stands-first_places rules rule ∙ (stands-Decides rules rule).1 among),
+)
 
 pub stands-absent : (rules : List (List (List ℕ))) (rule : List (List ℕ)) → ¬ (Contains rules rule) → stands rules rule ≡ false
 stands-absent rules rule absent = not_among (stands rules rule) (λ told. absent ((stands-Decides rules rule).0 told))

@@ -1,10 +1,10 @@
 -- The lines of a policy, read from the front.
-use Rattle.std.proofs.Common.{◌≡◌, ◌≤◌, ◌<◌, ◌||◌, ◌&&◌, ℕ, Bool, true, false, cond, not, eqb, List, [], ◌∷◌, ◌++◌, length, map, get_or, refl, sym, ap, ◌∙◌, subst, arith}
+use Rattle.std.proofs.Common.{◌≡◌, ◌≤◌, ◌||◌, ◌&&◌, ℕ, Bool, true, false, cond, not, eqb, List, [], ◌∷◌, ◌++◌, length, map, get_or, refl, sym, ap, ◌∙◌, subst, arith}
 use Rattle.std.specs.Prelude.{All, IsTrue}
 use Rattle.std.proofs.lemmas.List.{append_assoc, append-nil, length-append, map-append}
 use Rattle.std.proofs.lemmas.List.Elements.{All-head, All-nil, All-push, All-tail, All-weaker}
 use Rattle.perm_base.specs.Lines.{full_lines, has_byte}
-use Rattle.perm_base.specs.Fields.{IsJoined, IsPlainField, IsPlainLine, has_plain_ends, has_special, is_special, joined}
+use Rattle.perm_base.specs.Fields.{IsJoined, IsPlainField, has_plain_ends, has_special, is_special, joined}
 use Rattle.policy_csv.specs.FirstPlaces.{first_places, stands}
 use Rattle.policy_csv.specs.Policy.{IsPlainRule, IsPolicy, policy_line}
 use Rattle.policy_csv.specs.declared.policy.PolicyFault.{PolicyFault}
@@ -106,11 +106,11 @@ ReadsTo-more columns bytes rest line after rules new rule reads cut spelled plai
       lines = reads.lines ∙ rw (map-append, append_assoc) (ap (λ (lines : List (List ℕ)). map policy_line reads.front ++ lines) (cut ∙ ap (λ (first : List ℕ). first ∷ full_lines after) spelled));
       few = few;
       only = λ all lines all_plain.
-        let tail = reads.only all lines all_plain in
-        let first = first_rule columns line (full_lines after) tail.0 (sym cut ∙ tail.2) tail.3 in
-        let same : rule ≡ first.0 = sole first.0 first.4 first.3 in
-        let parts : tail.0 ≡ rule ∷ first.1 = first.2 ∙ ap (λ (r : List (List ℕ)). r ∷ first.1) (sym same) in
-        (first.1, tail.1 ∙ rw append_assoc (ap (λ (back : List (List (List ℕ))). reads.front ++ back) parts), first.5, first.6);
+          let tail = reads.only all lines all_plain in
+          let first = first_rule columns line (full_lines after) tail.0 (sym cut ∙ tail.2) tail.3 in
+          let same : rule ≡ first.0 = sole first.0 first.4 first.3 in
+          let parts : tail.0 ≡ rule ∷ first.1 = first.2 ∙ ap (λ (r : List (List ℕ)). r ∷ first.1) (sym same) in
+          (first.1, tail.1 ∙ rw append_assoc (ap (λ (back : List (List (List ℕ))). reads.front ++ back) parts), first.5, first.6);
     }
 
 -- a further different rule where there are 200,000

@@ -6,5 +6,7 @@ mod policy;
 #[cfg(test)]
 mod policy_tests;
 
-pub use places::{first_places_have_the_same_rules, first_places_keep_the_order, first_places_stand_once};
+pub use places::{
+    first_places_have_the_same_rules, first_places_keep_the_order, first_places_stand_once,
+};
 pub use policy::{PolicyFault, policies_are_unique, read_policy};

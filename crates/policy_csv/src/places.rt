@@ -10,14 +10,12 @@ const MOST_RULES: usize = 200_000;
 /// The law that no rule stands twice among first places.
 pub fn first_places_stand_once()
     ensures { (rules : List (List (List ℕ))) → AllPairs (λ rule later. rule ≢ later) (first_places rules) }
-{
-}
+{}
 
 /// The law that among first places stand the rules of the list, and no others.
 pub fn first_places_have_the_same_rules()
     ensures { (rules : List (List (List ℕ))) (rule : List (List ℕ)) → (Contains (first_places rules) rule ↔ Contains rules rule) }
-{
-}
+{}
 
 /// The law that one more rule at the end of a list is one more first place at the end, where it is a new one,
 /// and none otherwise.
@@ -27,8 +25,7 @@ pub fn first_places_keep_the_order()
         → first_places (rules ++ rule ∷ []) ≡ first_places rules }
     ensures new_rule { (rules : List (List (List ℕ))) (rule : List (List ℕ)) → ¬ (Contains rules rule)
         → first_places (rules ++ rule ∷ []) ≡ first_places rules ++ rule ∷ [] }
-{
-}
+{}
 
 // Puts the rule behind the others, unless it is among them.
 pub(crate) fn keep(rules: &mut Vec<Rule>, rule: Rule) -> Result<(), PolicyFault>

@@ -45,21 +45,37 @@ fn a_policy_keeps_the_first_of_equal_rules(rt: HostRuntime) -> Result<(), Fail> 
         (b"p, alice, data1, read", b"alice, data1, read\n"),
         (b"p, alice, data1, read\n", b"alice, data1, read\n"),
         (b"\n\np, a, d, r\n\n\np, b, d, r\n\n", b"a, d, r\nb, d, r\n"),
-        (b"p, z, d, r\np, a, d, r\np, m, d, r", b"z, d, r\na, d, r\nm, d, r\n"),
+        (
+            b"p, z, d, r\np, a, d, r\np, m, d, r",
+            b"z, d, r\na, d, r\nm, d, r\n",
+        ),
         (b"p, a, d, r\np, a, d, r", b"a, d, r\n"),
         (b"p, a, d, r\np, b, d, r\np, a, d, r", b"a, d, r\nb, d, r\n"),
-        (b"p, a, d, r\np, b, d, r\np, a, d, r\np, c, d, r\np, a, d, r\np, b, d, r\n", b"a, d, r\nb, d, r\nc, d, r\n"),
-        (b"p, a, d, r\np, a, d, w\np, a, e, r\np, b, d, r", b"a, d, r\na, d, w\na, e, r\nb, d, r\n"),
+        (
+            b"p, a, d, r\np, b, d, r\np, a, d, r\np, c, d, r\np, a, d, r\np, b, d, r\n",
+            b"a, d, r\nb, d, r\nc, d, r\n",
+        ),
+        (
+            b"p, a, d, r\np, a, d, w\np, a, e, r\np, b, d, r",
+            b"a, d, r\na, d, w\na, e, r\nb, d, r\n",
+        ),
         (b"p, ab, c, d\np, a, bc, d", b"ab, c, d\na, bc, d\n"),
         (b"p, p, p, p", b"p, p, p\n"),
         (b"p, g, p, g", b"g, p, g\n"),
-        (b"p, alice b. smith, a\tb, read#2", b"alice b. smith, a\tb, read#2\n"),
+        (
+            b"p, alice b. smith, a\tb, read#2",
+            b"alice b. smith, a\tb, read#2\n",
+        ),
         (b"p, zo\xc3\xab, data1, read", b"zo\xc3\xab, data1, read\n"),
         (b"p, 'alice', *, .*", b"'alice', *, .*\n"),
     ];
     for (text, expected) in cases {
         let rules = read_policy(rt.alloc(), text, 3)?;
-        assert_eq!(rt; printed(rt.alloc(), &rules)?.as_slice(), expected, "of {text:?}");
+        assert_eq!(rt;
+            printed(rt.alloc(), &rules)?.as_slice(),
+            expected,
+            "of {text:?}"
+        );
     }
     Ok(())
 }
@@ -109,7 +125,10 @@ fn a_field_has_at_most_4096_bytes(rt: HostRuntime) -> Result<(), Fail> {
     let longest = line_with_long_field(rt.alloc(), 4096)?;
     assert_eq!(rt; read_policy(rt.alloc(), &longest, 3)?.len(), 1);
     let longer = line_with_long_field(rt.alloc(), 4097)?;
-    assert_eq!(rt; read_policy(rt.alloc(), &longer, 3).err(), Some(PolicyFault::NotYet));
+    assert_eq!(rt;
+        read_policy(rt.alloc(), &longer, 3).err(),
+        Some(PolicyFault::NotYet)
+    );
     Ok(())
 }
 
@@ -118,7 +137,11 @@ fn the_columns_are_as_many_as_are_asked_for(rt: HostRuntime) -> Result<(), Fail>
     for columns in 1..6 {
         let read = read_policy(rt.alloc(), b"p, alice, data1, read", columns);
         assert_eq!(rt; read.is_ok(), columns == 3, "with {columns} columns");
-        assert_eq!(rt; read_policy(rt.alloc(), b"\n", columns)?.len(), 0, "with {columns} columns");
+        assert_eq!(rt;
+            read_policy(rt.alloc(), b"\n", columns)?.len(),
+            0,
+            "with {columns} columns"
+        );
     }
     Ok(())
 }

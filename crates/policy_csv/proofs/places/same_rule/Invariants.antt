@@ -1,4 +1,4 @@
-use Rattle.std.proofs.Common.{◌≡◌, length, drop}
+use Rattle.std.proofs.Common.{◌≡◌, drop}
 use Rattle.policy_csv.specs.FirstPlaces.{same_rule}
 use Rattle.policy_csv.proofs.places.same_rule.Given as goal
 

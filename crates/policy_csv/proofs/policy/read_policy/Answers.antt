@@ -2,7 +2,7 @@ use Rattle.std.proofs.Common.{◌≡◌, ◌≤◌, ℕ, List, Err, refl, ap, �
 use Rattle.std.proofs.lemmas.Result.{err_from_is_err_and}
 use Rattle.policy_csv.specs.Policy.{IsPolicy}
 use Rattle.policy_csv.specs.declared.policy.PolicyFault.{PolicyFault}
-use Rattle.policy_csv.specs.declared.policy.PolicyFault.TheVariants.{NotYet, NoMemory}
+use Rattle.policy_csv.specs.declared.policy.PolicyFault.TheVariants.{NoMemory}
 use Rattle.policy_csv.proofs.PolicyLemmas.{ReadsTo-begin, ReadsTo-columns, ReadsTo-end_only, ReadsTo-full, ReadsTo-more, next_rule, only_memory}
 use Rattle.policy_csv.proofs.policy.read_policy.Goals as goal
 
@@ -20,9 +20,9 @@ keep_stop : (c : goal.After-drop-rules-in_err-keep) (rules : List (List (List �
 keep_stop c rules is =
     let stop = err_from_is_err_and c.from_residual-in_err-keep.result c.from_residual-in_err-keep.ensures.1 in
     let memory : c.in_err-keep.field-0.0 ≡ NoMemory = only_memory c.in_err-keep.field-0.0 (λ fault.
-        let not_yet = ap (λ (f : PolicyFault). Err f) fault in
-        let full : length c.loop-line.rules.items ≡ 200000 = omega (arith, c.loop-line.rules.ok.0, c.in_err-keep.ensures.full not_yet) in
-        ReadsTo-full c.args.columns c.args.bytes.now c.loop-line.rest.now c.in-Some.line.now c.in-Some.after.now c.loop-line.rules.items rules c.in_ok-rule.rule c.loop-line.invariant c.in-Some.ensures.first c.in_ok-rule.ensures.only (c.in_err-keep.ensures.another not_yet) full is) in
+    let not_yet = ap (λ (f : PolicyFault). Err f) fault in
+    let full : length c.loop-line.rules.items ≡ 200000 = omega (arith, c.loop-line.rules.ok.0, c.in_err-keep.ensures.full not_yet) in
+    ReadsTo-full c.args.columns c.args.bytes.now c.loop-line.rest.now c.in-Some.line.now c.in-Some.after.now c.loop-line.rules.items rules c.in_ok-rule.rule c.loop-line.invariant c.in-Some.ensures.first c.in_ok-rule.ensures.only (c.in_err-keep.ensures.another not_yet) full is) in
     stop.1 ∙ ap (λ (fault : PolicyFault). Err fault) (stop.2 ∙ memory)
 
 pub returns-in_err-rule-clause-only : goal.returns-in_err-rule-clause-only
