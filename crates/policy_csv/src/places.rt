@@ -14,7 +14,8 @@ pub fn first_places_stand_once()
 
 /// The law that among first places stand the rules of the list, and no others.
 pub fn first_places_have_the_same_rules()
-    ensures { (rules : List (List (List ℕ))) (rule : List (List ℕ)) → (Contains (first_places rules) rule ↔ Contains rules rule) }
+    ensures { (rules : List (List (List ℕ))) (rule : List (List ℕ))
+        → (Contains (first_places rules) rule ↔ Contains rules rule) }
 {}
 
 /// The law that one more rule at the end of a list is one more first place at the end, where it is a new one,
@@ -30,7 +31,8 @@ pub fn first_places_keep_the_order()
 // Puts the rule behind the others, unless it is among them.
 pub(crate) fn keep(rules: &mut Vec<Rule>, rule: Rule) -> Result<(), PolicyFault>
     requires { vec_len rules.old ≤ MOST_RULES }
-    ensures kept { OnOk result (rules.new.items ≡ (if stands rules.old.items rule then rules.old.items else rules.old.items ++ rule ∷ [])) }
+    ensures kept { OnOk result (rules.new.items
+        ≡ (if stands rules.old.items rule then rules.old.items else rules.old.items ++ rule ∷ [])) }
     ensures few { OnOk result (vec_len rules.new ≤ MOST_RULES) }
     ensures another { IsErrOf result PolicyFault.NotYet → stands rules.old.items rule ≡ false }
     ensures full { IsErrOf result PolicyFault.NotYet → vec_len rules.old ≡ MOST_RULES }

@@ -44,12 +44,13 @@ impl From<PlainFault> for PolicyFault {
 ///
 /// Each line is `p` and the fields of a rule, joined by a comma and a blank; empty lines are passed over, and the
 /// last line may lack its LF. A field is 1 to 4,096 bytes of UTF-8 without comma, double quote and CR, does not
-/// begin with `#` and has no blank at either end.
+/// begin with `#` and has no blank at either end. The time grows with the square of the number of different rules.
 pub fn read_policy(alloc: Global, bytes: &[u8], columns: u32) -> Result<Rules, PolicyFault>
     ensures found { IfOk result (λ rules. IsPolicy columns bytes.now rules) }
     ensures only { (rules : List (List (List ℕ))) → IsPolicy columns bytes.now rules
         → MatchResult result (λ found. found ≡ rules) (λ fault. fault ≡ PolicyFault.NoMemory) }
-    ensures not_yet { IsErrOf result PolicyFault.NotYet → (rules : List (List (List ℕ))) → ¬ (IsPolicy columns bytes.now rules) }
+    ensures not_yet { IsErrOf result PolicyFault.NotYet → (rules : List (List (List ℕ)))
+        → ¬ (IsPolicy columns bytes.now rules) }
     ensures columns { IfOk result (λ rules. All (λ rule. length rule ≡ columns) rules) }
 {
     let mut rules = Vec::new(alloc);
