@@ -1,6 +1,6 @@
 ghost use Rattle.std.specs.Prelude.{◌≡◌, ◌<◌, ◌^◌, ◌↔◌, ℕ, List, Some, Contains, IfNone, IfOk, IfSome, IsTrue, MatchResult, length, map, slice_get};
 ghost use Rattle.perm_base.specs.Fields.{joined};
-ghost use Rattle.model_conf.specs.Columns.{AreColumns, AreDistinct, is_identifier, is_letter, is_word};
+ghost use Rattle.model_conf.specs.Columns.{AreColumns, AreDistinct, AreNames, is_identifier, is_letter, is_word};
 
 use crate::fault::ModelFault;
 use perm_base::{NoMemory, Rule, Text, cut_joined};
@@ -46,7 +46,8 @@ impl<'a> Columns<'a> {
         ensures found { IfSome result (λ at. slice_get self.now at ≡ Some name.now) }
         ensures none { IfNone result (¬ (Contains self.now name.now)) }
     {
-        place_of(&self.names, name)
+        let at = place_of(&self.names, name)?;
+        Some(at as u32)
     }
 
     /// The columns as a rule.
@@ -57,7 +58,10 @@ impl<'a> Columns<'a> {
         for name in &self.names {
             fields.push(Text::from_str(alloc, text_of(name))?)?;
         }
-        Ok(Rule::from_fields(fields).unwrap())
+        let Ok(rule) = Rule::from_fields(fields) else {
+            unreachable!()
+        };
+        Ok(rule)
     }
 }
 
@@ -66,20 +70,28 @@ fn text_of(name: &[u8]) -> &str
     requires { IsTrue (is_identifier name.now) }
     ensures { result.now ≡ name.now }
 {
-    str::from_utf8(name).unwrap()
+    let Ok(text) = str::from_utf8(name) else {
+        unreachable!()
+    };
+    text
 }
 
 fn are_columns(names: &[&[u8]]) -> bool
     ensures { IsTrue result ↔ AreColumns (map (λ name. name.now) names.now) }
 {
-    !names.is_empty()
-        && names.len() <= MOST_COLUMNS
-        && names.iter().all(|name| is_identifier(name))
-        && are_distinct(names)
+    if names.is_empty() || names.len() > MOST_COLUMNS {
+        return false;
+    }
+    are_identifiers(names) && are_distinct(names)
+}
+
+fn are_identifiers(names: &[&[u8]]) -> bool
+    ensures { IsTrue result ↔ AreNames (map (λ name. name.now) names.now) }
+{
+    names.iter().all(|name| is_identifier(name))
 }
 
 fn are_distinct(names: &[&[u8]]) -> bool
-    requires { length names.now < 2 ^ 32 }
     ensures { IsTrue result ↔ AreDistinct (map (λ name. name.now) names.now) }
 {
     for at in 0..names.len() {
@@ -91,13 +103,11 @@ fn are_distinct(names: &[&[u8]]) -> bool
 }
 
 // The place of a name, counted from 0.
-fn place_of(names: &[&[u8]], name: &[u8]) -> Option<u32>
-    requires { length names.now < 2 ^ 32 }
+fn place_of(names: &[&[u8]], name: &[u8]) -> Option<usize>
     ensures found { IfSome result (λ at. slice_get (map (λ n. n.now) names.now) at ≡ Some name.now) }
     ensures none { IfNone result (¬ (Contains (map (λ n. n.now) names.now) name.now)) }
 {
-    let at = names.iter().position(|n| *n == name)?;
-    Some(at as u32)
+    names.iter().position(|n| *n == name)
 }
 
 fn is_identifier(name: &[u8]) -> bool

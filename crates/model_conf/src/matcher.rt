@@ -28,12 +28,16 @@ pub(crate) fn read_equalities(
     let mut pairs = Vec::new(alloc);
     let mut rest = text;
     while let Some((front, behind)) = cut_at_and(rest) {
-        let pair = read_equality(front, request, policy).ok_or(ModelFault::NotYet)?;
+        let Some(pair) = read_equality(front, request, policy) else {
+            return Err(ModelFault::NotYet);
+        };
         pairs.push(pair).map_err(NoMemory::from)?;
         rest = behind;
     }
-    let pair = read_equality(rest, request, policy).ok_or(ModelFault::NotYet)?;
-    pairs.push(pair).map_err(NoMemory::from)?;
+    let Some(last) = read_equality(rest, request, policy) else {
+        return Err(ModelFault::NotYet);
+    };
+    pairs.push(last).map_err(NoMemory::from)?;
     if pairs.len() > MOST_EQUALITIES {
         return Err(ModelFault::NotYet);
     }

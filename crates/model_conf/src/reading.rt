@@ -6,6 +6,7 @@ use crate::fault::ModelFault;
 use crate::matcher::read_equalities;
 use crate::model::Model;
 use crate::sections::cut_sections;
+use perm_base::joined_texts_are_unique;
 use std::alloc::Global;
 
 /// Reads the text of a model of equalities. Lines are cut at LF alone, and empty lines are passed over.
@@ -18,12 +19,14 @@ pub fn read_model(alloc: Global, bytes: &[u8]) -> Result<Model, ModelFault>
     // Which refusal it is.
     ensures not_yet { IsErrOf result ModelFault.NotYet → (parts : ModelParts) → ¬ (IsModel bytes.now parts) }
 {
-    let sections = cut_sections(bytes).ok_or(ModelFault::NotYet)?;
+    let Some(sections) = cut_sections(bytes) else {
+        return Err(ModelFault::NotYet);
+    };
     let request = Columns::cut(alloc, sections.request)?;
     let policy = Columns::cut(alloc, sections.policy)?;
-    if policy.place_of(b"eft").is_some() {
+    let None = policy.place_of(b"eft") else {
         return Err(ModelFault::NotYet);
-    }
+    };
     let pairs = read_equalities(alloc, sections.matcher, &request, &policy)?;
     Ok(Model::from_parts(request.to_rule(alloc)?, policy.to_rule(alloc)?, pairs))
 }
@@ -31,4 +34,6 @@ pub fn read_model(alloc: Global, bytes: &[u8]) -> Result<Model, ModelFault>
 /// The law that a text says at most one model.
 pub fn text_says_one_model()
     ensures { (bytes : List ℕ) (first second : ModelParts) → IsModel bytes first → IsModel bytes second → first ≡ second }
-{}
+{
+    joined_texts_are_unique();
+}

@@ -1,10 +1,11 @@
-ghost use Rattle.std.specs.Prelude.{◌≡◌, ℕ, List, ◌∷◌, ◌++◌, IfNone, IfSome};
+ghost use Rattle.std.specs.Prelude.{◌≡◌, ◌↔◌, ℕ, List, ◌∷◌, ◌++◌, IfNone, IfSome, IsTrue, codes};
 ghost use Rattle.perm_base.specs.Lines.{full_lines};
 ghost use Rattle.model_conf.specs.ModelText.{section_lines};
 
+use crate::cutting::behind_front;
 use perm_base::next_full_line;
 
-// The effect that a rule allows: the only one that is read.
+// The effect that some rule allows.
 const ALLOW_OVERRIDE: &[u8] = b"some(where (p.eft == allow))";
 
 /// What stands behind the keys of a model's sections.
@@ -24,15 +25,25 @@ pub(crate) fn cut_sections(text: &[u8]) -> Option<Sections<'_>>
     let (request, rest) = cut_section(text, b"[request_definition]", b"r = ")?;
     let (policy, rest) = cut_section(rest, b"[policy_definition]", b"p = ")?;
     let (effect, rest) = cut_section(rest, b"[policy_effect]", b"e = ")?;
-    let (matcher, rest) = cut_section(rest, b"[matchers]", b"m = ")?;
-    if effect != ALLOW_OVERRIDE || next_full_line(rest).is_some() {
+    if !is_allow_override(effect) {
         return None;
     }
+    let (matcher, rest) = cut_section(rest, b"[matchers]", b"m = ")?;
+    let None = next_full_line(rest) else {
+        return None;
+    };
     Some(Sections {
         request,
         policy,
         matcher,
     })
+}
+
+// The only effect that is read yet.
+fn is_allow_override(effect: &[u8]) -> bool
+    ensures { IsTrue result ↔ (effect.now ≡ codes "some(where (p.eft == allow))") }
+{
+    effect == ALLOW_OVERRIDE
 }
 
 // What stands behind the key in the line that follows the header, and what follows that line.
@@ -46,5 +57,5 @@ fn cut_section<'a>(text: &'a [u8], header: &[u8], key: &[u8]) -> Option<(&'a [u8
         return None;
     }
     let (line, rest) = next_full_line(after)?;
-    Some((line.strip_prefix(key)?, rest))
+    Some((behind_front(line, key)?, rest))
 }

@@ -1,0 +1,164 @@
+-- Identifiers, and columns by their places.
+use Rattle.std.proofs.Common.{◌≡◌, ◌≢◌, ℕ, zero, suc, ◌+◌, ◌-◌, ◌<◌, ◌≤◌, ◌||◌, ◌&&◌, Bool, true, false, Bor, List, [], ◌∷◌, ◌++◌, length, take, drop, map, get_or, eqb, Option, Some, None, Contains, IsTrue, refl, sym, ap, ◌∙◌, subst, arith}
+use Rattle.std.specs.Prelude.{slice_get, option_map, IsAscii, MatchOption, IfSome, IfNone, is_some}
+use Rattle.std.specs.List.{list_all, list_any, position, AllWithin, HoldsAt}
+use Rattle.std.proofs.lemmas.Bool.{false≢true}
+use Rattle.std.proofs.lemmas.Bool.Decides.{nat_tests}
+use Rattle.std.proofs.lemmas.Option.{slice_get-map, slice_get-get_or, slice_get_within, get_or_from_slice_get}
+use Rattle.std.proofs.lemmas.List.{length-map, length-take, get_or-map, get_or-take, get_or_default, take-map, take_all, take_more}
+use Rattle.std.proofs.lemmas.List.Folds.{list_all-map}
+use Rattle.std.proofs.lemmas.List.Quantifiers.{all_pairs_push, position-Some}
+use Rattle.std.proofs.lemmas.List.Sums.{AllPass-from_list_all, list_all-from_AllPass}
+use Rattle.perm_base.specs.Fields.{joined, IsJoined}
+use Rattle.perm_base.specs.LineEnds.{has_line_end, is_line_end}
+use Rattle.perm_base.specs.Lines.{has_byte}
+use Rattle.perm_base.specs.Rule.{IsFirstLineEnd}
+use Rattle.perm_base.specs.declared.rule.RuleFault.{RuleFault}
+use Rattle.perm_base.specs.declared.rule.RuleFault.TheVariants.{LineEnd}
+use Rattle.model_conf.specs.Columns.{is_letter, is_word, is_identifier, AreColumns, AreDistinct, AreNames}
+
+-- ---- identifiers
+
+pub is_identifier-front : (name : List ℕ) (more : Bool) → 0 < length name → is_letter (get_or name 0 0) ≡ true → more ≡ list_all is_word (take (length name - 1) (drop 1 name)) → more ≡ is_identifier name
+is_identifier-front [] more some letter words = absurd (omega arith)
+is_identifier-front (first ∷ others) more some letter words =
+    let rest : take (length (first ∷ others) - 1) others ≡ others = take_all _ others (omega arith) in
+    words ∙ ap (λ (bytes : List ℕ). list_all is_word bytes) rest ∙ sym (ap (λ (b : Bool). b && list_all is_word others) letter)
+
+both : (first second : Bool) → (first && second) ≡ true → (first ≡ true) × (second ≡ true)
+both true second e = (refl, e)
+both false second e = absurd cc
+
+-- a letter is a byte of a word
+is_word-letter : (byte : ℕ) → is_letter byte ≡ true → is_word byte ≡ true
+is_word-letter byte e = grind (arith, nat_tests)
+
+is_word-ascii : (byte : ℕ) → is_word byte ≡ true → byte < 128
+is_word-ascii byte e = grind (arith, nat_tests)
+
+pub words : (name : List ℕ) → IsTrue (is_identifier name) → list_all is_word name ≡ true
+words [] is = refl
+words (first ∷ others) is =
+    let parts = both (is_letter first) (list_all is_word others) is in
+    rw (is_word-letter first parts.0, parts.1) refl
+
+words-ascii : (name : List ℕ) (at : ℕ) → list_all is_word name ≡ true → get_or name at 0 < 128
+words-ascii [] at all = omega arith
+words-ascii (byte ∷ bytes) zero all = is_word-ascii byte (both _ _ all).0
+words-ascii (byte ∷ bytes) (suc at) all = words-ascii bytes at (both _ _ all).1
+
+pub IsAscii-identifier : (name : List ℕ) → IsTrue (is_identifier name) → IsAscii name
+IsAscii-identifier name is = λ at. words-ascii name at (words name is)
+
+-- an identifier holds no byte but those of words
+lacks : (p : ℕ → Bool) → ((byte : ℕ) → is_word byte ≡ true → p byte ≡ false) → (name : List ℕ) → list_all is_word name ≡ true → list_any p name ≡ false
+lacks p none [] all = refl
+lacks p none (first ∷ others) all =
+    let parts = both (is_word first) (list_all is_word others) all in
+    rw (none first parts.0, lacks p none others parts.1) refl
+
+differs : (byte other : ℕ) → is_word byte ≡ false → is_word other ≡ true → eqb other byte ≡ false
+differs byte other outside inside = grind (arith, nat_tests)
+
+pub has_byte-identifier : (byte : ℕ) (name : List ℕ) → is_word byte ≡ false → IsTrue (is_identifier name) → has_byte byte name ≡ false
+has_byte-identifier byte name outside is = lacks (λ b. eqb b byte) (λ b. differs byte b outside) name (words name is)
+
+no_line_end : (byte : ℕ) → is_word byte ≡ true → is_line_end byte ≡ false
+no_line_end byte inside = grind (arith, nat_tests)
+
+has_line_end-identifier : (name : List ℕ) → IsTrue (is_identifier name) → has_line_end name ≡ false
+has_line_end-identifier name is = lacks is_line_end no_line_end name (words name is)
+
+at_first : (names : List (List ℕ)) (place : Option ℕ) (field : ℕ) → AreNames names → position has_line_end names ≡ place → option_map (λ (at : ℕ). at + 1) place ≡ Some field → ⊥
+at_first names None field named is e = absurd cc
+at_first names (Some at) field named is e =
+    let first = position-Some has_line_end names at [] is in
+    false≢true (sym (has_line_end-identifier (get_or names at []) (named at [] first.0)) ∙ first.1)
+
+-- identifiers hold no line end
+pub whole_lines : (names : List (List ℕ)) (fault : RuleFault) → AreNames names → IsFirstLineEnd names fault → ⊥
+whole_lines names (LineEnd field) named is = at_first names (position has_line_end names) field named refl is
+
+-- columns are texts without a comma
+pub IsJoined-columns : (line : List ℕ) (names : List (List ℕ)) → AreColumns names → line ≡ joined names → IsJoined line names
+IsJoined-columns line names are spelled = record {
+  some = are.some;
+  whole = λ at d within. has_byte-identifier 44 (get_or names at d) refl (are.named at d within);
+  spelled = spelled;
+}
+
+-- ---- places
+
+abbrev text_of : Bor (List ℕ) → List ℕ
+text_of name = name.now
+
+abbrev pub texts : List (Bor (List ℕ)) → List (List ℕ)
+texts names = map (λ (n : Bor (List ℕ)). n.now) names
+
+found_at : (names : List (Bor (List ℕ))) (name : List ℕ) (d : Bor (List ℕ)) (at : ℕ) → at < length names → HoldsAt (λ (n : Bor (List ℕ)). n.now ≡ name) names at → slice_get (map (λ (n : Bor (List ℕ)). n.now) names) at ≡ Some name
+found_at names name d at within holds = slice_get-map text_of names at ∙ ap (option_map text_of) (slice_get-get_or names at d within) ∙ ap (λ (text : List ℕ). Some text) (holds d)
+
+found_none : (names : List (Bor (List ℕ))) (name : List ℕ) (d : Bor (List ℕ)) → AllWithin (λ (n : Bor (List ℕ)). n.now ≢ name) names 0 (length names) → ¬ (Contains (map (λ (n : Bor (List ℕ)). n.now) names) name)
+found_none names name d none (at, within, is) =
+    let inside : at < length names = omega (arith, length-map names text_of) in
+    none at d (omega arith) inside (sym (get_or-map text_of names at d name inside) ∙ is)
+
+-- what a search for a name says of its place
+pub place_is : (names : List (Bor (List ℕ))) (name : List ℕ) (d : Bor (List ℕ)) (place : Option ℕ) → MatchOption place (AllWithin (λ (n : Bor (List ℕ)). n.now ≢ name) names 0 (length names)) (λ at. (at < length names) × HoldsAt (λ (n : Bor (List ℕ)). n.now ≡ name) names at × AllWithin (λ (n : Bor (List ℕ)). n.now ≢ name) names 0 at)
+    → IfSome place (λ at. slice_get (map (λ (n : Bor (List ℕ)). n.now) names) at ≡ Some name) × IfNone place (¬ (Contains (map (λ (n : Bor (List ℕ)). n.now) names) name))
+place_is names name d None told = (tt, found_none names name d told)
+place_is names name d (Some at) told = (found_at names name d at told.0 told.1, tt)
+
+-- a test of each name
+pub named_by_test : (names : List (Bor (List ℕ))) (test : Bool) → test ≡ list_all (λ (n : Bor (List ℕ)). is_identifier n.now) names → (IsTrue test → AreNames (texts names)) × (AreNames (texts names) → IsTrue test)
+named_by_test names test told =
+    let is : test ≡ list_all is_identifier (texts names) = told ∙ sym (list_all-map is_identifier text_of names) in
+    (λ passed. AllPass-from_list_all is_identifier (texts names) (sym is ∙ passed), λ named. is ∙ list_all-from_AllPass is_identifier (texts names) named)
+
+pub named_at : (items names : List (Bor (List ℕ))) (d : Bor (List ℕ)) (at : ℕ) → items ≡ names → AreNames (texts names) → at < length items → IsTrue (is_identifier (get_or items at d).now)
+named_at items names d at same named within =
+    let inside : at < length (texts items) = omega (arith, length-map items text_of) in
+    let is : AreNames (texts items) = rw same named in
+    rw (← get_or-map text_of items at d [] within) (is at [] inside)
+
+pub taken_more : (fields more : List (List ℕ)) (names : List (Bor (List ℕ))) (d : Bor (List ℕ)) (at : ℕ) (text : List ℕ) → fields ≡ take at (texts names) → at < length names → text ≡ (get_or names at d).now → more ≡ fields ++ text ∷ [] → more ≡ take (at + 1) (texts names)
+taken_more fields more names d at text taken within is pushed =
+    let inside : at < length (texts names) = omega (arith, length-map names text_of) in
+    let name : get_or (texts names) at [] ≡ text = get_or-map text_of names at d [] within ∙ sym is in
+    pushed ∙ sym (rw (take_more (texts names) at [] inside, name, taken) refl)
+
+-- ---- distinct names
+
+pub is_absent : (place : Option ℕ) (P : Type 0) → false ≡ is_some place → IfNone place P → P
+is_absent None P none told = told
+is_absent (Some at) P none told = absurd (false≢true none)
+
+pub distinct_more : (names : List (Bor (List ℕ))) (d : Bor (List ℕ)) (at : ℕ) → at < length names → AreDistinct (take at (texts names)) → ¬ (Contains (texts (take at names)) (get_or names at d).now) → AreDistinct (take (at + 1) (texts names))
+distinct_more names d at within distinct fresh =
+    let name = (get_or names at d).now in
+    let inside : at < length (texts names) = omega (arith, length-map names text_of) in
+    let is : get_or (texts names) at [] ≡ name = get_or-map text_of names at d [] within in
+    let new : ¬ (Contains (take at (texts names)) name) = rw (take-map text_of at names) fresh in
+    rw (take_more (texts names) at [] inside, is) (all_pairs_push (λ (a b : List ℕ). a ≢ b) (take at (texts names)) name distinct (λ k e before same. new (k, before, get_or_default _ k name e before ∙ same)))
+
+-- a name that stands before
+pub repeated : (names : List (Bor (List ℕ))) (d : Bor (List ℕ)) (at : ℕ) (place : Option ℕ) → at < length names → true ≡ is_some place → IfSome place (λ i. slice_get (texts (take at names)) i ≡ Some (get_or names at d).now) → ¬ (AreDistinct (texts names))
+repeated names d at None within some found distinct = false≢true (sym some)
+repeated names d at (Some i) within some found distinct =
+    let shorter : i < length (texts (take at names)) = slice_get_within _ i _ found in
+    let before : i < at = omega (arith, length-map (take at names) text_of, length-take at names) in
+    let inside : at < length (texts names) = omega (arith, length-map names text_of) in
+    let first : get_or (texts (take at names)) i [] ≡ (get_or names at d).now = get_or_from_slice_get _ i _ [] found in
+    let same : get_or (texts names) i [] ≡ get_or (texts (take at names)) i [] = sym (get_or-take at (texts names) i [] before) ∙ ap (λ (l : List (List ℕ)). get_or l i []) (take-map text_of at names) in
+    distinct i at [] before inside (same ∙ first ∙ sym (get_or-map text_of names at d [] within))
+
+pub distinct_all : (names : List (Bor (List ℕ))) (at : ℕ) → length names ≤ at → AreDistinct (take at (texts names)) → AreDistinct (texts names)
+distinct_all names at past distinct =
+    let all : take at (texts names) ≡ texts names = take_all at (texts names) (omega (arith, length-map names text_of)) in
+    subst AreDistinct all distinct
+
+pub named_all : (fields : List (List ℕ)) (items names : List (Bor (List ℕ))) (at : ℕ) → items ≡ names → AreNames (texts names) → length items ≤ at → fields ≡ take at (texts items) → AreNames fields
+named_all fields items names at same named past taken =
+    let all : fields ≡ texts items = taken ∙ take_all at (texts items) (omega (arith, length-map items text_of)) in
+    let is : AreNames (texts items) = rw same named in
+    subst AreNames (sym all) is

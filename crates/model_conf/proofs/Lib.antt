@@ -1,0 +1,5 @@
+pub mod BytePlaces
+pub mod SectionLemmas
+pub mod ColumnLemmas
+pub mod MatcherLemmas
+pub mod ModelLemmas
