@@ -24,9 +24,9 @@ place_once names i j distinct first second same =
     elim (cases_lt i j) [
       | inl before ↦ absurd (distinct i j [] before second same)
       | inr from ↦ elim (cases_lt j i) [
-          | inl behind ↦ absurd (distinct j i [] behind first (sym same))
-          | inr at ↦ omega arith
-        ]
+        | inl behind ↦ absurd (distinct j i [] behind first (sym same))
+        | inr at ↦ omega arith
+      ]
     ]
 
 pub column_found : (names : List (List ℕ)) (at : ℕ) (name : List ℕ) → slice_get names at ≡ Some name → name ≡ column_at names at
@@ -176,11 +176,11 @@ pub ReadsTo-more : (request policy : List (List ℕ)) (text rest front behind : 
 ReadsTo-more request policy text rest front behind found pair are these reads parts once within is = record {
   sound = λ tail spelled. rw append_assoc (reads.sound (pair ∷ tail) (spelled_more request policy rest front behind pair tail within is parts spelled));
   only = λ all spelled.
-    let was = reads.only all spelled in
-    let first = first_pair request policy rest front behind was.0 are these parts once was.2 in
-    let same : pair ≡ first.pair = equality_once request policy pair first.pair are these within first.within (sym is ∙ first.spelled) in
-    let tail : was.0 ≡ pair ∷ first.others = cc (same, first.parts) in
-    (first.others, rw append_assoc (was.1 ∙ ap (λ (t : List (ℕ × ℕ)). found ++ t) tail), first.rest);
+      let was = reads.only all spelled in
+      let first = first_pair request policy rest front behind was.0 are these parts once was.2 in
+      let same : pair ≡ first.pair = equality_once request policy pair first.pair are these within first.within (sym is ∙ first.spelled) in
+      let tail : was.0 ≡ pair ∷ first.others = cc (same, first.parts) in
+      (first.others, rw append_assoc (was.1 ∙ ap (λ (t : List (ℕ × ℕ)). found ++ t) tail), first.rest);
 }
 
 -- the last equality ends what is read
