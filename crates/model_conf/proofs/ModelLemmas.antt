@@ -1,13 +1,11 @@
 -- A text says at most one model.
-use Rattle.std.proofs.Common.{◌≡◌, ℕ, ◌<◌, Some, Contains, length, List, [], ◌∷◌, ◌++◌, codes, Result, Ok, Err, refl, sym, ap, ◌∙◌, subst}
+use Rattle.std.proofs.Common.{◌≡◌, ℕ, ◌<◌, Some, Contains, length, List, codes, Result, Ok, Err, refl, ap, ◌∙◌, subst}
 use Rattle.std.specs.Prelude.{IsErrOf, MatchResult, slice_get}
 use Rattle.std.proofs.lemmas.Option.{slice_get_within, get_or_from_slice_get}
 use Rattle.std.proofs.lemmas.List.{append_cancel_left}
-use Rattle.perm_base.specs.Fields.{joined, IsJoined}
-use Rattle.perm_base.specs.Lines.{full_lines}
+use Rattle.perm_base.specs.Fields.{IsJoined}
 use Rattle.model_conf.specs.declared.fault.ModelFault.{ModelFault}
 use Rattle.model_conf.specs.declared.fault.ModelFault.TheVariants.{NoMemory, NotYet}
-use Rattle.model_conf.specs.Columns.{AreColumns}
 use Rattle.model_conf.specs.ModelText.{ModelParts, AreParts, ArePairs, IsModel, equalities, parts_of, section_lines}
 use Rattle.model_conf.proofs.ColumnLemmas.{IsJoined-columns}
 use Rattle.model_conf.proofs.MatcherLemmas.{AreSpelled, AreSpelled-once, spelled_from_pairs}

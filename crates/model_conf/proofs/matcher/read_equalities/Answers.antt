@@ -1,4 +1,4 @@
-use Rattle.std.proofs.Common.{◌≡◌, ◌≤◌, ◌<◌, ℕ, List, [], ◌∷◌, ◌++◌, length, sym, ap, subst, ◌∙◌, arith}
+use Rattle.std.proofs.Common.{◌≡◌, ◌≤◌, ◌<◌, ℕ, List, [], ◌∷◌, ◌++◌, length, ap, ◌∙◌, arith}
 use Rattle.std.proofs.lemmas.Grind.{common_steps}
 use Rattle.model_conf.proofs.MatcherLemmas.{AreSpelled-once, ReadsTo-last, ReadsTo-more, first_pair, last_pair, pairs_from_spelled, spelled_from_pairs}
 use Rattle.model_conf.proofs.matcher.read_equalities.Goals as goal

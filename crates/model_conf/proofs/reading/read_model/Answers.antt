@@ -1,4 +1,4 @@
-use Rattle.std.proofs.Common.{sym, ◌∙◌}
+use Rattle.std.proofs.Common.{◌∙◌}
 use Rattle.std.proofs.lemmas.Result.{err_from_is_err_and}
 use Rattle.model_conf.proofs.ModelLemmas.{has_effect, not_refused, pairs_again, same_parts, section_lines-once}
 use Rattle.model_conf.proofs.MatcherLemmas.{pairs_from_spelled}
