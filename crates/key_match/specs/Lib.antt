@@ -1,0 +1,5 @@
+pub mod Pieces
+pub mod Patterns
+pub mod Tokens
+pub mod Fits
+pub mod Stars
