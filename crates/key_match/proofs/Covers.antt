@@ -37,7 +37,7 @@ piece_fits-part (Segment name) f part rest h k = segment_fits-part f part rest h
 piece_fits-part Stretch f part rest h k = stretch_fits-part f part rest h k
 piece_fits-part Rest f part rest h k = end_fits-part f part rest k
 
-fits-each : (pieces : List Piece) (parts : List (List ℕ)) → EachStandsFor pieces parts → fits pieces (concat parts) ≡ true
+pub fits-each : (pieces : List Piece) (parts : List (List ℕ)) → EachStandsFor pieces parts → fits pieces (concat parts) ≡ true
 fits-each [] [] h = refl
 fits-each [] (part ∷ parts) h = absurd h
 fits-each (piece ∷ pieces) [] h = absurd h

@@ -4,3 +4,6 @@ pub mod Leads
 pub mod Fits
 pub mod Classes
 pub mod Covers
+pub mod Settled
+pub mod Parts
+pub mod First

@@ -3,3 +3,5 @@ pub mod Patterns
 pub mod Tokens
 pub mod Fits
 pub mod Stars
+pub mod Divisions
+pub mod Parts

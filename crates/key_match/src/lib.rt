@@ -3,9 +3,11 @@
 
 mod bytes;
 mod fit;
+mod part;
 mod patterns;
 mod star;
 mod token;
 
+pub use part::{key_get2, key_get3};
 pub use patterns::{glob_match, key_match2, key_match3, key_match5};
 pub use star::{key_get, key_match};
