@@ -7,3 +7,5 @@ pub mod Covers
 pub mod Settled
 pub mod Parts
 pub mod First
+pub mod Agree
+pub mod Tried

@@ -5,3 +5,5 @@ pub mod Fits
 pub mod Stars
 pub mod Divisions
 pub mod Parts
+pub mod Names
+pub mod Given

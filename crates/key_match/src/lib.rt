@@ -1,6 +1,7 @@
 //! Key patterns and globs: the key functions of Casbin's matchers.
 #![tactic(auto)]
 
+mod alike;
 mod bytes;
 mod fit;
 mod part;
@@ -8,6 +9,7 @@ mod patterns;
 mod star;
 mod token;
 
+pub use alike::key_match4;
 pub use part::{key_get2, key_get3};
 pub use patterns::{glob_match, key_match2, key_match3, key_match5};
 pub use star::{key_get, key_match};

@@ -84,7 +84,7 @@ fn named_part<'a>(
 }
 
 /// Whether a token is a segment with the name.
-fn is_named(token: Token, name: &[u8]) -> bool
+pub fn is_named(token: Token, name: &[u8]) -> bool
     ensures { result ≡ has_name name.now (piece_of token.entry) }
 {
     match token {
@@ -130,7 +130,7 @@ fn is_shortest(segments: Choice, token: Token) -> bool
 }
 
 /// Where a part of a token may end, if there is one.
-fn part_ends(token: Token, key: &[u8], from: usize) -> Ends
+pub fn part_ends(token: Token, key: &[u8], from: usize) -> Ends
     requires { HasPart (piece_of token) key.now from }
     ensures { AreEnds (piece_of token.entry) key.now from result }
 {
