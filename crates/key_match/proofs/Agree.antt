@@ -12,7 +12,7 @@ use Rattle.key_match.specs.Fits.{fits}
 use Rattle.key_match.specs.Parts.{part_between}
 use Rattle.key_match.specs.Given.{given_part, given_to, repeats, is_free_of, AreParts, GivenAgree, CoversGiven, CutsAlike, IsNameless}
 use Rattle.key_match.specs.declared.alike.Given.{Given, Nothing, And'}
-use Rattle.key_match.proofs.Tests.{and_first, and_second, or-false_first, or-false_second}
+use Rattle.key_match.proofs.Bools.{and_first, and_second, or-false_first, or-false_second}
 use Rattle.key_match.proofs.Covers.{Covers-from_fits, fits-from_Covers}
 use Rattle.key_match.proofs.Parts.{IsCut-from, HasFit-from, AreEnds-one}
 

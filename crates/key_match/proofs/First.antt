@@ -9,7 +9,7 @@ use Rattle.key_match.specs.Fits.{fits}
 use Rattle.key_match.specs.Parts.{order_of, part_between, IsChosen}
 use Rattle.key_match.specs.declared.part.Choice.{Choice}
 use Rattle.key_match.specs.declared.part.Choice.TheVariants.{Longest, Shortest}
-use Rattle.key_match.proofs.Tests.{and_both, and_first, and_second}
+use Rattle.key_match.proofs.Bools.{and_both, and_first, and_second}
 use Rattle.key_match.proofs.Parts.{HasFit-from, IsFirstDivision-cons}
 
 -- ---- the greatest and the least number that passes a test

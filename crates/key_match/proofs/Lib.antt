@@ -1,4 +1,4 @@
-pub mod Tests
+pub mod Bools
 pub mod Readings
 pub mod Leads
 pub mod Fits

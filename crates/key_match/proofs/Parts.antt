@@ -9,7 +9,7 @@ use Rattle.key_match.specs.Divisions.{Order, GoesBefore, IsFirstDivision}
 use Rattle.key_match.specs.Fits.{fits}
 use Rattle.key_match.specs.Parts.{part_between, HasPart, AreEnds, NoneLater, NoneEarlier, IsChosen}
 use Rattle.key_match.specs.declared.part.Ends.{Ends}
-use Rattle.key_match.proofs.Tests.{and_both, and_first, and_second}
+use Rattle.key_match.proofs.Bools.{and_both, and_first, and_second}
 use Rattle.key_match.proofs.Covers.{split-piece, fits-each}
 
 -- ---- fronts of a text

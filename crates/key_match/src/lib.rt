@@ -7,6 +7,8 @@ mod fit;
 mod part;
 mod patterns;
 mod star;
+#[cfg(test)]
+mod tests;
 mod token;
 
 pub use alike::key_match4;

@@ -87,8 +87,11 @@ fn colon_token<'p>(pattern: &'p [u8], at: usize) -> Reading<'p>
     ensures first { IsFirst (first_at colon_piece pattern.now at) at result }
     ensures within { result.next ≤ length pattern.now }
 {
+    if pattern[at] != b':' {
+        return plain_token(pattern, at);
+    }
     let end = place_from(pattern, b'/', at + 1);
-    if pattern[at] == b':' && at + 1 < end {
+    if at + 1 < end {
         return Reading {
             token: Token::Segment(&pattern[at + 1..end]),
             next: end,

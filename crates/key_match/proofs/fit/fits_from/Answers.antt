@@ -1,7 +1,7 @@
 use Rattle.std.proofs.Common.{drop, sym, subst, ⊎_elim}
 use Rattle.key_match.specs.Fits.{fits, stretch_fits, end_fits, pieces_from, Reaches}
 use Rattle.key_match.specs.declared.fit.Reach.{Reach}
-use Rattle.key_match.proofs.Tests.{false_by}
+use Rattle.key_match.proofs.Bools.{false_by}
 use Rattle.key_match.proofs.Leads.{stretch-here, end-here}
 use Rattle.key_match.proofs.fit.fits_from.Goals as goal
 

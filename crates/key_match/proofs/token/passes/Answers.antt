@@ -3,7 +3,7 @@ use Rattle.std.specs.Bool.{beq}
 use Rattle.key_match.specs.Pieces.{has, not_slash}
 use Rattle.key_match.specs.Tokens.{set_of}
 use Rattle.key_match.specs.declared.token.ByteTest.{ByteTest}
-use Rattle.key_match.proofs.Tests.{and_true}
+use Rattle.key_match.proofs.Bools.{and_true}
 use Rattle.key_match.proofs.Leads.{not_slash-other}
 use Rattle.key_match.proofs.token.passes.Goals as goal
 

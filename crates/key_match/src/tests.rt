@@ -1,0 +1,6 @@
+//! Cases of Casbin's documentation and of common use, with answers written out from them.
+
+mod captures;
+mod globs;
+mod segments;
+mod stars;
