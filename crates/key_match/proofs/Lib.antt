@@ -9,3 +9,4 @@ pub mod Parts
 pub mod First
 pub mod Agree
 pub mod Tried
+pub mod Searched

@@ -2,5 +2,7 @@
 
 mod captures;
 mod globs;
+mod plain;
 mod segments;
 mod stars;
+mod table;

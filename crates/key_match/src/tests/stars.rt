@@ -1,62 +1,55 @@
 //! Patterns that count up to their first `*`.
 
+use super::table::{Call, assert_fits, assert_parts};
 use crate::{key_get, key_match};
 
-const MATCHES: [(&str, &str, bool); 21] = [
-    ("/foo", "/foo", true),
-    ("/foo", "/foo*", true),
-    ("/foo", "/foo/*", false),
-    ("/foo/bar", "/foo", false),
-    ("/foo/bar", "/foo*", true),
-    ("/foo/bar", "/foo/*", true),
-    ("/foobar", "/foo", false),
-    ("/foobar", "/foo*", true),
-    ("/foobar", "/foo/*", false),
-    ("/fo", "/foo*", false),
-    ("", "", true),
-    ("", "*", true),
-    ("", "a", false),
-    ("a", "", false),
-    ("/a/b", "*", true),
-    ("/abx", "/abc*", false),
-    ("/ab", "/a*c", true),
-    ("/a", "/a*b*c", true),
-    ("/a?", "/a?", true),
-    ("/:id", "/:id", true),
-    ("/7", "/:id", false),
-];
+const MATCHES: &str = "\
+/foo|/foo|true
+/foo|/foo*|true
+/foo|/foo/*|false
+/foo/bar|/foo|false
+/foo/bar|/foo*|true
+/foo/bar|/foo/*|true
+/foobar|/foo|false
+/foobar|/foo*|true
+/foobar|/foo/*|false
+/fo|/foo*|false
+||true
+|*|true
+|a|false
+a||false
+/a/b|*|true
+/abx|/abc*|false
+/ab|/a*c|true
+/a|/a*b*c|true
+/a?|/a?|true
+/:id|/:id|true
+/7|/:id|false";
 
 #[test]
 fn the_first_star_takes_what_follows(rt: HostRuntime) {
-    for (key, pattern, want) in MATCHES {
-        let got = key_match(key.as_bytes(), pattern.as_bytes());
-        assert_eq!(rt; got, want, "key_match of {key} and {pattern}");
-    }
+    assert_fits(&rt, Call::Match, MATCHES);
 }
 
-const PARTS: [(&str, &str, &str); 14] = [
-    ("/foo", "/foo", ""),
-    ("/foo", "/foo*", ""),
-    ("/foo", "/foo/*", ""),
-    ("/foo/bar", "/foo", ""),
-    ("/foo/bar", "/foo*", "/bar"),
-    ("/foo/bar", "/foo/*", "bar"),
-    ("/foobar", "/foo", ""),
-    ("/foobar", "/foo*", "bar"),
-    ("/foobar", "/foo/*", ""),
-    ("", "*", ""),
-    ("/a/b", "*", "/a/b"),
-    ("/abc", "/a*c", "bc"),
-    ("/fo", "/foo*", ""),
-    ("/bar", "/foo*", ""),
-];
+const PARTS: &str = "\
+/foo|/foo||
+/foo|/foo*||
+/foo|/foo/*||
+/foo/bar|/foo||
+/foo/bar|/foo*||/bar
+/foo/bar|/foo/*||bar
+/foobar|/foo||
+/foobar|/foo*||bar
+/foobar|/foo/*||
+|*||
+/a/b|*||/a/b
+/abc|/a*c||bc
+/fo|/foo*||
+/bar|/foo*||";
 
 #[test]
 fn what_the_first_star_takes_is_given(rt: HostRuntime) {
-    for (key, pattern, want) in PARTS {
-        let got = key_get(key.as_bytes(), pattern.as_bytes());
-        assert_eq!(rt; got, want.as_bytes(), "key_get of {key} and {pattern}");
-    }
+    assert_parts(&rt, Call::Get, PARTS);
 }
 
 #[test]
