@@ -1,9 +1,9 @@
 -- Reading and writing piece by piece.
-use Rattle.std.proofs.Common.{◌≡◌, ℕ, ◌+◌, ◌-◌, ◌≤◌, List, [], ◌∷◌, ◌++◌, length, take, drop, refl, sym, ap, ◌∙◌, append_assoc, arith}
-use Rattle.std.specs.Prelude.{Option, Some, None, option_map}
+use Rattle.std.proofs.Common.{◌≡◌, ℕ, ◌+◌, ◌-◌, ◌≤◌, List, [], ◌++◌, length, take, drop, refl, sym, ap, ◌∙◌, append_assoc, arith}
+use Rattle.std.specs.Prelude.{Option, Some, None}
 use Rattle.std.proofs.Math.Seq.{take-add}
-use Rattle.std.proofs.lemmas.List.{take_rest, take_at, drop-drop, length-take, length-drop, take-append-drop}
-use Rattle.perm_base.specs.Told.{with_front, with_back, HasRead, HasReadMore, TookFront}
+use Rattle.std.proofs.lemmas.List.{take_rest, take_at, drop-drop, length-drop, take-append-drop}
+use Rattle.perm_base.specs.Told.{with_front, with_back, HasRead, TookFront}
 
 -- how far a loop has pushed
 pub record IsPushed (before now : Option (List ℕ)) (bytes : List ℕ) (at faults_before faults_now : ℕ) : Type 0 where

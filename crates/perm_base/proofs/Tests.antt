@@ -1,5 +1,5 @@
 -- Tests of the elements of a list.
-use Rattle.std.proofs.Common.{◌≡◌, ℕ, suc, ◌+◌, ◌≤◌, ◌<◌, ◌||◌, Bool, true, false, cond, not, List, [], ◌∷◌, length, ltb, Option, Some, None, refl, arith}
+use Rattle.std.proofs.Common.{◌≡◌, suc, ◌+◌, ◌||◌, Bool, true, false, cond, not, List, [], ◌∷◌, length, ltb, Some, None, refl, arith}
 use Rattle.std.specs.Prelude.{position}
 use Rattle.std.specs.List.{list_any, position_or_len}
 use Rattle.std.proofs.lemmas.Bool.{ltb-false}

@@ -1,7 +1,4 @@
-use Rattle.std.proofs.Common.{rules, subst}
-use Rattle.std.specs.Prelude.{Option, List, ℕ}
 use Rattle.std.proofs.lemmas.Result.{err_from_is_err_and}
-use Rattle.perm_base.specs.Told.{TookFront}
 use Rattle.perm_base.proofs.Outside.{pushed_on, pushed_front}
 use Rattle.perm_base.proofs.sink.push_all.Goals as goal
 

@@ -1,5 +1,5 @@
-use Rattle.std.proofs.Common.{arith, length, take, drop, ◌≡◌}
-use Rattle.std.proofs.lemmas.List.{length-take, length-drop}
+use Rattle.std.proofs.Common.{arith, length, ◌≡◌}
+use Rattle.std.proofs.lemmas.List.{length-take}
 use Rattle.perm_base.proofs.Outside.{given_is}
 use Rattle.perm_base.proofs.memory.unread.Unread.give.Goals as goal
 

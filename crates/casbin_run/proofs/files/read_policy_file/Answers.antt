@@ -1,0 +1,14 @@
+use Rattle.std.proofs.Common.{refl, ◌≤◌, length, rules}
+use Rattle.std.proofs.lemmas.Result.{err_from_is_err_and}
+use Rattle.perm_base.specs.Faults.{Rose}
+use Rattle.perm_base.specs.Files.{Holds}
+use Rattle.casbin_run.specs.Parts.{policy_limit}
+use Rattle.casbin_run.proofs.ReadingLemmas.{policy_stops}
+use Rattle.casbin_run.proofs.files.read_policy_file.Goals as goal
+
+pub returns-in_err-read_policy-clause-stopped : goal.returns-in_err-read_policy-clause-stopped
+returns-in_err-read_policy-clause-stopped g c =
+    let p = err_from_is_err_and c.from_residual-in_err-read_policy.result c.from_residual-in_err-read_policy.ensures.1 in
+    let holds : Holds (g.F.Shelf.files c.args.shelf.now) c.args.name.now c.deref.result.now = search rules in
+    let within : length c.deref.result.now ≤ policy_limit = search rules in
+    rw (p.1, p.2) (policy_stops (g.F.Shelf.files c.args.shelf.now) c.args.name.now c.args.columns (Rose (g.F.Shelf.faults c.args.shelf.now) (g.F.Shelf.faults c.fetch.new.shelf)) c.deref.result.now c.in_err-read_policy.field-0.0 holds within (λ e. c.in_err-read_policy.ensures.not_yet (rw e refl)))

@@ -1,0 +1,11 @@
+pub mod Decision
+pub mod Answer
+pub mod Words
+pub mod Script
+pub mod Message
+pub mod Print
+pub mod ScriptFault
+pub mod Parts
+pub mod Cause
+pub mod Answers
+pub mod Reading

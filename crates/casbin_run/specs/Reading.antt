@@ -1,0 +1,59 @@
+-- Why a part of a run was not read, by cases on the stop.
+use Rattle.std.specs.Prelude.{◌≡◌, ◌⊎◌, ℕ, ◌<◌, List, Option, IfSome, length, ⊤}
+use Rattle.perm_base.specs.Files.{Files, Lacks, OfFile}
+use Rattle.model_conf.specs.declared.fault.ModelFault.{ModelFault}
+use Rattle.model_conf.specs.declared.fault.ModelFault.TheVariants as model
+use Rattle.policy_csv.specs.declared.policy.PolicyFault.{PolicyFault}
+use Rattle.policy_csv.specs.declared.policy.PolicyFault.TheVariants as policy
+use Rattle.casbin_run.specs.declared.script.ScriptFault.{ScriptFault}
+use Rattle.casbin_run.specs.declared.script.ScriptFault.TheVariants as script
+use Rattle.casbin_run.specs.declared.stop.Part.{Part}
+use Rattle.casbin_run.specs.declared.stop.Part.TheVariants.{Model, Policy, Input}
+use Rattle.casbin_run.specs.declared.stop.Stop.{Stop}
+use Rattle.casbin_run.specs.declared.stop.Stop.TheVariants.{NoModel, NoPolicy, NoScript, CannotRead, TooLong, NoMemory}
+use Rattle.casbin_run.specs.Parts.{model_limit, policy_limit, input_limit, FileIs, InputIs}
+use Rattle.casbin_run.specs.Cause.{SaysNoModel, SaysNoPolicy, SaysNoScript}
+
+-- a file was not fetched
+abbrev pub FetchStops : Option Files → List ℕ → ℕ → (rose : Type 0) → Part → Stop → Type 0
+FetchStops files name most rose part (CannotRead p) = (p ≡ part) × (Lacks files name ⊎ rose)
+FetchStops files name most rose part (TooLong p) = (p ≡ part) × OfFile files name (λ bytes. most < length bytes)
+FetchStops files name most rose part NoMemory = ⊤
+FetchStops files name most rose part _ = ⊥
+
+-- the model was not read
+abbrev pub ModelStops : Option Files → List ℕ → (rose : Type 0) → Stop → Type 0
+ModelStops files name rose (CannotRead Model) = Lacks files name ⊎ rose
+ModelStops files name rose (TooLong Model) = OfFile files name (λ bytes. model_limit < length bytes)
+ModelStops files name rose NoModel = FileIs files name model_limit SaysNoModel
+ModelStops files name rose NoMemory = ⊤
+ModelStops files name rose _ = ⊥
+
+-- the policy was not read
+abbrev pub PolicyStops : Option Files → List ℕ → ℕ → (rose : Type 0) → Stop → Type 0
+PolicyStops files name columns rose (CannotRead Policy) = Lacks files name ⊎ rose
+PolicyStops files name columns rose (TooLong Policy) = OfFile files name (λ bytes. policy_limit < length bytes)
+PolicyStops files name columns rose NoPolicy = FileIs files name policy_limit (SaysNoPolicy columns)
+PolicyStops files name columns rose NoMemory = ⊤
+PolicyStops files name columns rose _ = ⊥
+
+-- the input was not read
+abbrev pub InputStops : Option (List ℕ) → ℕ → (rose : Type 0) → Stop → Type 0
+InputStops input columns rose (CannotRead Input) = rose
+InputStops input columns rose (TooLong Input) = IfSome input (λ bytes. input_limit < length bytes)
+InputStops input columns rose NoScript = InputIs input (SaysNoScript columns)
+InputStops input columns rose NoMemory = ⊤
+InputStops input columns rose _ = ⊥
+
+-- the stop of a fault of each text
+abbrev pub model_stop_of : ModelFault → Stop
+model_stop_of model.NotYet = NoModel
+model_stop_of model.NoMemory = NoMemory
+
+abbrev pub policy_stop_of : PolicyFault → Stop
+policy_stop_of policy.NotYet = NoPolicy
+policy_stop_of policy.NoMemory = NoMemory
+
+abbrev pub script_stop_of : ScriptFault → Stop
+script_stop_of script.NotYet = NoScript
+script_stop_of script.NoMemory = NoMemory

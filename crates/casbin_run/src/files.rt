@@ -1,0 +1,87 @@
+ghost use Rattle.std.specs.Prelude.{◌≡◌, ◌≤◌, ◌<◌, ◌^◌, IfOk, IfErr, OnErr, OnOk, IfSome, All, List, ℕ, [], length};
+ghost use Rattle.perm_base.specs.Faults.{Rose};
+ghost use Rattle.perm_base.specs.Files.{Holds};
+ghost use Rattle.model_conf.specs.ModelText.{IsModel};
+ghost use Rattle.policy_csv.specs.Policy.{IsPolicy};
+ghost use Rattle.casbin_run.specs.Parts.{FileIs, InputIs, model_limit, policy_limit};
+ghost use Rattle.casbin_run.specs.Script.{IsScript};
+ghost use Rattle.casbin_run.specs.Reading.{FetchStops, ModelStops, PolicyStops, InputStops};
+
+use crate::script::read_requests;
+use crate::stop::{Part, Stop};
+use model_conf::{Model, read_model};
+use perm_base::{Fetch, ReadStop, Rule, Rules, Shelf, Source, read_all};
+use policy_csv::read_policy;
+use std::alloc::Global;
+
+// The most bytes of a model, of a policy and of an input.
+const MODEL_LIMIT: u64 = 65_536;
+
+const POLICY_LIMIT: u64 = 16_777_216;
+
+const INPUT_LIMIT: u64 = 16_777_216;
+
+/// Fetches and reads the model.
+pub fn read_model_file<F: Shelf>(alloc: Global, shelf: &mut F, name: &str) -> Result<Model, Stop>
+    ensures read { IfOk result (λ model. FileIs (F.files shelf.old) name.now model_limit (λ bytes. IsModel bytes model)) }
+    ensures stopped { IfErr result (ModelStops (F.files shelf.old) name.now (Rose (F.faults shelf.old) (F.faults shelf.new))) }
+    ensures same_files { F.files shelf.new ≡ F.files shelf.old }
+    ensures counted { F.faults shelf.old ≤ F.faults shelf.new }
+{
+    let bytes = fetch(alloc, shelf, name, MODEL_LIMIT, Part::Model)?;
+    Ok(read_model(alloc, &bytes)?)
+}
+
+/// Fetches and reads the policy.
+pub fn read_policy_file<F: Shelf>(
+    alloc: Global,
+    shelf: &mut F,
+    name: &str,
+    columns: u32,
+) -> Result<Rules, Stop>
+    ensures read { IfOk result (λ rules. FileIs (F.files shelf.old) name.now policy_limit (λ bytes. IsPolicy columns bytes rules)) }
+    ensures columns { IfOk result (λ rules. All (λ rule. length rule ≡ columns) rules) }
+    ensures stopped { IfErr result (PolicyStops (F.files shelf.old) name.now columns (Rose (F.faults shelf.old) (F.faults shelf.new))) }
+    ensures counted { F.faults shelf.old ≤ F.faults shelf.new }
+{
+    let bytes = fetch(alloc, shelf, name, POLICY_LIMIT, Part::Policy)?;
+    Ok(read_policy(alloc, &bytes, columns)?)
+}
+
+/// Reads the input to its end, and its requests.
+pub fn read_input<S: Source>(alloc: Global, input: &mut S, columns: u32) -> Result<Vec<Rule>, Stop>
+    ensures read { IfOk result (λ requests. InputIs (S.left input.old) (λ bytes. IsScript columns bytes requests.items)) }
+    ensures ended { OnOk result (IfSome (S.left input.new) (λ rest. rest ≡ [])) }
+    ensures stopped { IfErr result (InputStops (S.left input.old) columns (Rose (S.faults input.old) (S.faults input.new))) }
+    ensures counted { S.faults input.old ≤ S.faults input.new }
+{
+    let bytes = match read_all(alloc, input, INPUT_LIMIT) {
+        Ok(bytes) => bytes,
+        Err(ReadStop::Failed) => return Err(Stop::CannotRead(Part::Input)),
+        Err(ReadStop::TooLong) => return Err(Stop::TooLong(Part::Input)),
+        Err(ReadStop::NoMemory) => return Err(Stop::NoMemory),
+    };
+    Ok(read_requests(alloc, &bytes, columns)?)
+}
+
+// Fetches the bytes of a part.
+fn fetch<F: Shelf>(
+    alloc: Global,
+    shelf: &mut F,
+    name: &str,
+    most: u64,
+    part: Part,
+) -> Result<Vec<u8>, Stop>
+    ensures found { IfOk result (λ bytes. Holds (F.files shelf.old) name.now bytes.items) }
+    ensures within { IfOk result (λ bytes. length bytes.items ≤ most) }
+    ensures stopped { IfErr result (FetchStops (F.files shelf.old) name.now most (Rose (F.faults shelf.old) (F.faults shelf.new)) part) }
+    ensures same_files { F.files shelf.new ≡ F.files shelf.old }
+    ensures counted { F.faults shelf.old ≤ F.faults shelf.new }
+{
+    match shelf.fetch(alloc, name, most) {
+        Ok(bytes) => Ok(bytes),
+        Err(Fetch::Absent | Fetch::Failed) => Err(Stop::CannotRead(part)),
+        Err(Fetch::TooLong) => Err(Stop::TooLong(part)),
+        Err(Fetch::NoMemory) => Err(Stop::NoMemory),
+    }
+}

@@ -1,0 +1,20 @@
+//! The program's run, from words and bytes to bytes: each request of the input gets its line.
+#![tactic(auto)]
+
+mod answer;
+mod decision;
+mod files;
+mod law;
+mod run;
+mod script;
+mod status;
+mod stop;
+mod words;
+
+pub use law::one_end;
+pub use run::run_casbin;
+pub use status::Status;
+pub use stop::{Part, Stop};
+
+#[cfg(test)]
+mod tests;

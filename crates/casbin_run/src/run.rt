@@ -1,0 +1,117 @@
+ghost use Rattle.std.specs.Prelude.{◌≡◌, ◌≢◌, ◌⊎◌, ◌↔◌, ℕ, List, [], None, IfErr, IfSome, IsSome, OnOk, map, string_bytes};
+ghost use Rattle.perm_base.specs.Faults.{Rose};
+ghost use Rattle.perm_base.specs.Told.{TookFront, with_back};
+ghost use Rattle.casbin_run.specs.Answers.{IsAnswered, TookAll, TookSome};
+ghost use Rattle.casbin_run.specs.Cause.{Cause, EndsBy, IsBeforeOutput};
+ghost use Rattle.casbin_run.specs.declared.stop.Part.{Part};
+ghost use Rattle.casbin_run.specs.declared.stop.Stop.{Stop};
+ghost use Rattle.casbin_run.specs.Message.{line_of, status_of};
+ghost use Rattle.casbin_run.specs.Words.{command_of};
+
+use crate::answer::print_answers;
+use crate::files::{read_input, read_model_file, read_policy_file};
+use crate::law::one_end;
+use crate::status::Status;
+use crate::stop::Stop;
+use crate::words::command;
+use perm_base::{Shelf, Sink, Source, push_all};
+use std::alloc::Global;
+
+/// Runs a command: `enforce MODEL POLICY` answers each request of the input by a line on `out`, and tells on `err`
+/// why it stopped where it did. Exactly where a cause is said to come, want of memory may come instead.
+pub fn run_casbin<F: Shelf, S: Source, K: Sink, E: Sink>(
+    alloc: Global,
+    words: &[String],
+    shelf: &mut F,
+    input: &mut S,
+    out: &mut K,
+    err: &mut E,
+) -> Status
+    // The input was read to its end, and `out` took the text that answers its requests, and nothing else.
+    ensures done { result ≡ Status.Done
+        → TookAll (map string_bytes words.now) (F.files shelf.old) (S.left input.old)
+        (K.taken out.old) (K.taken out.new) }
+    ensures read_to_end { result ≡ Status.Done → IfSome (S.left input.new) (λ rest. rest ≡ []) }
+
+    // When each other status comes.
+    ensures words { (result ≡ Status.Words) ↔ (command_of (map string_bytes words.now) ≡ None) }
+    ensures model { result ≡ Status.Model
+        → Cause (map string_bytes words.now) (F.files shelf.old) (S.left input.old) Stop.NoModel }
+    ensures policy { result ≡ Status.Policy
+        → Cause (map string_bytes words.now) (F.files shelf.old) (S.left input.old) Stop.NoPolicy }
+    ensures script { result ≡ Status.Script
+        → Cause (map string_bytes words.now) (F.files shelf.old) (S.left input.old) Stop.NoScript }
+    ensures too_long { result ≡ Status.TooLong → (part : Part)
+        × Cause (map string_bytes words.now) (F.files shelf.old) (S.left input.old) (Stop.TooLong part) }
+    ensures read_fault { result ≡ Status.ReadFault
+        → ((part : Part) × Cause (map string_bytes words.now) (F.files shelf.old) (S.left input.old) (Stop.CannotRead part))
+        ⊎ (Rose (F.faults shelf.old) (F.faults shelf.new) ⊎ Rose (S.faults input.old) (S.faults input.new)) }
+    ensures write_fault { result ≡ Status.WriteFault → Rose (K.faults out.old) (K.faults out.new) }
+
+    // Where the files and the input are told and no count rises, the status is the one that they give, or memory
+    // ran out.
+    ensures exact { (stop : Stop) → IsSome (F.files shelf.old) → IsSome (S.left input.old)
+        → Cause (map string_bytes words.now) (F.files shelf.old) (S.left input.old) stop
+        → ¬ (Rose (F.faults shelf.old) (F.faults shelf.new)) → ¬ (Rose (S.faults input.old) (S.faults input.new))
+        → ¬ (Rose (K.faults out.old) (K.faults out.new))
+        → (result ≡ status_of stop) ⊎ (result ≡ Status.NoMemory) }
+    ensures complete { (text : List ℕ) → IsSome (F.files shelf.old) → IsSome (S.left input.old)
+        → IsAnswered (map string_bytes words.now) (F.files shelf.old) (S.left input.old) text
+        → ¬ (Rose (F.faults shelf.old) (F.faults shelf.new)) → ¬ (Rose (S.faults input.old) (S.faults input.new))
+        → ¬ (Rose (K.faults out.old) (K.faults out.new))
+        → ((result ≡ Status.Done) × (K.taken out.new ≡ with_back (K.taken out.old) text)) ⊎ (result ≡ Status.NoMemory) }
+
+    // What `out` took where the run did not reach its end: nothing before the answers, else a front of their text.
+    ensures quiet { (stop : Stop) → result ≡ status_of stop → IsBeforeOutput stop → K.taken out.new ≡ K.taken out.old }
+    ensures some { (result ≡ Status.WriteFault) ⊎ (result ≡ Status.NoMemory)
+        → (K.taken out.new ≡ K.taken out.old)
+        ⊎ TookSome (map string_bytes words.now) (F.files shelf.old) (S.left input.old)
+        (K.taken out.old) (K.taken out.new) }
+
+    // What `err` took: nothing, or a front of the line of the stop that came, all of it where no push failed.
+    ensures silent { result ≡ Status.Done → E.taken err.new ≡ E.taken err.old }
+    ensures line { result ≢ Status.Done → (stop : Stop) × (result ≡ status_of stop)
+        × EndsBy (map string_bytes words.now) (F.files shelf.old) (S.left input.old) (K.taken out.old) (K.taken out.new)
+        (Rose (F.faults shelf.old) (F.faults shelf.new)) (Rose (S.faults input.old) (S.faults input.new))
+        (Rose (K.faults out.old) (K.faults out.new)) stop
+        × TookFront (E.taken err.old) (E.taken err.new) (line_of stop)
+        × ((E.taken err.new ≡ with_back (E.taken err.old) (line_of stop)) ⊎ Rose (E.faults err.old) (E.faults err.new)) }
+{
+    one_end();
+    match answer(alloc, words, shelf, input, out) {
+        Ok(()) => Status::Done,
+        Err(stop) => {
+            tell(err, stop);
+            stop.status()
+        }
+    }
+}
+
+// Pushes the line of a stop; where that fails, the stop is told by the status alone.
+fn tell<E: Sink>(err: &mut E, stop: Stop)
+    ensures some { TookFront (E.taken err.old) (E.taken err.new) (line_of stop) }
+    ensures all { (E.taken err.new ≡ with_back (E.taken err.old) (line_of stop)) ⊎ Rose (E.faults err.old) (E.faults err.new) }
+{
+    let _ = push_all(err, stop.line());
+}
+
+// Answers the requests of the input, or stops at the first cause.
+fn answer<F: Shelf, S: Source, K: Sink>(
+    alloc: Global,
+    words: &[String],
+    shelf: &mut F,
+    input: &mut S,
+    out: &mut K,
+) -> Result<(), Stop>
+    ensures answered { OnOk result (TookAll (map string_bytes words.now) (F.files shelf.old) (S.left input.old) (K.taken out.old) (K.taken out.new)) }
+    ensures ended { OnOk result (IfSome (S.left input.new) (λ rest. rest ≡ [])) }
+    ensures stopped { IfErr result (EndsBy (map string_bytes words.now) (F.files shelf.old) (S.left input.old) (K.taken out.old) (K.taken out.new)
+        (Rose (F.faults shelf.old) (F.faults shelf.new)) (Rose (S.faults input.old) (S.faults input.new)) (Rose (K.faults out.old) (K.faults out.new))) }
+    ensures quiet { IfErr result (λ stop. IsBeforeOutput stop → K.taken out.new ≡ K.taken out.old) }
+{
+    let (model_name, policy_name) = command(words).ok_or(Stop::Words)?;
+    let model = read_model_file(alloc, shelf, model_name)?;
+    let rules = read_policy_file(alloc, shelf, policy_name, model.policy_columns().len())?;
+    let requests = read_input(alloc, input, model.request_columns().len())?;
+    print_answers(alloc, out, model.pairs(), &rules, &requests)
+}

@@ -1,0 +1,134 @@
+ghost use Rattle.std.specs.Prelude.{◌≡◌};
+ghost use Rattle.casbin_run.specs.Message.{line_of, status_of};
+
+use crate::script::ScriptFault;
+use crate::status::Status;
+use model_conf::ModelFault;
+use perm_base::{Failed, NoMemory};
+use policy_csv::PolicyFault;
+
+/// What a run reads, in this order.
+#[derive(Clone, Copy, Debug, PartialEq, Eq)]
+pub enum Part {
+    Model,
+    Policy,
+    Input,
+}
+
+/// Why a run stopped.
+#[derive(Clone, Copy, Debug, PartialEq, Eq)]
+pub enum Stop {
+    /// The words are no command.
+    Words,
+    /// The model's file is no model.
+    NoModel,
+    /// The policy's file is no policy.
+    NoPolicy,
+    /// The input is no list of requests.
+    NoScript,
+    /// A file is absent, or a file or the input could not be read.
+    CannotRead(Part),
+    /// The output could not be written.
+    CannotWrite,
+    /// A file or the input is longer than its limit.
+    TooLong(Part),
+    NoMemory,
+}
+
+impl From<NoMemory> for Stop {
+    ghost use Rattle.casbin_run.specs.declared.stop.Stop.TheVariants as stops;
+
+    ghost from_gives = { λ _ stop. stop ≡ stops.NoMemory };
+
+    fn from(_: NoMemory) -> Stop {
+        Stop::NoMemory
+    }
+}
+
+// Of what can fail without a name, only the output is left.
+impl From<Failed> for Stop {
+    ghost use Rattle.casbin_run.specs.declared.stop.Stop.TheVariants as stops;
+
+    ghost from_gives = { λ _ stop. stop ≡ stops.CannotWrite };
+
+    fn from(_: Failed) -> Stop {
+        Stop::CannotWrite
+    }
+}
+
+impl From<ModelFault> for Stop {
+    ghost use Rattle.casbin_run.specs.Reading.{model_stop_of};
+
+    ghost from_gives = { λ fault stop. stop ≡ model_stop_of fault };
+
+    fn from(fault: ModelFault) -> Stop {
+        match fault {
+            ModelFault::NotYet => Stop::NoModel,
+            ModelFault::NoMemory => Stop::NoMemory,
+        }
+    }
+}
+
+impl From<PolicyFault> for Stop {
+    ghost use Rattle.casbin_run.specs.Reading.{policy_stop_of};
+
+    ghost from_gives = { λ fault stop. stop ≡ policy_stop_of fault };
+
+    fn from(fault: PolicyFault) -> Stop {
+        match fault {
+            PolicyFault::NotYet => Stop::NoPolicy,
+            PolicyFault::NoMemory => Stop::NoMemory,
+        }
+    }
+}
+
+impl From<ScriptFault> for Stop {
+    ghost use Rattle.casbin_run.specs.Reading.{script_stop_of};
+
+    ghost from_gives = { λ fault stop. stop ≡ script_stop_of fault };
+
+    fn from(fault: ScriptFault) -> Stop {
+        match fault {
+            ScriptFault::NotYet => Stop::NoScript,
+            ScriptFault::NoMemory => Stop::NoMemory,
+        }
+    }
+}
+
+impl Stop {
+    /// The status that a run ends with.
+    pub fn status(self) -> Status
+        ensures { result ≡ status_of self }
+    {
+        match self {
+            Stop::Words => Status::Words,
+            Stop::NoModel => Status::Model,
+            Stop::NoPolicy => Status::Policy,
+            Stop::NoScript => Status::Script,
+            Stop::CannotRead(_) => Status::ReadFault,
+            Stop::CannotWrite => Status::WriteFault,
+            Stop::TooLong(_) => Status::TooLong,
+            Stop::NoMemory => Status::NoMemory,
+        }
+    }
+
+    /// The line that tells it, with its LF.
+    pub fn line(self) -> &'static [u8]
+        ensures { result.now ≡ line_of self }
+    {
+        match self {
+            Stop::Words => b"usage: casbin_cli COMMAND [OPTION]... [WORD]...\n",
+            Stop::NoModel => b"model: not yet\n",
+            Stop::NoPolicy => b"policy: not yet\n",
+            Stop::NoScript => b"script: not yet\n",
+            Stop::CannotRead(Part::Model) => b"cannot read: model\n",
+            Stop::CannotRead(Part::Policy) => b"cannot read: policy\n",
+            Stop::CannotRead(Part::Input) => b"cannot read: input\n",
+            Stop::CannotWrite => b"cannot write\n",
+            Stop::TooLong(Part::Model) => b"too long: model, limit 65536\n",
+            Stop::TooLong(Part::Policy) => b"too long: policy, limit 16777216\n",
+            Stop::TooLong(Part::Input) => b"too long: input, limit 16777216\n",
+            Stop::NoMemory => b"no memory\n",
+        }
+    }
+}

@@ -1,0 +1,375 @@
+use crate::{Status, run_casbin};
+use perm_base::{ListShelf, ListSink, ListSource, Text};
+use std::alloc::Global;
+use std::process::Abort;
+use std::test::Fail;
+
+const MODEL: &[u8] =
+    b"[request_definition]\nr = sub, obj, act\n\n[policy_definition]\np = sub, obj, act\n\n[policy_effect]\ne = some(where (p.eft == allow))\n\n[matchers]\nm = r.sub == p.sub && r.obj == p.obj && r.act == p.act\n";
+
+const POLICY: &[u8] = b"p, alice, data1, read\n";
+
+const INPUT: &[u8] = b"alice, data1, read\n";
+
+const ANSWER: &[u8] = b"1 allow @0 p#1 alice, data1, read\n";
+
+const COMMAND: [&str; 3] = ["enforce", "m.conf", "p.csv"];
+
+/// What stands outside of a run, and which calls fail.
+#[derive(Drop)]
+struct Outside<'a> {
+    words: &'a [&'a str],
+    model: Option<&'a [u8]>,
+    policy: Option<&'a [u8]>,
+    input: &'a [u8],
+    shelf_fails: u32,
+    input_fails: u32,
+    out_most: u32,
+    out_fails: u32,
+    err_fails: u32,
+}
+
+const GOOD: Outside<'static> = Outside {
+    words: &COMMAND,
+    model: Some(MODEL),
+    policy: Some(POLICY),
+    input: INPUT,
+    shelf_fails: 0,
+    input_fails: 0,
+    out_most: 1_000,
+    out_fails: 0,
+    err_fails: 0,
+};
+
+fn sink(alloc: Global, most: u32, fails: u32) -> Result<ListSink, Fail> {
+    let fails = vec![in alloc; fails]?;
+    if most == 0 {
+        return Err(Fail::from("a sink takes a byte at least"));
+    }
+    Ok(
+        ListSink::new(alloc, 1_000, most, fails)
+            .ok()
+            .ok_or("memory ran out")?,
+    )
+}
+
+fn put(alloc: Global, shelf: &mut ListShelf, name: &str, bytes: Option<&[u8]>) -> Result<(), Fail> {
+    if let Some(bytes) = bytes {
+        let name = Text::from_str(alloc, name).ok().ok_or("memory ran out")?;
+        shelf
+            .put(name, Vec::from_slice(alloc, bytes)?)
+            .ok()
+            .ok_or("memory ran out")?;
+    }
+    Ok(())
+}
+
+/// Runs it, and compares the status, and what the two sinks took.
+fn expect(
+    rt: &(impl Abort + AllocGlobal),
+    outside: &Outside,
+    status: Status,
+    out: &[u8],
+    err: &[u8],
+    case: &str,
+) -> Result<(), Fail> {
+    let alloc = rt.alloc();
+    let mut words = Vec::new(alloc);
+    for word in outside.words {
+        words.push(String::from_str(alloc, word)?)?;
+    }
+    let mut shelf = ListShelf::new(alloc, vec![in alloc; outside.shelf_fails]?);
+    put(alloc, &mut shelf, "m.conf", outside.model)?;
+    put(alloc, &mut shelf, "p.csv", outside.policy)?;
+    let bytes = Vec::from_slice(alloc, outside.input)?;
+    let mut input = ListSource::new(bytes, vec![in alloc; outside.input_fails]?);
+    let mut told = sink(alloc, outside.out_most, outside.out_fails)?;
+    let mut line = sink(alloc, 1_000, outside.err_fails)?;
+    let got = run_casbin(alloc, &words, &mut shelf, &mut input, &mut told, &mut line);
+    assert_eq!(rt; got, status, "of {case}");
+    assert_eq!(rt; told.bytes(), out, "on out, of {case}");
+    assert_eq!(rt; line.bytes(), err, "on err, of {case}");
+    Ok(())
+}
+
+#[test]
+fn each_request_has_its_line(rt: HostRuntime) -> Result<(), Fail> {
+    let two: &[u8] = b"p, alice, data1, read\np, bob, data2, write\n";
+    let cases: [(&[u8], &[u8], &[u8]); 6] = [
+        (POLICY, INPUT, ANSWER),
+        (b"", INPUT, b"1 deny @0 -\n"),
+        (POLICY, b"", b""),
+        (
+            two,
+            b"bob, data2, write",
+            b"1 allow @0 p#2 bob, data2, write\n",
+        ),
+        (
+            two,
+            b"bob, data1, read\n\nalice, data1, read\nalice, data1, write\n",
+            b"1 deny @0 -\n2 allow @0 p#1 alice, data1, read\n3 deny @0 -\n",
+        ),
+        (
+            b"\np, alice, data1, read\np, alice, data1, read\n\np, bob, data2, write",
+            b"bob, data2, write\n",
+            b"1 allow @0 p#2 bob, data2, write\n",
+        ),
+    ];
+    for (policy, input, out) in cases {
+        let outside = Outside {
+            policy: Some(policy),
+            input,
+            ..GOOD
+        };
+        expect(&rt, &outside, Status::Done, out, b"", "policy and input")?;
+    }
+    Ok(())
+}
+
+#[test]
+fn other_words_are_no_command(rt: HostRuntime) -> Result<(), Fail> {
+    let cases: [&[&str]; 8] = [
+        &[],
+        &["enforce"],
+        &["enforce", "m.conf"],
+        &["enforce", "m.conf", "p.csv", "p.csv"],
+        &["Enforce", "m.conf", "p.csv"],
+        &["check", "m.conf", "p.csv"],
+        &["enforce", "-m.conf", "p.csv"],
+        &["enforce", "m.conf", "-"],
+    ];
+    for words in cases {
+        let outside = Outside { words, ..GOOD };
+        let usage = b"usage: casbin_cli COMMAND [OPTION]... [WORD]...\n";
+        expect(&rt, &outside, Status::Words, b"", usage, "other words")?;
+    }
+    Ok(())
+}
+
+#[test]
+fn each_stop_has_its_status_and_line(rt: HostRuntime) -> Result<(), Fail> {
+    let cases: [(&str, Outside, Status, &[u8]); 11] = [
+        (
+            "no model file",
+            Outside {
+                model: None,
+                ..GOOD
+            },
+            Status::ReadFault,
+            b"cannot read: model\n",
+        ),
+        (
+            "no policy file",
+            Outside {
+                policy: None,
+                ..GOOD
+            },
+            Status::ReadFault,
+            b"cannot read: policy\n",
+        ),
+        (
+            "neither file",
+            Outside {
+                model: None,
+                policy: None,
+                ..GOOD
+            },
+            Status::ReadFault,
+            b"cannot read: model\n",
+        ),
+        (
+            "a failing first fetch",
+            Outside {
+                shelf_fails: 1,
+                ..GOOD
+            },
+            Status::ReadFault,
+            b"cannot read: model\n",
+        ),
+        (
+            "a failing second fetch",
+            Outside {
+                shelf_fails: 2,
+                ..GOOD
+            },
+            Status::ReadFault,
+            b"cannot read: policy\n",
+        ),
+        (
+            "a failing first pull",
+            Outside {
+                input_fails: 1,
+                ..GOOD
+            },
+            Status::ReadFault,
+            b"cannot read: input\n",
+        ),
+        (
+            "a failing second pull",
+            Outside {
+                input_fails: 2,
+                ..GOOD
+            },
+            Status::ReadFault,
+            b"cannot read: input\n",
+        ),
+        (
+            "no model",
+            Outside {
+                model: Some(b"[matchers]\n"),
+                ..GOOD
+            },
+            Status::Model,
+            b"model: not yet\n",
+        ),
+        (
+            "no policy",
+            Outside {
+                policy: Some(b"g, alice, admin\n"),
+                ..GOOD
+            },
+            Status::Policy,
+            b"policy: not yet\n",
+        ),
+        (
+            "no requests",
+            Outside {
+                input: b"alice, data1, read\nalice, data1\n",
+                ..GOOD
+            },
+            Status::Script,
+            b"script: not yet\n",
+        ),
+        (
+            "no model before no policy file",
+            Outside {
+                model: Some(b""),
+                policy: None,
+                ..GOOD
+            },
+            Status::Model,
+            b"model: not yet\n",
+        ),
+    ];
+    for (case, outside, status, line) in &cases {
+        expect(&rt, outside, *status, b"", line, case)?;
+    }
+    Ok(())
+}
+
+#[test]
+fn a_failing_output_has_a_front_of_the_text(rt: HostRuntime) -> Result<(), Fail> {
+    let outside = Outside {
+        out_most: 10,
+        out_fails: 2,
+        ..GOOD
+    };
+    expect(
+        &rt,
+        &outside,
+        Status::WriteFault,
+        b"1 allow @0",
+        b"cannot write\n",
+        "a second push that fails",
+    )?;
+    let outside = Outside {
+        out_fails: 1,
+        ..GOOD
+    };
+    expect(
+        &rt,
+        &outside,
+        Status::WriteFault,
+        b"",
+        b"cannot write\n",
+        "a first push that fails",
+    )
+}
+
+#[test]
+fn a_failing_err_changes_no_status(rt: HostRuntime) -> Result<(), Fail> {
+    let outside = Outside {
+        model: None,
+        err_fails: 1,
+        ..GOOD
+    };
+    expect(
+        &rt,
+        &outside,
+        Status::ReadFault,
+        b"",
+        b"",
+        "an err that fails",
+    )?;
+    let outside = Outside {
+        err_fails: 1,
+        ..GOOD
+    };
+    expect(
+        &rt,
+        &outside,
+        Status::Done,
+        ANSWER,
+        b"",
+        "an err that would fail",
+    )
+}
+
+/// The text, and so many LF behind it.
+fn padded(alloc: Global, text: &[u8], len: usize) -> Result<Vec<u8>, Fail> {
+    let mut bytes = Vec::with_capacity(alloc, len)?;
+    bytes.extend_from_slice(text)?;
+    bytes.resize(len, b'\n')?;
+    Ok(bytes)
+}
+
+#[test]
+fn a_model_has_65536_bytes_at_most(rt: HostRuntime) -> Result<(), Fail> {
+    let cases: [(usize, Status, &[u8], &[u8]); 2] = [
+        (65_536, Status::Done, ANSWER, b""),
+        (
+            65_537,
+            Status::TooLong,
+            b"",
+            b"too long: model, limit 65536\n",
+        ),
+    ];
+    for (len, status, out, err) in cases {
+        let model = padded(rt.alloc(), MODEL, len)?;
+        let outside = Outside {
+            model: Some(&model),
+            ..GOOD
+        };
+        expect(&rt, &outside, status, out, err, "a long model")?;
+    }
+    Ok(())
+}
+
+#[test]
+fn a_policy_and_an_input_have_16777216_bytes_at_most(rt: HostRuntime) -> Result<(), Fail> {
+    let cases: [(usize, Status, &[u8], &[u8], &[u8]); 2] = [
+        (16_777_216, Status::Done, ANSWER, b"", b""),
+        (
+            16_777_217,
+            Status::TooLong,
+            b"",
+            b"too long: policy, limit 16777216\n",
+            b"too long: input, limit 16777216\n",
+        ),
+    ];
+    for (len, status, out, policy_err, input_err) in cases {
+        let policy = padded(rt.alloc(), POLICY, len)?;
+        let outside = Outside {
+            policy: Some(&policy),
+            ..GOOD
+        };
+        expect(&rt, &outside, status, out, policy_err, "a long policy")?;
+        let input = padded(rt.alloc(), INPUT, len)?;
+        let outside = Outside {
+            input: &input,
+            ..GOOD
+        };
+        expect(&rt, &outside, status, out, input_err, "a long input")?;
+    }
+    Ok(())
+}
