@@ -70,7 +70,7 @@ fn nanos(rt: &HostRuntime, call: Call, key: &[u8], pattern: &[u8]) -> Result<u64
     if fits {
         print!(rt; "")?;
     }
-    Ok(u64::try_from(took).unwrap_or(u64::MAX).max(1))
+    Ok(u64::try_from(took).unwrap_or(u64::MAX))
 }
 
 fn report(
@@ -86,7 +86,8 @@ fn report(
     let pattern = text_of(alloc, pattern)?;
     let key = text_of(alloc, key)?;
     let hard = nanos(rt, call, &key, &pattern)?;
-    println!(rt; "{name}: {} times the easy call ({} us)", hard / easy, hard / 1000)?;
+    let times = hard / easy.max(1);
+    println!(rt; "{name}: {times} times the easy call ({} us)", hard / 1000)?;
     Ok(())
 }
 
@@ -120,4 +121,4 @@ cd "$work"
 git init -q .
 (cd crates/key_match && rt lib > /dev/null)
 cd crates/hard_cases
-rt run 2>&1 | grep -E 'times the easy call|error|no proof'
+rt run 2>&1 | grep -E 'times the easy call|: error|no proof'
