@@ -2,11 +2,12 @@
 # Prints how long hard calls of key_match take, beside an easy call of the same size: a text of 4,096 equal bytes
 # against itself. Builds a program over a copy of the crate, in a folder of its own.
 set -euo pipefail
-crate="$(cd "$(dirname "${BASH_SOURCE[0]}")/.." && pwd)"
+crate="$(cd "$(dirname "${BASH_SOURCE[0]}")/../crates/key_match" && pwd)"
 work="$(mktemp -d)"
 trap 'rm -rf "$work"' EXIT
 mkdir -p "$work/crates/hard_cases/src"
-cp -r "$crate" "$work/crates/key_match"
+mkdir "$work/crates/key_match"
+cp -r "$crate/src" "$crate/specs" "$crate/proofs" "$work/crates/key_match"
 printf 'key_match:\nhard_cases: key_match anyhow\n' > "$work/crates.txt"
 cat > "$work/crates/hard_cases/src/main.rt" <<'RATTLE'
 //! Prints how long hard calls of `key_match` take, beside an easy call of the same size.
