@@ -1,64 +1,34 @@
 -- The lines of a policy, read from the front.
-use Rattle.std.proofs.Common.{◌≡◌, ◌≤◌, ◌||◌, ◌&&◌, ℕ, Bool, true, false, cond, not, eqb, List, [], ◌∷◌, ◌++◌, length, map, get_or, refl, sym, ap, ◌∙◌, subst, arith}
-use Rattle.std.specs.Prelude.{All, IsTrue}
+use Rattle.std.proofs.Common.{◌≡◌, ◌≤◌, ℕ, false, cond, List, [], ◌∷◌, ◌++◌, length, map, refl, sym, ap, ◌∙◌, subst, arith}
+use Rattle.std.specs.Prelude.{All}
 use Rattle.std.proofs.lemmas.List.{append_assoc, append-nil, length-append, map-append}
 use Rattle.std.proofs.lemmas.List.Elements.{All-head, All-nil, All-push, All-tail, All-weaker}
-use Rattle.perm_base.specs.Lines.{full_lines, has_byte}
-use Rattle.perm_base.specs.Fields.{IsJoined, IsPlainField, has_plain_ends, has_special, is_special, joined}
+use Rattle.perm_base.specs.Lines.{full_lines}
+use Rattle.perm_base.specs.Fields.{IsPlainLine, joined}
 use Rattle.policy_csv.specs.FirstPlaces.{first_places, stands}
 use Rattle.policy_csv.specs.Policy.{IsPlainRule, IsPolicy, policy_line}
 use Rattle.policy_csv.specs.declared.policy.PolicyFault.{PolicyFault}
 use Rattle.policy_csv.specs.declared.policy.PolicyFault.TheVariants.{NotYet, NoMemory}
 use Rattle.policy_csv.proofs.PlaceLemmas.{All-first_places, first_places-new, first_places-nil, first_places-push, length-first_places-append, stands-first_places}
 
--- a plain field holds no comma
-neither : (first second : Bool) → (first || second) ≡ false → (first ≡ false) × (second ≡ false)
-neither true second e = absurd cc
-neither false second e = (refl, e)
-
-both_true : (first second : Bool) → IsTrue (first && second) → IsTrue first × IsTrue second
-both_true true second e = (refl, e)
-both_true false second e = absurd cc
-
-not_true : (b : Bool) → IsTrue (not b) → b ≡ false
-not_true true e = absurd cc
-not_true false e = refl
-
-no_comma : (text : List ℕ) → has_special text ≡ false → has_byte 44 text ≡ false
-no_comma [] none = refl
-no_comma (byte ∷ text) none =
-    let here : is_special byte ≡ false = (neither (is_special byte) (has_special text) none).0 in
-    let first : eqb byte 44 ≡ false = (neither _ _ (neither _ _ (neither _ _ here).0).0).0 in
-    rw first (no_comma text (neither (is_special byte) (has_special text) none).1)
-
-field_without_comma : (field : List ℕ) → IsPlainField field → has_byte 44 field ≡ false
-field_without_comma field is = no_comma field (not_true (has_special field) (both_true _ (not (has_special field)) (both_true _ (has_plain_ends field) is.plain).0).1)
-
-IsJoined-from_plain : (columns : ℕ) (rule : List (List ℕ)) → IsPlainRule columns rule → IsJoined (joined rule) rule
-IsJoined-from_plain columns rule is = record {
-  some = omega (arith, is.counted, is.some);
-  whole = λ k d within. field_without_comma (get_or rule k d) (is.plain k d within);
-  spelled = refl;
-}
-
--- a line is joined texts in one way
-abbrev pub JoinsOnce : Type 0
-JoinsOnce = (line : List ℕ) (first second : List (List ℕ)) → IsJoined line first → IsJoined line second → first ≡ second
+-- a line is plain fields in one way
+abbrev pub PlainOnce : Type 0
+PlainOnce = (columns width : ℕ) (line : List ℕ) (first second : List (List ℕ)) → IsPlainLine columns line first → IsPlainLine width line second → first ≡ second
 
 -- so lines are of one list of plain rules
-pub policy_lines-once : JoinsOnce → (columns : ℕ) (first second : List (List (List ℕ))) → All (IsPlainRule columns) first → All (IsPlainRule columns) second → map policy_line first ≡ map policy_line second → first ≡ second
+pub policy_lines-once : PlainOnce → (columns : ℕ) (first second : List (List (List ℕ))) → All (IsPlainRule columns) first → All (IsPlainRule columns) second → map policy_line first ≡ map policy_line second → first ≡ second
 policy_lines-once once columns [] [] one two e = refl
 policy_lines-once once columns [] (s ∷ second) one two e = absurd cc
 policy_lines-once once columns (f ∷ first) [] one two e = absurd cc
 policy_lines-once once columns (f ∷ first) (s ∷ second) one two e =
     let P : List (List ℕ) → Type 0 = IsPlainRule columns in
     let here : joined f ≡ joined s = cc in
-    let same : f ≡ s = once (joined s) f s (subst (λ (line : List ℕ). IsJoined line f) here (IsJoined-from_plain columns f (All-head P f first one))) (IsJoined-from_plain columns s (All-head P s second two)) in
+    let same : f ≡ s = once columns columns (joined s) f s (subst (λ (line : List ℕ). IsPlainLine columns line f) here (All-head P f first one)) (All-head P s second two) in
     let later : map policy_line first ≡ map policy_line second = cc in
     let rest : first ≡ second = policy_lines-once once columns first second (All-tail P f first one) (All-tail P s second two) later in
     cc
 
-pub IsPolicy-once : JoinsOnce → (columns : ℕ) (bytes : List ℕ) (first second : List (List (List ℕ))) → IsPolicy columns bytes first → IsPolicy columns bytes second → first ≡ second
+pub IsPolicy-once : PlainOnce → (columns : ℕ) (bytes : List ℕ) (first second : List (List (List ℕ))) → IsPolicy columns bytes first → IsPolicy columns bytes second → first ≡ second
 IsPolicy-once once columns bytes first second one two =
     let same : one.all ≡ two.all = policy_lines-once once columns one.all two.all one.plain two.plain (sym one.lines ∙ two.lines) in
     one.once ∙ ap first_places same ∙ sym two.once

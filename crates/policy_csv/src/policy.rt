@@ -4,7 +4,7 @@ ghost use Rattle.policy_csv.specs.Policy.{IsPlainRule, IsPolicy, policy_line};
 
 use crate::places::keep;
 use perm_base::{
-    NoMemory, PlainFault, Rule, Rules, joined_texts_are_unique, next_full_line, read_plain_fields,
+    NoMemory, PlainFault, Rule, Rules, next_full_line, plain_fields_are_unique, read_plain_fields,
 };
 use std::alloc::Global;
 
@@ -68,7 +68,7 @@ pub fn policies_are_unique()
     ensures { (columns : ℕ) (bytes : List ℕ) (first second : List (List (List ℕ)))
         → IsPolicy columns bytes first → IsPolicy columns bytes second → first ≡ second }
 {
-    joined_texts_are_unique();
+    plain_fields_are_unique();
 }
 
 // Reads the line of a rule.

@@ -2,4 +2,4 @@ use Rattle.policy_csv.proofs.PolicyLemmas.{IsPolicy-once}
 use Rattle.policy_csv.proofs.policy.policies_are_unique.Goals as goal
 
 pub returns : goal.returns
-returns c = IsPolicy-once c.joined_texts_are_unique.ensures
+returns c = IsPolicy-once c.plain_fields_are_unique.ensures
