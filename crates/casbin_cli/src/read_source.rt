@@ -14,10 +14,6 @@ impl<R: Read + Drop> ReadSource<R> {
     pub fn new(reader: R) -> ReadSource<R> {
         ReadSource { reader, faults: 0 }
     }
-
-    pub fn faults(&self) -> u64 {
-        self.faults
-    }
 }
 
 impl<R: Read + Drop> Source for ReadSource<R> {
