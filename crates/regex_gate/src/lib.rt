@@ -1,0 +1,12 @@
+//! Searching for patterns behind a trait, so that a refused pattern is counted and kept.
+#![tactic(auto)]
+
+mod finder;
+mod list_finder;
+mod pattern;
+mod regex_finder;
+mod search;
+
+pub use finder::{FindStop, Finder, grown_lists_grow};
+pub use list_finder::ListFinder;
+pub use regex_finder::RegexFinder;
