@@ -1,12 +1,11 @@
 -- A search for the tree that was read is a search for the pattern.
-use Rattle.std.proofs.Common.{◌≡◌, ℕ, ◌<◌, List, get_or, Option, Some, None, IsSomeAnd, is_some, option_map, false, refl, sym, ap, string_bytes}
+use Rattle.std.proofs.Common.{◌≡◌, ℕ, ◌<◌, List, get_or, Option, Some, None, IsSomeAnd, is_some, option_map, false, sym, ap}
 use Rattle.std.specs.Str.{chars}
 use Rattle.regex.specs.Patterns.{Re, SameCaptures}
 use Rattle.regex.specs.Bytes as raw
 use Rattle.regex.specs.declared.bytes.regex.Regex.{Regex}
 use Rattle.regex.proofs.ForCallers.{is_match_alike}
 use Rattle.regex_hir.specs.Find.{find}
-use Rattle.regex_hir.specs.Meaning.{meaning}
 use Rattle.regex_syntax.specs.Grammar.{Names, read}
 use Rattle.regex_syntax.specs.Brackets.{Nested}
 use Rattle.regex_syntax.specs.Verdict.{Reads}

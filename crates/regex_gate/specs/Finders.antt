@@ -1,7 +1,7 @@
 -- What contracts see of the two finders.
 use Rattle.std.specs.Prelude.{ℕ, ◌+◌, List, min}
 use Rattle.perm_base.specs.Faults.{most_faults}
-use Rattle.perm_base.specs.Listed.{Schedule}
+use Rattle.perm_base.specs.Listed.{Schedule, after_call, after_fault}
 use Rattle.regex_gate.specs.Refused.{with_pattern}
 
 -- how often a finder has refused, and which patterns
@@ -17,3 +17,11 @@ after_refusal refusals pattern = record { count = min (refusals.count + 1) most_
 pub record ListedFinder : Type 0 where
   pub schedule : Schedule
   pub bad : List (List ℕ)
+
+-- after a call that it did not refuse
+abbrev pub after_find : ListedFinder → ListedFinder
+after_find finder = record finder { schedule = after_call finder.schedule }
+
+-- after a call that it refused
+abbrev pub after_refused_find : ListedFinder → List ℕ → ListedFinder
+after_refused_find finder pattern = record { schedule = after_fault (after_call finder.schedule); bad = with_pattern finder.bad pattern }

@@ -6,6 +6,9 @@ ghost use Rattle.regex_gate.specs.declared.finder.FindStop.TheVariants as stops;
 
 use perm_base::NoMemory;
 
+#[cfg(test)]
+mod tests;
+
 /// What searches texts for patterns with the syntax of the crate `regex`, both being bytes. It keeps the patterns
 /// that it refused.
 pub trait Finder: Send {

@@ -1,5 +1,8 @@
-ghost use Rattle.std.specs.Prelude.{◌≡◌, []};
-ghost use Rattle.perm_base.specs.Listed.{fresh};
+ghost use Rattle.std.specs.Prelude.{◌≡◌, ◌≤◌, [], Some, true, Contains, IfOk, OnOk, IsErr, IsErrOf, IsUtf8};
+ghost use Rattle.perm_base.specs.Listed.{fresh, is_listed};
+ghost use Rattle.regex_gate.specs.Found.{found};
+ghost use Rattle.regex_gate.specs.Refused.{IsEachOnce};
+ghost use Rattle.regex_gate.specs.Finders.{after_find, after_refused_find};
 
 use crate::finder::{FindStop, Finder};
 use crate::regex_finder::RegexFinder;
@@ -47,7 +50,17 @@ impl Finder for ListFinder {
 
     ghost bad = { λ f. f.bad };
 
-    fn find(&mut self, pattern: &[u8], text: &[u8]) -> Result<bool, FindStop> {
+    fn find(&mut self, pattern: &[u8], text: &[u8]) -> Result<bool, FindStop>
+        ensures found { IfOk result (λ is_found. found pattern.now text.now ≡ Some is_found) }
+        ensures utf8 { OnOk result (IsUtf8 pattern.now) }
+        ensures listed { is_listed self.old.schedule ≡ true → IsErr result }
+        ensures counted { self.old.schedule.faults ≤ self.new.schedule.faults }
+        ensures refused { IsErrOf result FindStop.Refused → self.new ≡ after_refused_find self.old pattern.now }
+        ensures stands { IsErrOf result FindStop.Refused → Contains self.new.bad pattern.now }
+        ensures same { OnOk result (self.new ≡ after_find self.old) }
+        ensures no_memory { IsErrOf result FindStop.NoMemory → self.new ≡ after_find self.old }
+        ensures each_once { IsEachOnce self.new.bad }
+    {
         self.calls = self.calls.saturating_add(1);
         if self.refused.contains(&self.calls) {
             return Err(self.finder.refuse(pattern));

@@ -1,4 +1,5 @@
-ghost use Rattle.std.specs.Prelude.{◌≡◌, ◌≤◌, [], Contains, OnOk, OnErr};
+ghost use Rattle.std.specs.Prelude.{◌≡◌, ◌≤◌, [], Some, Contains, IfOk, OnOk, OnErr, IsErrOf, IsUtf8};
+ghost use Rattle.regex_gate.specs.Found.{found};
 ghost use Rattle.regex_gate.specs.Refused.{has_pattern, with_pattern, IsEachOnce};
 ghost use Rattle.regex_gate.specs.Finders.{after_refusal};
 
@@ -68,7 +69,16 @@ impl Finder for RegexFinder {
 
     ghost bad = { λ f. f.bad };
 
-    fn find(&mut self, pattern: &[u8], text: &[u8]) -> Result<bool, FindStop> {
+    fn find(&mut self, pattern: &[u8], text: &[u8]) -> Result<bool, FindStop>
+        ensures found { IfOk result (λ is_found. found pattern.now text.now ≡ Some is_found) }
+        ensures utf8 { OnOk result (IsUtf8 pattern.now) }
+        ensures counted { self.old.count ≤ self.new.count }
+        ensures refused { IsErrOf result FindStop.Refused → self.new ≡ after_refusal self.old pattern.now }
+        ensures stands { IsErrOf result FindStop.Refused → Contains self.new.bad pattern.now }
+        ensures same { OnOk result (self.new ≡ self.old) }
+        ensures no_memory { IsErrOf result FindStop.NoMemory → self.new ≡ self.old }
+        ensures each_once { IsEachOnce self.new.bad }
+    {
         match search(self.alloc, pattern, text)? {
             Some(is_found) => Ok(is_found),
             None => Err(self.refuse(pattern)),
