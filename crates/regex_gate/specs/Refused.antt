@@ -14,7 +14,7 @@ with_pattern patterns pattern = if has_pattern patterns pattern then patterns el
 abbrev pub IsEachOnce : List (List ℕ) → Type 0
 IsEachOnce = IsDistinct bytes_eq
 
--- the list has got at most further patterns at its end
+-- the list begins with the one before
 pub record HasGrown (before now : List (List ℕ)) : Type 0 where
   pub more : List (List ℕ)
   pub parts : now ≡ before ++ more

@@ -9,8 +9,8 @@ use perm_base::NoMemory;
 #[cfg(test)]
 mod tests;
 
-/// What searches texts for patterns with the syntax of the crate `regex`, both being bytes. It keeps the patterns
-/// that it refused.
+/// What searches texts for patterns that have the syntax of the crate `regex`. It counts what it refuses, and keeps
+/// the patterns that it refused.
 pub trait Finder: Send {
     /// How often the finder has refused. The count stands still at 2^64 - 1.
     ghost refusals: { Self → ℕ };
@@ -18,7 +18,8 @@ pub trait Finder: Send {
     /// The patterns that it refused, each once, in the order of their first refusals.
     ghost bad: { Self → List (List ℕ) };
 
-    /// Whether a text holds a match of a pattern, as the crate `regex` defines it in its forms over bytes.
+    /// Whether a text holds a match of a pattern, as the crate `regex` defines it in its forms over bytes. A pattern
+    /// that is not UTF-8, or that `regex` does not build, is refused; a finder may refuse others.
     fn find(&mut self, pattern: &[u8], text: &[u8]) -> Result<bool, FindStop>
         ensures found { IfOk result (λ is_found. found pattern.now text.now ≡ Some is_found) }
         ensures utf8 { OnOk result (IsUtf8 pattern.now) }
@@ -37,6 +38,7 @@ pub trait Finder: Send {
 pub enum FindStop {
     /// The finder refused the pattern, counted it and keeps it.
     Refused,
+    /// Memory ran out. The patterns that the finder keeps are as before.
     NoMemory,
 }
 

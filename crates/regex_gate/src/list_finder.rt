@@ -12,7 +12,8 @@ use std::marker::Model;
 #[cfg(test)]
 mod tests;
 
-/// A finder that refuses listed calls too. Contracts see its schedule, and the patterns that it refused.
+/// A finder that refuses listed calls too. Every call counts, whatever its answer, and the counter stands still at
+/// 2^32 - 1. Contracts see its schedule, and the patterns that it refused.
 #[derive(Drop)]
 pub struct ListFinder {
     refused: Vec<u32>,
