@@ -11,6 +11,7 @@ pub record ModelParts : Type 0 where
   pub policy : List (List ℕ)
   pub pairs : List (ℕ × ℕ)
 
+-- of these columns and places
 abbrev pub parts_of : List (List ℕ) → List (List ℕ) → List (ℕ × ℕ) → ModelParts
 parts_of request policy pairs = record { request = request; policy = policy; pairs = pairs }
 
@@ -29,7 +30,11 @@ equalities request policy pairs = join_by (equality_at request policy) (codes " 
 -- the four sections: a header each, and the line of its key
 unfoldable pub section_lines : List ℕ → List ℕ → List ℕ → List (List ℕ)
 section_lines request policy matcher =
-    codes "[request_definition]" ∷ (codes "r = " ++ request) ∷ codes "[policy_definition]" ∷ (codes "p = " ++ policy) ∷ codes "[policy_effect]" ∷ codes "e = some(where (p.eft == allow))" ∷ codes "[matchers]" ∷ (codes "m = " ++ matcher) ∷ []
+    codes "[request_definition]" ∷ (codes "r = " ++ request)
+    ∷ codes "[policy_definition]" ∷ (codes "p = " ++ policy)
+    ∷ codes "[policy_effect]" ∷ codes "e = some(where (p.eft == allow))"
+    ∷ codes "[matchers]" ∷ (codes "m = " ++ matcher)
+    ∷ []
 
 -- the lines of the text that says so
 abbrev pub model_lines : ModelParts → List (List ℕ)
