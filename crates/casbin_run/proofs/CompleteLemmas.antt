@@ -47,12 +47,22 @@ exact_done law words files input out out_now stop took told read cause = told_no
 pub complete_done : HasOneEnd → (words : List (List ℕ)) (files : Option Files) (input out out_now : Option (List ℕ)) (text : List ℕ) → TookAll words files input out out_now → IsSome files → IsSome input → IsAnswered words files input text → out_now ≡ with_back out text
 complete_done law words files input out out_now text took told read is = took.took ∙ ap (with_back out) (told_one_text law words files input took.text text told read took.answered is)
 
+-- where there is a cause, the only faults are those of reading
+read_or_memory : HasOneEnd → (words : List (List ℕ)) (files : Option Files) (input out out_now : Option (List ℕ)) (shelf source sink : Type 0) (given stop : Stop) → Fault words files input out out_now shelf source sink given → IsSome files → IsSome input
+    → Cause words files input stop → (status_of given ≡ statuses.NoMemory) ⊎ ((status_of given ≡ statuses.ReadFault) × (shelf ⊎ source))
+read_or_memory law words files input out out_now shelf source sink (CannotRead Model) stop fault told read cause = inr (refl, inl fault.2)
+read_or_memory law words files input out out_now shelf source sink (CannotRead Policy) stop fault told read cause = inr (refl, inl fault.2.2)
+read_or_memory law words files input out out_now shelf source sink (CannotRead Input) stop fault told read cause = inr (refl, inr fault.2.2.2)
+read_or_memory law words files input out out_now shelf source sink CannotWrite stop fault told read cause = absurd (told_no_cause law words files input fault.0.text stop told read fault.0.answered cause)
+read_or_memory law words files input out out_now shelf source sink NoMemory stop fault told read cause = inl refl
+read_or_memory law words files input out out_now shelf source sink _ stop fault told read cause = absurd fault
+
 pub exact_stopped : HasOneEnd → (words : List (List ℕ)) (files : Option Files) (input out out_now : Option (List ℕ)) (shelf source sink : Type 0) (given stop : Stop) → EndsBy words files input out out_now shelf source sink given → IsSome files → IsSome input
-    → Cause words files input stop → ¬ shelf → ¬ source → ¬ sink → (status_of given ≡ status_of stop) ⊎ (status_of given ≡ statuses.NoMemory)
+    → Cause words files input stop → (status_of given ≡ status_of stop) ⊎ ((status_of given ≡ statuses.NoMemory) ⊎ ((status_of given ≡ statuses.ReadFault) × (shelf ⊎ source)))
 unfolding EndsBy
-exact_stopped law words files input out out_now shelf source sink given stop ends told read cause no-shelf no-source no-sink =
+exact_stopped law words files input out out_now shelf source sink given stop ends told read cause =
     ⊎_elim (λ own. inl (ap status_of (told_one_cause law words files input given stop told read own cause)))
-    (λ fault. inr (only_memory words files input out out_now shelf source sink given no-shelf no-source no-sink fault)) ends
+    (λ fault. inr (read_or_memory law words files input out out_now shelf source sink given stop fault told read cause)) ends
 
 pub complete_stopped : HasOneEnd → (words : List (List ℕ)) (files : Option Files) (input out out_now : Option (List ℕ)) (shelf source sink : Type 0) (given : Stop) (text : List ℕ) → EndsBy words files input out out_now shelf source sink given → IsSome files → IsSome input
     → IsAnswered words files input text → ¬ shelf → ¬ source → ¬ sink → status_of given ≡ statuses.NoMemory

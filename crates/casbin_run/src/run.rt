@@ -48,13 +48,14 @@ pub fn run_casbin<F: Shelf, S: Source, K: Sink, E: Sink>(
         ⊎ (Rose (F.faults shelf.old) (F.faults shelf.new) ⊎ Rose (S.faults input.old) (S.faults input.new)) }
     ensures write_fault { result ≡ Status.WriteFault → Rose (K.faults out.old) (K.faults out.new) }
 
-    // Where the files and the input are told and no count rises, the status is the one that they give, or memory
-    // ran out.
+    // Where the files and the input are told, each cause has its own status, unless memory ran out, or a file or the
+    // input could not be read.
     ensures exact { (stop : Stop) → IsSome (F.files shelf.old) → IsSome (S.left input.old)
         → Cause (map string_bytes words.now) (F.files shelf.old) (S.left input.old) stop
-        → ¬ (Rose (F.faults shelf.old) (F.faults shelf.new)) → ¬ (Rose (S.faults input.old) (S.faults input.new))
-        → ¬ (Rose (K.faults out.old) (K.faults out.new))
-        → (result ≡ status_of stop) ⊎ (result ≡ Status.NoMemory) }
+        → (result ≡ status_of stop) ⊎ ((result ≡ Status.NoMemory) ⊎ ((result ≡ Status.ReadFault)
+        × (Rose (F.faults shelf.old) (F.faults shelf.new) ⊎ Rose (S.faults input.old) (S.faults input.new)))) }
+
+    // Where they are told and in order, and no count rises, the answer is Done with the text, or memory ran out.
     ensures complete { (text : List ℕ) → IsSome (F.files shelf.old) → IsSome (S.left input.old)
         → IsAnswered (map string_bytes words.now) (F.files shelf.old) (S.left input.old) text
         → ¬ (Rose (F.faults shelf.old) (F.faults shelf.new)) → ¬ (Rose (S.faults input.old) (S.faults input.new))

@@ -1,5 +1,5 @@
 -- Bytes that an object of the outside may tell: those that are left in a source, those that a sink has taken.
-use Rattle.std.specs.Prelude.{◌≡◌, ◌<◌, List, ◌++◌, length, ℕ, Option, option_map}
+use Rattle.std.specs.Prelude.{◌≡◌, ◌<◌, ◌≤◌, List, ◌++◌, length, ℕ, Option, option_map}
 
 -- told bytes with these in front of them; nothing where nothing is told
 abbrev pub with_front : List ℕ → Option (List ℕ) → Option (List ℕ)
@@ -19,6 +19,12 @@ pub record HasReadMore (most : ℕ) (before now : Option (List ℕ)) : Type 0 wh
   pub bytes : List ℕ
   pub read : before ≡ with_front bytes now
   pub more : most < length bytes
+
+-- the same, where at most so many bytes were read
+pub record HasReadAtMost (most : ℕ) (before now : Option (List ℕ)) : Type 0 where
+  pub bytes : List ℕ
+  pub read : before ≡ with_front bytes now
+  pub within : length bytes ≤ most
 
 -- a sink took, after what it had, a front of the text
 pub record TookFront (before now : Option (List ℕ)) (text : List ℕ) : Type 0 where

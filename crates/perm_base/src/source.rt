@@ -1,6 +1,6 @@
 ghost use Rattle.std.specs.Prelude.{◌≡◌, ◌<◌, ◌≤◌, ℕ, [], List, Option, IfOk, IfErr, IfSome, OnOk, OnErr, IsErrOf, length, take};
 ghost use Rattle.perm_base.specs.Faults.{Rose};
-ghost use Rattle.perm_base.specs.Told.{with_front, HasRead, HasReadMore};
+ghost use Rattle.perm_base.specs.Told.{with_front, HasRead, HasReadAtMost, HasReadMore};
 ghost use Rattle.perm_base.specs.declared.source.ReadStop.TheVariants as stops;
 
 use crate::fault::{Failed, NoMemory};
@@ -63,6 +63,7 @@ pub fn read_all<S: Source>(alloc: Global, source: &mut S, most: u64) -> Result<V
     ensures stopped { OnErr result (HasRead (S.left source.old) (S.left source.new)) }
     ensures counted { S.faults source.old ≤ S.faults source.new }
     ensures failed { IsErrOf result ReadStop.Failed → Rose (S.faults source.old) (S.faults source.new) }
+    ensures failed_within { IsErrOf result ReadStop.Failed → HasReadAtMost most (S.left source.old) (S.left source.new) }
     ensures too_long { IsErrOf result ReadStop.TooLong → HasReadMore most (S.left source.old) (S.left source.new) }
 {
     let mut bytes = Vec::new(alloc);

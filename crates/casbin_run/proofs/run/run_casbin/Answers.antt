@@ -31,14 +31,14 @@ pub returns-in-Err-clause-some : goal.returns-in-Err-clause-some
 returns-in-Err-clause-some g c = rw c.status.ensures (λ e. took_some _ _ _ _ _ _ _ _ c.in-Err.stop e c.in-Err.ensures.stopped)
 
 pub returns-in-Ok-clause-exact : goal.returns-in-Ok-clause-exact
-returns-in-Ok-clause-exact g c = λ stop told read cause no-shelf no-source no-sink. absurd (exact_done (record { one_cause = c.one_end.ensures.one_cause; no_cause = c.one_end.ensures.no_cause; one_text = c.one_end.ensures.one_text }) _ _ _ _ _ stop c.in-Ok.ensures.answered told read cause)
+returns-in-Ok-clause-exact g c = λ stop told read cause. absurd (exact_done (record { one_cause = c.one_end.ensures.one_cause; no_cause = c.one_end.ensures.no_cause; one_text = c.one_end.ensures.one_text }) _ _ _ _ _ stop c.in-Ok.ensures.answered told read cause)
 
 pub returns-in-Ok-clause-complete : goal.returns-in-Ok-clause-complete
 returns-in-Ok-clause-complete g c = λ text told read is no-shelf no-source no-sink. inl (refl, complete_done (record { one_cause = c.one_end.ensures.one_cause; no_cause = c.one_end.ensures.no_cause; one_text = c.one_end.ensures.one_text }) _ _ _ _ _ text c.in-Ok.ensures.answered told read is)
 
 pub returns-in-Err-clause-exact : goal.returns-in-Err-clause-exact
-returns-in-Err-clause-exact g c = rw c.status.ensures (λ stop told read cause no-shelf no-source no-sink.
-    exact_stopped (record { one_cause = c.one_end.ensures.one_cause; no_cause = c.one_end.ensures.no_cause; one_text = c.one_end.ensures.one_text }) _ _ _ _ _ _ _ _ c.in-Err.stop stop c.in-Err.ensures.stopped told read cause no-shelf no-source no-sink)
+returns-in-Err-clause-exact g c = rw c.status.ensures (λ stop told read cause.
+    exact_stopped (record { one_cause = c.one_end.ensures.one_cause; no_cause = c.one_end.ensures.no_cause; one_text = c.one_end.ensures.one_text }) _ _ _ _ _ _ _ _ c.in-Err.stop stop c.in-Err.ensures.stopped told read cause)
 
 pub returns-in-Err-clause-complete : goal.returns-in-Err-clause-complete
 returns-in-Err-clause-complete g c = rw c.status.ensures (λ text told read is no-shelf no-source no-sink.
