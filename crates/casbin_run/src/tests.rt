@@ -18,7 +18,6 @@ const COMMAND: [&str; 3] = ["enforce", "m.conf", "p.csv"];
 /// What stands outside of a run, and which calls fail.
 #[derive(Drop)]
 struct Outside<'a> {
-    words: &'a [&'a str],
     model: Option<&'a [u8]>,
     policy: Option<&'a [u8]>,
     input: &'a [u8],
@@ -30,7 +29,6 @@ struct Outside<'a> {
 }
 
 const GOOD: Outside<'static> = Outside {
-    words: &COMMAND,
     model: Some(MODEL),
     policy: Some(POLICY),
     input: INPUT,
@@ -64,7 +62,7 @@ fn put(alloc: Global, shelf: &mut ListShelf, name: &str, bytes: Option<&[u8]>) -
     Ok(())
 }
 
-/// Runs it, and compares the status, and what the two sinks took.
+/// Runs the command, and compares the status, and what the two sinks took.
 fn expect(
     rt: &(impl Abort + AllocGlobal),
     outside: &Outside,
@@ -73,9 +71,22 @@ fn expect(
     err: &[u8],
     case: &str,
 ) -> Result<(), Fail> {
+    expect_of(rt, &COMMAND, outside, status, out, err, case)
+}
+
+/// Runs the words, and compares the status, and what the two sinks took.
+fn expect_of(
+    rt: &(impl Abort + AllocGlobal),
+    command: &[&str],
+    outside: &Outside,
+    status: Status,
+    out: &[u8],
+    err: &[u8],
+    case: &str,
+) -> Result<(), Fail> {
     let alloc = rt.alloc();
     let mut words = Vec::new(alloc);
-    for word in outside.words {
+    for word in command {
         words.push(String::from_str(alloc, word)?)?;
     }
     let mut shelf = ListShelf::new(alloc, vec![in alloc; outside.shelf_fails]?);
@@ -126,135 +137,179 @@ fn each_request_has_its_line(rt: HostRuntime) -> Result<(), Fail> {
     Ok(())
 }
 
+const OTHERS: [&[&str]; 8] = [
+    &[],
+    &["enforce"],
+    &["enforce", "m.conf"],
+    &["enforce", "m.conf", "p.csv", "p.csv"],
+    &["Enforce", "m.conf", "p.csv"],
+    &["check", "m.conf", "p.csv"],
+    &["enforce", "-m.conf", "p.csv"],
+    &["enforce", "m.conf", "-"],
+];
+
+const USAGE: &[u8] = b"usage: casbin_cli COMMAND [OPTION]... [WORD]...\n";
+
 #[test]
 fn other_words_are_no_command(rt: HostRuntime) -> Result<(), Fail> {
-    let cases: [&[&str]; 8] = [
-        &[],
-        &["enforce"],
-        &["enforce", "m.conf"],
-        &["enforce", "m.conf", "p.csv", "p.csv"],
-        &["Enforce", "m.conf", "p.csv"],
-        &["check", "m.conf", "p.csv"],
-        &["enforce", "-m.conf", "p.csv"],
-        &["enforce", "m.conf", "-"],
-    ];
-    for words in cases {
-        let outside = Outside { words, ..GOOD };
-        let usage = b"usage: casbin_cli COMMAND [OPTION]... [WORD]...\n";
-        expect(&rt, &outside, Status::Words, b"", usage, "other words")?;
+    for words in OTHERS {
+        expect_of(&rt, words, &GOOD, Status::Words, b"", USAGE, "other words")?;
     }
     Ok(())
 }
 
 #[test]
-fn each_stop_has_its_status_and_line(rt: HostRuntime) -> Result<(), Fail> {
-    let cases: [(&str, Outside, Status, &[u8]); 11] = [
-        (
-            "no model file",
-            Outside {
-                model: None,
-                ..GOOD
-            },
-            Status::ReadFault,
-            b"cannot read: model\n",
-        ),
-        (
-            "no policy file",
-            Outside {
-                policy: None,
-                ..GOOD
-            },
-            Status::ReadFault,
-            b"cannot read: policy\n",
-        ),
-        (
-            "neither file",
-            Outside {
-                model: None,
-                policy: None,
-                ..GOOD
-            },
-            Status::ReadFault,
-            b"cannot read: model\n",
-        ),
-        (
-            "a failing first fetch",
-            Outside {
-                shelf_fails: 1,
-                ..GOOD
-            },
-            Status::ReadFault,
-            b"cannot read: model\n",
-        ),
-        (
-            "a failing second fetch",
-            Outside {
-                shelf_fails: 2,
-                ..GOOD
-            },
-            Status::ReadFault,
-            b"cannot read: policy\n",
-        ),
-        (
-            "a failing first pull",
-            Outside {
-                input_fails: 1,
-                ..GOOD
-            },
-            Status::ReadFault,
-            b"cannot read: input\n",
-        ),
-        (
-            "a failing second pull",
-            Outside {
-                input_fails: 2,
-                ..GOOD
-            },
-            Status::ReadFault,
-            b"cannot read: input\n",
-        ),
-        (
-            "no model",
-            Outside {
-                model: Some(b"[matchers]\n"),
-                ..GOOD
-            },
-            Status::Model,
-            b"model: not yet\n",
-        ),
-        (
-            "no policy",
-            Outside {
-                policy: Some(b"g, alice, admin\n"),
-                ..GOOD
-            },
-            Status::Policy,
-            b"policy: not yet\n",
-        ),
-        (
-            "no requests",
-            Outside {
-                input: b"alice, data1, read\nalice, data1\n",
-                ..GOOD
-            },
-            Status::Script,
-            b"script: not yet\n",
-        ),
-        (
-            "no model before no policy file",
-            Outside {
-                model: Some(b""),
-                policy: None,
-                ..GOOD
-            },
-            Status::Model,
-            b"model: not yet\n",
-        ),
-    ];
-    for (case, outside, status, line) in &cases {
-        expect(&rt, outside, *status, b"", line, case)?;
-    }
-    Ok(())
+fn an_absent_file_is_a_read_fault(rt: HostRuntime) -> Result<(), Fail> {
+    let outside = Outside {
+        model: None,
+        ..GOOD
+    };
+    expect(
+        &rt,
+        &outside,
+        Status::ReadFault,
+        b"",
+        b"cannot read: model\n",
+        "no model file",
+    )?;
+    let outside = Outside {
+        policy: None,
+        ..GOOD
+    };
+    expect(
+        &rt,
+        &outside,
+        Status::ReadFault,
+        b"",
+        b"cannot read: policy\n",
+        "no policy file",
+    )?;
+    let outside = Outside {
+        model: None,
+        policy: None,
+        ..GOOD
+    };
+    expect(
+        &rt,
+        &outside,
+        Status::ReadFault,
+        b"",
+        b"cannot read: model\n",
+        "neither file",
+    )
+}
+
+#[test]
+fn a_failing_fetch_is_a_read_fault(rt: HostRuntime) -> Result<(), Fail> {
+    let outside = Outside {
+        shelf_fails: 1,
+        ..GOOD
+    };
+    expect(
+        &rt,
+        &outside,
+        Status::ReadFault,
+        b"",
+        b"cannot read: model\n",
+        "a failing first fetch",
+    )?;
+    let outside = Outside {
+        shelf_fails: 2,
+        ..GOOD
+    };
+    expect(
+        &rt,
+        &outside,
+        Status::ReadFault,
+        b"",
+        b"cannot read: policy\n",
+        "a failing second fetch",
+    )
+}
+
+#[test]
+fn a_failing_pull_is_a_read_fault(rt: HostRuntime) -> Result<(), Fail> {
+    let outside = Outside {
+        input_fails: 1,
+        ..GOOD
+    };
+    expect(
+        &rt,
+        &outside,
+        Status::ReadFault,
+        b"",
+        b"cannot read: input\n",
+        "a failing first pull",
+    )?;
+    let outside = Outside {
+        input_fails: 2,
+        ..GOOD
+    };
+    expect(
+        &rt,
+        &outside,
+        Status::ReadFault,
+        b"",
+        b"cannot read: input\n",
+        "a failing second pull",
+    )
+}
+
+#[test]
+fn another_form_has_its_status(rt: HostRuntime) -> Result<(), Fail> {
+    let outside = Outside {
+        model: Some(b"[matchers]\n"),
+        ..GOOD
+    };
+    expect(
+        &rt,
+        &outside,
+        Status::Model,
+        b"",
+        b"model: not yet\n",
+        "no model",
+    )?;
+    let outside = Outside {
+        policy: Some(b"g, alice, admin\n"),
+        ..GOOD
+    };
+    expect(
+        &rt,
+        &outside,
+        Status::Policy,
+        b"",
+        b"policy: not yet\n",
+        "no policy",
+    )?;
+    let outside = Outside {
+        input: b"alice, data1, read\nalice, data1\n",
+        ..GOOD
+    };
+    expect(
+        &rt,
+        &outside,
+        Status::Script,
+        b"",
+        b"script: not yet\n",
+        "no requests",
+    )
+}
+
+#[test]
+fn the_model_is_read_before_the_policy(rt: HostRuntime) -> Result<(), Fail> {
+    let outside = Outside {
+        model: Some(b""),
+        policy: None,
+        ..GOOD
+    };
+    expect(
+        &rt,
+        &outside,
+        Status::Model,
+        b"",
+        b"model: not yet\n",
+        "no model and no policy file",
+    )
 }
 
 #[test]
@@ -346,30 +401,45 @@ fn a_model_has_65536_bytes_at_most(rt: HostRuntime) -> Result<(), Fail> {
 }
 
 #[test]
-fn a_policy_and_an_input_have_16777216_bytes_at_most(rt: HostRuntime) -> Result<(), Fail> {
-    let cases: [(usize, Status, &[u8], &[u8], &[u8]); 2] = [
-        (16_777_216, Status::Done, ANSWER, b"", b""),
+fn a_policy_has_16777216_bytes_at_most(rt: HostRuntime) -> Result<(), Fail> {
+    let cases: [(usize, Status, &[u8], &[u8]); 2] = [
+        (16_777_216, Status::Done, ANSWER, b""),
         (
             16_777_217,
             Status::TooLong,
             b"",
             b"too long: policy, limit 16777216\n",
-            b"too long: input, limit 16777216\n",
         ),
     ];
-    for (len, status, out, policy_err, input_err) in cases {
+    for (len, status, out, err) in cases {
         let policy = padded(rt.alloc(), POLICY, len)?;
         let outside = Outside {
             policy: Some(&policy),
             ..GOOD
         };
-        expect(&rt, &outside, status, out, policy_err, "a long policy")?;
+        expect(&rt, &outside, status, out, err, "a long policy")?;
+    }
+    Ok(())
+}
+
+#[test]
+fn an_input_has_16777216_bytes_at_most(rt: HostRuntime) -> Result<(), Fail> {
+    let cases: [(usize, Status, &[u8], &[u8]); 2] = [
+        (16_777_216, Status::Done, ANSWER, b""),
+        (
+            16_777_217,
+            Status::TooLong,
+            b"",
+            b"too long: input, limit 16777216\n",
+        ),
+    ];
+    for (len, status, out, err) in cases {
         let input = padded(rt.alloc(), INPUT, len)?;
         let outside = Outside {
             input: &input,
             ..GOOD
         };
-        expect(&rt, &outside, status, out, input_err, "a long input")?;
+        expect(&rt, &outside, status, out, err, "a long input")?;
     }
     Ok(())
 }
