@@ -3,3 +3,9 @@ pub mod Outside
 pub mod EntryLemmas
 pub mod LineLemmas
 pub mod FieldLemmas
+pub mod QuotedLemmas
+pub mod PrintLemmas
+pub mod SpellingLemmas
+pub mod ReadLemmas
+pub mod WrittenLemmas
+pub mod FieldLineLemmas

@@ -3,6 +3,9 @@ pub mod Told
 pub mod Lines
 pub mod Fields
 pub mod LineEnds
+pub mod FieldLine
+pub mod FieldFaults
+pub mod FieldSteps
 pub mod Rule
 pub mod Files
 pub mod Fetch

@@ -11,8 +11,13 @@ mod lines_tests;
 mod memory;
 #[cfg(test)]
 mod memory_tests;
+mod quoted;
+mod quoted_print;
+#[cfg(test)]
+mod quoted_tests;
 mod rule;
 mod rules;
+mod shapes;
 mod shelf;
 mod sink;
 mod source;
@@ -25,8 +30,14 @@ pub use fields::{
 };
 pub use lines::{lines_with_ends, lines_without_last_end, next_full_line, next_line};
 pub use memory::{ListShelf, ListSink, ListSource, SureShelf, SureSink, SureSource};
+pub use quoted::{
+    FieldFault, every_line_is_fields_or_at_fault, fault_of_a_line_is_unique,
+    fields_of_a_line_are_unique, line_at_fault_is_no_fields, read_fields,
+};
+pub use quoted_print::{print_fields, printed_fields_are_read};
 pub use rule::{Rule, RuleFault};
 pub use rules::Rules;
+pub use shapes::{Fit, RoleShape};
 pub use shelf::{Fetch, Shelf};
 pub use sink::{Sink, push_all};
 pub use source::{ReadStop, Source, read_all};

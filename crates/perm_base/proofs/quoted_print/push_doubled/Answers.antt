@@ -1,0 +1,12 @@
+use Rattle.std.proofs.Common.{rules}
+use Rattle.perm_base.proofs.QuotedLemmas.{doubled_step, doubled_last}
+use Rattle.perm_base.proofs.quoted_print.push_doubled.Goals as goal
+
+pub loop-before-preserved : goal.loop-before-preserved
+loop-before-preserved c = record {
+  same = doubled_step _ _ _ c.loop-before.rest.now c.in-Some.before.now c.in-Some.after.now _ c.loop-before.invariant.same c.in-Some.ensures c.in_ok-push_str.ensures.bytes c.in_ok-push_str-2.ensures.bytes;
+  utf8 = search rules;
+}
+
+pub returns : goal.returns
+returns c = doubled_last _ _ c.loop-before.rest.now _ c.loop-before.invariant.same c.in_default.ensures c.in_ok-push_str-3.ensures.bytes

@@ -1,0 +1,302 @@
+ghost use Rattle.std.specs.Prelude.{◌≡◌, ◌<◌, ◌≤◌, ◌⊎◌, ℕ, List, ◌∷◌, false, IfOk, IfSome, IfNone, IsErrOf, MatchOption, MatchResult, length, option_map, position};
+ghost use Rattle.perm_base.specs.FieldFaults.{HasTooMany, IsBadAt, IsFault, IsQuoteFault};
+ghost use Rattle.perm_base.specs.FieldLine.{IsFields};
+ghost use Rattle.perm_base.specs.Lines.{has_byte};
+ghost use Rattle.perm_base.specs.LineEnds.{AreFields, is_line_end, has_line_end};
+ghost use Rattle.perm_base.specs.FieldSteps.{Gives, IsCutAt, before_comma, behind_comma, column_of, closed_field, fields_of, first_field, line_end_column, plain_field, quoted_field, quoted_text, without_back_blanks, without_front_blanks};
+
+use crate::fault::NoMemory;
+use crate::text::Text;
+use std::alloc::Global;
+
+// The greatest number of fields of a line.
+const MOST_FIELDS: usize = 34;
+
+// The greatest column that is given.
+const LAST_COLUMN: usize = 4_294_967_295;
+
+/// Why a line is not read as fields.
+#[derive(Clone, Copy, Debug, PartialEq, Eq)]
+pub enum FieldFault {
+    /// At this column, counted in bytes from 1, stands a quote that is never closed, a byte behind a closing quote
+    /// that is neither a blank nor a comma, or a CR or LF.
+    Quote { column: u32 },
+    /// The line has more than 34 fields.
+    TooMany,
+    /// Memory ran out.
+    NoMemory,
+}
+
+impl From<NoMemory> for FieldFault {
+    ghost use Rattle.perm_base.specs.declared.quoted.FieldFault.TheVariants.{NoMemory};
+
+    ghost from_gives = { λ _ fault. fault ≡ NoMemory };
+
+    fn from(_: NoMemory) -> FieldFault {
+        FieldFault::NoMemory
+    }
+}
+
+/// Reads the fields of a line, which are joined by commas. Spaces and tabs round a field are dropped; a field in
+/// double quotes keeps its blanks and commas, and a doubled quote in it is one. An empty line is one empty field.
+/// Of several faults the first from the left is given.
+pub fn read_fields(alloc: Global, line: &str) -> Result<Vec<Text>, FieldFault>
+    ensures found { IfOk result (λ fields. IsFields line.now fields.items) }
+    ensures only { (fields : List (List ℕ)) → IsFields line.now fields
+        → MatchResult result (λ found. found.items ≡ fields) (λ fault. fault ≡ FieldFault.NoMemory) }
+
+    ensures quote { (column : ℕ) → IsErrOf result (FieldFault.Quote column) → IsQuoteFault line.now column }
+    ensures too_many { IsErrOf result FieldFault.TooMany → HasTooMany line.now }
+
+    ensures rule { IfOk result (λ fields. AreFields fields.items) }
+    ensures some { IfOk result (λ fields. 0 < length fields.items) }
+    ensures few { IfOk result (λ fields. length fields.items ≤ 34) }
+{
+    fields_of(alloc, line)
+}
+
+/// The law that a line is fields in at most one way.
+pub fn fields_of_a_line_are_unique()
+    ensures { (line : List ℕ) (first second : List (List ℕ)) → IsFields line first → IsFields line second
+        → first ≡ second }
+{}
+
+/// The law that a line has at most one fault, and is bad at one byte at most.
+pub fn fault_of_a_line_is_unique()
+    ensures fault { (line : List ℕ) (first second : FieldFault) → IsFault line first → IsFault line second
+        → first ≡ second }
+    ensures place { (line : List ℕ) (first second : ℕ) → IsBadAt line first → IsBadAt line second
+        → first ≡ second }
+{}
+
+/// The law that a line with a fault is no fields.
+pub fn line_at_fault_is_no_fields()
+    ensures { (line : List ℕ) (fault : FieldFault) (fields : List (List ℕ)) → IsFault line fault
+        → ¬ (IsFields line fields) }
+{}
+
+/// The law that every line is fields or has a fault.
+pub fn every_line_is_fields_or_at_fault()
+    ensures { (line : List ℕ) → ((fields : List (List ℕ)) × IsFields line fields)
+        ⊎ ((fault : FieldFault) × IsFault line fault) }
+{}
+
+// The fields of a line, or its first fault.
+fn fields_of(alloc: Global, line: &str) -> Result<Vec<Text>, FieldFault>
+    ensures exact { Gives (λ fields. fields.items) result (fields_of line.now) }
+{
+    let mut fields = Vec::new(alloc);
+    let mut rest = line;
+    for at in 0..MOST_FIELDS {
+        let (field, behind) = first_field(alloc, line.len(), rest)?;
+        fields.push(field).map_err(NoMemory::from)?;
+        let Some(next) = behind else {
+            return Ok(fields);
+        };
+        rest = next;
+    }
+    Err(FieldFault::TooMany)
+}
+
+// The field at the front of the last bytes of a line of this size, and what stands behind its comma.
+fn first_field(alloc: Global, size: usize, rest: &str) -> Result<(Text, Option<&str>), FieldFault>
+    ensures { Gives (λ read. (read.0, option_map (λ behind. behind.now) read.1)) result (first_field size rest.now) }
+{
+    let field = without_front_blanks(rest);
+    match behind_quote(field) {
+        Some(inside) => quoted_field(alloc, size, inside),
+        None => plain_field(alloc, size, field),
+    }
+}
+
+// A field that does not begin with a quote.
+fn plain_field(alloc: Global, size: usize, field: &str) -> Result<(Text, Option<&str>), FieldFault>
+    ensures { Gives (λ read. (read.0, option_map (λ behind. behind.now) read.1)) result (plain_field size field.now) }
+{
+    let (text, behind) = comma_parts(field);
+    if has_line_end(text) {
+        let column = line_end_column(size, field);
+        return Err(FieldFault::Quote { column });
+    }
+    let text = Text::from_str(alloc, without_back_blanks(text))?;
+    Ok((text, behind))
+}
+
+// A field that begins with a quote, behind that quote.
+fn quoted_field(
+    alloc: Global,
+    size: usize,
+    inside: &str,
+) -> Result<(Text, Option<&str>), FieldFault>
+    ensures { Gives (λ read. (read.0, option_map (λ behind. behind.now) read.1)) result (quoted_field size inside.now) }
+{
+    let Some((text, after)) = quoted_text(alloc, inside)? else {
+        let column = column_of(size, inside.len() + 1);
+        return Err(FieldFault::Quote { column });
+    };
+    if has_line_end(text.as_str()) {
+        let column = line_end_column(size, inside);
+        return Err(FieldFault::Quote { column });
+    }
+    closed_field(size, text, without_front_blanks(after))
+}
+
+// A field behind whose closing quote, and the blanks there, this stands.
+fn closed_field(size: usize, text: Text, after: &str) -> Result<(Text, Option<&str>), FieldFault>
+    ensures { Gives (λ read. (read.0, option_map (λ behind. behind.now) read.1)) result (closed_field size text after.now) }
+{
+    if after.is_empty() {
+        return Ok((text, None));
+    }
+    match behind_comma(after) {
+        Some(behind) => Ok((text, Some(behind))),
+        None => Err(FieldFault::Quote {
+            column: column_of(size, after.len()),
+        }),
+    }
+}
+
+// Behind an opening quote: the text up to the next quote that is not doubled, and what stands behind that quote.
+fn quoted_text(alloc: Global, inside: &str) -> Result<Option<(Text, &str)>, NoMemory>
+    ensures { IfOk result (λ found. option_map (λ cut. (cut.0, cut.1.now)) found ≡ quoted_text inside.now) }
+{
+    let mut text = String::new(alloc);
+    let mut rest = inside;
+    while let Some((before, after)) = cut_at_quote(rest) {
+        text.push_str(before)?;
+        let Some(next) = behind_quote(after) else {
+            return Ok(Some((Text::from_str(alloc, text.as_str())?, after)));
+        };
+        text.push_str("\"")?;
+        rest = next;
+    }
+    Ok(None)
+}
+
+// What stands before the first quote, and what stands behind it.
+pub(crate) fn cut_at_quote(text: &str) -> Option<(&str, &str)>
+    ensures { MatchOption result (has_byte 34 text.now ≡ false) (λ cut. IsCutAt 34 text.now cut.0.now cut.1.now) }
+{
+    text.split_once('"')
+}
+
+// What stands before the first comma, and what stands behind it.
+fn cut_at_comma(text: &str) -> Option<(&str, &str)>
+    ensures { MatchOption result (has_byte 44 text.now ≡ false) (λ cut. IsCutAt 44 text.now cut.0.now cut.1.now) }
+{
+    text.split_once(',')
+}
+
+// What stands before the first comma, or all, and what stands behind that comma.
+fn comma_parts(text: &str) -> (&str, Option<&str>)
+    ensures before { result.0.now ≡ before_comma text.now }
+    ensures behind { option_map (λ behind. behind.now) result.1 ≡ behind_comma text.now }
+{
+    match cut_at_comma(text) {
+        Some((before, behind)) => (before, Some(behind)),
+        None => (text, None),
+    }
+}
+
+// What stands behind the quote that the text begins with.
+fn behind_quote(text: &str) -> Option<&str>
+    ensures { MatchOption result ((behind : List ℕ) → ¬ (text.now ≡ 34 ∷ behind)) (λ behind. text.now ≡ 34 ∷ behind.now) }
+{
+    text.strip_prefix('"')
+}
+
+// What stands behind the comma that the text begins with.
+fn behind_comma(text: &str) -> Option<&str>
+    ensures { MatchOption result ((behind : List ℕ) → ¬ (text.now ≡ 44 ∷ behind)) (λ behind. text.now ≡ 44 ∷ behind.now) }
+{
+    text.strip_prefix(',')
+}
+
+// The text without the blanks at its front.
+fn without_front_blanks(text: &str) -> &str
+    ensures { result.now ≡ without_front_blanks text.now }
+{
+    let mut rest = text;
+    while let Some(behind) = behind_blank(rest) {
+        rest = behind;
+    }
+    rest
+}
+
+// What stands behind the blank that the text begins with.
+fn behind_blank(text: &str) -> Option<&str>
+    ensures none { IfNone result (without_front_blanks text.now ≡ text.now) }
+    ensures same { IfSome result (λ behind. without_front_blanks text.now ≡ without_front_blanks behind.now) }
+    ensures shorter { IfSome result (λ behind. length behind.now < length text.now) }
+{
+    match text.strip_prefix(' ') {
+        Some(behind) => Some(behind),
+        None => text.strip_prefix('\t'),
+    }
+}
+
+// The text without the blanks at its back.
+fn without_back_blanks(text: &str) -> &str
+    ensures { result.now ≡ without_back_blanks text.now }
+{
+    let mut rest = text;
+    while let Some(before) = before_blank(rest) {
+        rest = before;
+    }
+    rest
+}
+
+// What stands before the blank that the text ends with.
+fn before_blank(text: &str) -> Option<&str>
+    ensures none { IfNone result (without_back_blanks text.now ≡ text.now) }
+    ensures same { IfSome result (λ before. without_back_blanks text.now ≡ without_back_blanks before.now) }
+    ensures shorter { IfSome result (λ before. length before.now < length text.now) }
+{
+    match text.strip_suffix(' ') {
+        Some(before) => Some(before),
+        None => text.strip_suffix('\t'),
+    }
+}
+
+// The text holds CR or LF.
+fn has_line_end(text: &str) -> bool
+    ensures { result ≡ has_line_end text.now }
+{
+    text.as_bytes().iter().any(|byte| is_line_end(*byte))
+}
+
+// The column of the first CR or LF of the last bytes of a line of this size.
+fn line_end_column(size: usize, bytes: &str) -> u32
+    ensures { result ≡ line_end_column size bytes.now }
+{
+    match first_line_end(bytes) {
+        Some(at) => column_of(size, bytes.len().saturating_sub(at)),
+        None => column_of(size, 0),
+    }
+}
+
+// The place of the first CR or LF.
+fn first_line_end(text: &str) -> Option<usize>
+    ensures { result ≡ position is_line_end text.now }
+{
+    text.as_bytes().iter().position(|byte| is_line_end(*byte))
+}
+
+fn is_line_end(byte: u8) -> bool
+    ensures { result ≡ is_line_end byte }
+{
+    byte == b'\r' || byte == b'\n'
+}
+
+#[tactic(auto, unfolding(crate::specs::FieldSteps::column_of))]
+// The column, from 1, of the byte with which the last so many bytes of a line of this size begin.
+fn column_of(size: usize, left: usize) -> u32
+    ensures { result ≡ column_of size left }
+{
+    let column = size.saturating_sub(left).saturating_add(1);
+    if column > LAST_COLUMN {
+        u32::MAX
+    } else {
+        column as u32
+    }
+}

@@ -1,0 +1,9 @@
+mod MemberLemmas
+mod WeightLemmas
+mod CompareLemmas
+mod RisingLemmas
+mod AttributeLemmas
+mod WithinLemmas
+mod ValueLemmas
+mod FaultLemmas
+mod FieldLemmas
