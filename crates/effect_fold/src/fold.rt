@@ -1,0 +1,132 @@
+ghost use Rattle.std.specs.Prelude.{◌≡◌, ◌++◌, ◌∷◌, [], ℕ, List, Option, Some, None, is_some, find};
+ghost use Rattle.effect_fold.specs.Steps.{begun, behind, ended, open_end, taken};
+ghost use Rattle.effect_fold.specs.Verdict.{Taken, ends, ends_with, is_allow, settled_by, settles, verdict};
+ghost use Rattle.effect_fold.specs.declared.effect.Effect.{Effect};
+ghost use Rattle.effect_fold.specs.declared.outcome.Outcome.{Outcome};
+
+use crate::effect::Effect;
+use crate::outcome::Outcome;
+use crate::verdict::Verdict;
+use std::marker::Model;
+
+/// A fold over the outcomes of rows, in their order. Contracts see the effect, the row of the first match with allow,
+/// and the verdict once it is settled. It takes no memory.
+#[derive(Drop)]
+pub struct Fold {
+    effect: Effect,
+    allowed: Option<Option<u32>>,
+    settled: Option<Verdict>,
+}
+
+impl Model for Fold {
+    ghost use Rattle.effect_fold.specs.Steps.{Progress, progress};
+
+    ghost Value = { Progress };
+
+    ghost view = { λ f. progress f.effect f.allowed f.settled };
+}
+
+impl Fold {
+    /// No outcome is taken yet.
+    pub fn new(effect: Effect) -> Fold
+        ensures { result ≡ begun effect }
+    {
+        Fold {
+            effect,
+            allowed: None,
+            settled: None,
+        }
+    }
+
+    /// Takes the outcome of a row, counted from 1, or of the one evaluation that goes with no row. It answers whether the
+    /// verdict is settled now.
+    pub fn take(&mut self, row: Option<u32>, outcome: Outcome) -> bool
+        requires { self.old.settled ≡ None }
+        ensures taken { self.new ≡ taken self.old row outcome }
+        ensures settled { result ≡ ends_with self.old.effect outcome }
+        ensures known { result ≡ is_some self.new.settled }
+    {
+        if ends(self.effect, outcome) {
+            self.settled = Some(settled_by(row, outcome));
+            return true;
+        }
+        if is_allow(outcome) && self.allowed.is_none() {
+            self.allowed = Some(row);
+        }
+        false
+    }
+
+    /// The verdict of the outcomes that were taken.
+    pub fn end(self) -> Verdict
+        ensures { result ≡ ended self }
+    {
+        match self.settled {
+            Some(verdict) => verdict,
+            None => open_end(self.effect, self.allowed),
+        }
+    }
+}
+
+/// The law that a fold over any outcomes ends in their verdict.
+pub fn fold_gives_verdict()
+    ensures verdict { (e : Effect) (outcomes : List Taken) → ended (behind (begun e) outcomes) ≡ verdict e outcomes }
+    ensures settled { (e : Effect) (outcomes : List Taken)
+        → is_some (behind (begun e) outcomes).settled ≡ is_some (find (ends e) outcomes) }
+{}
+
+// The outcome ends the evaluation under the effect.
+fn ends(effect: Effect, outcome: Outcome) -> bool
+    ensures { result ≡ ends_with effect outcome }
+{
+    match outcome {
+        Outcome::Unmatched => false,
+        Outcome::Matched(allow) => settles(effect, allow),
+        Outcome::Failed(_) => true,
+    }
+}
+
+// A match with allow, or else with deny, settles the effect.
+fn settles(effect: Effect, allow: bool) -> bool
+    ensures { result ≡ settles effect allow }
+{
+    match effect {
+        Effect::AllowOverride => allow,
+        Effect::DenyOverride | Effect::AllowAndDeny => !allow,
+        Effect::Priority => true,
+    }
+}
+
+fn is_allow(outcome: Outcome) -> bool
+    ensures { result ≡ is_allow outcome }
+{
+    match outcome {
+        Outcome::Matched(allow) => allow,
+        Outcome::Unmatched | Outcome::Failed(_) => false,
+    }
+}
+
+// The verdict of the row at which the evaluation ends.
+fn settled_by(row: Option<u32>, outcome: Outcome) -> Verdict
+    ensures { result ≡ settled_by row outcome }
+{
+    match outcome {
+        Outcome::Failed(fault) => Verdict::Fault { row, fault },
+        Outcome::Matched(true) => Verdict::Allow(row),
+        Outcome::Matched(false) => Verdict::Deny(row),
+        Outcome::Unmatched => Verdict::Deny(None),
+    }
+}
+
+// The verdict where no outcome ended the evaluation.
+fn open_end(effect: Effect, allowed: Option<Option<u32>>) -> Verdict
+    ensures { result ≡ open_end effect allowed }
+{
+    match effect {
+        Effect::AllowOverride | Effect::Priority => Verdict::Deny(None),
+        Effect::DenyOverride => Verdict::Allow(None),
+        Effect::AllowAndDeny => match allowed {
+            Some(row) => Verdict::Allow(row),
+            None => Verdict::Deny(None),
+        },
+    }
+}

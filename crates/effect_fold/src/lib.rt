@@ -1,0 +1,16 @@
+//! The effects of a policy: the verdict that they give for the outcomes of its rows, and why an evaluation fails.
+#![tactic(auto)]
+
+mod effect;
+mod fault;
+mod fold;
+#[cfg(test)]
+mod fold_tests;
+mod outcome;
+mod verdict;
+
+pub use effect::Effect;
+pub use fault::{Cause, Fault};
+pub use fold::{Fold, fold_gives_verdict};
+pub use outcome::Outcome;
+pub use verdict::Verdict;
