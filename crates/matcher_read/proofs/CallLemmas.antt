@@ -1,0 +1,65 @@
+-- What names call.
+use Rattle.std.proofs.Common.{◌≡◌, ℕ, ◌+◌, Bool, false, cond, List, [], ◌∷◌, length, codes, Option, Some, None, option_map, refl, ap, sym, ◌∙◌, arith, find, position, map}
+use Rattle.std.specs.Str.{bytes_eq}
+use Rattle.matcher_read.specs.Calls.{callee_of, functions, function_or, is_known, name_of, relation_at, relation_names}
+use Rattle.matcher_read.specs.Expression.{function, relation, expression, expressions_of, count}
+use Rattle.matcher_read.specs.TokenLists.{pieces}
+use Rattle.matcher_read.specs.declared.tree.Function.{Function}
+use Rattle.matcher_read.specs.declared.tree.Function.TheVariants as f
+use Rattle.matcher_read.specs.declared.tree.Tree.{Tree}
+use Rattle.matcher_read.proofs.PieceLemmas.{pieces_cases, other_text}
+
+-- no name of a function has a dot
+plain_name : (called : Function) → pieces (name_of called) ≡ name_of called ∷ []
+plain_name f.KeyMatch = refl
+plain_name f.KeyMatch2 = refl
+plain_name f.KeyMatch3 = refl
+plain_name f.KeyMatch4 = refl
+plain_name f.KeyMatch5 = refl
+plain_name f.RegexMatch = refl
+plain_name f.IpMatch = refl
+plain_name f.GlobMatch = refl
+plain_name f.KeyGet = refl
+plain_name f.KeyGet2 = refl
+plain_name f.KeyGet3 = refl
+
+find_none : (test : Function → Bool) (fs : List Function) → ((x : Function) → test x ≡ false) → find test fs ≡ None
+find_none test [] h = refl
+find_none test (x ∷ fs) h = ap (λ (b : Bool). cond b (Some x) (find test fs)) (h x) ∙ find_none test fs h
+
+-- a name with a dot is no function and no relation
+no_function : (bs a b : List ℕ) (cs : List (List ℕ)) → pieces bs ≡ a ∷ b ∷ cs → find (λ (found : Function). bytes_eq bs (name_of found)) functions ≡ None
+no_function bs a b cs e = find_none (λ (found : Function). bytes_eq bs (name_of found)) functions (λ found. other_text bs (name_of found) a b cs (plain_name found) e)
+
+no_relation : (bs a b : List ℕ) (cs : List (List ℕ)) → pieces bs ≡ a ∷ b ∷ cs → position (bytes_eq bs) relation_names ≡ None
+no_relation bs a b cs e =
+    let not : (text : List ℕ) → pieces text ≡ text ∷ [] → bytes_eq bs text ≡ false = λ text one. other_text bs text a b cs one e in
+    rw (not (codes "g") refl, not (codes "g2") refl, not (codes "g3") refl, not (codes "g4") refl, not (codes "g5") refl, not (codes "g6") refl, not (codes "g7") refl, not (codes "g8") refl) refl
+
+-- what a name calls, by the function and the relation of its bytes
+pub calls_function : (bs : List ℕ) (found : Function) → Some found ≡ find (λ (found : Function). bytes_eq bs (name_of found)) functions → callee_of (pieces bs) ≡ function found
+calls_function bs found e =
+    pieces_cases (λ ps. callee_of ps ≡ function found) bs (ap (function_or bs) (sym e)) (λ a b cs more. absurd (let none : Some found ≡ None = e ∙ no_function bs a b cs more in cc))
+
+relation_is : (bs : List ℕ) (number : ℕ) (o : Option ℕ) → Some number ≡ option_map (λ (place : ℕ). place + 1) o → relation_at bs o ≡ relation number
+relation_is bs number None e = absurd cc
+relation_is bs number (Some place) e = ap relation (let same : number ≡ place + 1 = cc in sym same)
+
+pub calls_relation : (bs : List ℕ) (number : ℕ) → None ≡ find (λ (found : Function). bytes_eq bs (name_of found)) functions → Some number ≡ option_map (λ (place : ℕ). place + 1) (position (bytes_eq bs) relation_names)
+    → callee_of (pieces bs) ≡ relation number
+calls_relation bs number none e =
+    pieces_cases (λ ps. callee_of ps ≡ relation number) bs (ap (function_or bs) (sym none) ∙ relation_is bs number (position (bytes_eq bs) relation_names) e)
+    (λ a b cs more. absurd (let no : Some number ≡ None = e ∙ ap (option_map (λ (place : ℕ). place + 1)) (no_relation bs a b cs more) in cc))
+
+unknown_is : (bs : List ℕ) (o : Option ℕ) → None ≡ option_map (λ (place : ℕ). place + 1) o → is_known (relation_at bs o) ≡ false
+unknown_is bs None e = refl
+unknown_is bs (Some place) e = absurd cc
+
+pub calls_nothing : (bs : List ℕ) → None ≡ find (λ (found : Function). bytes_eq bs (name_of found)) functions → None ≡ option_map (λ (place : ℕ). place + 1) (position (bytes_eq bs) relation_names) → is_known (callee_of (pieces bs)) ≡ false
+calls_nothing bs none e =
+    pieces_cases (λ ps. is_known (callee_of ps) ≡ false) bs (ap (λ (o : Option Function). is_known (function_or bs o)) (sym none) ∙ unknown_is bs (position (bytes_eq bs) relation_names) e) (λ a b cs more. refl)
+
+-- as many expressions as trees
+pub count_trees : (trees : List Tree) → count (expressions_of (map expression trees)) ≡ length trees
+count_trees [] = refl
+count_trees (tree ∷ trees) = omega (arith, count_trees trees)

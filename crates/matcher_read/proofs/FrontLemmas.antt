@@ -1,0 +1,174 @@
+-- How far a front goes in a text, and that the text may be cut there.
+use Rattle.std.proofs.Common.{◌≡◌, ℕ, zero, suc, ◌+◌, ◌-◌, ◌<◌, ◌≤◌, ◌||◌, ◌&&◌, Bool, true, false, cond, List, [], ◌∷◌, ◌++◌, length, drop, get_or, eqb, codes, Option, Some, None, IfSome, IsUtf8, refl, sym, ap, ◌∙◌, subst, inl, inr, arith}
+use Rattle.std.proofs.lemmas.Bool.{both_ways, and_parts, cond-true, cond-false, eqb-true, eqb-false, or_cases, or_from, or_left, or_right, false_from_ne_true}
+use Rattle.std.proofs.lemmas.Bool.Decides.{nat_tests}
+use Rattle.std.proofs.lemmas.List.{at_drop_more, at_drop_all}
+use Rattle.std.proofs.lemmas.List.Quantifiers.{position-Some}
+use Rattle.std.proofs.lemmas.List.Splits.{join_with_byte-slice_split, length-slice_split}
+use Rattle.std.proofs.lemmas.List.Sums.{prefix_len-le-length, prefix_len_passes}
+use Rattle.std.proofs.lemmas.Slice.Eq.{bytes_eq-Decides}
+use Rattle.std.proofs.lemmas.Str.{IsCharBoundary-start, IsCharBoundary-after_ascii}
+use Rattle.std.specs.Char.{is_ascii_digit}
+use Rattle.std.specs.List.{join_with_byte, prefix_len}
+use Rattle.std.specs.Prelude.{position}
+use Rattle.std.specs.Str.{IsCharBoundary, bytes_eq}
+use Rattle.perm_base.specs.Fields.{is_blank}
+use Rattle.perm_base.specs.Lines.{has_byte}
+use Rattle.matcher_read.specs.Names.{is_letter, is_word}
+use Rattle.matcher_read.specs.Tokens.{is_reserved}
+use Rattle.matcher_read.specs.TokenLists.{pieces}
+use Rattle.matcher_read.specs.Cutting.{begins_name, goes_on, name_size, is_quote, name_at, number_at, quoted, text_at, sign_at, token_at, blanks}
+use Rattle.matcher_read.proofs.NameLemmas.{name_size-le-length, word_from_letter}
+
+-- behind a byte of ASCII a text may be cut
+pub boundary_behind : (bytes : List ℕ) (n : ℕ) → IsUtf8 bytes → n ≤ length bytes → ((k : ℕ) → n ≡ k + 1 → get_or bytes k 0 < 128) → IsCharBoundary bytes n
+boundary_behind bytes zero utf8 within ascii = IsCharBoundary-start bytes utf8
+boundary_behind bytes (suc n) utf8 within ascii =
+    let e : n + 1 ≡ suc n = omega arith in
+    subst (λ (m : ℕ). IsCharBoundary bytes m) e (IsCharBoundary-after_ascii bytes n utf8 (omega arith) (ascii n (sym e)))
+
+pub boundary-passing : (p : ℕ → Bool) (bytes : List ℕ) → ((b : ℕ) → p b ≡ true → b < 128) → IsUtf8 bytes → IsCharBoundary bytes (prefix_len p bytes)
+boundary-passing p bytes ascii utf8 = boundary_behind bytes (prefix_len p bytes) utf8 (prefix_len-le-length p bytes) (λ k e. ascii (get_or bytes k 0) (prefix_len_passes p bytes k 0 (omega arith)))
+
+digit_ascii : (b : ℕ) → is_ascii_digit b ≡ true → b < 128
+digit_ascii b h = grind (arith, nat_tests)
+
+blank_ascii : (b : ℕ) → is_blank b ≡ true → b < 128
+blank_ascii b h = grind (arith, nat_tests)
+
+word_ascii : (b : ℕ) → is_word b ≡ true → b < 128
+word_ascii b h = grind (arith, nat_tests)
+
+pub boundary-digits : (bytes : List ℕ) → IsUtf8 bytes → IsCharBoundary bytes (prefix_len is_ascii_digit bytes)
+boundary-digits bytes utf8 = boundary-passing is_ascii_digit bytes digit_ascii utf8
+
+pub boundary-blanks : (bytes : List ℕ) → IsUtf8 bytes → IsCharBoundary bytes (blanks bytes)
+boundary-blanks bytes utf8 = boundary-passing is_blank bytes blank_ascii utf8
+
+goes_ascii : (b : ℕ) (bytes : List ℕ) → goes_on b bytes ≡ true → b < 128
+goes_ascii b bytes goes =
+    elim (or_cases (is_word b) (eqb b 46 && begins_name bytes) goes) as (λ _. b < 128) [
+      | inl word ↦ word_ascii b word
+      | inr dot ↦ let same = eqb-true b 46 (and_parts (eqb b 46) (begins_name bytes) dot).0 in omega arith
+    ]
+
+name_ascii-at : (g : Bool) (b : ℕ) (bytes : List ℕ) (k : ℕ) → goes_on b bytes ≡ g → ((j : ℕ) → j < name_size bytes → get_or bytes j 0 < 128) → k < cond g (suc (name_size bytes)) 0 → get_or (b ∷ bytes) k 0 < 128
+name_ascii-at true b bytes zero goes rest h = goes_ascii b bytes goes
+name_ascii-at true b bytes (suc k) goes rest h = rest k (omega arith)
+name_ascii-at false b bytes k goes rest h = absurd (omega arith)
+
+name_ascii : (bytes : List ℕ) (k : ℕ) → k < name_size bytes → get_or bytes k 0 < 128
+unfolding name_size
+name_ascii [] k h = absurd (omega arith)
+name_ascii (b ∷ bytes) k h = name_ascii-at (goes_on b bytes) b bytes k refl (name_ascii bytes) h
+
+pub boundary-name : (bytes : List ℕ) → IsUtf8 bytes → IsCharBoundary bytes (name_size bytes)
+boundary-name bytes utf8 = boundary_behind bytes (name_size bytes) utf8 (name_size-le-length bytes) (λ k e. name_ascii bytes k (omega arith))
+
+-- one byte more of a name, and its end
+pub name_more : (bytes : List ℕ) (n : ℕ) → n < length bytes → goes_on (get_or bytes n 0) (drop (n + 1) bytes) ≡ true → n + name_size (drop n bytes) ≡ name_size bytes → n + 1 + name_size (drop (n + 1) bytes) ≡ name_size bytes
+unfolding name_size
+name_more bytes n within goes e =
+    let next = at_drop_more name_size bytes n 0 within ∙ cond-true (goes_on (get_or bytes n 0) (drop (n + 1) bytes)) (suc (name_size (drop (n + 1) bytes))) 0 goes in
+    omega (arith, next, e)
+
+pub name_stop : (bytes : List ℕ) (n : ℕ) → n < length bytes → goes_on (get_or bytes n 0) (drop (n + 1) bytes) ≡ false → n + name_size (drop n bytes) ≡ name_size bytes → n ≡ name_size bytes
+unfolding name_size
+name_stop bytes n within stops e =
+    let next = at_drop_more name_size bytes n 0 within ∙ cond-false (goes_on (get_or bytes n 0) (drop (n + 1) bytes)) (suc (name_size (drop (n + 1) bytes))) 0 stops in
+    omega (arith, next, e)
+
+pub name_all : (bytes : List ℕ) (n : ℕ) → length bytes ≤ n → n + name_size (drop n bytes) ≡ name_size bytes → n ≡ name_size bytes
+unfolding name_size
+name_all bytes n past e = omega (arith, at_drop_all name_size bytes n past, e)
+
+or_word : (b : ℕ) (bytes : List ℕ) → is_word b ≡ true → goes_on b bytes ≡ true
+or_word b bytes word = or_left (is_word b) (eqb b 46 && begins_name bytes) word
+
+pub name_some : (bytes : List ℕ) → begins_name bytes ≡ true → 0 < name_size bytes
+unfolding name_size
+name_some [] begins = absurd cc
+name_some (b ∷ bytes) begins =
+    let goes : is_word b ≡ true = word_from_letter b begins in
+    omega (arith, cond-true (goes_on b bytes) (suc (name_size bytes)) 0 (or_word b bytes goes))
+
+-- the kinds of tokens by the first byte
+kind_none-of : (bytes : List ℕ) → length bytes ≡ 0 → token_at bytes ≡ None
+unfolding token_at
+kind_none-of [] e = refl
+kind_none-of (b ∷ bytes) e = absurd (omega arith)
+
+pub kind-none : (text bytes : List ℕ) → bytes ≡ text → eqb (length bytes) 0 ≡ true → token_at text ≡ None
+kind-none text bytes same e = kind_none-of text (ap length (sym same) ∙ eqb-true (length bytes) 0 e)
+
+pub kind-name : (text bytes : List ℕ) → bytes ≡ text → eqb (length bytes) 0 ≡ false → is_letter (get_or bytes 0 0) ≡ true → token_at text ≡ Some (name_at text)
+unfolding token_at
+kind-name text [] same some letter = absurd (eqb-false 0 0 some refl)
+kind-name text (b ∷ bytes) same some letter = subst (λ (t : List ℕ). token_at t ≡ Some (name_at t)) same (cond-true (is_letter b) _ _ letter)
+
+pub kind-number : (text bytes : List ℕ) → bytes ≡ text → eqb (length bytes) 0 ≡ false → is_letter (get_or bytes 0 0) ≡ false → is_ascii_digit (get_or bytes 0 0) ≡ true → token_at text ≡ Some (number_at text)
+unfolding token_at
+kind-number text [] same some letter digit = absurd (eqb-false 0 0 some refl)
+kind-number text (b ∷ bytes) same some letter digit = subst (λ (t : List ℕ). token_at t ≡ Some (number_at t)) same (cond-false (is_letter b) _ _ letter ∙ cond-true (is_ascii_digit b) _ _ digit)
+
+pub kind-text : (text bytes : List ℕ) → bytes ≡ text → eqb (length bytes) 0 ≡ false → is_letter (get_or bytes 0 0) ≡ false → is_ascii_digit (get_or bytes 0 0) ≡ false → is_quote (get_or bytes 0 0) ≡ true → token_at text ≡ Some (text_at text)
+unfolding token_at
+kind-text text [] same some letter digit quote = absurd (eqb-false 0 0 some refl)
+kind-text text (b ∷ bytes) same some letter digit quote = subst (λ (t : List ℕ). token_at t ≡ Some (text_at t)) same (cond-false (is_letter b) _ _ letter ∙ cond-false (is_ascii_digit b) _ _ digit ∙ cond-true (is_quote b) _ _ quote)
+
+pub kind-sign : (text bytes : List ℕ) → bytes ≡ text → eqb (length bytes) 0 ≡ false → is_letter (get_or bytes 0 0) ≡ false → is_ascii_digit (get_or bytes 0 0) ≡ false → is_quote (get_or bytes 0 0) ≡ false → token_at text ≡ sign_at bytes
+unfolding token_at
+kind-sign text [] same some letter digit quote = absurd (eqb-false 0 0 some refl)
+kind-sign text (b ∷ bytes) same some letter digit quote = ap (λ (t : List ℕ). token_at t) (sym same) ∙ cond-false (is_letter b) _ _ letter ∙ cond-false (is_ascii_digit b) _ _ digit ∙ cond-false (is_quote b) _ _ quote
+
+pub text_at-is : (bytes rest : List ℕ) → 0 < length bytes → rest ≡ drop 1 bytes → text_at bytes ≡ quoted rest (position (λ b. eqb b (get_or bytes 0 0)) rest)
+text_at-is [] rest some e = absurd (omega arith)
+text_at-is (b ∷ bytes) rest some e = ap (λ (t : List ℕ). quoted t (position (λ n. eqb n b) t)) (sym e)
+
+-- where the next quote stands
+pub quote_sought : (text bytes rest others : List ℕ) (at : Option ℕ) → bytes ≡ text → others ≡ rest → at ≡ position (λ b. eqb b (get_or bytes 0 0)) others → position (λ b. eqb b (get_or text 0 0)) rest ≡ at
+quote_sought text bytes rest others at same equal e = ap (λ (t : List ℕ). position (λ b. eqb b (get_or t 0 0)) rest) (sym same) ∙ ap (λ (t : List ℕ). position (λ b. eqb b (get_or bytes 0 0)) t) (sym equal) ∙ sym e
+
+-- behind a quote, and behind the next
+pub boundary-one : (bytes : List ℕ) → IsUtf8 bytes → 0 < length bytes → get_or bytes 0 0 < 128 → IsCharBoundary bytes 1
+boundary-one bytes utf8 some ascii =
+    boundary_behind bytes 1 utf8 some (λ k e.
+    let first : k ≡ 0 = omega arith in
+    subst (λ (n : ℕ). get_or bytes n 0 < 128) (sym first) ascii)
+
+pub boundary-closed : (bytes rest : List ℕ) (at : ℕ) → IsUtf8 bytes → 0 < length bytes → get_or bytes 0 0 < 128 → rest ≡ drop 1 bytes → position (λ b. eqb b (get_or bytes 0 0)) rest ≡ Some at → IsCharBoundary bytes (at + 2)
+boundary-closed [] rest at utf8 some ascii e found_at = absurd (omega arith)
+boundary-closed (b ∷ bytes) rest at utf8 some ascii e found_at =
+    let there = position-Some (λ n. eqb n b) bytes at 0 (ap (λ (t : List ℕ). position (λ n. eqb n b) t) (sym e) ∙ found_at) in
+    let same = eqb-true (get_or bytes at 0) b there.1 in
+    boundary_behind (b ∷ bytes) (at + 2) utf8 (omega (arith, there.0)) (λ k e.
+    let last : k ≡ suc at = omega arith in
+    subst (λ (n : ℕ). get_or (b ∷ bytes) n 0 < 128) (sym last) (omega (arith, same)))
+
+pub boundary-sign : {T : Type 0} (o : Option (T × ℕ)) (bytes : List ℕ) → IsUtf8 bytes → IfSome o (λ front. 0 < front.1) → IfSome o (λ front. get_or bytes (front.1 - 1) 0 < 128) → IfSome o (λ front. front.1 ≤ length bytes) → IfSome o (λ front. IsCharBoundary bytes front.1)
+boundary-sign None bytes utf8 some ascii within = tt
+boundary-sign (Some front) bytes utf8 some ascii within =
+    boundary_behind bytes front.1 utf8 within (λ k e.
+    let last : k ≡ front.1 - 1 = omega arith in
+    subst (λ (n : ℕ). get_or bytes n 0 < 128) (sym last) ascii)
+
+-- a name without a dot is one piece
+dot_here : (front behind : List ℕ) → has_byte 46 (front ++ 46 ∷ behind) ≡ true
+dot_here [] behind = refl
+dot_here (b ∷ front) behind = or_right (eqb b 46) (has_byte 46 (front ++ 46 ∷ behind)) (dot_here front behind)
+
+undotted : (name word : List ℕ) → has_byte 46 name ≡ true → has_byte 46 word ≡ false → bytes_eq name word ≡ false
+undotted name word dot none = false_from_ne_true (bytes_eq name word) (λ e. both_ways (has_byte 46 word) none (subst (λ (t : List ℕ). has_byte 46 t ≡ true) ((bytes_eq-Decides name word).0 e) dot))
+
+reserved-by : (name : List ℕ) (parts : List (List ℕ)) → 0 < length parts → join_with_byte 46 parts ≡ name → is_reserved parts ≡ (bytes_eq name (codes "true") || bytes_eq name (codes "false") || bytes_eq name (codes "in"))
+reserved-by name [] some e = absurd (omega arith)
+reserved-by name (part ∷ []) some e = ap (λ (t : List ℕ). bytes_eq t (codes "true") || bytes_eq t (codes "false") || bytes_eq t (codes "in")) e
+reserved-by name (part ∷ next ∷ parts) some e =
+    let dot : has_byte 46 name ≡ true = subst (λ (t : List ℕ). has_byte 46 t ≡ true) e (dot_here part (join_with_byte 46 (next ∷ parts))) in
+    sym (or_from (bytes_eq name (codes "true") || bytes_eq name (codes "false")) (bytes_eq name (codes "in")) (or_from (bytes_eq name (codes "true")) (bytes_eq name (codes "false")) (undotted name (codes "true") dot refl) (undotted name (codes "false") dot refl)) (undotted name (codes "in") dot refl))
+
+pub reserved-is : (name : List ℕ) → is_reserved (pieces name) ≡ (bytes_eq name (codes "true") || bytes_eq name (codes "false") || bytes_eq name (codes "in"))
+reserved-is name = reserved-by name (pieces name) (omega (arith, length-slice_split (λ (b : ℕ). eqb b 46) name)) (join_with_byte-slice_split 46 name)
+
+pub reserved-last : (name : List ℕ) → bytes_eq name (codes "true") ≡ false → bytes_eq name (codes "false") ≡ false → bytes_eq name (codes "in") ≡ is_reserved (pieces name)
+reserved-last name first second = sym (reserved-is name ∙ ap (λ (t : Bool). t || bytes_eq name (codes "false") || bytes_eq name (codes "in")) first ∙ ap (λ (t : Bool). t || bytes_eq name (codes "in")) second)

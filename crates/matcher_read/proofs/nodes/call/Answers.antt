@@ -1,0 +1,11 @@
+use Rattle.std.proofs.Common.{refl, ap, sym, ◌∙◌, rules}
+use Rattle.matcher_read.specs.Calls.{takes}
+use Rattle.matcher_read.specs.Taking.{callee}
+use Rattle.matcher_read.proofs.CallLemmas.{count_trees}
+use Rattle.matcher_read.proofs.nodes.call.Goals as goal
+
+pub returns-then-not-takes : goal.returns-then-not-takes
+returns-then-not-takes c = (ap (takes (callee c.args.called)) (count_trees c.args.arguments.items ∙ search rules) ∙ sym c.if-not-takes.ensures, refl)
+
+pub returns : goal.returns
+returns c = (ap (takes (callee c.args.called)) (count_trees c.args.arguments.items ∙ search rules) ∙ sym c.if-not-takes.ensures, c.call_of.ensures)

@@ -1,0 +1,76 @@
+ghost use Rattle.std.specs.Prelude.{◌≡◌, ◌+◌, option_map, position, find, MatchOption, false};
+ghost use Rattle.std.specs.Str.{bytes_eq};
+ghost use Rattle.matcher_read.specs.Calls.{callee_of, functions, is_known, name_of, relation_names, takes as accepts};
+ghost use Rattle.matcher_read.specs.Taking.{callee};
+ghost use Rattle.matcher_read.specs.TokenLists.{pieces};
+
+use crate::tree::Function;
+
+/// What is called: a function, or a role relation by its number.
+#[derive(Clone, Copy, Debug, PartialEq, Eq)]
+pub(crate) enum Called {
+    Function(Function),
+    Relation(u8),
+}
+
+/// What a name calls, if there is such a function or role relation.
+pub(crate) fn called_by(name: &str) -> Option<Called>
+    ensures { MatchOption result (is_known (callee_of (pieces name.now)) ≡ false)
+        (λ called. callee_of (pieces name.now) ≡ callee called) }
+{
+    if let Some(function) = function_by(name) {
+        return Some(Called::Function(function));
+    }
+    if let Some(relation) = relation_by(name) {
+        return Some(Called::Relation(relation));
+    }
+    None
+}
+
+/// The function of a name.
+fn function_by(name: &str) -> Option<Function>
+    ensures { result ≡ find (λ found. bytes_eq name.now (name_of found)) functions }
+{
+    match name {
+        "keyMatch" => Some(Function::KeyMatch),
+        "keyMatch2" => Some(Function::KeyMatch2),
+        "keyMatch3" => Some(Function::KeyMatch3),
+        "keyMatch4" => Some(Function::KeyMatch4),
+        "keyMatch5" => Some(Function::KeyMatch5),
+        "regexMatch" => Some(Function::RegexMatch),
+        "ipMatch" => Some(Function::IpMatch),
+        "globMatch" => Some(Function::GlobMatch),
+        "keyGet" => Some(Function::KeyGet),
+        "keyGet2" => Some(Function::KeyGet2),
+        "keyGet3" => Some(Function::KeyGet3),
+        _ => None,
+    }
+}
+
+/// The number of a role relation.
+fn relation_by(name: &str) -> Option<u8>
+    ensures { result ≡ option_map (λ place. place + 1) (position (bytes_eq name.now) relation_names) }
+{
+    match name {
+        "g" => Some(1),
+        "g2" => Some(2),
+        "g3" => Some(3),
+        "g4" => Some(4),
+        "g5" => Some(5),
+        "g6" => Some(6),
+        "g7" => Some(7),
+        "g8" => Some(8),
+        _ => None,
+    }
+}
+
+/// Whether so many arguments are right; a role relation is asked with two names, or with two and a domain.
+pub(crate) fn takes(called: Called, arguments: usize) -> bool
+    ensures { result ≡ accepts (callee called) arguments }
+{
+    match called {
+        Called::Function(Function::KeyGet2 | Function::KeyGet3) => arguments == 3,
+        Called::Function(_) => arguments == 2,
+        Called::Relation(_) => arguments == 2 || arguments == 3,
+    }
+}

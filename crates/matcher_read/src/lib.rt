@@ -1,0 +1,25 @@
+//! The reader of matchers: expressions over the columns of a request and of a policy, in the language of Casbin's models.
+#![tactic(auto)]
+
+mod calls;
+mod count;
+mod fault;
+mod law;
+mod names;
+mod nodes;
+mod number;
+mod parser;
+mod reading;
+#[cfg(test)]
+mod reading_tests;
+mod token;
+mod tokens;
+#[cfg(test)]
+mod tokens_tests;
+mod tree;
+mod words;
+
+pub use fault::MatcherFault;
+pub use law::{faulty_text_is_no_matcher, text_has_one_fault, text_says_one_matcher};
+pub use reading::read_matcher;
+pub use tree::{Function, Operator, Tree};
