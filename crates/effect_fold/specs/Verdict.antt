@@ -11,6 +11,10 @@ use Rattle.effect_fold.specs.declared.verdict.Verdict.TheVariants.{Allow, Deny, 
 abbrev pub Taken : Type 0
 Taken = Option ℕ × Outcome
 
+-- the row with this number came to this outcome
+abbrev pub at_row : ℕ → Outcome → Taken
+at_row number outcome = (Some number, outcome)
+
 -- whether a match with allow (true) or deny settles the effect
 abbrev pub settles : Effect → Bool → Bool
 settles effect.AllowOverride allow = allow

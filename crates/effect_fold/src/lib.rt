@@ -8,9 +8,11 @@ mod fold;
 mod fold_tests;
 mod outcome;
 mod verdict;
+mod worked;
 
 pub use effect::Effect;
 pub use fault::{Cause, Fault};
 pub use fold::{Fold, fold_gives_verdict};
 pub use outcome::Outcome;
 pub use verdict::Verdict;
+pub use worked::worked_verdicts;

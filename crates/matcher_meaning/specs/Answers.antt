@@ -1,0 +1,27 @@
+-- What an expression comes to: a value, or the fault at which its evaluation stopped.
+use Rattle.std.specs.Prelude.{◌≡◌, ℕ, Option, Some, None, Result, Ok, Err}
+use Rattle.effect_fold.specs.declared.fault.Cause.{Cause}
+use Rattle.effect_fold.specs.declared.fault.Fault.{Fault}
+use Rattle.perm_value.specs.Datum.{Datum}
+
+abbrev pub Answer : Type 0
+Answer = Result Datum Fault
+
+-- this cause at this place
+abbrev pub fails : {X : Type 0} → Cause → ℕ → Result X Fault
+fails cause at = Err (record { cause = cause; at = at })
+
+-- what follows from a value; a fault stays one
+abbrev pub then : {X : Type 0} → Answer → (Datum → Result X Fault) → Result X Fault
+then (Ok d) next = next d
+then (Err fault) next = Err fault
+
+-- what is said of an answer behind this one: by its value, or it is the same fault
+abbrev pub After : Answer → (Datum → Type 0) → Answer → Type 0
+After (Ok d) next r = next d
+After (Err fault) next r = r ≡ Err fault
+
+-- an answer is already there; else it is what is said behind
+abbrev pub Unless : Option Answer → Type 0 → Answer → Type 0
+Unless (Some answer) rest r = r ≡ answer
+Unless None rest r = rest

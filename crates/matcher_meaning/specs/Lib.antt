@@ -1,0 +1,6 @@
+pub mod Environment
+pub mod Answers
+pub mod Arithmetic
+pub mod Operators
+pub mod Meaning
+pub mod Perm

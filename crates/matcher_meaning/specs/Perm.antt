@@ -1,0 +1,82 @@
+-- What a model, a policy and a request come to (PERM: policy, effect, request, matchers), without role relations.
+use Rattle.std.specs.Prelude.{◌≡◌, ℕ, ◌+◌, ◌||◌, Bool, true, false, if◌then◌else◌, List, [], ◌∷◌, codes, Option, Some, None, Result, Ok, Err, position}
+use Rattle.std.specs.Str.{bytes_eq}
+use Rattle.effect_fold.specs.declared.effect.Effect.{Effect}
+use Rattle.effect_fold.specs.declared.fault.Fault.{Fault}
+use Rattle.perm_value.specs.Datum.{Datum}
+use Rattle.matcher_read.specs.Expression.{Expression, text, whole, truth, request, policy, negation, opposite, binary, among, call, Expressions, no_more, one_more}
+use Rattle.matcher_meaning.specs.Environment.{plain, field_of}
+use Rattle.matcher_meaning.specs.Meaning.{IsTruth}
+use Rattle.effect_fold.specs.Verdict.{Taken, verdict}
+use Rattle.effect_fold.specs.declared.outcome.Outcome.{Outcome}
+use Rattle.effect_fold.specs.declared.outcome.Outcome.TheVariants.{Unmatched, Matched, Failed}
+use Rattle.effect_fold.specs.declared.verdict.Verdict.{Verdict}
+
+-- the parts of a model by which requests are judged
+pub record Judging : Type 0 where
+  pub request_columns : List (List ℕ)
+  pub policy_columns : List (List ℕ)
+  pub effect : Effect
+  pub matcher : Expression
+
+-- the expression names a column of the policy
+abbrev mutual
+  pub names_policy : Expression → Bool
+  names_policy (text at bytes) = false
+  names_policy (whole at n) = false
+  names_policy (truth at b) = false
+  names_policy (request at column path) = false
+  names_policy (policy at column) = true
+  names_policy (negation at e) = names_policy e
+  names_policy (opposite at e) = names_policy e
+  names_policy (binary at op e f) = names_policy e || names_policy f
+  names_policy (among at e es) = names_policy e || name_policy es
+  names_policy (call at callee es) = name_policy es
+
+  pub name_policy : Expressions → Bool
+  name_policy no_more = false
+  name_policy (one_more e es) = names_policy e || name_policy es
+
+-- whether a text is `allow` (true) or `deny` (false); None where it is neither
+abbrev pub word_of : List ℕ → Option Bool
+word_of bytes = if bytes_eq bytes (codes "allow") then Some true else if bytes_eq bytes (codes "deny") then Some false else None
+
+-- the word at the place of a column of words, or allow where there is no such column
+abbrev pub word_in : List (List ℕ) → Option ℕ → List (List ℕ) → Option Bool
+word_in columns (Some place) row = word_of (field_of columns (Some row) (codes "eft"))
+word_in columns None row = Some true
+
+-- what a row says: the word in its column `eft`
+abbrev pub row_word : List (List ℕ) → List (List ℕ) → Option Bool
+row_word columns row = word_in columns (position (bytes_eq (codes "eft")) columns) row
+
+-- what a truth and a word come to: a fault whatever the word, and no match without a word
+abbrev pub outcome_of : Result Bool Fault → Option Bool → Outcome
+outcome_of (Err fault) word = Failed fault
+outcome_of (Ok false) word = Unmatched
+outcome_of (Ok true) None = Unmatched
+outcome_of (Ok true) (Some word) = Matched word
+
+-- a row of the policy, or none, with this word comes to this outcome
+abbrev pub IsOutcome : Judging → List Datum → Option (List (List ℕ)) → Option Bool → Outcome → Type 0
+IsOutcome m q row word outcome = (t : Result Bool Fault) × IsTruth (plain m.request_columns q m.policy_columns row) m.matcher t × (outcome ≡ outcome_of t word)
+
+-- the rows, of which the first has this number, come to these outcomes
+abbrev pub AreOutcomes : Judging → List Datum → ℕ → List (List (List ℕ)) → List Taken → Type 0
+AreOutcomes m q number [] [] = Unit {0}
+AreOutcomes m q number (row ∷ rows) (p ∷ ps) = (p.0 ≡ Some number) × IsOutcome m q (Some row) (row_word m.policy_columns row) p.1 × AreOutcomes m q (number + 1) rows ps
+AreOutcomes m q number _ _ = ⊥
+
+-- the matcher is evaluated once, without a row; its true counts as allow
+abbrev pub IsOnce : Judging → List Datum → List Taken → Type 0
+IsOnce m q outcomes = (outcome : Outcome) × IsOutcome m q None (Some true) outcome × (outcomes ≡ (None, outcome) ∷ [])
+
+-- the outcomes of a policy's rows; a matcher that names no column of the policy is evaluated once, and so is one over no rows
+abbrev pub HasOutcomes : Judging → List Datum → Bool → List (List (List ℕ)) → List Taken → Type 0
+HasOutcomes m q false rows outcomes = IsOnce m q outcomes
+HasOutcomes m q true [] outcomes = IsOnce m q outcomes
+HasOutcomes m q true (row ∷ rows) outcomes = AreOutcomes m q 1 (row ∷ rows) outcomes
+
+-- the verdict of a model for a request over the rows of its policy
+abbrev pub IsPerm : Judging → List Datum → List (List (List ℕ)) → Verdict → Type 0
+IsPerm m q rows v = (outcomes : List Taken) × HasOutcomes m q (names_policy m.matcher) rows outcomes × (v ≡ verdict m.effect outcomes)

@@ -1,0 +1,6 @@
+//! What a matcher means for a request and a row, and what its truths over a policy come to.
+#![tactic(auto)]
+
+mod law;
+
+pub use law::{meaning_is_there, meaning_is_unique, verdict_is_there, verdict_is_unique};
