@@ -1,103 +1,124 @@
--- The text of the answers, line after line.
-use Rattle.std.proofs.Common.{◌≡◌, ℕ, ◌<◌, ◌≤◌, ◌+◌, List, [], ◌∷◌, ◌++◌, length, get_or, take, drop, refl, sym, ap, subst, ◌∙◌, append_assoc, add-zero, arith}
-use Rattle.std.specs.Prelude.{Option, Some, None, All, codes, decimal}
-use Rattle.std.proofs.lemmas.List.{append-nil, take_more, take-append-drop, take_all, length-take-le}
-use Rattle.perm_base.specs.Fields.{joined}
-use Rattle.perm_base.specs.Told.{with_back, TookFront}
-use Rattle.perm_base.specs.Faults.{Rose}
-use Rattle.casbin_run.specs.Answer.{allow_text, answer_line, answers_from, answers, shown}
-use Rattle.casbin_run.specs.Decision.{deciding, Within}
+-- The answers to requests, line after line.
+use Rattle.std.proofs.Common.{◌≡◌, ℕ, ◌+◌, ◌<◌, ◌≤◌, ◌^◌, eqb, Bool, true, false, List, [], ◌∷◌, ◌++◌, length, inl, inr, ⊎_elim, refl, sym, ap, subst, ◌∙◌, append_assoc, add-zero, arith, length-append}
+use Rattle.std.specs.Prelude.{◌⊎◌, Option, Ok, Err, codes, decimal, map}
+use Rattle.std.proofs.lemmas.Bool.{eqb-true, eqb-false}
+use Rattle.std.proofs.lemmas.List.{append-nil}
+use Rattle.serde_json.specs.Read.{read}
+use Rattle.matcher_meaning.specs.Meaning.{has_calls}
+use Rattle.matcher_meaning.specs.Perm.{Judging, IsPerm}
+use Rattle.effect_fold.specs.declared.verdict.Verdict.{Verdict}
+use Rattle.model_conf.specs.ModelText.{ModelParts}
+use Rattle.perm_base.specs.FieldFaults.{IsFault}
+use Rattle.perm_base.specs.FieldLine.{IsFields}
+use Rattle.perm_base.specs.declared.quoted.FieldFault.{FieldFault}
+use Rattle.perm_base.specs.declared.quoted.FieldFault.TheVariants as field_fault
+use Rattle.perm_value.specs.Datum.{Datum, text}
+use Rattle.perm_value.specs.Json.{values_of}
+use Rattle.perm_value.specs.declared.request.RequestFault.{RequestFault}
+use Rattle.perm_value.specs.declared.request.RequestFault.TheVariants as fault
+use Rattle.casbin_run.specs.Answer.{AreAnswers, IsAnswer, IsReply, arity_text, refusal, shown, verdict_text}
+use Rattle.casbin_run.specs.Judging.{IsPlain, judging}
+use Rattle.casbin_run.specs.Request.{Reading, Says}
 
--- five pieces, one after the other
-pub five_pieces : (old a b c d e : List ℕ) → ((((old ++ a) ++ b) ++ c) ++ d) ++ e ≡ old ++ ((((a ++ b) ++ c) ++ d) ++ e)
-five_pieces old a b c d e = simp append_assoc
+-- lists of rules
+abbrev pub Rules : Type 0
+Rules = List (List (List ℕ))
 
-pub allow_is : (old : List ℕ) (place : ℕ) (rule : List (List ℕ)) → ((((old ++ codes " allow @0 p#") ++ decimal (place + 1)) ++ codes " ") ++ joined rule) ++ codes "\n" ≡ old ++ allow_text place rule
-allow_is old place rule = five_pieces old (codes " allow @0 p#") (decimal (place + 1)) (codes " ") (joined rule) (codes "\n")
+-- the pieces of an answer, behind each other
+pub answer_is : (model : ModelParts) (rules : Rules) (json : Bool) (number : ℕ) (line old one two three : List ℕ) (reading : Reading) → number < 2 ^ 32 → Says json line reading → one ≡ old ++ decimal number
+    → (reply : List ℕ) × IsReply model rules reading reply × (two ≡ one ++ reply) → three ≡ two ++ codes "\n" → (answer : List ℕ) × IsAnswer model rules json number line answer × (three ≡ old ++ answer)
+answer_is model rules json number line old one two three reading fits says one-is (reply, replies, two-is) three-is =
+    let number-is : shown number ≡ number = omega arith in (
+      decimal number ++ reply ++ codes "\n",
+      record { reading = reading; says = says; reply = reply; replies = replies; spelled = ap (λ (n : ℕ). decimal n ++ reply ++ codes "\n") (sym number-is) },
+      three-is ∙ ap (λ (t : List ℕ). t ++ codes "\n") (two-is ∙ ap (λ (t : List ℕ). t ++ reply) one-is) ∙ pieces old (decimal number) reply (codes "\n"),
+    )
+  where
+    pieces : (old a b c : List ℕ) → ((old ++ a) ++ b) ++ c ≡ old ++ ((a ++ b) ++ c)
+    pieces old a b c = simp append_assoc
 
-pub deny_is : (old : List ℕ) (at : ℕ) (rules : List (List (List ℕ))) → (old ++ decimal (shown (at + 1))) ++ codes " deny @0 -\n" ≡ old ++ answer_line (at + 1) rules None
-deny_is old at rules = append_assoc old _ _
+-- an answer under a number that is shown so
+renumbered : (model : ModelParts) (rules : Rules) (json : Bool) (number count : ℕ) (line answer : List ℕ) → number ≡ shown count → IsAnswer model rules json number line answer → IsAnswer model rules json count line answer
+renumbered model rules json number count line answer e is =
+    let same : shown number ≡ shown count = omega arith in
+    record { reading = is.reading; says = is.says; reply = is.reply; replies = is.replies; spelled = is.spelled ∙ ap (λ (n : ℕ). decimal n ++ is.reply ++ codes "\n") same }
 
-pub allowed_is : (old : List ℕ) (at place : ℕ) (rules : List (List (List ℕ))) (rule : List (List ℕ)) → get_or rules place [] ≡ rule → (old ++ decimal (shown (at + 1))) ++ allow_text place rule ≡ old ++ answer_line (at + 1) rules (Some place)
-allowed_is old at place rules rule here = append_assoc old _ _ ∙ ap (λ (r : List (List ℕ)). old ++ (decimal (shown (at + 1)) ++ allow_text place r)) (sym here)
+answers-append : (model : ModelParts) (rules : Rules) (json : Bool) (number : ℕ) (front back : List (List ℕ)) (a b : List ℕ) → AreAnswers model rules json number front a → AreAnswers model rules json (number + length front) back b → AreAnswers model rules json number (front ++ back) (a ++ b)
+answers-append model rules json number [] back a b one other = rw one (subst (λ (n : ℕ). AreAnswers model rules json n back b) (add-zero number) other)
+answers-append model rules json number (line ∷ lines) back a b (first, others, is, are, parts) other =
+    let e : number + length (line ∷ lines) ≡ (number + 1) + length lines = omega arith in (
+      first,
+      others ++ b,
+      is,
+      answers-append model rules json (number + 1) lines back others b are (subst (λ (n : ℕ). AreAnswers model rules json n back b) e other),
+      ap (λ (t : List ℕ). t ++ b) parts ∙ append_assoc first others b,
+    )
 
-pub answers_from-append : (number : ℕ) (pairs : List (ℕ × ℕ)) (rules : List (List (List ℕ))) (first second : List (List (List ℕ))) → answers_from number pairs rules (first ++ second) ≡ answers_from number pairs rules first ++ answers_from (number + length first) pairs rules second
-unfolding answers_from
-answers_from-append number pairs rules [] second = rw add-zero refl
-answers_from-append number pairs rules (q ∷ qs) second =
-    let line = answer_line number rules (deciding pairs rules q) in
-    let rest = answers_from-append (number + 1) pairs rules qs second in
-    let count : number + 1 + length qs ≡ number + length (q ∷ qs) = omega arith in
-    ap (λ (t : List ℕ). line ++ t) (rest ∙ ap (λ (n : ℕ). answers_from (number + 1) pairs rules qs ++ answers_from n pairs rules second) count) ∙ sym (append_assoc line _ _)
+-- how far the requests of an input are answered
+pub record AreSoFar (model : ModelParts) (rules : Rules) (json : Bool) (all left : List (List ℕ)) (number : ℕ) (so_far : List ℕ) : Type 0 where
+  pub lines : List (List ℕ)
+  pub parts : all ≡ lines ++ left
+  pub are : AreAnswers model rules json 1 lines so_far
+  pub number_is : number ≡ shown (length lines)
 
--- what was pushed and what is gathered are the answers so far
-pub record IsGathered (before now : Option (List ℕ)) (gathered so_far : List ℕ) (faults_before faults_now : ℕ) : Type 0 where
-  pub pushed : List ℕ
-  pub took : now ≡ with_back before pushed
-  pub parts : pushed ++ gathered ≡ so_far
-  pub counted : faults_before ≤ faults_now
+pub so_far_none : (model : ModelParts) (rules : Rules) (json : Bool) (all : List (List ℕ)) → AreSoFar model rules json all all 0 []
+so_far_none model rules json all = record { lines = []; parts = refl; are = refl; number_is = omega arith }
 
-with_back-nothing : (told : Option (List ℕ)) → told ≡ with_back told []
-with_back-nothing None = refl
-with_back-nothing (Some had) = ap (λ (x : List ℕ). Some x) (sym (append-nil had))
+pub so_far_more : (model : ModelParts) (rules : Rules) (json : Bool) (all left rest : List (List ℕ)) (number next : ℕ) (so_far line answer : List ℕ) → AreSoFar model rules json all left number so_far → left ≡ line ∷ rest → next ≡ shown (number + 1) → IsAnswer model rules json next line answer
+    → AreSoFar model rules json all rest next (so_far ++ answer)
+so_far_more model rules json all left rest number next so_far line answer so begins next-is is =
+    let count : next ≡ shown (1 + length so.lines) = omega (arith, so.number_is) in
+    record {
+      lines = so.lines ++ line ∷ [];
+      parts = so.parts ∙ ap (λ (t : List (List ℕ)). so.lines ++ t) begins ∙ sym (append_assoc so.lines (line ∷ []) rest);
+      are = answers-append model rules json 1 so.lines (line ∷ []) so_far answer so.are (answer, [], renumbered model rules json next (1 + length so.lines) line answer count is, refl, sym (append-nil answer));
+      number_is = count ∙ ap shown (length_more so.lines line);
+    }
+  where
+    length_more : (lines : List (List ℕ)) (line : List ℕ) → 1 + length lines ≡ length (lines ++ line ∷ [])
+    length_more lines line = omega (arith, length-append lines (line ∷ []))
 
-with_back-append : (told : Option (List ℕ)) (a b : List ℕ) → with_back (with_back told a) b ≡ with_back told (a ++ b)
-with_back-append None a b = refl
-with_back-append (Some had) a b = ap (λ (x : List ℕ). Some x) (append_assoc had a b)
+-- each line is fields or has a fault, and each request has a verdict
+pub record HasAnswers : Type 0 where
+  pub line : (line : List ℕ) → ((fields : List (List ℕ)) × IsFields line fields) ⊎ ((e : FieldFault) × IsFault line e)
+  pub verdict : (model : Judging) (request : List Datum) (rows : Rules) → has_calls model.matcher ≡ false → (v : Verdict) × IsPerm model request rows v
 
-pub gathered_none : (before : Option (List ℕ)) (gathered so_far : List ℕ) (faults : ℕ) → gathered ≡ [] → so_far ≡ [] → IsGathered before before gathered so_far faults faults
-gathered_none before gathered so_far faults none start = record { pushed = []; took = with_back-nothing before; parts = rw (none, start) refl; counted = omega arith }
+some_fault : (line : List ℕ) (e : FieldFault) → IsFault line e → (r : Reading) × Says false line r
+some_fault line (field_fault.Quote column) is = (Err (fault.Quote column), (λ e. absurd cc, is))
+some_fault line field_fault.TooMany is = (Err fault.TooMany, (λ e. absurd cc, is))
+some_fault line field_fault.NoMemory is = absurd is
 
-pub gathered_more : (before now : Option (List ℕ)) (gathered so_far line more next : List ℕ) (a b : ℕ) → IsGathered before now gathered so_far a b → more ≡ gathered ++ line → next ≡ so_far ++ line → IsGathered before now more next a b
-gathered_more before now gathered so_far line more next a b so more-is next-is = record {
-  pushed = so.pushed;
-  took = so.took;
-  parts = rw (more-is, next-is, ← so.parts) (sym (append_assoc so.pushed gathered line));
-  counted = so.counted;
-}
+some_reading : HasAnswers → (json : Bool) (line : List ℕ) → (r : Reading) × Says json line r
+some_reading law true line = (values_of (read line), refl)
+some_reading law false line =
+    ⊎_elim (λ (found : (fields : List (List ℕ)) × IsFields line fields). (Ok (map text found.0), record { fields = found.0; are_fields = found.1; texts = refl }))
+    (λ (found : (e : FieldFault) × IsFault line e). some_fault line found.0 found.1) (law.line line)
 
-pub gathered_pushed : (before mid now : Option (List ℕ)) (gathered left so_far : List ℕ) (a b c : ℕ) → IsGathered before mid gathered so_far a b → now ≡ with_back mid gathered → left ≡ [] → b ≤ c → IsGathered before now left so_far a c
-gathered_pushed before mid now gathered left so_far a b c so took none counted = record {
-  pushed = so.pushed ++ gathered;
-  took = rw (took, so.took) (with_back-append before so.pushed gathered);
-  parts = rw (none, so.parts) (append-nil so_far);
-  counted = omega (arith, so.counted);
-}
+some_reply : HasAnswers → (model : ModelParts) (rules : Rules) → IsPlain model → (r : Reading) → (reply : List ℕ) × IsReply model rules r reply
+some_reply law model rules plain (Err e) = (codes " refused: " ++ refusal e, refl)
+some_reply law model rules plain (Ok values) = by_arity (eqb (length values) (length model.request)) refl
+  where
+    by_arity : (test : Bool) → eqb (length values) (length model.request) ≡ test → (reply : List ℕ) × IsReply model rules (Ok values) reply
+    by_arity true e = let v = law.verdict (judging model) values rules plain.no_calls in (verdict_text rules v.0, inl (eqb-true _ _ e, (v.0, v.1, refl)))
+    by_arity false e = (arity_text (length values) (length model.request), inr (eqb-false (length values) (length model.request) e, refl))
 
-pub stopped_quiet : (before now : Option (List ℕ)) (gathered so_far more all : List ℕ) (a b : ℕ) → IsGathered before now gathered so_far a b → all ≡ so_far ++ more → TookFront before now all
-stopped_quiet before now gathered so_far more all a b so whole = record { front = so.pushed; rest = gathered ++ more; parts = rw (whole, ← so.parts) (append_assoc so.pushed gathered more); took = so.took }
+-- requests have answers
+pub some_answers : HasAnswers → (model : ModelParts) (rules : Rules) (json : Bool) → IsPlain model → (number : ℕ) (lines : List (List ℕ)) → (answers : List ℕ) × AreAnswers model rules json number lines answers
+some_answers law model rules json plain number [] = ([], refl)
+some_answers law model rules json plain number (line ∷ lines) =
+    let r = some_reading law json line in
+    let reply = some_reply law model rules plain r.0 in
+    let rest = some_answers law model rules json plain (number + 1) lines in
+    let first = decimal (shown number) ++ reply.0 ++ codes "\n" in
+    (first ++ rest.0, (first, rest.0, record { reading = r.0; says = r.1; reply = reply.0; replies = reply.1; spelled = refl }, rest.1, refl))
 
-pub stopped_front : (before mid now : Option (List ℕ)) (gathered so_far more all : List ℕ) (a b : ℕ) → IsGathered before mid gathered so_far a b → TookFront mid now gathered → all ≡ so_far ++ more → TookFront before now all
-stopped_front before mid now gathered so_far more all a b so front whole = record {
-  front = so.pushed ++ front.front;
-  rest = front.rest ++ more;
-  parts = rw (whole, ← so.parts, front.parts) (simp append_assoc);
-  took = rw (front.took, so.took) (with_back-append before so.pushed front.front);
-}
+-- all requests, of which the first are answered so
+pub whole_answers : HasAnswers → (model : ModelParts) (rules : Rules) (json : Bool) → IsPlain model → (all left : List (List ℕ)) (number : ℕ) (so_far : List ℕ) → AreSoFar model rules json all left number so_far → (more : List ℕ) × AreAnswers model rules json 1 all (so_far ++ more)
+whole_answers law model rules json plain all left number so_far so =
+    let rest = some_answers law model rules json plain (1 + length so.lines) left in
+    (rest.0, subst (λ (lines : List (List ℕ)). AreAnswers model rules json 1 lines (so_far ++ rest.0)) (sym so.parts) (answers-append model rules json 1 so.lines left so_far rest.0 so.are rest.1))
 
--- the answers to the requests before a place, and to the others
-pub answers-split : (pairs : List (ℕ × ℕ)) (rules requests : List (List (List ℕ))) (at : ℕ) → answers pairs rules requests ≡ answers_from 1 pairs rules (take at requests) ++ answers_from (1 + length (take at requests)) pairs rules (drop at requests)
-answers-split pairs rules requests at = ap (answers_from 1 pairs rules) (sym (take-append-drop at requests)) ∙ answers_from-append 1 pairs rules (take at requests) (drop at requests)
-
--- one request more
-pub answers-more : (pairs : List (ℕ × ℕ)) (rules requests : List (List (List ℕ))) (at : ℕ) (request : List (List ℕ)) (verdict : Option ℕ) → at < length requests → request ≡ get_or requests at request → verdict ≡ deciding pairs rules request
-    → answers_from 1 pairs rules (take (at + 1) requests) ≡ answers_from 1 pairs rules (take at requests) ++ answer_line (at + 1) rules verdict
-unfolding answers_from
-answers-more pairs rules requests at request verdict lt here decided =
-    let front : take (at + 1) requests ≡ take at requests ++ request ∷ [] = take_more requests at request lt ∙ ap (λ (q : List (List ℕ)). take at requests ++ q ∷ []) (sym here) in
-    let count : 1 + length (take at requests) ≡ at + 1 = omega (arith, length-take-le at requests (omega arith)) in
-    let one : answers_from (at + 1) pairs rules (request ∷ []) ≡ answer_line (at + 1) rules verdict = append-nil _ ∙ ap (answer_line (at + 1) rules) (sym decided) in
-    rw (front, answers_from-append 1 pairs rules (take at requests) (request ∷ []), count) (ap (λ (t : List ℕ). answers_from 1 pairs rules (take at requests) ++ t) one)
-
--- the equalities name columns of the request at a place
-pub requests_within : (pairs : List (ℕ × ℕ)) (rules requests : List (List (List ℕ))) (at : ℕ) (request : List (List ℕ)) → at < length requests → request ≡ get_or requests at request
-    → All (λ (q : List (List ℕ)). All (λ (rule : List (List ℕ)). Within q rule pairs) rules) requests → All (λ (rule : List (List ℕ)). Within request rule pairs) rules
-requests_within pairs rules requests at request lt here within = subst (λ (q : List (List ℕ)). All (λ (rule : List (List ℕ)). Within q rule pairs) rules) (sym here) (within at request lt)
-
--- all requests are answered
-pub answers-all : (pairs : List (ℕ × ℕ)) (rules requests : List (List (List ℕ))) (at : ℕ) → length requests ≤ at → answers_from 1 pairs rules (take at requests) ≡ answers pairs rules requests
-answers-all pairs rules requests at past = ap (answers_from 1 pairs rules) (take_all at requests past)
-
--- a count that rose has risen since an earlier moment too
-pub rose_later : (before mid now : ℕ) → before ≤ mid → Rose mid now → Rose before now
-rose_later before mid now earlier rose = omega arith
+pub answered_all : (model : ModelParts) (rules : Rules) (json : Bool) (all left : List (List ℕ)) (number : ℕ) (so_far : List ℕ) → AreSoFar model rules json all left number so_far → left ≡ [] → AreAnswers model rules json 1 all so_far
+answered_all model rules json all left number so_far so none =
+    let whole : all ≡ so.lines = so.parts ∙ ap (λ (t : List (List ℕ)). so.lines ++ t) none ∙ append-nil so.lines in
+    subst (λ (lines : List (List ℕ)). AreAnswers model rules json 1 lines so_far) (sym whole) so.are

@@ -1,6 +1,7 @@
 -- What each status of a run tells of its stop.
 use Rattle.std.proofs.Common.{◌≡◌, ℕ, List, inl, inr, ⊎_elim, refl}
 use Rattle.std.specs.Prelude.{◌⊎◌, ◌↔◌, Option, Some, None}
+use Rattle.model_conf.specs.declared.fault.ModelFault.{ModelFault}
 use Rattle.perm_base.specs.Files.{Files}
 use Rattle.casbin_run.specs.declared.status.Status.TheVariants as statuses
 use Rattle.casbin_run.specs.declared.stop.Part.{Part}
@@ -10,11 +11,11 @@ use Rattle.casbin_run.specs.declared.stop.Stop.TheVariants.{Words, NoModel, NoPo
 use Rattle.casbin_run.specs.Cause.{Cause, EndsBy}
 use Rattle.casbin_run.specs.Answers.{TookAll, TookSome}
 use Rattle.casbin_run.specs.Message.{status_of}
-use Rattle.casbin_run.specs.Words.{command_of}
+use Rattle.casbin_run.specs.Words.{Command, command_of}
 
-pub model_cause : (words : List (List ℕ)) (files : Option Files) (input out out_now : Option (List ℕ)) (shelf source sink : Type 0) (stop : Stop) → status_of stop ≡ statuses.Model → EndsBy words files input out out_now shelf source sink stop → Cause words files input NoModel
+pub model_cause : (words : List (List ℕ)) (files : Option Files) (input out out_now : Option (List ℕ)) (shelf source sink : Type 0) (stop : Stop) → status_of stop ≡ statuses.Model → EndsBy words files input out out_now shelf source sink stop → (fault : ModelFault) × Cause words files input (NoModel fault)
 unfolding EndsBy
-model_cause words files input out out_now shelf source sink NoModel e ends = ⊎_elim (λ cause. cause) (λ fault. absurd fault) ends
+model_cause words files input out out_now shelf source sink (NoModel fault) e ends = (fault, ⊎_elim (λ cause. cause) (λ f. absurd f) ends)
 model_cause words files input out out_now shelf source sink _ e ends = absurd cc
 
 pub policy_cause : (words : List (List ℕ)) (files : Option Files) (input out out_now : Option (List ℕ)) (shelf source sink : Type 0) (stop : Stop) → status_of stop ≡ statuses.Policy → EndsBy words files input out out_now shelf source sink stop → Cause words files input NoPolicy
@@ -53,19 +54,19 @@ took_some words files input out out_now shelf source sink NoMemory e ends = ⊎_
 took_some words files input out out_now shelf source sink _ e ends = absurd (⊎_elim (λ w. cc) (λ m. cc) e)
 
 -- the words are a command wherever the run went on behind them
-is_command : {A : Type 0} (words : List (List ℕ)) (names : List ℕ × List ℕ) → command_of words ≡ Some names → command_of words ≡ None → A
-is_command words names told none = absurd cc
+is_command : {A : Type 0} (words : List (List ℕ)) (command : Command) → command_of words ≡ Some command → command_of words ≡ None → A
+is_command words command told none = absurd cc
 
 words_only : (words : List (List ℕ)) (files : Option Files) (input out out_now : Option (List ℕ)) (shelf source sink : Type 0) (stop : Stop) → command_of words ≡ None → EndsBy words files input out out_now shelf source sink stop → status_of stop ≡ statuses.Words
 unfolding EndsBy
 words_only words files input out out_now shelf source sink Words none ends = refl
-words_only words files input out out_now shelf source sink NoModel none ends = ⊎_elim (λ cause. is_command words cause.0 cause.1 none) (λ fault. absurd fault) ends
+words_only words files input out out_now shelf source sink (NoModel m) none ends = ⊎_elim (λ cause. is_command words cause.0 cause.1 none) (λ fault. absurd fault) ends
 words_only words files input out out_now shelf source sink NoPolicy none ends = ⊎_elim (λ cause. is_command words cause.0 cause.1 none) (λ fault. absurd fault) ends
 words_only words files input out out_now shelf source sink NoScript none ends = ⊎_elim (λ cause. is_command words cause.0 cause.1 none) (λ fault. absurd fault) ends
 words_only words files input out out_now shelf source sink (CannotRead Model) none ends = ⊎_elim (λ cause. is_command words cause.0 cause.1 none) (λ fault. is_command words fault.0 fault.1 none) ends
 words_only words files input out out_now shelf source sink (CannotRead Policy) none ends = ⊎_elim (λ cause. is_command words cause.0 cause.1 none) (λ fault. is_command words fault.0 fault.1 none) ends
 words_only words files input out out_now shelf source sink (CannotRead Input) none ends = ⊎_elim (λ cause. absurd cause) (λ fault. is_command words fault.0 fault.1 none) ends
-words_only words files input out out_now shelf source sink CannotWrite none ends = ⊎_elim (λ cause. absurd cause) (λ fault. is_command words fault.0.answered.names fault.0.answered.command none) ends
+words_only words files input out out_now shelf source sink CannotWrite none ends = ⊎_elim (λ cause. absurd cause) (λ fault. is_command words fault.0.answered.in_order.command fault.0.answered.in_order.asked none) ends
 words_only words files input out out_now shelf source sink (TooLong Model) none ends = ⊎_elim (λ cause. is_command words cause.0 cause.1 none) (λ fault. absurd fault) ends
 words_only words files input out out_now shelf source sink (TooLong Policy) none ends = ⊎_elim (λ cause. is_command words cause.0 cause.1 none) (λ fault. absurd fault) ends
 words_only words files input out out_now shelf source sink (TooLong Input) none ends = ⊎_elim (λ cause. is_command words cause.0 cause.1 none) (λ fault. absurd fault) ends
@@ -81,4 +82,4 @@ words_cause words files input out out_now shelf source sink stop ends = (λ e. w
 
 -- a run that reached its end had a command
 pub words_done : (words : List (List ℕ)) (files : Option Files) (input out out_now : Option (List ℕ)) → TookAll words files input out out_now → (statuses.Done ≡ statuses.Words) ↔ (command_of words ≡ None)
-words_done words files input out out_now took = (λ e. absurd cc, λ none. is_command words took.answered.names took.answered.command none)
+words_done words files input out out_now took = (λ e. absurd cc, λ none. is_command words took.answered.in_order.command took.answered.in_order.asked none)

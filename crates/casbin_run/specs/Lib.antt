@@ -1,11 +1,12 @@
-pub mod Decision
-pub mod Answer
 pub mod Words
 pub mod Script
+pub mod Request
+pub mod Judging
+pub mod Answer
 pub mod Message
+pub mod Pieces
 pub mod Print
-pub mod ScriptFault
 pub mod Parts
-pub mod Cause
 pub mod Answers
+pub mod Cause
 pub mod Reading

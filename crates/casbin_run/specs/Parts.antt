@@ -2,9 +2,10 @@
 -- told, some bytes stand for what was read.
 use Rattle.std.specs.Prelude.{◌≡◌, ℕ, ◌≤◌, List, Option, Some, None, length, ⊤}
 use Rattle.perm_base.specs.Files.{Files, Holds}
-use Rattle.model_conf.specs.ModelText.{ModelParts, IsModel}
+use Rattle.model_conf.specs.ModelText.{ModelParts}
 use Rattle.policy_csv.specs.Policy.{IsPolicy}
-use Rattle.casbin_run.specs.Words.{command_of}
+use Rattle.casbin_run.specs.Judging.{IsAnsweredBy}
+use Rattle.casbin_run.specs.Words.{Command, command_of}
 
 -- the most bytes of a model, of a policy and of an input
 abbrev pub model_limit : ℕ
@@ -29,14 +30,14 @@ FileIs files name limit fact = (bytes : List ℕ) × Holds files name bytes × (
 abbrev pub InputIs : Option (List ℕ) → (List ℕ → Type 0) → Type 0
 InputIs input fact = (bytes : List ℕ) × Tells input bytes × (length bytes ≤ input_limit) × fact bytes
 
--- the words name the files of a model and a policy, of which the fact holds
-abbrev pub Command : List (List ℕ) → (List ℕ → List ℕ → Type 0) → Type 0
-Command words fact = (names : List ℕ × List ℕ) × (command_of words ≡ Some names) × fact names.0 names.1
+-- the words are a command, of which the fact holds
+abbrev pub Asks : List (List ℕ) → (Command → Type 0) → Type 0
+Asks words fact = (command : Command) × (command_of words ≡ Some command) × fact command
 
--- besides, the first file is a model; the fact holds of it and of the name of the policy
-abbrev pub WithModel : List (List ℕ) → Option Files → (ModelParts → List ℕ → Type 0) → Type 0
-WithModel words files fact = Command words (λ model policy. (parts : ModelParts) × FileIs files model model_limit (λ bytes. IsModel bytes parts) × fact parts policy)
+-- besides, the first file is a model that is answered by; the fact holds of the command and of the model
+abbrev pub WithModel : List (List ℕ) → Option Files → (Command → ModelParts → Type 0) → Type 0
+WithModel words files fact = Asks words (λ command. (parts : ModelParts) × FileIs files command.model model_limit (λ bytes. IsAnsweredBy bytes parts) × fact command parts)
 
--- besides, the second file is a policy
-abbrev pub WithPolicy : List (List ℕ) → Option Files → (ModelParts → List (List (List ℕ)) → Type 0) → Type 0
-WithPolicy words files fact = WithModel words files (λ parts policy. (rules : List (List (List ℕ))) × FileIs files policy policy_limit (λ bytes. IsPolicy (length parts.policy) bytes rules) × fact parts rules)
+-- besides, the second file is a policy for that model
+abbrev pub WithPolicy : List (List ℕ) → Option Files → Type 0 → Type 0
+WithPolicy words files fact = WithModel words files (λ command parts. (rules : List (List (List ℕ))) × FileIs files command.policy policy_limit (λ bytes. IsPolicy (length parts.policy) bytes rules) × fact)

@@ -5,14 +5,12 @@ use Rattle.model_conf.specs.declared.fault.ModelFault.{ModelFault}
 use Rattle.model_conf.specs.declared.fault.ModelFault.TheVariants as model
 use Rattle.policy_csv.specs.declared.policy.PolicyFault.{PolicyFault}
 use Rattle.policy_csv.specs.declared.policy.PolicyFault.TheVariants as policy
-use Rattle.casbin_run.specs.declared.script.ScriptFault.{ScriptFault}
-use Rattle.casbin_run.specs.declared.script.ScriptFault.TheVariants as script
 use Rattle.casbin_run.specs.declared.stop.Part.{Part}
 use Rattle.casbin_run.specs.declared.stop.Part.TheVariants.{Model, Policy, Input}
 use Rattle.casbin_run.specs.declared.stop.Stop.{Stop}
 use Rattle.casbin_run.specs.declared.stop.Stop.TheVariants.{NoModel, NoPolicy, NoScript, CannotRead, TooLong, NoMemory}
 use Rattle.casbin_run.specs.Parts.{model_limit, policy_limit, input_limit, FileIs, InputIs}
-use Rattle.casbin_run.specs.Cause.{SaysNoModel, SaysNoPolicy, SaysNoScript}
+use Rattle.casbin_run.specs.Cause.{SaysNoModel, SaysNoPolicy, SaysNoText}
 
 -- a file was not fetched
 abbrev pub FetchStops : Option Files → List ℕ → ℕ → (rose : Type 0) → Part → Stop → Type 0
@@ -25,7 +23,7 @@ FetchStops files name most rose part _ = ⊥
 abbrev pub ModelStops : Option Files → List ℕ → (rose : Type 0) → Stop → Type 0
 ModelStops files name rose (CannotRead Model) = Lacks files name ⊎ rose
 ModelStops files name rose (TooLong Model) = OfFile files name (λ bytes. model_limit < length bytes)
-ModelStops files name rose NoModel = FileIs files name model_limit SaysNoModel
+ModelStops files name rose (NoModel fault) = FileIs files name model_limit (SaysNoModel fault)
 ModelStops files name rose NoMemory = ⊤
 ModelStops files name rose _ = ⊥
 
@@ -38,22 +36,18 @@ PolicyStops files name columns rose NoMemory = ⊤
 PolicyStops files name columns rose _ = ⊥
 
 -- the input was not read
-abbrev pub InputStops : Option (List ℕ) → ℕ → (rose : Type 0) → Stop → Type 0
-InputStops input columns rose (CannotRead Input) = rose
-InputStops input columns rose (TooLong Input) = IfSome input (λ bytes. input_limit < length bytes)
-InputStops input columns rose NoScript = InputIs input (SaysNoScript columns)
-InputStops input columns rose NoMemory = ⊤
-InputStops input columns rose _ = ⊥
+abbrev pub InputStops : Option (List ℕ) → (rose : Type 0) → Stop → Type 0
+InputStops input rose (CannotRead Input) = rose
+InputStops input rose (TooLong Input) = IfSome input (λ bytes. input_limit < length bytes)
+InputStops input rose NoScript = InputIs input SaysNoText
+InputStops input rose NoMemory = ⊤
+InputStops input rose _ = ⊥
 
 -- the stop of a fault of each text
 abbrev pub model_stop_of : ModelFault → Stop
-model_stop_of model.NotYet = NoModel
 model_stop_of model.NoMemory = NoMemory
+model_stop_of fault = NoModel fault
 
 abbrev pub policy_stop_of : PolicyFault → Stop
 policy_stop_of policy.NotYet = NoPolicy
 policy_stop_of policy.NoMemory = NoMemory
-
-abbrev pub script_stop_of : ScriptFault → Stop
-script_stop_of script.NotYet = NoScript
-script_stop_of script.NoMemory = NoMemory

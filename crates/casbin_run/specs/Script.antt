@@ -1,9 +1,19 @@
--- The input of `enforce`: a request on each line.
-use Rattle.std.specs.Prelude.{◌≡◌, ℕ, List, All, map}
-use Rattle.perm_base.specs.Lines.{full_lines}
-use Rattle.perm_base.specs.Fields.{joined, IsPlainLine}
+-- The input of `enforce`: the lines of a text that are requests.
+use Rattle.std.specs.Prelude.{ℕ, ◌==◌, Bool, true, not, if◌then◌else◌, List, [], ◌∷◌, filter, map}
+use Rattle.perm_base.specs.Fields.{is_blank}
+use Rattle.perm_base.specs.Lines.{lines_of}
 
--- the text is a line per request, empty lines passed over
-pub record IsScript (columns : ℕ) (bytes : List ℕ) (requests : List (List (List ℕ))) : Type 0 where
-  pub lines : full_lines bytes ≡ map joined requests
-  pub plain : All (λ (request : List (List ℕ)). IsPlainLine columns (joined request) request) requests
+-- a line without the CR at its end
+abbrev pub without_cr : List ℕ → List ℕ
+without_cr [] = []
+without_cr (byte ∷ []) = if byte == 13 then [] else byte ∷ []
+without_cr (byte ∷ next ∷ bytes) = byte ∷ without_cr (next ∷ bytes)
+
+-- a line of blanks alone, or one whose first byte that is no blank is `#`
+abbrev pub is_passed : List ℕ → Bool
+is_passed [] = true
+is_passed (byte ∷ bytes) = if is_blank byte then is_passed bytes else byte == 35
+
+-- the lines of a text, cut at LF or CR LF, without those that are passed over
+unfoldable pub requests_of : List ℕ → List (List ℕ)
+requests_of text = filter (λ (line : List ℕ). not (is_passed line)) (map without_cr (lines_of text))

@@ -1,90 +1,114 @@
-ghost use Rattle.std.specs.Prelude.{◌≡◌, ◌+◌, ◌<◌, ◌≤◌, ◌^◌, ◌++◌, decimal, OnOk, IfErr, IfSome, All, List, ℕ, length};
+ghost use Rattle.std.specs.Prelude.{◌≡◌, ◌≢◌, ◌≤◌, ◌^◌, ◌++◌, ◌+◌, ℕ, List, OnOk, IfErr, codes, decimal, length, map};
+ghost use Rattle.matcher_meaning.specs.Perm.{names_policy};
 ghost use Rattle.perm_base.specs.Told.{with_back};
-ghost use Rattle.casbin_run.specs.Answer.{allow_text, answer_line, answers, shown};
-ghost use Rattle.casbin_run.specs.Decision.{Within};
-ghost use Rattle.casbin_run.specs.Print.{PrintStops};
+ghost use Rattle.perm_value.specs.Seen.{datum};
+ghost use Rattle.casbin_run.specs.Answer.{IsAnswer, IsReply, arity_text, shown};
+ghost use Rattle.casbin_run.specs.Judging.{IsPlain};
+ghost use Rattle.casbin_run.specs.Print.{Answering, PrintStops};
+ghost use Rattle.casbin_run.specs.Script.{requests_of};
 
-use crate::decision::deciding_rule;
+use crate::decision::verdict_of;
+use crate::names::names_policy;
+use crate::reply::{push_arity, push_number, push_refusal, push_verdict};
+use crate::requests::{next_request, read_request};
 use crate::stop::Stop;
-use itoa::Buffer;
-use perm_base::{NoMemory, Rule, Rules, Sink, push_all, push_joined};
+use matcher_meaning::verdict_is_there;
+use model_conf::Model;
+use perm_base::{NoMemory, Rules, Sink, every_line_is_fields_or_at_fault, push_all};
+use perm_value::Request;
 use std::alloc::Global;
 
 // How many bytes of answers are gathered before they are pushed.
 const GATHERED: usize = 16_384;
 
-/// Prints a line for each request, numbered from 1.
+/// What requests are answered by: a model, whether its matcher names a column of the policy, the policy's rules, and
+/// whether requests are JSON.
+#[derive(Clone, Copy)]
+pub struct Court<'a> {
+    pub model: &'a Model,
+    pub by_row: bool,
+    pub rules: &'a Rules,
+    pub json: bool,
+}
+
+/// Prints a line for each request of a text, numbered from 1.
 pub fn print_answers<K: Sink>(
     alloc: Global,
     out: &mut K,
-    pairs: &[(u32, u32)],
-    rules: &Rules,
-    requests: &[Rule],
+    court: &Court<'_>,
+    input: &str,
 ) -> Result<(), Stop>
-    requires { All (λ (request : List (List ℕ)). All (λ (rule : List (List ℕ)). Within request rule pairs.now) rules.now) requests.now }
-    ensures printed { OnOk result (K.taken out.new ≡ with_back (K.taken out.old) (answers pairs.now rules.now requests.now)) }
-    ensures stopped { IfErr result (PrintStops (K.taken out.old) (K.taken out.new) (answers pairs.now rules.now requests.now) (K.faults out.old) (K.faults out.new)) }
+    requires plain { IsPlain court.now.model.now }
+    requires by_row { court.now.by_row ≡ names_policy court.now.model.now.matcher }
+    ensures printed { OnOk result (Answering court.now.model.now court.now.rules.now court.now.json (requests_of input.now)
+        (λ text. K.taken out.new ≡ with_back (K.taken out.old) text)) }
+    ensures stopped { IfErr result (λ stop. Answering court.now.model.now court.now.rules.now court.now.json (requests_of input.now)
+        (PrintStops (K.taken out.old) (K.taken out.new) (K.faults out.old) (K.faults out.new) stop)) }
     ensures counted { K.faults out.old ≤ K.faults out.new }
 {
+    every_line_is_fields_or_at_fault();
+    verdict_is_there();
     let mut text = Vec::new(alloc);
-    for (at, request) in requests.iter().enumerate() {
-        let verdict = deciding_rule(pairs, rules, request);
-        push_answer(&mut text, at, verdict, rules)?;
+    let mut rest = input;
+    let mut number = 0;
+    while let Some((line, after)) = next_request(rest) {
+        number = next_number(number);
+        push_answer(alloc, &mut text, number, court, line)?;
         if text.len() >= GATHERED {
             push_all(out, &text)?;
             text.clear();
         }
+        rest = after;
     }
     push_all(out, &text)?;
     Ok(())
 }
 
-// Appends the line of the request at a place, counted from 0.
-fn push_answer(
-    text: &mut Vec<u8>,
-    at: usize,
-    verdict: Option<u32>,
-    rules: &Rules,
-) -> Result<(), NoMemory>
-    requires { IfSome verdict (λ place. place < length rules.now) }
-    ensures { OnOk result (text.new.items ≡ text.old.items ++ answer_line (at + 1) rules.now verdict) }
+// The number behind this one, as far as numbers go.
+fn next_number(number: u32) -> u32
+    ensures { result ≡ shown (number + 1) }
 {
-    push_number(text, u64::from(shown_number(at)))?;
-    match verdict {
-        None => text.extend_from_slice(b" deny @0 -\n")?,
-        Some(place) => push_allow(text, place, rules.at(place))?,
-    }
-    Ok(())
+    number.saturating_add(1)
 }
 
-// Appends what an allow line says behind its number.
-fn push_allow(text: &mut Vec<u8>, place: u32, rule: &Rule) -> Result<(), NoMemory>
-    ensures { OnOk result (text.new.items ≡ text.old.items ++ allow_text place rule.now) }
+// Appends the line of the request with this number.
+fn push_answer(
+    alloc: Global,
+    text: &mut Vec<u8>,
+    number: u32,
+    court: &Court<'_>,
+    line: &str,
+) -> Result<(), NoMemory>
+    requires plain { IsPlain court.now.model.now }
+    requires by_row { court.now.by_row ≡ names_policy court.now.model.now.matcher }
+    ensures { OnOk result ((answer : List ℕ) × IsAnswer court.now.model.now court.now.rules.now court.now.json number line.now answer
+        × (text.new.items ≡ text.old.items ++ answer)) }
 {
-    text.extend_from_slice(b" allow @0 p#")?;
-    push_number(text, u64::from(place) + 1)?;
-    text.extend_from_slice(b" ")?;
-    push_joined(text, rule)?;
+    push_number(text, number)?;
+    match read_request(alloc, court.json, line) {
+        Ok(request) => push_reply(alloc, text, court, &request)?,
+        Err(fault) => push_refusal(text, fault)?,
+    }
     text.extend_from_slice(b"\n")?;
     Ok(())
 }
 
-// Appends a number in decimal digits.
-fn push_number(text: &mut Vec<u8>, number: u64) -> Result<(), NoMemory>
-    ensures { OnOk result (text.new.items ≡ text.old.items ++ decimal number) }
+// Appends what is answered to a request, behind its number.
+fn push_reply(
+    alloc: Global,
+    text: &mut Vec<u8>,
+    court: &Court<'_>,
+    request: &Request,
+) -> Result<(), NoMemory>
+    requires plain { IsPlain court.now.model.now }
+    requires by_row { court.now.by_row ≡ names_policy court.now.model.now.matcher }
+    ensures { OnOk result ((reply : List ℕ) × IsReply court.now.model.now court.now.rules.now (Ok (map datum request.now)) reply
+        × (text.new.items ≡ text.old.items ++ reply)) }
 {
-    let mut digits = Buffer::new();
-    text.extend_from_slice(digits.format(number).as_bytes())?;
-    Ok(())
-}
-
-// The number of the request at a place: one more, as far as numbers go.
-fn shown_number(at: usize) -> u32
-    ensures { result ≡ shown (at + 1) }
-{
-    if at < u32::MAX as usize {
-        at as u32 + 1
-    } else {
-        u32::MAX
+    let wanted = court.model.request_columns().len();
+    if request.len() != wanted {
+        return push_arity(text, request.len(), wanted);
     }
+    let verdict = verdict_of(court.model, court.by_row, court.rules, request);
+    push_verdict(alloc, text, court.rules, verdict)
 }

@@ -1,16 +1,14 @@
-ghost use Rattle.std.specs.Prelude.{◌≡◌, ◌≤◌, ◌<◌, ◌^◌, IfOk, IfErr, OnErr, OnOk, IfSome, All, List, ℕ, [], length};
+ghost use Rattle.std.specs.Prelude.{◌≡◌, ◌≤◌, ◌<◌, ◌^◌, IfOk, IfErr, OnErr, OnOk, IfSome, All, [], length, string_bytes};
 ghost use Rattle.perm_base.specs.Faults.{Rose};
 ghost use Rattle.perm_base.specs.Files.{Holds};
-ghost use Rattle.model_conf.specs.ModelText.{IsModel};
 ghost use Rattle.policy_csv.specs.Policy.{IsPolicy};
 ghost use Rattle.casbin_run.specs.Parts.{FileIs, InputIs, model_limit, policy_limit};
-ghost use Rattle.casbin_run.specs.Script.{IsScript};
+ghost use Rattle.casbin_run.specs.Judging.{IsAnsweredBy, IsPlain};
 ghost use Rattle.casbin_run.specs.Reading.{FetchStops, ModelStops, PolicyStops, InputStops};
 
-use crate::script::read_requests;
 use crate::stop::{Part, Stop};
 use model_conf::{Model, read_model};
-use perm_base::{Fetch, ReadStop, Rule, Rules, Shelf, Source, read_all};
+use perm_base::{Fetch, ReadStop, Rules, Shelf, Source, read_all};
 use policy_csv::read_policy;
 use std::alloc::Global;
 
@@ -23,7 +21,8 @@ const INPUT_LIMIT: u64 = 16_777_216;
 
 /// Fetches and reads the model.
 pub fn read_model_file<F: Shelf>(alloc: Global, shelf: &mut F, name: &str) -> Result<Model, Stop>
-    ensures read { IfOk result (λ model. FileIs (F.files shelf.old) name.now model_limit (λ bytes. IsModel bytes model)) }
+    ensures read { IfOk result (λ model. FileIs (F.files shelf.old) name.now model_limit (λ bytes. IsAnsweredBy bytes model)) }
+    ensures plain { IfOk result IsPlain }
     ensures stopped { IfErr result (ModelStops (F.files shelf.old) name.now (Rose (F.faults shelf.old) (F.faults shelf.new))) }
     ensures same_files { F.files shelf.new ≡ F.files shelf.old }
     ensures counted { F.faults shelf.old ≤ F.faults shelf.new }
@@ -48,11 +47,11 @@ pub fn read_policy_file<F: Shelf>(
     Ok(read_policy(alloc, &bytes, columns)?)
 }
 
-/// Reads the input to its end, and its requests.
-pub fn read_input<S: Source>(alloc: Global, input: &mut S, columns: u32) -> Result<Vec<Rule>, Stop>
-    ensures read { IfOk result (λ requests. InputIs (S.left input.old) (λ bytes. IsScript columns bytes requests.items)) }
+/// Reads the input to its end.
+pub fn read_input<S: Source>(alloc: Global, input: &mut S) -> Result<String, Stop>
+    ensures read { IfOk result (λ text. InputIs (S.left input.old) (λ bytes. bytes ≡ string_bytes text)) }
     ensures ended { OnOk result (IfSome (S.left input.new) (λ rest. rest ≡ [])) }
-    ensures stopped { IfErr result (InputStops (S.left input.old) columns (Rose (S.faults input.old) (S.faults input.new))) }
+    ensures stopped { IfErr result (InputStops (S.left input.old) (Rose (S.faults input.old) (S.faults input.new))) }
     ensures counted { S.faults input.old ≤ S.faults input.new }
 {
     let bytes = match read_all(alloc, input, INPUT_LIMIT) {
@@ -61,7 +60,10 @@ pub fn read_input<S: Source>(alloc: Global, input: &mut S, columns: u32) -> Resu
         Err(ReadStop::TooLong) => return Err(Stop::TooLong(Part::Input)),
         Err(ReadStop::NoMemory) => return Err(Stop::NoMemory),
     };
-    Ok(read_requests(alloc, &bytes, columns)?)
+    match String::from_utf8(bytes) {
+        Ok(text) => Ok(text),
+        Err(_) => Err(Stop::NoScript),
+    }
 }
 
 // Fetches the bytes of a part.

@@ -2,13 +2,19 @@
 #![tactic(auto)]
 
 mod answer;
+#[cfg(test)]
+mod answer_tests;
 mod decision;
 mod files;
 mod law;
+mod message;
+mod names;
+mod reply;
+mod requests;
 mod run;
-mod script;
 mod status;
 mod stop;
+mod telling;
 mod words;
 
 pub use law::one_end;

@@ -1,24 +1,28 @@
 ghost use Rattle.std.specs.Prelude.{◌≡◌, ◌≢◌, ◌⊎◌, ◌↔◌, ℕ, List, [], None, IfErr, IfSome, IsSome, OnOk, map, string_bytes};
 ghost use Rattle.perm_base.specs.Faults.{Rose};
 ghost use Rattle.perm_base.specs.Told.{TookFront, with_back};
-ghost use Rattle.casbin_run.specs.Answers.{IsAnswered, TookAll, TookSome};
+ghost use Rattle.casbin_run.specs.Answers.{IsAnswered, IsInOrder, TookAll, TookSome};
 ghost use Rattle.casbin_run.specs.Cause.{Cause, EndsBy, IsBeforeOutput};
 ghost use Rattle.casbin_run.specs.declared.stop.Part.{Part};
+ghost use Rattle.model_conf.specs.declared.fault.ModelFault.{ModelFault};
 ghost use Rattle.casbin_run.specs.declared.stop.Stop.{Stop};
 ghost use Rattle.casbin_run.specs.Message.{line_of, status_of};
 ghost use Rattle.casbin_run.specs.Words.{command_of};
 
-use crate::answer::print_answers;
+use crate::answer::{Court, print_answers};
 use crate::files::{read_input, read_model_file, read_policy_file};
 use crate::law::one_end;
+use crate::names::names_policy;
 use crate::status::Status;
 use crate::stop::Stop;
-use crate::words::command;
-use perm_base::{Shelf, Sink, Source, push_all};
+use crate::telling::tell;
+use crate::words::read_words;
+use perm_base::{Shelf, Sink, Source};
 use std::alloc::Global;
 
-/// Runs a command: `enforce MODEL POLICY` answers each request of the input by a line on `out`, and tells on `err`
-/// why it stopped where it did. Exactly where a cause is said to come, want of memory may come instead.
+/// Runs a command: `enforce MODEL POLICY`, where requests are JSON with the flag `--json`, answers each request of the
+/// input by a line on `out`, and tells on `err` why it stopped where it did. Exactly where a cause is said to come, want of
+/// memory may come instead.
 pub fn run_casbin<F: Shelf, S: Source, K: Sink, E: Sink>(
     alloc: Global,
     words: &[String],
@@ -35,8 +39,8 @@ pub fn run_casbin<F: Shelf, S: Source, K: Sink, E: Sink>(
 
     // When each other status comes.
     ensures words { (result ≡ Status.Words) ↔ (command_of (map string_bytes words.now) ≡ None) }
-    ensures model { result ≡ Status.Model
-        → Cause (map string_bytes words.now) (F.files shelf.old) (S.left input.old) Stop.NoModel }
+    ensures model { result ≡ Status.Model → (fault : ModelFault)
+        × Cause (map string_bytes words.now) (F.files shelf.old) (S.left input.old) (Stop.NoModel fault) }
     ensures policy { result ≡ Status.Policy
         → Cause (map string_bytes words.now) (F.files shelf.old) (S.left input.old) Stop.NoPolicy }
     ensures script { result ≡ Status.Script
@@ -55,12 +59,15 @@ pub fn run_casbin<F: Shelf, S: Source, K: Sink, E: Sink>(
         → (result ≡ status_of stop) ⊎ ((result ≡ Status.NoMemory) ⊎ ((result ≡ Status.ReadFault)
         × (Rose (F.faults shelf.old) (F.faults shelf.new) ⊎ Rose (S.faults input.old) (S.faults input.new)))) }
 
-    // Where they are told and in order, and no count rises, the answer is Done with the text, or memory ran out.
-    ensures complete { (text : List ℕ) → IsSome (F.files shelf.old) → IsSome (S.left input.old)
-        → IsAnswered (map string_bytes words.now) (F.files shelf.old) (S.left input.old) text
+    // Where they are told and in order, and no count rises, the answer is Done, or memory ran out; Done comes with the one
+    // text that answers the requests.
+    ensures complete { IsSome (F.files shelf.old) → IsSome (S.left input.old)
+        → IsInOrder (map string_bytes words.now) (F.files shelf.old) (S.left input.old)
         → ¬ (Rose (F.faults shelf.old) (F.faults shelf.new)) → ¬ (Rose (S.faults input.old) (S.faults input.new))
-        → ¬ (Rose (K.faults out.old) (K.faults out.new))
-        → ((result ≡ Status.Done) × (K.taken out.new ≡ with_back (K.taken out.old) text)) ⊎ (result ≡ Status.NoMemory) }
+        → ¬ (Rose (K.faults out.old) (K.faults out.new)) → (result ≡ Status.Done) ⊎ (result ≡ Status.NoMemory) }
+    ensures text { (text : List ℕ) → result ≡ Status.Done → IsSome (F.files shelf.old) → IsSome (S.left input.old)
+        → IsAnswered (map string_bytes words.now) (F.files shelf.old) (S.left input.old) text
+        → K.taken out.new ≡ with_back (K.taken out.old) text }
 
     // What `out` took where the run did not reach its end: nothing before the answers, else a front of their text.
     ensures quiet { (stop : Stop) → result ≡ status_of stop → IsBeforeOutput stop → K.taken out.new ≡ K.taken out.old }
@@ -88,14 +95,6 @@ pub fn run_casbin<F: Shelf, S: Source, K: Sink, E: Sink>(
     }
 }
 
-// Pushes the line of a stop; where that fails, the stop is told by the status alone.
-fn tell<E: Sink>(err: &mut E, stop: Stop)
-    ensures some { TookFront (E.taken err.old) (E.taken err.new) (line_of stop) }
-    ensures all { (E.taken err.new ≡ with_back (E.taken err.old) (line_of stop)) ⊎ Rose (E.faults err.old) (E.faults err.new) }
-{
-    let _ = push_all(err, stop.line());
-}
-
 // Answers the requests of the input, or stops at the first cause.
 fn answer<F: Shelf, S: Source, K: Sink>(
     alloc: Global,
@@ -110,9 +109,17 @@ fn answer<F: Shelf, S: Source, K: Sink>(
         (Rose (F.faults shelf.old) (F.faults shelf.new)) (Rose (S.faults input.old) (S.faults input.new)) (Rose (K.faults out.old) (K.faults out.new))) }
     ensures quiet { IfErr result (λ stop. IsBeforeOutput stop → K.taken out.new ≡ K.taken out.old) }
 {
-    let (model_name, policy_name) = command(words).ok_or(Stop::Words)?;
-    let model = read_model_file(alloc, shelf, model_name)?;
-    let rules = read_policy_file(alloc, shelf, policy_name, model.policy_columns().len())?;
-    let requests = read_input(alloc, input, model.request_columns().len())?;
-    print_answers(alloc, out, model.pairs(), &rules, &requests)
+    let Some(command) = read_words(words) else {
+        return Err(Stop::Words);
+    };
+    let model = read_model_file(alloc, shelf, command.model)?;
+    let rules = read_policy_file(alloc, shelf, command.policy, model.policy_columns().len())?;
+    let requests = read_input(alloc, input)?;
+    let court = Court {
+        model: &model,
+        by_row: names_policy(model.matcher()),
+        rules: &rules,
+        json: command.json,
+    };
+    print_answers(alloc, out, &court, requests.as_str())
 }

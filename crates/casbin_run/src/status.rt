@@ -8,11 +8,11 @@ pub enum Status {
     Done,
     /// The words are no command.
     Words,
-    /// The model's file is no model.
+    /// The model's file is no model, or none that is answered by.
     Model,
     /// The policy's file is no policy.
     Policy,
-    /// The input is no list of requests.
+    /// The input is not UTF-8.
     Script,
     /// A file is absent, or a file or the input could not be read.
     ReadFault,

@@ -1,7 +1,6 @@
 ghost use Rattle.std.specs.Prelude.{◌≡◌};
-ghost use Rattle.casbin_run.specs.Message.{line_of, status_of};
+ghost use Rattle.casbin_run.specs.Message.{status_of};
 
-use crate::script::ScriptFault;
 use crate::status::Status;
 use model_conf::ModelFault;
 use perm_base::{Failed, NoMemory};
@@ -20,11 +19,11 @@ pub enum Part {
 pub enum Stop {
     /// The words are no command.
     Words,
-    /// The model's file is no model.
-    NoModel,
+    /// The model's file is no model, or none that is answered by.
+    NoModel(ModelFault),
     /// The policy's file is no policy.
     NoPolicy,
-    /// The input is no list of requests.
+    /// The input is not UTF-8.
     NoScript,
     /// A file is absent, or a file or the input could not be read.
     CannotRead(Part),
@@ -63,8 +62,8 @@ impl From<ModelFault> for Stop {
 
     fn from(fault: ModelFault) -> Stop {
         match fault {
-            ModelFault::NotYet => Stop::NoModel,
             ModelFault::NoMemory => Stop::NoMemory,
+            fault => Stop::NoModel(fault),
         }
     }
 }
@@ -82,19 +81,6 @@ impl From<PolicyFault> for Stop {
     }
 }
 
-impl From<ScriptFault> for Stop {
-    ghost use Rattle.casbin_run.specs.Reading.{script_stop_of};
-
-    ghost from_gives = { λ fault stop. stop ≡ script_stop_of fault };
-
-    fn from(fault: ScriptFault) -> Stop {
-        match fault {
-            ScriptFault::NotYet => Stop::NoScript,
-            ScriptFault::NoMemory => Stop::NoMemory,
-        }
-    }
-}
-
 impl Stop {
     /// The status that a run ends with.
     pub fn status(self) -> Status
@@ -102,33 +88,13 @@ impl Stop {
     {
         match self {
             Stop::Words => Status::Words,
-            Stop::NoModel => Status::Model,
+            Stop::NoModel(_) => Status::Model,
             Stop::NoPolicy => Status::Policy,
             Stop::NoScript => Status::Script,
             Stop::CannotRead(_) => Status::ReadFault,
             Stop::CannotWrite => Status::WriteFault,
             Stop::TooLong(_) => Status::TooLong,
             Stop::NoMemory => Status::NoMemory,
-        }
-    }
-
-    /// The line that tells it, with its LF.
-    pub fn line(self) -> &'static [u8]
-        ensures { result.now ≡ line_of self }
-    {
-        match self {
-            Stop::Words => b"usage: casbin_cli COMMAND [OPTION]... [WORD]...\n",
-            Stop::NoModel => b"model: not yet\n",
-            Stop::NoPolicy => b"policy: not yet\n",
-            Stop::NoScript => b"script: not yet\n",
-            Stop::CannotRead(Part::Model) => b"cannot read: model\n",
-            Stop::CannotRead(Part::Policy) => b"cannot read: policy\n",
-            Stop::CannotRead(Part::Input) => b"cannot read: input\n",
-            Stop::CannotWrite => b"cannot write\n",
-            Stop::TooLong(Part::Model) => b"too long: model, limit 65536\n",
-            Stop::TooLong(Part::Policy) => b"too long: policy, limit 16777216\n",
-            Stop::TooLong(Part::Input) => b"too long: input, limit 16777216\n",
-            Stop::NoMemory => b"no memory\n",
         }
     }
 }

@@ -137,7 +137,7 @@ fn each_request_has_its_line(rt: HostRuntime) -> Result<(), Fail> {
     Ok(())
 }
 
-const OTHERS: [&[&str]; 8] = [
+const OTHERS: [&[&str]; 13] = [
     &[],
     &["enforce"],
     &["enforce", "m.conf"],
@@ -145,7 +145,12 @@ const OTHERS: [&[&str]; 8] = [
     &["Enforce", "m.conf", "p.csv"],
     &["check", "m.conf", "p.csv"],
     &["enforce", "-m.conf", "p.csv"],
-    &["enforce", "m.conf", "-"],
+    &["enforce", "--json", "m.conf", "p.csv", "--json"],
+    &["enforce", "--json=", "m.conf", "p.csv"],
+    &["enforce", "--workers", "m.conf", "p.csv"],
+    &["enforce", "--", "m.conf", "p.csv", "--json"],
+    &["--", "enforce", "m.conf", "p.csv"],
+    &["--json", "enforce", "m.conf", "p.csv"],
 ];
 
 const USAGE: &[u8] = b"usage: casbin_cli COMMAND [OPTION]... [WORD]...\n";
@@ -154,6 +159,43 @@ const USAGE: &[u8] = b"usage: casbin_cli COMMAND [OPTION]... [WORD]...\n";
 fn other_words_are_no_command(rt: HostRuntime) -> Result<(), Fail> {
     for words in OTHERS {
         expect_of(&rt, words, &GOOD, Status::Words, b"", USAGE, "other words")?;
+    }
+    Ok(())
+}
+
+const TAKEN: [&[&str]; 4] = [
+    &["enforce", "--", "m.conf", "p.csv"],
+    &["enforce", "m.conf", "--", "p.csv"],
+    &["enforce", "m.conf", "p.csv", "--"],
+    &["enforce", "m.conf", "p.csv"],
+];
+
+#[test]
+fn words_behind_two_dashes_are_operands(rt: HostRuntime) -> Result<(), Fail> {
+    for words in TAKEN {
+        expect_of(&rt, words, &GOOD, Status::Done, ANSWER, b"", "dashes")?;
+    }
+    Ok(())
+}
+
+const ABSENT: [&[&str]; 3] = [
+    &["enforce", "-", "p.csv"],
+    &["enforce", "--", "--json", "p.csv"],
+    &["enforce", "--", "-m.conf", "p.csv"],
+];
+
+#[test]
+fn one_dash_and_words_behind_two_name_files(rt: HostRuntime) -> Result<(), Fail> {
+    for words in ABSENT {
+        expect_of(
+            &rt,
+            words,
+            &GOOD,
+            Status::ReadFault,
+            b"",
+            b"cannot read: model\n",
+            "a file that is absent",
+        )?;
     }
     Ok(())
 }
@@ -256,7 +298,7 @@ fn a_failing_pull_is_a_read_fault(rt: HostRuntime) -> Result<(), Fail> {
 }
 
 #[test]
-fn another_form_has_its_status(rt: HostRuntime) -> Result<(), Fail> {
+fn each_text_out_of_order_has_its_status(rt: HostRuntime) -> Result<(), Fail> {
     let outside = Outside {
         model: Some(b"[matchers]\n"),
         ..GOOD
@@ -266,7 +308,7 @@ fn another_form_has_its_status(rt: HostRuntime) -> Result<(), Fail> {
         &outside,
         Status::Model,
         b"",
-        b"model: not yet\n",
+        b"model: missing r\n",
         "no model",
     )?;
     let outside = Outside {
@@ -282,7 +324,7 @@ fn another_form_has_its_status(rt: HostRuntime) -> Result<(), Fail> {
         "no policy",
     )?;
     let outside = Outside {
-        input: b"alice, data1, read\nalice, data1\n",
+        input: b"alice, data1, read\n\xff\n",
         ..GOOD
     };
     expect(
@@ -290,8 +332,8 @@ fn another_form_has_its_status(rt: HostRuntime) -> Result<(), Fail> {
         &outside,
         Status::Script,
         b"",
-        b"script: not yet\n",
-        "no requests",
+        b"script: not UTF-8\n",
+        "an input that is not UTF-8",
     )
 }
 
@@ -307,7 +349,7 @@ fn the_model_is_read_before_the_policy(rt: HostRuntime) -> Result<(), Fail> {
         &outside,
         Status::Model,
         b"",
-        b"model: not yet\n",
+        b"model: missing r\n",
         "no model and no policy file",
     )
 }

@@ -1,14 +1,24 @@
 -- The first place of a byte in a text.
-use Rattle.std.proofs.Common.{◌≡◌, ℕ, ◌+◌, ◌-◌, ◌≤◌, ◌||◌, Bool, true, false, List, [], ◌∷◌, ◌++◌, length, take, drop, eqb, ltb, Option, Some, None, refl, sym, ap, ◌∙◌, arith, rules, tests}
-use Rattle.std.specs.List.{position, position_or_len}
-use Rattle.std.proofs.lemmas.Bool.{eqb-false, lt-ltb}
-use Rattle.std.proofs.lemmas.List.{length-append, take_at, take_all, drop_at, append_assoc}
-use Rattle.std.proofs.lemmas.List.Folds.{list_any-append}
+use Rattle.std.proofs.Common.{◌≡◌, ℕ, suc, ◌+◌, ◌<◌, ◌||◌, cond, not, Bool, true, false, List, [], ◌∷◌, ◌++◌, length, take, eqb, ltb, Option, Some, None, refl, arith, rules, tests}
+use Rattle.std.specs.Prelude.{position}
+use Rattle.std.specs.List.{list_any, position_or_len}
+use Rattle.std.proofs.lemmas.Bool.{eqb-false, ltb-false}
+use Rattle.std.proofs.lemmas.List.{get_or-take, length-take}
+use Rattle.std.proofs.lemmas.List.Folds.{list_any_none}
+use Rattle.std.proofs.lemmas.List.Quantifiers.{position-Some}
+use Rattle.std.proofs.lemmas.List.Sums.{prefix_len-le-length}
 use Rattle.perm_base.specs.Lines.{has_byte}
 
 pub neither : (first second : Bool) → (first || second) ≡ false → (first ≡ false) × (second ≡ false)
 neither true second e = absurd cc
 neither false second e = (refl, e)
+
+-- before the first such byte there is none
+pub none_before : (byte : ℕ) (text : List ℕ) (at : ℕ) → position (λ b. eqb b byte) text ≡ Some at → has_byte byte (take at text) ≡ false
+none_before byte text at e =
+    list_any_none (λ b. eqb b byte) (take at text) (λ k d inside.
+    let before : k < at = omega (arith, length-take at text) in
+    rw (get_or-take at text k d before) ((position-Some (λ b. eqb b byte) text at d e).2 k before))
 
 -- a byte stands where it is put
 pub has_byte-here : (byte : ℕ) (front back : List ℕ) → has_byte byte (front ++ byte ∷ back) ≡ true
@@ -26,34 +36,18 @@ cut_once byte (f ∷ front) (o ∷ other) back rest none nor e =
     let cut : (front ≡ other) × (back ≡ rest) = cut_once byte front other back rest (neither _ _ none).1 (neither _ _ nor).1 tails in
     (cc (cut.0), cut.1)
 
-place_or_len : (byte : ℕ) (front back : List ℕ) → has_byte byte front ≡ false → position_or_len (λ b. eqb b byte) (front ++ byte ∷ back) ≡ length front
-place_or_len byte [] back none = search (rules, tests)
-place_or_len byte (b ∷ front) back none =
-    let parts = neither (eqb b byte) (has_byte byte front) none in
-    rw (parts.0, place_or_len byte front back parts.1) (omega arith)
+-- where no place passes, no element does
+none_at : {X : Type 0} (p : X → Bool) (b : Bool) (xs : List X) → (position_or_len p xs ≡ length xs → list_any p xs ≡ false) → cond (not b) (1 + position_or_len p xs) 0 ≡ suc (length xs) → (b || list_any p xs) ≡ false
+none_at p true xs rest e = absurd (omega arith)
+none_at p false xs rest e = rest (omega arith)
 
--- the place of the first such byte
-pub first_place : (byte : ℕ) (text front back : List ℕ) (place : Option ℕ) → has_byte byte front ≡ false → text ≡ front ++ byte ∷ back → place ≡ position (λ b. eqb b byte) text → place ≡ Some (length front)
-first_place byte text front back place none parts is =
-    let within : ltb (length front) (length (front ++ byte ∷ back)) ≡ true = lt-ltb _ _ (omega (arith, length-append front (byte ∷ back))) in
-    is ∙ rw (parts, place_or_len byte front back none, within) refl
+none_before_the_end : {X : Type 0} (p : X → Bool) (xs : List X) → position_or_len p xs ≡ length xs → list_any p xs ≡ false
+none_before_the_end p [] e = refl
+none_before_the_end p (x ∷ xs) e = none_at p (p x) xs (none_before_the_end p xs) e
 
--- what stands before a place, and what stands behind it
-pub parts_at : (text front back : List ℕ) (byte at : ℕ) → text ≡ front ++ byte ∷ back → at ≡ length front → (take at text ≡ front) × (take (length text - (at + 1)) (drop (at + 1) text) ≡ back)
-parts_at text front back byte at parts is =
-    let whole : text ≡ (front ++ byte ∷ []) ++ back = parts ∙ sym (append_assoc front (byte ∷ []) back) in
-    let before : length (front ++ byte ∷ []) ≡ at + 1 = omega (arith, length-append front (byte ∷ [])) in
-    let behind : drop (at + 1) text ≡ back = ap (λ (t : List ℕ). drop (at + 1) t) whole ∙ drop_at (front ++ byte ∷ []) back (at + 1) before in
-    let rest : length back ≤ length text - (at + 1) = omega (arith, ap (λ (t : List ℕ). length t) parts, length-append front (byte ∷ back)) in
-    (ap (λ (t : List ℕ). take at t) parts ∙ take_at front (byte ∷ back) at (sym is), rw behind (take_all _ back rest))
+none_within : {X : Type 0} (p : X → Bool) (xs : List X) (b : Bool) → ltb (position_or_len p xs) (length xs) ≡ b → cond b (Some (position_or_len p xs)) None ≡ None → list_any p xs ≡ false
+none_within p xs true within e = absurd cc
+none_within p xs false within e = none_before_the_end p xs (let past = ltb-false _ _ within in omega (arith, prefix_len-le-length (λ x. not (p x)) xs))
 
--- a place is one place
-pub is_some : (place : Option ℕ) (n m : ℕ) → place ≡ Some n → place ≡ Some m → m ≡ n
-is_some place n m e f = cc
-
-pub is_not_none : (place : Option ℕ) (n : ℕ) → place ≡ Some n → place ≡ None → ⊥
-is_not_none place n e f = absurd cc
-
--- the blank before an `&`
-pub has_byte-blank : (front : List ℕ) → has_byte 38 front ≡ false → has_byte 38 (front ++ 32 ∷ []) ≡ false
-has_byte-blank front none = rw (list_any-append (λ b. eqb b 38) front (32 ∷ []), none) refl
+pub none_anywhere : {X : Type 0} (p : X → Bool) (xs : List X) → position p xs ≡ None → list_any p xs ≡ false
+none_anywhere p xs e = none_within p xs (ltb (position_or_len p xs) (length xs)) refl e

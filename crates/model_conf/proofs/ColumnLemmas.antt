@@ -5,17 +5,21 @@ use Rattle.std.specs.List.{list_all, list_any, position, AllWithin, HoldsAt}
 use Rattle.std.proofs.lemmas.Bool.{false≢true}
 use Rattle.std.proofs.lemmas.Bool.Decides.{nat_tests}
 use Rattle.std.proofs.lemmas.Option.{slice_get-map, slice_get-get_or, slice_get_within, get_or_from_slice_get}
-use Rattle.std.proofs.lemmas.List.{length-map, length-take, get_or-map, get_or-take, get_or_default, take-map, take_all, take_more}
+use Rattle.std.proofs.lemmas.List.{append_assoc, map-append, length-map, length-take, get_or-map, get_or-take, get_or_default, take-map, take_all, take_more}
 use Rattle.std.proofs.lemmas.List.Folds.{list_all-map}
 use Rattle.std.proofs.lemmas.List.Quantifiers.{all_pairs_push, position-Some}
 use Rattle.std.proofs.lemmas.List.Sums.{AllPass-from_list_all, list_all-from_AllPass}
-use Rattle.perm_base.specs.Fields.{joined, IsJoined}
 use Rattle.perm_base.specs.LineEnds.{has_line_end, is_line_end}
 use Rattle.perm_base.specs.Lines.{has_byte}
 use Rattle.perm_base.specs.Rule.{IsFirstLineEnd}
 use Rattle.perm_base.specs.declared.rule.RuleFault.{RuleFault}
 use Rattle.perm_base.specs.declared.rule.RuleFault.TheVariants.{LineEnd}
-use Rattle.model_conf.specs.Columns.{is_letter, is_word, is_identifier, AreColumns, AreDistinct, AreNames}
+use Rattle.matcher_read.specs.Names.{is_letter, is_word, is_identifier}
+use Rattle.std.specs.List.{All}
+use Rattle.std.proofs.lemmas.List.Splits.{slice_split_at, slice_split_none}
+use Rattle.model_conf.specs.Blanks.{trimmed}
+use Rattle.model_conf.specs.Columns.{AreDistinct, AreNames, columns_in}
+use Rattle.model_conf.proofs.BytePlaces.{neither}
 
 -- ---- identifiers
 
@@ -33,7 +37,7 @@ both false second e = absurd cc
 is_word-letter : (byte : ℕ) → is_letter byte ≡ true → is_word byte ≡ true
 is_word-letter byte e = grind (arith, nat_tests)
 
-is_word-ascii : (byte : ℕ) → is_word byte ≡ true → byte < 128
+pub is_word-ascii : (byte : ℕ) → is_word byte ≡ true → byte < 128
 is_word-ascii byte e = grind (arith, nat_tests)
 
 pub words : (name : List ℕ) → IsTrue (is_identifier name) → list_all is_word name ≡ true
@@ -78,14 +82,6 @@ at_first names (Some at) field named is e =
 -- identifiers hold no line end
 pub whole_lines : (names : List (List ℕ)) (fault : RuleFault) → AreNames names → IsFirstLineEnd names fault → ⊥
 whole_lines names (LineEnd field) named is = at_first names (position has_line_end names) field named refl is
-
--- columns are texts without a comma
-pub IsJoined-columns : (line : List ℕ) (names : List (List ℕ)) → AreColumns names → line ≡ joined names → IsJoined line names
-IsJoined-columns line names are spelled = record {
-  some = are.some;
-  whole = λ at d within. has_byte-identifier 44 (get_or names at d) refl (are.named at d within);
-  spelled = spelled;
-}
 
 -- ---- places
 
@@ -162,3 +158,33 @@ named_all fields items names at same named past taken =
     let all : fields ≡ texts items = taken ∙ take_all at (texts items) (omega (arith, length-map items text_of)) in
     let is : AreNames (texts items) = rw same named in
     subst AreNames (sym all) is
+
+-- ---- columns between commas
+
+none_of : (p : ℕ → Bool) (text : List ℕ) → list_any p text ≡ false → All (λ (b : ℕ). p b ≡ false) text
+none_of p [] none at d within = absurd (omega arith)
+none_of p (first ∷ text) none zero d within = (neither _ _ none).0
+none_of p (first ∷ text) none (suc at) d within = none_of p text (neither _ _ none).1 at d (omega arith)
+
+same_byte : (byte : ℕ) → eqb byte byte ≡ true
+same_byte byte = grind (arith, nat_tests)
+
+pub columns_in-cut : (front behind : List ℕ) → has_byte 44 front ≡ false → columns_in (front ++ 44 ∷ behind) ≡ trimmed front ∷ columns_in behind
+unfolding columns_in
+columns_in-cut front behind none = ap (map trimmed) (slice_split_at (λ b. eqb b 44) front 44 behind (none_of (λ b. eqb b 44) front none) refl)
+
+pub columns_in-last : (text : List ℕ) → has_byte 44 text ≡ false → columns_in text ≡ trimmed text ∷ []
+unfolding columns_in
+columns_in-last text none = ap (map trimmed) (slice_split_none (λ b. eqb b 44) text (none_of (λ b. eqb b 44) text none))
+
+pub columns_more : (names more : List (Bor (List ℕ))) (new : Bor (List ℕ)) (rest name behind text : List ℕ) → more ≡ names ++ new ∷ [] → new.now ≡ trimmed name → rest ≡ name ++ 44 ∷ behind → has_byte 44 name ≡ false
+    → texts names ++ columns_in rest ≡ columns_in text → texts more ++ columns_in behind ≡ columns_in text
+columns_more names more new rest name behind text pushed is parts none so_far =
+    let step : columns_in rest ≡ new.now ∷ columns_in behind = ap columns_in parts ∙ columns_in-cut name behind none ∙ ap (λ (n : List ℕ). n ∷ columns_in behind) (sym is) in
+    ap (λ (l : List (Bor (List ℕ))). texts l ++ columns_in behind) pushed ∙ ap (λ (l : List (List ℕ)). l ++ columns_in behind) (map-append text_of names (new ∷ [])) ∙ append_assoc (texts names) (new.now ∷ []) (columns_in behind)
+    ∙ ap (λ (l : List (List ℕ)). texts names ++ l) (sym step) ∙ so_far
+
+pub columns_last : (names more : List (Bor (List ℕ))) (new : Bor (List ℕ)) (rest text : List ℕ) → more ≡ names ++ new ∷ [] → new.now ≡ trimmed rest → has_byte 44 rest ≡ false → texts names ++ columns_in rest ≡ columns_in text → texts more ≡ columns_in text
+columns_last names more new rest text pushed is none so_far =
+    let step : columns_in rest ≡ new.now ∷ [] = columns_in-last rest none ∙ ap (λ (n : List ℕ). n ∷ []) (sym is) in
+    ap (λ (l : List (Bor (List ℕ))). texts l) pushed ∙ map-append text_of names (new ∷ []) ∙ ap (λ (l : List (List ℕ)). texts names ++ l) (sym step) ∙ so_far

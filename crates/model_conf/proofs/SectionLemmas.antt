@@ -1,14 +1,60 @@
--- The lines of a model's sections, one section after the other.
-use Rattle.std.proofs.Common.{◌≡◌, ℕ, List, [], ◌∷◌, ap, ◌∙◌}
+-- The names of sections, keys and relations.
+use Rattle.std.proofs.Common.{◌≡◌, ℕ, zero, suc, ◌+◌, ◌-◌, ◌<◌, ◌≤◌, ◌||◌, Bool, true, false, List, [], ◌∷◌, codes, get_or, Option, Some, None, refl, sym, ◌∙◌, subst, arith}
+use Rattle.std.specs.Prelude.{position}
+use Rattle.std.specs.List.{list_any}
+use Rattle.std.specs.Str.{bytes_eq}
+use Rattle.matcher_read.specs.Calls.{relation_names}
+use Rattle.model_conf.specs.Sections.{has_key}
 
--- two readings of the same first section
-pub same_section : (all rest other : List (List ℕ)) (header line header' line' : List ℕ) → all ≡ header ∷ line ∷ rest → all ≡ header' ∷ line' ∷ other → (line ≡ line') × (rest ≡ other)
-same_section all rest other header line header' line' first second = (cc, cc)
+or_none : (b : Bool) → (b || false) ≡ b
+or_none true = refl
+or_none false = refl
 
--- no line where there is one
-pub no_line : (all rest : List (List ℕ)) (line : List ℕ) → all ≡ line ∷ rest → all ≡ [] → ⊥
-no_line all rest line first second = absurd cc
+or_none_twice : (b : Bool) → ((b || false) || false) ≡ b
+or_none_twice true = refl
+or_none_twice false = refl
 
--- one section more
-pub more_section : (all rest other : List (List ℕ)) (header line : List ℕ) → all ≡ header ∷ line ∷ rest → rest ≡ other → all ≡ header ∷ line ∷ other
-more_section all rest other header line first second = first ∙ ap (λ (lines : List (List ℕ)). header ∷ line ∷ lines) second
+pub has_key-request : (key : List ℕ) → has_key (codes "request_definition") key ≡ bytes_eq key (codes "r")
+unfolding has_key
+has_key-request key = or_none_twice (bytes_eq key (codes "r"))
+
+pub has_key-policy : (key : List ℕ) → has_key (codes "policy_definition") key ≡ bytes_eq key (codes "p")
+unfolding has_key
+has_key-policy key = or_none_twice (bytes_eq key (codes "p"))
+
+pub has_key-effect : (key : List ℕ) → has_key (codes "policy_effect") key ≡ bytes_eq key (codes "e")
+unfolding has_key
+has_key-effect key = or_none_twice (bytes_eq key (codes "e"))
+
+pub has_key-matchers : (key : List ℕ) → has_key (codes "matchers") key ≡ bytes_eq key (codes "m")
+unfolding has_key
+has_key-matchers key = or_none_twice (bytes_eq key (codes "m"))
+
+pub has_key-roles : (key : List ℕ) → has_key (codes "role_definition") key ≡ list_any (bytes_eq key) relation_names
+unfolding has_key
+has_key-roles key = or_none (list_any (bytes_eq key) relation_names)
+
+-- the place of a relation among the names
+pub place_of_relation : (number : ℕ) → 0 < number → number ≤ 8 → position (bytes_eq (get_or relation_names (number - 1) [])) relation_names ≡ Some (number - 1)
+place_of_relation zero some few = absurd (omega arith)
+place_of_relation (suc zero) some few = refl
+place_of_relation (suc (suc zero)) some few = refl
+place_of_relation (suc (suc (suc zero))) some few = refl
+place_of_relation (suc (suc (suc (suc zero)))) some few = refl
+place_of_relation (suc (suc (suc (suc (suc zero))))) some few = refl
+place_of_relation (suc (suc (suc (suc (suc (suc zero)))))) some few = refl
+place_of_relation (suc (suc (suc (suc (suc (suc (suc zero))))))) some few = refl
+place_of_relation (suc (suc (suc (suc (suc (suc (suc (suc zero)))))))) some few = refl
+place_of_relation (suc (suc (suc (suc (suc (suc (suc (suc (suc number))))))))) some few = absurd (omega arith)
+
+pub is_relation : (number : ℕ) → 0 < number → number ≤ 8 → list_any (bytes_eq (get_or relation_names (number - 1) [])) relation_names ≡ true
+is_relation zero some few = absurd (omega arith)
+is_relation (suc zero) some few = refl
+is_relation (suc (suc zero)) some few = refl
+is_relation (suc (suc (suc zero))) some few = refl
+is_relation (suc (suc (suc (suc zero)))) some few = refl
+is_relation (suc (suc (suc (suc (suc zero))))) some few = refl
+is_relation (suc (suc (suc (suc (suc (suc zero)))))) some few = refl
+is_relation (suc (suc (suc (suc (suc (suc (suc zero))))))) some few = refl
+is_relation (suc (suc (suc (suc (suc (suc (suc (suc zero)))))))) some few = refl
+is_relation (suc (suc (suc (suc (suc (suc (suc (suc (suc number))))))))) some few = absurd (omega arith)

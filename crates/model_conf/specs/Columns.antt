@@ -1,20 +1,12 @@
--- The columns of a request or a policy: identifiers, as Casbin's model syntax has them.
-use Rattle.std.specs.Prelude.{ℕ, ◌<◌, ◌≤◌, ◌≢◌, ◌==◌, Bool, false, ◌||◌, ◌&&◌, List, [], ◌∷◌, length, IsTrue, All, AllPairs}
-use Rattle.std.specs.Char.{is_ascii_alphabetic, is_ascii_alphanumeric}
-use Rattle.std.specs.List.{list_all, slice_index_or}
+-- The columns of a request or a policy: 1 to 32 distinct identifiers, joined by `,` with free blanks round each (Casbin, model syntax).
+use Rattle.std.specs.Prelude.{ℕ, ◌<◌, ◌≤◌, ◌≢◌, ◌==◌, List, length, IsTrue, All, AllPairs, map}
+use Rattle.std.specs.List.{slice_split}
+use Rattle.matcher_read.specs.Names.{is_identifier}
+use Rattle.model_conf.specs.Blanks.{trimmed}
 
--- a letter of ASCII or `_`
-abbrev pub is_letter : ℕ → Bool
-is_letter byte = is_ascii_alphabetic byte || byte == 95
-
--- a letter, a digit or `_`
-abbrev pub is_word : ℕ → Bool
-is_word byte = is_ascii_alphanumeric byte || byte == 95
-
--- a letter or `_`, and then letters, digits or `_`
-abbrev pub is_identifier : List ℕ → Bool
-is_identifier [] = false
-is_identifier (first ∷ others) = is_letter first && list_all is_word others
+-- the parts between commas, without the blanks at their ends
+unfoldable pub columns_in : List ℕ → List (List ℕ)
+columns_in text = map trimmed (slice_split (λ (byte : ℕ). byte == 44) text)
 
 -- the names are identifiers
 abbrev pub AreNames : List (List ℕ) → Type 0
@@ -30,7 +22,3 @@ pub record AreColumns (names : List (List ℕ)) : Type 0 where
   pub few : length names ≤ 32
   pub named : AreNames names
   pub distinct : AreDistinct names
-
--- the column at a place, counted from 0
-abbrev pub column_at : List (List ℕ) → ℕ → List ℕ
-column_at names place = slice_index_or names place []

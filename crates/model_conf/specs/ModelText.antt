@@ -1,63 +1,80 @@
--- The text of a model of equalities, as Casbin's model syntax has it.
-use Rattle.std.specs.Prelude.{◌≡◌, ℕ, ◌<◌, ◌≤◌, List, [], ◌∷◌, ◌++◌, length, codes, All, Contains}
-use Rattle.std.specs.List.{join_by}
-use Rattle.perm_base.specs.Lines.{full_lines}
-use Rattle.perm_base.specs.Fields.{joined}
-use Rattle.model_conf.specs.Columns.{AreColumns, column_at}
+-- The text of a model (Casbin, model syntax).
+use Rattle.std.specs.Prelude.{◌≡◌, ℕ, ◌<◌, ◌≤◌, List, [], length, codes, Option, Some, None, IsUtf8}
+use Rattle.effect_fold.specs.declared.effect.Effect.{Effect}
+use Rattle.matcher_read.specs.Expression.{Expression}
+use Rattle.matcher_read.specs.Matcher.{IsMatcher}
+use Rattle.perm_base.specs.declared.shapes.RoleShape.{RoleShape}
+use Rattle.model_conf.specs.Columns.{AreColumns, columns_in}
+use Rattle.model_conf.specs.Effects.{effect_of}
+use Rattle.model_conf.specs.Relations.{value_of, relations_of, first_bad_shape}
+use Rattle.model_conf.specs.Sections.{Entry, entries_of, first_fault}
+use Rattle.model_conf.specs.Statements.{Statement, HasStatements}
+use Rattle.model_conf.specs.Uses.{uses, first_undeclared}
 
--- what a model says: the columns of the request, those of the policy, and for each equality the places of its two columns
+-- the greatest number of bytes
+abbrev pub most_bytes : ℕ
+most_bytes = 65536
+
+-- what a model says: the columns of a request and of a policy, the relations by rising number, the effect, and the matcher as text and as expression
 pub record ModelParts : Type 0 where
   pub request : List (List ℕ)
   pub policy : List (List ℕ)
-  pub pairs : List (ℕ × ℕ)
+  pub relations : List RoleShape
+  pub effect : Effect
+  pub matcher_text : List ℕ
+  pub matcher : Expression
 
--- of these columns and places
-abbrev pub parts_of : List (List ℕ) → List (List ℕ) → List (ℕ × ℕ) → ModelParts
-parts_of request policy pairs = record { request = request; policy = policy; pairs = pairs }
+-- of these parts
+abbrev pub parts_of : List (List ℕ) → List (List ℕ) → List RoleShape → Effect → List ℕ → Expression → ModelParts
+parts_of request policy relations effect matcher_text matcher =
+    record { request = request; policy = policy; relations = relations; effect = effect; matcher_text = matcher_text; matcher = matcher }
 
--- `r.C == p.D`
-abbrev pub equality : List ℕ → List ℕ → List ℕ
-equality request_column policy_column = codes "r." ++ (request_column ++ (codes " == p." ++ policy_column))
+-- the values of the four keys that each model has
+pub record Values : Type 0 where
+  pub request : List ℕ
+  pub policy : List ℕ
+  pub effect : List ℕ
+  pub matcher : List ℕ
 
--- the equality of the columns at these places
-abbrev pub equality_at : List (List ℕ) → List (List ℕ) → ℕ × ℕ → List ℕ
-equality_at request policy pair = equality (column_at request pair.0) (column_at policy pair.1)
+-- the bytes are few, are UTF-8 and have these statements
+pub record IsText (bytes : List ℕ) (statements : List Statement) : Type 0 where
+  pub few : length bytes ≤ most_bytes
+  pub utf8 : IsUtf8 bytes
+  pub said : HasStatements bytes statements
 
--- the equalities, joined by ` && `
-abbrev pub equalities : List (List ℕ) → List (List ℕ) → List (ℕ × ℕ) → List ℕ
-equalities request policy pairs = join_by (equality_at request policy) (codes " && ") pairs
+-- the four keys have these values
+pub record HasValues (entries : List Entry) (values : Values) : Type 0 where
+  pub request : value_of entries (codes "r") ≡ Some values.request
+  pub policy : value_of entries (codes "p") ≡ Some values.policy
+  pub effect : value_of entries (codes "e") ≡ Some values.effect
+  pub matcher : value_of entries (codes "m") ≡ Some values.matcher
 
--- the four sections: a header each, and the line of its key
-unfoldable pub section_lines : List ℕ → List ℕ → List ℕ → List (List ℕ)
-section_lines request policy matcher =
-    codes "[request_definition]" ∷ (codes "r = " ++ request)
-    ∷ codes "[policy_definition]" ∷ (codes "p = " ++ policy)
-    ∷ codes "[policy_effect]" ∷ codes "e = some(where (p.eft == allow))"
-    ∷ codes "[matchers]" ∷ (codes "m = " ++ matcher)
-    ∷ []
+-- the four values, of which the columns are in order
+pub record HasColumns (entries : List Entry) (values : Values) : Type 0 where
+  pub has : HasValues entries values
+  pub request : AreColumns (columns_in values.request)
+  pub policy : AreColumns (columns_in values.policy)
 
--- the lines of the text that says so
-abbrev pub model_lines : ModelParts → List (List ℕ)
-model_lines model = section_lines (joined model.request) (joined model.policy) (equalities model.request model.policy model.pairs)
+-- all values but the matcher are in order, and this is the effect
+pub record HasEffect (entries : List Entry) (values : Values) (effect : Effect) : Type 0 where
+  pub has : HasColumns entries values
+  pub shapes : first_bad_shape entries ≡ None
+  pub effect_is : effect_of values.effect ≡ Some effect
 
--- both places are within the columns
-abbrev pub IsWithin : List (List ℕ) → List (List ℕ) → ℕ × ℕ → Type 0
-IsWithin request policy pair = (pair.0 < length request) × (pair.1 < length policy)
+-- the entries say this model
+pub record SayModel (entries : List Entry) (model : ModelParts) : Type 0 where
+  pub values : Values
+  pub has : HasEffect entries values model.effect
+  pub request : model.request ≡ columns_in values.request
+  pub policy : model.policy ≡ columns_in values.policy
+  pub relations : model.relations ≡ relations_of entries
+  pub matcher_text : model.matcher_text ≡ values.matcher
+  pub matcher : IsMatcher values.matcher model.matcher
+  pub declared : first_undeclared model.request model.policy model.relations (uses model.matcher) ≡ None
 
--- 1 to 32 pairs of places within the columns
-pub record ArePairs (request policy : List (List ℕ)) (pairs : List (ℕ × ℕ)) : Type 0 where
-  pub some : 0 < length pairs
-  pub few : length pairs ≤ 32
-  pub within : All (IsWithin request policy) pairs
-
--- what a model may say; the column `eft` of a policy would be its effect
-pub record AreParts (model : ModelParts) : Type 0 where
-  pub request : AreColumns model.request
-  pub policy : AreColumns model.policy
-  pub no_effect : ¬ (Contains model.policy (codes "eft"))
-  pub pairs : ArePairs model.request model.policy model.pairs
-
--- the text says this model; empty lines are passed over
+-- the text says this model: each line is a header or a key line of its section, no key comes twice, and the entries say it
 pub record IsModel (bytes : List ℕ) (model : ModelParts) : Type 0 where
-  pub lines : full_lines bytes ≡ model_lines model
-  pub parts : AreParts model
+  pub statements : List Statement
+  pub text : IsText bytes statements
+  pub lines : first_fault [] statements ≡ None
+  pub says : SayModel (entries_of statements) model

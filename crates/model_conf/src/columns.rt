@@ -1,68 +1,54 @@
-ghost use Rattle.std.specs.Prelude.{◌≡◌, ◌<◌, ◌^◌, ◌↔◌, ℕ, List, Some, Contains, IfNone, IfOk, IfSome, IsTrue, MatchResult, length, map, slice_get};
-ghost use Rattle.perm_base.specs.Fields.{joined};
-ghost use Rattle.model_conf.specs.Columns.{AreColumns, AreDistinct, AreNames, is_identifier, is_letter, is_word};
+ghost use Rattle.std.specs.Prelude.{◌≡◌, ◌↔◌, Some, Contains, IfNone, IfOk, IfSome, IsTrue, MatchOption, map, slice_get};
+ghost use Rattle.matcher_read.specs.Names.{is_identifier, is_letter, is_word};
+ghost use Rattle.model_conf.specs.Columns.{AreColumns, AreDistinct, AreNames, columns_in};
 
-use crate::fault::ModelFault;
-use perm_base::{NoMemory, Rule, Text, cut_joined};
+use crate::cutting::{cut_at, trimmed};
+use perm_base::{NoMemory, Rule, Text};
 use std::alloc::Global;
 
 // The greatest number of columns.
 const MOST_COLUMNS: usize = 32;
 
-/// Columns where they stand in a text. Contracts see the list of their names.
-#[derive(Drop)]
-pub(crate) struct Columns<'a> {
-    names: Vec<&'a [u8]>,
+/// Reads a text as columns: 1 to 32 distinct identifiers, joined by commas, with free blanks round each.
+pub(crate) fn read_columns(alloc: Global, text: &[u8]) -> Result<Option<Rule>, NoMemory>
+    ensures { IfOk result
+        (λ read. MatchOption read (¬ (AreColumns (columns_in text.now))) (λ rule. AreColumns (columns_in text.now) × (rule ≡ columns_in text.now))) }
+{
+    let names = cut_columns(alloc, text)?;
+    if !are_columns(&names) {
+        return Ok(None);
+    }
+    let rule = rule_of(alloc, &names)?;
+    Ok(Some(rule))
 }
 
-impl<'a> std::marker::Model for Columns<'a> {
-    ghost use Rattle.std.specs.Prelude.{List, ℕ, map};
-    ghost use Rattle.model_conf.specs.Columns.{AreColumns};
-
-    ghost Value = { List (List ℕ) };
-
-    ghost view = { λ c. map (λ name. name.now) c.names.items };
-
-    ghost invariant = { λ c. AreColumns (map (λ name. name.now) c.names.items) };
+// The parts between commas, without the blanks at their ends.
+fn cut_columns(alloc: Global, text: &[u8]) -> Result<Vec<&[u8]>, NoMemory>
+    ensures { IfOk result (λ names. map (λ name. name.now) names.items ≡ columns_in text.now) }
+{
+    let mut names = Vec::new(alloc);
+    let mut rest = text;
+    while let Some((name, behind)) = cut_at(rest, b',') {
+        names.push(trimmed(name))?;
+        rest = behind;
+    }
+    names.push(trimmed(rest))?;
+    Ok(names)
 }
 
-impl<'a> Columns<'a> {
-    /// Cuts a text into columns that are joined by a comma and a blank.
-    pub(crate) fn cut(alloc: Global, text: &'a [u8]) -> Result<Columns<'a>, ModelFault>
-        ensures columns { IfOk result AreColumns }
-        ensures spelled { IfOk result (λ columns. text.now ≡ joined columns) }
-        ensures only { (names : List (List ℕ)) → AreColumns names → text.now ≡ joined names
-            → MatchResult result (λ columns. columns ≡ names) (λ fault. fault ≡ ModelFault.NoMemory) }
-    {
-        let names = cut_joined(alloc, text)?;
-        if !are_columns(&names) {
-            return Err(ModelFault::NotYet);
-        }
-        Ok(Columns { names })
+// The columns as a rule.
+fn rule_of(alloc: Global, names: &[&[u8]]) -> Result<Rule, NoMemory>
+    requires { AreColumns (map (λ name. name.now) names.now) }
+    ensures { IfOk result (λ rule. rule ≡ map (λ name. name.now) names.now) }
+{
+    let mut fields = Vec::new(alloc);
+    for name in names {
+        fields.push(Text::from_str(alloc, text_of(name))?)?;
     }
-
-    /// The place of a column, counted from 0.
-    pub(crate) fn place_of(&self, name: &[u8]) -> Option<u32>
-        ensures found { IfSome result (λ at. slice_get self.now at ≡ Some name.now) }
-        ensures none { IfNone result (¬ (Contains self.now name.now)) }
-    {
-        let at = place_of(&self.names, name)?;
-        Some(at as u32)
-    }
-
-    /// The columns as a rule.
-    pub(crate) fn to_rule(&self, alloc: Global) -> Result<Rule, NoMemory>
-        ensures { IfOk result (λ rule. rule ≡ self.now) }
-    {
-        let mut fields = Vec::new(alloc);
-        for name in &self.names {
-            fields.push(Text::from_str(alloc, text_of(name))?)?;
-        }
-        let Ok(rule) = Rule::from_fields(fields) else {
-            unreachable!()
-        };
-        Ok(rule)
-    }
+    let Ok(rule) = Rule::from_fields(fields) else {
+        unreachable!()
+    };
+    Ok(rule)
 }
 
 // An identifier as a text.

@@ -1,16 +1,31 @@
-//! The model of a policy, as a text of Casbin's model syntax: for now, models of equalities.
+//! The model of a policy, as a text of Casbin's model syntax.
 #![tactic(auto)]
 
 mod columns;
 mod cutting;
+mod effects;
+mod entries;
 mod fault;
-mod matcher;
+mod joining;
+mod key;
+mod law;
+mod lines;
 mod model;
+mod outline;
+mod printing;
 mod reading;
+mod relations;
+mod saying;
 mod sections;
 #[cfg(test)]
 mod tests;
+mod uses;
+#[cfg(test)]
+mod whole_tests;
 
 pub use fault::ModelFault;
+pub use key::Key;
+pub use law::{faulty_text_is_no_model, text_has_one_model_fault, text_says_one_model};
 pub use model::Model;
-pub use reading::{read_model, text_says_one_model};
+pub use printing::print_model;
+pub use reading::read_model;

@@ -1,37 +1,62 @@
-ghost use Rattle.std.specs.Prelude.{◌≡◌, codes, Contains, map};
+ghost use Rattle.std.specs.Prelude.{◌≡◌, None};
+ghost use Rattle.matcher_read.specs.Expression.{expression};
+ghost use Rattle.matcher_read.specs.Matcher.{IsMatcher};
 ghost use Rattle.model_conf.specs.Columns.{AreColumns};
-ghost use Rattle.model_conf.specs.ModelText.{AreParts, ArePairs, parts_of};
+ghost use Rattle.model_conf.specs.Kept.{AreRelations, IsKept, IsPartOfLine};
+ghost use Rattle.model_conf.specs.ModelText.{parts_of};
+ghost use Rattle.model_conf.specs.Uses.{first_undeclared, uses};
 
-use perm_base::Rule;
+use effect_fold::Effect;
+use matcher_read::Tree;
+use perm_base::{RoleShape, Rule, Text};
 
-/// A model of equalities: the columns of a request, those of a policy, and which of them must be equal.
+/// A model: the columns of a request and of a policy, the role relations, the effect and the matcher.
 #[derive(Drop)]
 pub struct Model {
     request: Rule,
     policy: Rule,
-    pairs: Vec<(u32, u32)>,
+    relations: Vec<RoleShape>,
+    effect: Effect,
+    matcher_text: Text,
+    matcher: Tree,
 }
 
 impl std::marker::Model for Model {
-    ghost use Rattle.model_conf.specs.ModelText.{ModelParts, AreParts, parts_of};
+    ghost use Rattle.std.specs.Coded.{Coded, codes};
+    ghost use Rattle.matcher_read.specs.Expression.{expression};
+    ghost use Rattle.model_conf.specs.ExpressionCode.{Sign, expression_code};
+    ghost use Rattle.model_conf.specs.Kept.{IsKept};
+    ghost use Rattle.model_conf.specs.ModelText.{ModelParts, parts_of};
 
     ghost Value = { ModelParts };
 
-    ghost view = { λ m. parts_of m.request m.policy m.pairs.items };
+    ghost coded = { let s : Coded Sign = Prim.hlevel codes in Prim.hlevel (codes, expression_code s) };
 
-    ghost invariant = { λ m. AreParts (parts_of m.request m.policy m.pairs.items) };
+    ghost view = { λ m. parts_of m.request m.policy m.relations.items m.effect m.matcher_text (expression m.matcher) };
+
+    ghost invariant = { λ m. IsKept (parts_of m.request m.policy m.relations.items m.effect m.matcher_text (expression m.matcher)) };
 }
 
 impl Model {
-    // The model of these columns and pairs of places.
-    pub(crate) fn from_parts(request: Rule, policy: Rule, pairs: Vec<(u32, u32)>) -> Model
-        requires { AreParts (parts_of request policy pairs.items) }
-        ensures { result ≡ parts_of request policy pairs.items }
+    // The model of these parts.
+    pub(crate) fn from_parts(
+        request: Rule,
+        policy: Rule,
+        relations: Vec<RoleShape>,
+        effect: Effect,
+        matcher_text: Text,
+        matcher: Tree,
+    ) -> Model
+        requires { IsKept (parts_of request policy relations.items effect matcher_text (expression matcher)) }
+        ensures { result ≡ parts_of request policy relations.items effect matcher_text (expression matcher) }
     {
         Model {
             request,
             policy,
-            pairs,
+            relations,
+            effect,
+            matcher_text,
+            matcher,
         }
     }
 
@@ -43,21 +68,45 @@ impl Model {
         &self.request
     }
 
-    /// The columns of a policy: 1 to 32 distinct identifiers, none of which is `eft`.
+    /// The columns of a policy: 1 to 32 distinct identifiers.
     pub fn policy_columns(&self) -> &Rule
         ensures value { result.now ≡ self.now.policy }
         ensures columns { AreColumns result.now }
-        ensures no_effect { ¬ (Contains result.now (codes "eft")) }
     {
         &self.policy
     }
 
-    /// The equalities in their order, 1 to 32: for each the place of its request column and that of its policy
-    /// column, counted from 0.
-    pub fn pairs(&self) -> &[(u32, u32)]
-        ensures value { result.now ≡ self.now.pairs }
-        ensures within { ArePairs self.now.request self.now.policy result.now }
+    /// The role relations by rising number, 1 for `g` and 2 to 8 for `g2` to `g8`, their texts being compared byte by
+    /// byte.
+    pub fn relations(&self) -> &[RoleShape]
+        ensures value { result.now ≡ self.now.relations }
+        ensures relations { AreRelations result.now }
     {
-        &self.pairs
+        &self.relations
+    }
+
+    /// How the rules that match settle the answer.
+    pub fn effect(&self) -> Effect
+        ensures { result ≡ self.now.effect }
+    {
+        self.effect
+    }
+
+    /// The matcher as it was written.
+    pub fn matcher_text(&self) -> &Text
+        ensures value { result.now ≡ self.now.matcher_text }
+        ensures matcher { IsMatcher result.now self.now.matcher }
+        ensures part { IsPartOfLine result.now }
+    {
+        &self.matcher_text
+    }
+
+    /// The matcher as a tree. Each column that it names is declared, and each relation is declared and asked with its
+    /// number of names.
+    pub fn matcher(&self) -> &Tree
+        ensures value { expression result.now ≡ self.now.matcher }
+        ensures declared { first_undeclared self.now.request self.now.policy self.now.relations (uses (expression result.now)) ≡ None }
+    {
+        &self.matcher
     }
 }

@@ -1,39 +1,134 @@
-ghost use Rattle.std.specs.Prelude.{◌≡◌, ℕ, List, IfOk, IsErrOf, MatchResult};
-ghost use Rattle.model_conf.specs.ModelText.{ModelParts, IsModel};
+ghost use Rattle.std.specs.Prelude.{◌≡◌, ◌≢◌, ◌≤◌, ℕ, List, false, IfErr, IfOk, IsErrOf, IsTrue, MatchResult, length, IsUtf8};
+ghost use Rattle.effect_fold.specs.declared.effect.Effect.{Effect};
+ghost use Rattle.model_conf.specs.Faults as faults;
+ghost use Rattle.model_conf.specs.Later.{is_later, is_other_effect};
+ghost use Rattle.model_conf.specs.Misuses.{misuse_fault};
+ghost use Rattle.model_conf.specs.ModelText.{HasEffect, IsModel, ModelParts, SayModel};
+ghost use Rattle.model_conf.specs.ModelText as text;
+ghost use Rattle.model_conf.specs.Outlines.{HasTextOfMatcher, IsSettled};
+ghost use Rattle.model_conf.specs.Seen.{entries_seen};
+ghost use Rattle.model_conf.specs.declared.fault.ModelFault as fault;
 
-use crate::columns::Columns;
+use crate::entries::{Entry, read_entries};
 use crate::fault::ModelFault;
-use crate::matcher::read_equalities;
 use crate::model::Model;
-use crate::sections::cut_sections;
-use perm_base::joined_texts_are_unique;
+use crate::outline::{read_outline, values_of};
+use crate::uses::{Declared, Misuse, has_call, has_column};
+use effect_fold::Effect;
+use matcher_read::read_matcher;
+use perm_base::Text;
 use std::alloc::Global;
 
-/// Reads the text of a model of equalities. Lines are cut at LF alone, and empty lines are passed over.
+// The greatest number of bytes.
+const MOST_BYTES: usize = 65536;
+
+/// Reads the text of a model. Lines are cut at LF or CR LF. A line of blanks alone, or one whose first byte that is no
+/// blank is `#` or `;`, is passed over; any other is continued by the next as long as it ends in `\`, and dropped from
+/// the first `#` on that stands outside a quoted text. What is left is `[section]` or `key = value`.
 pub fn read_model(alloc: Global, bytes: &[u8]) -> Result<Model, ModelFault>
-    // What is read is spelled so.
-    ensures found { IfOk result (λ model. IsModel bytes.now model) }
-    // What is spelled so is read, unless memory runs out.
-    ensures only { (parts : ModelParts) → IsModel bytes.now parts
-        → MatchResult result (λ model. model ≡ parts) (λ fault. fault ≡ ModelFault.NoMemory) }
-    // Which refusal it is.
-    ensures not_yet { IsErrOf result ModelFault.NotYet → (parts : ModelParts) → ¬ (IsModel bytes.now parts) }
+    // What is read is what the bytes say.
+    ensures found { IfOk result (IsModel bytes.now) }
+    // What the bytes say is read, unless memory runs out.
+    ensures only { (model : ModelParts) → IsModel bytes.now model → is_later model ≡ false
+        → MatchResult result (λ read. read ≡ model) (λ fault. fault ≡ ModelFault.NoMemory) }
+
+    // Each fault is the first of the bytes, and their first fault is told.
+    ensures fault { IfErr result (λ fault. fault ≢ ModelFault.NoMemory → fault ≢ ModelFault.NotYet → faults.IsModelFault bytes.now fault) }
+    ensures only_fault { (first : fault.ModelFault) → faults.IsModelFault bytes.now first
+        → MatchResult result (λ read. ⊥) (λ fault. fault ≢ ModelFault.NoMemory → fault ≡ first) }
+
+    // Models that are not answered by yet.
+    ensures not_yet { IsErrOf result ModelFault.NotYet → (model : ModelParts) × IsModel bytes.now model × IsTrue (is_later model) }
+    ensures only_not_yet { (model : ModelParts) → IsModel bytes.now model → IsTrue (is_later model)
+        → MatchResult result (λ read. ⊥) (λ fault. fault ≢ ModelFault.NoMemory → fault ≡ ModelFault.NotYet) }
 {
-    let Some(sections) = cut_sections(bytes) else {
+    let model = read_whole(alloc, bytes)?;
+    if is_later(&model) {
         return Err(ModelFault::NotYet);
-    };
-    let request = Columns::cut(alloc, sections.request)?;
-    let policy = Columns::cut(alloc, sections.policy)?;
-    let None = policy.place_of(b"eft") else {
-        return Err(ModelFault::NotYet);
-    };
-    let pairs = read_equalities(alloc, sections.matcher, &request, &policy)?;
-    Ok(Model::from_parts(request.to_rule(alloc)?, policy.to_rule(alloc)?, pairs))
+    }
+    Ok(model)
 }
 
-/// The law that a text says at most one model.
-pub fn text_says_one_model()
-    ensures { (bytes : List ℕ) (first second : ModelParts) → IsModel bytes first → IsModel bytes second → first ≡ second }
+// Reads any model.
+fn read_whole(alloc: Global, bytes: &[u8]) -> Result<Model, ModelFault>
+    ensures found { IfOk result (IsModel bytes.now) }
+    ensures only { (model : ModelParts) → IsModel bytes.now model
+        → MatchResult result (λ read. read ≡ model) (λ fault. fault ≡ ModelFault.NoMemory) }
+    ensures fault { IfErr result (λ fault. fault ≢ ModelFault.NoMemory → faults.IsModelFault bytes.now fault) }
+    ensures only_fault { (first : fault.ModelFault) → faults.IsModelFault bytes.now first
+        → MatchResult result (λ read. ⊥) (λ fault. fault ≢ ModelFault.NoMemory → fault ≡ first) }
 {
-    joined_texts_are_unique();
+    if bytes.len() > MOST_BYTES {
+        return Err(ModelFault::TooLong);
+    }
+    let Ok(_) = str::from_utf8(bytes) else {
+        return Err(ModelFault::NotUtf8);
+    };
+    let entries = read_entries(alloc, bytes)?;
+    model_of(alloc, &entries.entries)
+}
+
+// The model that entries say.
+fn model_of(alloc: Global, entries: &[Entry]) -> Result<Model, ModelFault>
+    requires { HasTextOfMatcher (entries_seen entries.now) }
+    ensures found { IfOk result (SayModel (entries_seen entries.now)) }
+    ensures fault { IfErr result (λ fault. fault ≢ ModelFault.NoMemory → faults.IsEntryFault (entries_seen entries.now) fault) }
+    ensures settled { (values : text.Values) (effect : Effect) → HasEffect (entries_seen entries.now) values effect
+        → MatchResult result (λ read. IsSettled values.matcher) (λ fault. fault ≢ ModelFault.NoMemory → IsSettled values.matcher) }
+{
+    let values = values_of(entries)?;
+    let outline = read_outline(alloc, entries, values)?;
+    let Ok(text) = str::from_utf8(values.matcher) else {
+        unreachable!()
+    };
+    let tree = read_matcher(alloc, text)?;
+    let declared = Declared {
+        request: &outline.request,
+        policy: &outline.policy,
+        relations: &outline.relations,
+    };
+    if let Some(misuse) = declared.first_misuse(&tree) {
+        return Err(misuse_fault(misuse));
+    }
+    let matcher_text = Text::from_str(alloc, text)?;
+    Ok(Model::from_parts(
+        outline.request,
+        outline.policy,
+        outline.relations,
+        outline.effect,
+        matcher_text,
+        tree,
+    ))
+}
+
+fn misuse_fault(misuse: Misuse) -> ModelFault
+    ensures { result ≡ misuse_fault misuse }
+{
+    match misuse {
+        Misuse::Column { at } => ModelFault::UnknownColumn { at },
+        Misuse::Role { at } => ModelFault::RoleUse { at },
+    }
+}
+
+// A model that is not answered by yet: it declares a relation, has another effect than allow-override or the policy
+// column `eft`, or calls a function.
+fn is_later(model: &Model) -> bool
+    ensures { result ≡ is_later model.now }
+{
+    if !model.relations().is_empty() {
+        return true;
+    }
+    if is_other_effect(model.effect()) {
+        return true;
+    }
+    if has_column(model.policy_columns(), b"eft") {
+        return true;
+    }
+    has_call(model.matcher())
+}
+
+fn is_other_effect(effect: Effect) -> bool
+    ensures { result ≡ is_other_effect effect }
+{
+    !matches!(effect, Effect::AllowOverride)
 }

@@ -1,7 +1,14 @@
-use Rattle.std.proofs.Common.{take}
-use Rattle.casbin_run.specs.Answer.{answers_from}
-use Rattle.casbin_run.proofs.AnswerLemmas.{IsGathered}
+use Rattle.std.proofs.Common.{length}
+use Rattle.std.specs.Str.{IsUtf8}
+use Rattle.casbin_run.specs.Script.{requests_of}
+use Rattle.casbin_run.proofs.PrintLemmas.{IsPrinted}
 use Rattle.casbin_run.proofs.answer.print_answers.Given as goal
 
-abbrev pub invariant-loop-at : goal.invariant-loop-at
-invariant-loop-at g l = IsGathered (g.K.Sink.taken l.initial.out) (g.K.Sink.taken l.out) l.text.items (answers_from 1 l.pairs l.rules (take l.at l.requests)) (g.K.Sink.faults l.initial.out) (g.K.Sink.faults l.out)
+abbrev pub invariant-loop-line : goal.invariant-loop-line
+invariant-loop-line g l = record {
+  printed : IsPrinted l.court.model.now l.court.rules.now l.court.json (requests_of l.input) (requests_of l.rest) l.number (g.K.Sink.taken l.initial.out) (g.K.Sink.taken l.out) l.text.items (g.K.Sink.faults l.initial.out) (g.K.Sink.faults l.out);
+  utf8 : IsUtf8 l.rest;
+}
+
+abbrev pub decreases-loop-line : goal.decreases-loop-line
+decreases-loop-line g l = length l.rest

@@ -1,10 +1,16 @@
-use Rattle.std.proofs.Common.{refl, inl, inr}
+use Rattle.std.proofs.Common.{inl, inr, refl}
 use Rattle.casbin_run.proofs.StatusLemmas.{words_done, words_cause, model_cause, policy_cause, script_cause, too_long_cause, read_fault_cause, write_fault_cause, took_some}
-use Rattle.casbin_run.proofs.CompleteLemmas.{exact_done, complete_done, exact_stopped, complete_stopped}
+use Rattle.casbin_run.proofs.CompleteLemmas.{complete_done, complete_stopped, exact_done, exact_stopped}
 use Rattle.casbin_run.proofs.run.run_casbin.Goals as goal
 
 pub returns-in-Ok-clause-words : goal.returns-in-Ok-clause-words
 returns-in-Ok-clause-words g c = words_done _ _ _ _ _ c.in-Ok.ensures.answered
+
+pub returns-in-Ok-clause-exact : goal.returns-in-Ok-clause-exact
+returns-in-Ok-clause-exact g c = λ stop told read cause. absurd (exact_done (record { one_cause = c.one_end.ensures.one_cause; no_cause = c.one_end.ensures.no_cause; one_text = c.one_end.ensures.one_text }) _ _ _ _ _ stop c.in-Ok.ensures.answered told read cause)
+
+pub returns-in-Ok-clause-text : goal.returns-in-Ok-clause-text
+returns-in-Ok-clause-text g c = λ text done told read is. complete_done (record { one_cause = c.one_end.ensures.one_cause; no_cause = c.one_end.ensures.no_cause; one_text = c.one_end.ensures.one_text }) _ _ _ _ _ text c.in-Ok.ensures.answered told read is
 
 pub returns-in-Err-clause-words : goal.returns-in-Err-clause-words
 returns-in-Err-clause-words g c = rw c.status.ensures (words_cause _ _ _ _ _ _ _ _ c.in-Err.stop c.in-Err.ensures.stopped)
@@ -30,16 +36,10 @@ returns-in-Err-clause-write_fault g c = rw c.status.ensures (λ e. write_fault_c
 pub returns-in-Err-clause-some : goal.returns-in-Err-clause-some
 returns-in-Err-clause-some g c = rw c.status.ensures (λ e. took_some _ _ _ _ _ _ _ _ c.in-Err.stop e c.in-Err.ensures.stopped)
 
-pub returns-in-Ok-clause-exact : goal.returns-in-Ok-clause-exact
-returns-in-Ok-clause-exact g c = λ stop told read cause. absurd (exact_done (record { one_cause = c.one_end.ensures.one_cause; no_cause = c.one_end.ensures.no_cause; one_text = c.one_end.ensures.one_text }) _ _ _ _ _ stop c.in-Ok.ensures.answered told read cause)
-
-pub returns-in-Ok-clause-complete : goal.returns-in-Ok-clause-complete
-returns-in-Ok-clause-complete g c = λ text told read is no-shelf no-source no-sink. inl (refl, complete_done (record { one_cause = c.one_end.ensures.one_cause; no_cause = c.one_end.ensures.no_cause; one_text = c.one_end.ensures.one_text }) _ _ _ _ _ text c.in-Ok.ensures.answered told read is)
-
 pub returns-in-Err-clause-exact : goal.returns-in-Err-clause-exact
 returns-in-Err-clause-exact g c = rw c.status.ensures (λ stop told read cause.
     exact_stopped (record { one_cause = c.one_end.ensures.one_cause; no_cause = c.one_end.ensures.no_cause; one_text = c.one_end.ensures.one_text }) _ _ _ _ _ _ _ _ c.in-Err.stop stop c.in-Err.ensures.stopped told read cause)
 
 pub returns-in-Err-clause-complete : goal.returns-in-Err-clause-complete
-returns-in-Err-clause-complete g c = rw c.status.ensures (λ text told read is no-shelf no-source no-sink.
-    inr (complete_stopped (record { one_cause = c.one_end.ensures.one_cause; no_cause = c.one_end.ensures.no_cause; one_text = c.one_end.ensures.one_text }) _ _ _ _ _ _ _ _ c.in-Err.stop text c.in-Err.ensures.stopped told read is no-shelf no-source no-sink))
+returns-in-Err-clause-complete g c = rw c.status.ensures (λ told read is no-shelf no-source no-sink.
+    inr (complete_stopped (record { one_cause = c.one_end.ensures.one_cause; no_cause = c.one_end.ensures.no_cause; one_text = c.one_end.ensures.one_text }) _ _ _ _ _ _ _ _ c.in-Err.stop c.in-Err.ensures.stopped told read is no-shelf no-source no-sink))

@@ -1,7 +1,7 @@
 use Rattle.std.proofs.Common.{rules, tests, arith}
 use Rattle.std.proofs.lemmas.Iterator.{YieldsList-from_slice}
 use Rattle.std.proofs.lemmas.Iterator.Search.{all_from_yields_List}
-use Rattle.model_conf.specs.Columns.{is_word}
+use Rattle.matcher_read.specs.Names.{is_word}
 use Rattle.model_conf.proofs.ColumnLemmas.{is_identifier-front}
 use Rattle.model_conf.proofs.columns.is_identifier.Goals as goal
 

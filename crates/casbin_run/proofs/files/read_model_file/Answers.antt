@@ -1,0 +1,24 @@
+use Rattle.std.proofs.Common.{◌≤◌, length, refl, rules}
+use Rattle.std.proofs.lemmas.Result.{err_from_is_err_and}
+use Rattle.perm_base.specs.Faults.{Rose}
+use Rattle.perm_base.specs.Files.{Holds}
+use Rattle.casbin_run.specs.Parts.{model_limit}
+use Rattle.casbin_run.proofs.CallLemmas.{plain_model}
+use Rattle.casbin_run.proofs.ReadingLemmas.{answered_by, found_file, model_stops}
+use Rattle.casbin_run.proofs.files.read_model_file.Goals as goal
+
+pub returns-in_err-read_model-clause-stopped : goal.returns-in_err-read_model-clause-stopped
+returns-in_err-read_model-clause-stopped g c =
+    let p = err_from_is_err_and c.from_residual-in_err-read_model.result c.from_residual-in_err-read_model.ensures.1 in
+    let holds : Holds (g.F.Shelf.files c.args.shelf.now) c.args.name.now c.deref.result.now = search rules in
+    let within : length c.deref.result.now ≤ model_limit = search rules in
+    rw (p.1, p.2) (model_stops (g.F.Shelf.files c.args.shelf.now) c.args.name.now (Rose (g.F.Shelf.faults c.args.shelf.now) (g.F.Shelf.faults c.fetch.new.shelf)) c.deref.result.now c.in_err-read_model.field-0.0 holds within c.in_err-read_model.ensures.fault (λ e. c.in_err-read_model.ensures.not_yet (rw e refl)))
+
+pub returns-clause-read : goal.returns-clause-read
+returns-clause-read g c =
+    let holds : Holds (g.F.Shelf.files c.args.shelf.now) c.args.name.now c.deref.result.now = search rules in
+    let within : length c.deref.result.now ≤ model_limit = search rules in
+    found_file _ _ _ _ holds within c.in_ok-read_model.ensures.found c.in_ok-read_model.ensures.only_not_yet
+
+pub returns-clause-plain : goal.returns-clause-plain
+returns-clause-plain g c = plain_model c.deref.result.now _ (answered_by _ _ c.in_ok-read_model.ensures.found c.in_ok-read_model.ensures.only_not_yet)

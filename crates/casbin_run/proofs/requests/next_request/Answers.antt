@@ -1,0 +1,23 @@
+use Rattle.std.proofs.Common.{◌≡◌, true, false, sym, ◌∙◌, arith, rules}
+use Rattle.casbin_run.specs.Script.{is_passed, without_cr}
+use Rattle.casbin_run.proofs.RequestLemmas.{requests_of-none, requests_of-passed, requests_of-first}
+use Rattle.casbin_run.proofs.requests.next_request.Goals as goal
+
+pub returns-then-not-is_passed-clause-first : goal.returns-then-not-is_passed-clause-first
+returns-then-not-is_passed-clause-first c =
+    let shown : c.without_cr-line.result.now ≡ without_cr c.in-Some.line.now = search rules in
+    let kept : is_passed c.without_cr-line.result.now ≡ false = sym c.is_passed.ensures ∙ c.if-not-is_passed.true in
+    sym c.loop-line.invariant.same ∙ requests_of-first _ c.in-Some.line.now _ _ c.in-Some.ensures.first shown kept
+
+pub loop-line-preserved : goal.loop-line-preserved
+loop-line-preserved c =
+    let shown : c.without_cr-line.result.now ≡ without_cr c.in-Some.line.now = search rules in
+    let passed : is_passed c.without_cr-line.result.now ≡ true = sym c.is_passed.ensures ∙ c.if-not-is_passed.false in
+    record {
+      same = sym (requests_of-passed _ c.in-Some.line.now _ _ c.in-Some.ensures.first shown passed) ∙ c.loop-line.invariant.same;
+      within = omega (arith, c.in-Some.ensures.shorter);
+      utf8 = search rules;
+    }
+
+pub returns-clause-none : goal.returns-clause-none
+returns-clause-none c = sym c.loop-line.invariant.same ∙ requests_of-none _ c.in_default.ensures.none

@@ -1,0 +1,140 @@
+ghost use Rattle.std.specs.Prelude.{◌≡◌, ◌++◌, decimal};
+ghost use Rattle.casbin_run.specs.Message.{columns_line, in_line, in_matcher, line_of, matcher_line, missing_line, model_line, shape_line};
+ghost use Rattle.casbin_run.specs.Pieces.{text_of};
+
+use crate::stop::{Part, Stop};
+use matcher_read::MatcherFault;
+use model_conf::{Key, ModelFault};
+
+/// A line with a number in it, or without one.
+#[derive(Clone, Copy)]
+pub struct Message {
+    pub head: &'static [u8],
+    pub number: Option<u32>,
+    pub tail: &'static [u8],
+}
+
+/// The line that tells a stop, with its LF.
+pub fn message_of(stop: Stop) -> Message
+    ensures { text_of result ≡ line_of stop }
+{
+    match stop {
+        Stop::Words => whole(b"usage: casbin_cli COMMAND [OPTION]... [WORD]...\n"),
+        Stop::NoModel(fault) => model_message(fault),
+        Stop::NoPolicy => whole(b"policy: not yet\n"),
+        Stop::NoScript => whole(b"script: not UTF-8\n"),
+        Stop::CannotRead(Part::Model) => whole(b"cannot read: model\n"),
+        Stop::CannotRead(Part::Policy) => whole(b"cannot read: policy\n"),
+        Stop::CannotRead(Part::Input) => whole(b"cannot read: input\n"),
+        Stop::CannotWrite => whole(b"cannot write\n"),
+        Stop::TooLong(Part::Model) => whole(b"too long: model, limit 65536\n"),
+        Stop::TooLong(Part::Policy) => whole(b"too long: policy, limit 16777216\n"),
+        Stop::TooLong(Part::Input) => whole(b"too long: input, limit 16777216\n"),
+        Stop::NoMemory => whole(b"no memory\n"),
+    }
+}
+
+// Why a text is no model, or none that is answered by.
+fn model_message(fault: ModelFault) -> Message
+    ensures { text_of result ≡ model_line fault }
+{
+    match fault {
+        ModelFault::TooLong => whole(b"too long: model, limit 65536\n"),
+        ModelFault::NotUtf8 => whole(b"model: not UTF-8\n"),
+        ModelFault::Line { line } => in_line(line, b": not a line of a model\n"),
+        ModelFault::UnknownSection { line } => in_line(line, b": unknown section\n"),
+        ModelFault::UnknownKey { line } => in_line(line, b": unknown key\n"),
+        ModelFault::RepeatedKey { line } => in_line(line, b": repeated key\n"),
+        ModelFault::Missing { key } => missing_message(key),
+        ModelFault::Columns { key } => columns_message(key),
+        ModelFault::RoleShape { relation } => shape_message(relation),
+        ModelFault::UnknownEffect => whole(b"model: unknown effect\n"),
+        ModelFault::Matcher(fault) => matcher_message(fault),
+        ModelFault::UnknownColumn { at } => in_matcher(at, b": unknown column\n"),
+        ModelFault::RoleUse { at } => in_matcher(at, b": role use\n"),
+        ModelFault::NoMemory => whole(b"no memory\n"),
+        ModelFault::NotYet => whole(b"model: not yet\n"),
+    }
+}
+
+fn missing_message(key: Key) -> Message
+    ensures { text_of result ≡ missing_line key }
+{
+    match key {
+        Key::R => whole(b"model: missing r\n"),
+        Key::P => whole(b"model: missing p\n"),
+        Key::E => whole(b"model: missing e\n"),
+        Key::M => whole(b"model: missing m\n"),
+    }
+}
+
+fn columns_message(key: Key) -> Message
+    ensures { text_of result ≡ columns_line key }
+{
+    match key {
+        Key::R => whole(b"model: columns of r\n"),
+        Key::P => whole(b"model: columns of p\n"),
+        Key::E => whole(b"model: columns of e\n"),
+        Key::M => whole(b"model: columns of m\n"),
+    }
+}
+
+// The first relation is `g`, and the others have their number.
+fn shape_message(relation: u8) -> Message
+    ensures { text_of result ≡ shape_line relation }
+{
+    if relation == 1 {
+        whole(b"model: shape of g\n")
+    } else {
+        with_number(b"model: shape of g", u32::from(relation), b"\n")
+    }
+}
+
+// Why a text is no matcher.
+fn matcher_message(fault: MatcherFault) -> Message
+    ensures { text_of result ≡ matcher_line fault }
+{
+    match fault {
+        MatcherFault::TooLong => whole(b"model: matcher too long\n"),
+        MatcherFault::Unexpected { at } => in_matcher(at, b": unexpected\n"),
+        MatcherFault::OpenText { at } => in_matcher(at, b": open text\n"),
+        MatcherFault::NumberTooWide { at } => in_matcher(at, b": number too wide\n"),
+        MatcherFault::UnknownFunction { at } => in_matcher(at, b": unknown function\n"),
+        MatcherFault::WrongArguments { at } => in_matcher(at, b": wrong arguments\n"),
+        MatcherFault::TooDeep { at } => in_matcher(at, b": too deep\n"),
+        MatcherFault::TooManyNodes => whole(b"model: matcher too large\n"),
+        MatcherFault::NoMemory => whole(b"no memory\n"),
+    }
+}
+
+fn in_line(line: u32, what: &'static [u8]) -> Message
+    ensures { text_of result ≡ in_line line what.now }
+{
+    with_number(b"model: line ", line, what)
+}
+
+fn in_matcher(at: u32, what: &'static [u8]) -> Message
+    ensures { text_of result ≡ in_matcher at what.now }
+{
+    with_number(b"model: matcher at ", at, what)
+}
+
+fn whole(text: &'static [u8]) -> Message
+    ensures { text_of result ≡ text.now }
+{
+    Message {
+        head: text,
+        number: None,
+        tail: b"",
+    }
+}
+
+fn with_number(head: &'static [u8], number: u32, tail: &'static [u8]) -> Message
+    ensures { text_of result ≡ head.now ++ decimal number ++ tail.now }
+{
+    Message {
+        head,
+        number: Some(number),
+        tail,
+    }
+}

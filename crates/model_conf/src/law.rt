@@ -1,0 +1,33 @@
+ghost use Rattle.std.specs.Prelude.{◌≡◌, ℕ, List};
+ghost use Rattle.model_conf.specs.Faults.{IsModelFault};
+ghost use Rattle.model_conf.specs.ModelText.{IsModel, ModelParts};
+ghost use Rattle.model_conf.specs.declared.fault.ModelFault.{ModelFault};
+
+use matcher_read::{faulty_text_is_no_matcher, text_has_one_fault, text_says_one_matcher};
+
+/// The law that a text says one model at most.
+pub fn text_says_one_model()
+    ensures { (bytes : List ℕ) (first second : ModelParts) → IsModel bytes first → IsModel bytes second → first ≡ second }
+{
+    text_says_one_matcher();
+    text_has_one_fault();
+    faulty_text_is_no_matcher();
+}
+
+/// The law that a text has one first fault at most.
+pub fn text_has_one_model_fault()
+    ensures { (bytes : List ℕ) (first second : ModelFault) → IsModelFault bytes first → IsModelFault bytes second → first ≡ second }
+{
+    text_says_one_matcher();
+    text_has_one_fault();
+    faulty_text_is_no_matcher();
+}
+
+/// The law that a text with a fault is no model.
+pub fn faulty_text_is_no_model()
+    ensures { (bytes : List ℕ) (fault : ModelFault) (model : ModelParts) → IsModelFault bytes fault → ¬ (IsModel bytes model) }
+{
+    text_says_one_matcher();
+    text_has_one_fault();
+    faulty_text_is_no_matcher();
+}
