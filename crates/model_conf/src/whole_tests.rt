@@ -388,19 +388,6 @@ fn models_of_later_parts_are_not_answered_by_yet(rt: HostRuntime) -> Result<(), 
 }
 
 #[test]
-fn a_text_of_65536_bytes_is_read_and_one_more_is_too_long(rt: HostRuntime) -> Result<(), Fail> {
-    let mut text = String::from_str(rt.alloc(), BASIC)?;
-    while text.len() < 65536 {
-        text.push_str(" ")?;
-    }
-    let matcher = "r.sub == p.sub && r.obj == p.obj && r.act == p.act";
-    reads(&rt, text.as_str(), "+sub+obj+act", "+sub+obj+act", matcher)?;
-    text.push_str(" ")?;
-    refuses(&rt, text.as_bytes(), ModelFault::TooLong);
-    Ok(())
-}
-
-#[test]
 fn a_model_is_printed_in_its_own_form(rt: HostRuntime) -> Result<(), Fail> {
     let Ok(model) = read_model(rt.alloc(), BASIC.as_bytes()) else {
         assert!(rt; false, "not read");
