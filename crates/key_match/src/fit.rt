@@ -52,16 +52,13 @@ fn run(dialect: Dialect, pattern: &[u8], key: &[u8], from: Place) -> Stop
 {
     let mut at = from;
     while let Some(reading) = token_at(dialect, pattern, at.pattern) {
-        let next = reading.next;
+        let behind = Place {
+            pattern: reading.next,
+            key: at.key,
+        };
         match reading.token {
-            Token::Rest => return Stop::Rest(Place {
-                pattern: next,
-                key: at.key,
-            }),
-            Token::Stretch => return Stop::Stretch(Place {
-                pattern: next,
-                key: at.key,
-            }),
+            Token::Rest => return Stop::Rest(behind),
+            Token::Stretch => return Stop::Stretch(behind),
             Token::Segment(_) => {
                 if at.key == key.len() {
                     return Stop::KeyEnded;
@@ -70,7 +67,7 @@ fn run(dialect: Dialect, pattern: &[u8], key: &[u8], from: Place) -> Stop
                     return Stop::Mismatch;
                 }
                 return Stop::Stretch(Place {
-                    pattern: next,
+                    pattern: reading.next,
                     key: at.key + 1,
                 });
             }
@@ -82,7 +79,7 @@ fn run(dialect: Dialect, pattern: &[u8], key: &[u8], from: Place) -> Stop
                     return Stop::Mismatch;
                 }
                 at = Place {
-                    pattern: next,
+                    pattern: reading.next,
                     key: at.key + 1,
                 };
             }
