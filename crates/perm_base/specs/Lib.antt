@@ -11,3 +11,6 @@ pub mod Files
 pub mod Fetch
 pub mod Entries
 pub mod Listed
+pub mod RoleShapes
+pub mod Shapes
+pub mod Patterns

@@ -1,3 +1,5 @@
+use crate::role_shapes::RoleShapes;
+
 /// How a name in a role relation is compared with one of a request: byte by byte, or by the function of the name.
 #[derive(Clone, Copy, Debug, PartialEq, Eq)]
 pub enum Fit {
@@ -21,4 +23,25 @@ pub struct RoleShape {
     pub with_domain: bool,
     pub names: Fit,
     pub domains: Fit,
+}
+
+/// A table of a policy.
+#[derive(Clone, Copy, Debug, PartialEq, Eq)]
+pub enum TableId {
+    /// The rules of `p`.
+    P,
+    /// The rules of a role relation, by its number: 1 for `g` and 2 to 8 for `g2` to `g8`.
+    G(u8),
+}
+
+/// The shapes of a policy's tables: how many columns the rules of `p` have, the place of the effect's column, where
+/// there is one, and of the subject's, each counted from 0; the role relations; and the greatest number of links by
+/// which a name has a role.
+#[derive(Drop)]
+pub struct Shapes {
+    pub columns: u32,
+    pub effect_column: Option<u32>,
+    pub subject_column: u32,
+    pub roles: RoleShapes,
+    pub limit: u8,
 }
