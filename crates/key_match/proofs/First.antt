@@ -42,7 +42,7 @@ least (suc some) test h = go (least some (λ n. test (suc n)) h) (test 0) refl
 
 -- ---- a test of what a piece stands for
 
-stands : Piece → List ℕ → Bool
+pub stands : Piece → List ℕ → Bool
 stands (One bytes) part = is_one (has bytes) part
 stands (Segment name) part = is_some_text part && list_all not_slash part
 stands Stretch part = list_all not_slash part
@@ -56,14 +56,14 @@ text_some : (part : List ℕ) → is_some_text part ≡ true → part ≢ []
 text_some [] h = absurd (false≢true h)
 text_some (b ∷ part) h = λ e. cc
 
-stands-from : (piece : Piece) (part : List ℕ) → StandsFor piece part → stands piece part ≡ true
+pub stands-from : (piece : Piece) (part : List ℕ) → StandsFor piece part → stands piece part ≡ true
 unfolding stands
 stands-from (One bytes) part h = h
 stands-from (Segment name) part h = and_both (is_some_text part) _ (some_text part h.0) h.1
 stands-from Stretch part h = h
 stands-from Rest part h = refl
 
-from-stands : (piece : Piece) (part : List ℕ) → stands piece part ≡ true → StandsFor piece part
+pub from-stands : (piece : Piece) (part : List ℕ) → stands piece part ≡ true → StandsFor piece part
 unfolding stands
 from-stands (One bytes) part h = h
 from-stands (Segment name) part h = (text_some part (and_first (is_some_text part) _ h), and_second (is_some_text part) _ h)

@@ -10,3 +10,6 @@ pub mod First
 pub mod Agree
 pub mod Tried
 pub mod Searched
+pub mod Decided
+pub mod Divided
+pub mod Named

@@ -4,6 +4,7 @@
 mod alike;
 mod bytes;
 mod fit;
+mod law;
 mod part;
 mod patterns;
 mod star;
@@ -12,6 +13,7 @@ mod tests;
 mod token;
 
 pub use alike::key_match4;
+pub use law::{covering_is_decided, named_part_is_one};
 pub use part::{key_get2, key_get3};
 pub use patterns::{glob_match, key_match2, key_match3, key_match5};
 pub use star::{key_get, key_match};
