@@ -25,7 +25,7 @@ pub same_sides : (text f b g d : List ℕ) → text ≡ f ++ (58 ∷ 58 ∷ []) 
 same_sides text f b g d e k =
     same_cut f b g d (sym (append_assoc f (58 ∷ 58 ∷ []) b) ∙ sym e ∙ k ∙ append_assoc g (58 ∷ 58 ∷ []) d)
 
-groups_unique : (text : List ℕ) (groups others : List (List ℕ)) → AreGroups text groups → AreGroups text others → groups ≡ others
+pub groups_unique : (text : List ℕ) (groups others : List (List ℕ)) → AreGroups text groups → AreGroups text others → groups ≡ others
 groups_unique [] groups others h k = no_groups groups h ∙ sym (no_groups others k)
 groups_unique (x ∷ text) groups others h k = sym (parts_are (x ∷ text) groups (omega arith) h) ∙ parts_are (x ∷ text) others (omega arith) k
 

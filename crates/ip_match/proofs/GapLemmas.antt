@@ -15,10 +15,10 @@ NoGap-from_spec text h k e f = h k e (rw add-one f)
 pub spec_from_NoGap : (text : List ℕ) → NoGap text → HasNoGap text
 spec_from_NoGap text h k e f = h k e (rw add-one at f)
 
-NoGap-nil : NoGap []
+pub NoGap-nil : NoGap []
 NoGap-nil k e f = absurd (omega arith)
 
-NoGap-cons : (x : ℕ) (xs : List ℕ) → (x ≡ 58 → get_or xs 0 0 ≡ 58 → ⊥) → NoGap xs → NoGap (x ∷ xs)
+pub NoGap-cons : (x : ℕ) (xs : List ℕ) → (x ≡ 58 → get_or xs 0 0 ≡ 58 → ⊥) → NoGap xs → NoGap (x ∷ xs)
 NoGap-cons x xs here h zero e f = here e f
 NoGap-cons x xs here h (suc k) e f = h k e f
 

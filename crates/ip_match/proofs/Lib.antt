@@ -9,3 +9,5 @@ pub mod ColonLemmas
 pub mod AddressLemmas
 pub mod UniqueLemmas
 pub mod PlainLemmas
+pub mod DecidedLemmas
+pub mod DecidedAddressLemmas

@@ -5,12 +5,14 @@ mod address;
 mod block;
 mod colons;
 mod dotted;
+mod law;
 mod matching;
 mod numeral;
 mod parts;
 
 pub use address::{Address, address_is_unique, read_address};
 pub use block::{Block, block_is_unique, read_block};
+pub use law::addresses_are_decided;
 pub use matching::{IpFault, ip_match};
 
 #[cfg(test)]
