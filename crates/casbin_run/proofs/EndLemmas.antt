@@ -1,62 +1,68 @@
 -- How the stops of the parts of a run are stops of the run.
-use Rattle.std.proofs.Common.{◌≡◌, ℕ, ◌≤◌, List, inl, inr, ⊎_elim, length, sym, subst}
+use Rattle.std.proofs.Common.{◌≡◌, ℕ, ◌≤◌, List, inl, inr, ⊎_elim, length, refl, sym, subst}
 use Rattle.std.specs.Prelude.{IsUtf8, Option, Some, None}
 use Rattle.perm_base.specs.Files.{Files}
 use Rattle.perm_base.specs.Faults.{Rose}
-use Rattle.perm_base.specs.Told.{with_back}
+use Rattle.perm_base.specs.Told.{TookFront, with_back}
 use Rattle.model_conf.specs.ModelText.{ModelParts}
 use Rattle.policy_csv.specs.Policy.{IsPolicy}
 use Rattle.casbin_run.specs.declared.stop.Part.TheVariants.{Model, Policy, Input}
 use Rattle.casbin_run.specs.declared.stop.Stop.{Stop}
 use Rattle.casbin_run.specs.declared.stop.Stop.TheVariants.{Words, NoModel, NoPolicy, NoScript, CannotRead, CannotWrite, TooLong, NoMemory}
-use Rattle.casbin_run.specs.Answer.{AreAnswers}
-use Rattle.casbin_run.specs.Answers.{IsAnswered, IsInOrder, TookAll}
+use Rattle.casbin_run.specs.Answer.{AreAnswers, Reply, refusals_in, text_of_replies}
+use Rattle.casbin_run.specs.Answers.{IsAnswered, TookAll, TookSome}
 use Rattle.casbin_run.specs.Cause.{EndsBy, IsBeforeOutput}
+use Rattle.casbin_run.specs.Finders.{IsBad, RoseBy, Searches}
 use Rattle.casbin_run.specs.Judging.{IsAnsweredBy}
 use Rattle.casbin_run.specs.Parts.{FileIs, InputIs, model_limit, policy_limit}
 use Rattle.casbin_run.specs.Print.{Answering, PrintStops}
 use Rattle.casbin_run.specs.Reading.{ModelStops, PolicyStops, InputStops}
 use Rattle.casbin_run.specs.Script.{requests_of}
 use Rattle.casbin_run.specs.Words.{Command, command_of}
+use Rattle.casbin_run.proofs.AnswerLemmas.{answers_more}
 use Rattle.casbin_run.proofs.GatheredLemmas.{rose_later}
 
 -- lists of rules
 abbrev Rules : Type 0
 Rules = List (List (List ℕ))
 
-pub words_end : (words : List (List ℕ)) (files : Option Files) (input out out_now : Option (List ℕ)) (shelf source sink : Type 0) → command_of words ≡ None → EndsBy words files input out out_now shelf source sink Words
+pub words_end : (words : List (List ℕ)) (files : Option Files) (input : Option (List ℕ)) (s : Searches) (out out_now : Option (List ℕ)) (shelf source sink : Type 0) → command_of words ≡ None → EndsBy words files input s out out_now shelf source sink Words
 unfolding EndsBy
-words_end words files input out out_now shelf source sink told = inl told
+words_end words files input s out out_now shelf source sink told = inl told
 
-pub model_ends : (words : List (List ℕ)) (files : Option Files) (input out out_now : Option (List ℕ)) (shelf source sink : Type 0) (command : Command) (stop : Stop) → command_of words ≡ Some command → out_now ≡ out
-    → ModelStops files command.model shelf stop → EndsBy words files input out out_now shelf source sink stop
+pub memory_ends : (words : List (List ℕ)) (files : Option Files) (input : Option (List ℕ)) (s : Searches) (out out_now : Option (List ℕ)) (shelf source sink : Type 0) (command : Command) → command_of words ≡ Some command → out_now ≡ out → EndsBy words files input s out out_now shelf source sink NoMemory
 unfolding EndsBy
-model_ends words files input out out_now shelf source sink command (CannotRead Model) told same stops = ⊎_elim (λ lacks. inl (command, told, lacks)) (λ rose. inr (command, told, rose)) stops
-model_ends words files input out out_now shelf source sink command (TooLong Model) told same stops = inl (command, told, stops)
-model_ends words files input out out_now shelf source sink command (NoModel fault) told same stops = inl (command, told, stops)
-model_ends words files input out out_now shelf source sink command NoMemory told same stops = inr ((command, told, tt), inl same)
-model_ends words files input out out_now shelf source sink command _ told same stops = absurd stops
+memory_ends words files input s out out_now shelf source sink command told same = inr ((command, told, tt), inl same)
 
-pub policy_ends : (words : List (List ℕ)) (files : Option Files) (input out out_now : Option (List ℕ)) (shelf source sink : Type 0) (command : Command) (parts : ModelParts) (stop : Stop) → command_of words ≡ Some command → out_now ≡ out
-    → FileIs files command.model model_limit (λ bytes. IsAnsweredBy bytes parts) → PolicyStops files command.policy (length parts.policy) shelf stop → EndsBy words files input out out_now shelf source sink stop
+pub model_ends : (words : List (List ℕ)) (files : Option Files) (input : Option (List ℕ)) (s : Searches) (out out_now : Option (List ℕ)) (shelf source sink : Type 0) (command : Command) (stop : Stop) → command_of words ≡ Some command → out_now ≡ out
+    → ModelStops files command.model shelf stop → EndsBy words files input s out out_now shelf source sink stop
 unfolding EndsBy
-policy_ends words files input out out_now shelf source sink command parts (CannotRead Policy) told same model stops = ⊎_elim (λ lacks. inl (command, told, (parts, model, lacks))) (λ rose. inr (command, told, (parts, model, rose))) stops
-policy_ends words files input out out_now shelf source sink command parts (TooLong Policy) told same model stops = inl (command, told, (parts, model, stops))
-policy_ends words files input out out_now shelf source sink command parts NoPolicy told same model stops = inl (command, told, (parts, model, stops))
-policy_ends words files input out out_now shelf source sink command parts NoMemory told same model stops = inr ((command, told, tt), inl same)
-policy_ends words files input out out_now shelf source sink command parts _ told same model stops = absurd stops
+model_ends words files input s out out_now shelf source sink command (CannotRead Model) told same stops = ⊎_elim (λ lacks. inl (command, told, lacks)) (λ rose. inr (command, told, rose)) stops
+model_ends words files input s out out_now shelf source sink command (TooLong Model) told same stops = inl (command, told, stops)
+model_ends words files input s out out_now shelf source sink command (NoModel fault) told same stops = inl (command, told, stops)
+model_ends words files input s out out_now shelf source sink command NoMemory told same stops = inr ((command, told, tt), inl same)
+model_ends words files input s out out_now shelf source sink command _ told same stops = absurd stops
 
-pub input_ends : (words : List (List ℕ)) (files : Option Files) (input out out_now : Option (List ℕ)) (shelf source sink : Type 0) (command : Command) (parts : ModelParts) (rules : Rules) (stop : Stop) → command_of words ≡ Some command → out_now ≡ out
+pub policy_ends : (words : List (List ℕ)) (files : Option Files) (input : Option (List ℕ)) (s : Searches) (out out_now : Option (List ℕ)) (shelf source sink : Type 0) (command : Command) (parts : ModelParts) (stop : Stop) → command_of words ≡ Some command → out_now ≡ out
+    → FileIs files command.model model_limit (λ bytes. IsAnsweredBy bytes parts) → PolicyStops files command.policy (length parts.policy) shelf stop → EndsBy words files input s out out_now shelf source sink stop
+unfolding EndsBy
+policy_ends words files input s out out_now shelf source sink command parts (CannotRead Policy) told same model stops = ⊎_elim (λ lacks. inl (command, told, (parts, model, lacks))) (λ rose. inr (command, told, (parts, model, rose))) stops
+policy_ends words files input s out out_now shelf source sink command parts (TooLong Policy) told same model stops = inl (command, told, (parts, model, stops))
+policy_ends words files input s out out_now shelf source sink command parts NoPolicy told same model stops = inl (command, told, (parts, model, stops))
+policy_ends words files input s out out_now shelf source sink command parts NoMemory told same model stops = inr ((command, told, tt), inl same)
+policy_ends words files input s out out_now shelf source sink command parts _ told same model stops = absurd stops
+
+pub input_ends : (words : List (List ℕ)) (files : Option Files) (input : Option (List ℕ)) (s : Searches) (out out_now : Option (List ℕ)) (shelf source sink : Type 0) (command : Command) (parts : ModelParts) (rules : Rules) (stop : Stop) → command_of words ≡ Some command → out_now ≡ out
     → FileIs files command.model model_limit (λ bytes. IsAnsweredBy bytes parts) → FileIs files command.policy policy_limit (λ bytes. IsPolicy (length parts.policy) bytes rules) → InputStops input source stop
-    → EndsBy words files input out out_now shelf source sink stop
+    → EndsBy words files input s out out_now shelf source sink stop
 unfolding EndsBy
-input_ends words files input out out_now shelf source sink command parts rules (CannotRead Input) told same model policy stops = inr (command, told, (parts, model, (rules, policy, stops)))
-input_ends words files input out out_now shelf source sink command parts rules (TooLong Input) told same model policy stops = inl (command, told, (parts, model, (rules, policy, stops)))
-input_ends words files input out out_now shelf source sink command parts rules NoScript told same model policy stops = inl (command, told, (parts, model, (rules, policy, stops)))
-input_ends words files input out out_now shelf source sink command parts rules NoMemory told same model policy stops = inr ((command, told, tt), inl same)
-input_ends words files input out out_now shelf source sink command parts rules _ told same model policy stops = absurd stops
+input_ends words files input s out out_now shelf source sink command parts rules (CannotRead Input) told same model policy stops = inr (command, told, (parts, model, (rules, policy, stops)))
+input_ends words files input s out out_now shelf source sink command parts rules (TooLong Input) told same model policy stops = inl (command, told, (parts, model, (rules, policy, stops)))
+input_ends words files input s out out_now shelf source sink command parts rules NoScript told same model policy stops = inl (command, told, (parts, model, (rules, policy, stops)))
+input_ends words files input s out out_now shelf source sink command parts rules NoMemory told same model policy stops = inr ((command, told, tt), inl same)
+input_ends words files input s out out_now shelf source sink command parts rules _ told same model policy stops = absurd stops
 
--- what was read, and a text that answers its requests
+-- what was read
 pub record HasRead (words : List (List ℕ)) (files : Option Files) (input : Option (List ℕ)) (command : Command) (parts : ModelParts) (rules : Rules) (script : List ℕ) : Type 0 where
   pub told : command_of words ≡ Some command
   pub model : FileIs files command.model model_limit (λ bytes. IsAnsweredBy bytes parts)
@@ -64,9 +70,9 @@ pub record HasRead (words : List (List ℕ)) (files : Option Files) (input : Opt
   pub input_is : InputIs input (λ bytes. bytes ≡ script)
   pub utf8 : IsUtf8 script
 
-answered_is : (words : List (List ℕ)) (files : Option Files) (input : Option (List ℕ)) (command : Command) (parts : ModelParts) (rules : Rules) (script text : List ℕ) → HasRead words files input command parts rules script
-    → AreAnswers parts rules command.json 1 (requests_of script) text → IsAnswered words files input text
-answered_is words files input command parts rules script text has are = record {
+answered_is : (words : List (List ℕ)) (files : Option Files) (input : Option (List ℕ)) (IsBad : List ℕ → Type 0) (command : Command) (parts : ModelParts) (rules : Rules) (script : List ℕ) (replies : List Reply) → HasRead words files input command parts rules script
+    → AreAnswers parts rules command.json IsBad (requests_of script) replies → IsAnswered words files input IsBad (text_of_replies rules 1 replies)
+answered_is words files input IsBad command parts rules script replies has are = record {
   in_order = record {
     command = command;
     asked = has.told;
@@ -85,22 +91,53 @@ answered_is words files input command parts rules script text has are = record {
     is_policy = has.policy.3;
     is_script = subst IsUtf8 (sym has.input_is.3) has.utf8;
   };
-  answers = subst (λ (bytes : List ℕ). AreAnswers parts rules command.json 1 (requests_of bytes) text) (sym has.input_is.3) are;
+  replies = replies;
+  answers = subst (λ (bytes : List ℕ). AreAnswers parts rules command.json IsBad (requests_of bytes) replies) (sym has.input_is.3) are;
+  spelled = refl;
 }
 
-pub took_all : (words : List (List ℕ)) (files : Option Files) (input out out_now : Option (List ℕ)) (command : Command) (parts : ModelParts) (rules : Rules) (script : List ℕ) → HasRead words files input command parts rules script
-    → Answering parts rules command.json (requests_of script) (λ text. out_now ≡ with_back out text) → TookAll words files input out out_now
-took_all words files input out out_now command parts rules script has (text, are, took) = record { text = text; answered = answered_is words files input command parts rules script text has are; took = took }
+-- where more patterns count as refused
+pub answered_more : (words : List (List ℕ)) (files : Option Files) (input : Option (List ℕ)) (A B : List ℕ → Type 0) → ((pattern : List ℕ) → A pattern → B pattern) → (text : List ℕ) → IsAnswered words files input A text → IsAnswered words files input B text
+answered_more words files input A B more text is = record {
+  in_order = is.in_order;
+  replies = is.replies;
+  answers = answers_more is.in_order.parts is.in_order.rules is.in_order.command.json A B more (requests_of is.in_order.input_bytes) is.replies is.answers;
+  spelled = is.spelled;
+}
 
-pub print_ends : (words : List (List ℕ)) (files : Option Files) (input out out_now : Option (List ℕ)) (shelf source : Type 0) (before now : ℕ) (command : Command) (parts : ModelParts) (rules : Rules) (script : List ℕ) (stop : Stop) → HasRead words files input command parts rules script
-    → Answering parts rules command.json (requests_of script) (PrintStops out out_now before now stop) → EndsBy words files input out out_now shelf source (Rose before now) stop
+pub took_all : (words : List (List ℕ)) (files : Option Files) (input : Option (List ℕ)) (s : Searches) (out out_now : Option (List ℕ)) (command : Command) (parts : ModelParts) (rules : Rules) (script : List ℕ) → HasRead words files input command parts rules script
+    → Answering parts rules command.json (IsBad s.before s.now s.kept) (requests_of script) (λ replies text. (out_now ≡ with_back out text) × RoseBy (refusals_in replies) s.before s.now) → TookAll words files input s out out_now
+unfolding answered_is
+took_all words files input s out out_now command parts rules script has (replies, are, (took, counted)) = record {
+  text = text_of_replies rules 1 replies;
+  answered = answered_is words files input (IsBad s.before s.now s.kept) command parts rules script replies has are;
+  counted = counted;
+  took = took;
+}
+
+took_some : (words : List (List ℕ)) (files : Option Files) (input : Option (List ℕ)) (s : Searches) (out out_now : Option (List ℕ)) (command : Command) (parts : ModelParts) (rules : Rules) (script : List ℕ) (replies : List Reply) → HasRead words files input command parts rules script
+    → AreAnswers parts rules command.json (IsBad s.before s.now s.kept) (requests_of script) replies → RoseBy (refusals_in replies) s.before s.now → TookFront out out_now (text_of_replies rules 1 replies) → TookSome words files input s out out_now
+unfolding answered_is
+took_some words files input s out out_now command parts rules script replies has are counted took = record {
+  text = text_of_replies rules 1 replies;
+  answered = answered_is words files input (IsBad s.before s.now s.kept) command parts rules script replies has are;
+  counted = counted;
+  took = took;
+}
+
+-- why the printing stopped
+abbrev Stopping : Option (List ℕ) → Option (List ℕ) → ℕ → ℕ → Searches → Stop → List Reply → List ℕ → Type 0
+Stopping out out_now before now s stop replies text = PrintStops out out_now before now stop text × RoseBy (refusals_in replies) s.before s.now
+
+pub print_ends : (words : List (List ℕ)) (files : Option Files) (input : Option (List ℕ)) (s : Searches) (out out_now : Option (List ℕ)) (shelf source : Type 0) (before now : ℕ) (command : Command) (parts : ModelParts) (rules : Rules) (script : List ℕ) (stop : Stop) → HasRead words files input command parts rules script
+    → Answering parts rules command.json (IsBad s.before s.now s.kept) (requests_of script) (Stopping out out_now before now s stop) → EndsBy words files input s out out_now shelf source (Rose before now) stop
 unfolding EndsBy
-print_ends words files input out out_now shelf source before now command parts rules script CannotWrite has (text, are, stops) = inr (record { text = text; answered = answered_is words files input command parts rules script text has are; took = stops.0 }, stops.1)
-print_ends words files input out out_now shelf source before now command parts rules script NoMemory has (text, are, stops) = inr ((command, has.told, tt), inr (record { text = text; answered = answered_is words files input command parts rules script text has are; took = stops }))
-print_ends words files input out out_now shelf source before now command parts rules script _ has (text, are, stops) = absurd stops
+print_ends words files input s out out_now shelf source before now command parts rules script CannotWrite has (replies, are, (stops, counted)) = inr (took_some words files input s out out_now command parts rules script replies has are counted stops.0, stops.1)
+print_ends words files input s out out_now shelf source before now command parts rules script NoMemory has (replies, are, (stops, counted)) = inr ((command, has.told, tt), inr (took_some words files input s out out_now command parts rules script replies has are counted stops))
+print_ends words files input s out out_now shelf source before now command parts rules script _ has (replies, are, (stops, counted)) = absurd stops
 
 -- such a stop is none of those before the output
-pub print_not_quiet : (out out_now : Option (List ℕ)) (text : List ℕ) (before now : ℕ) (stop : Stop) → PrintStops out out_now before now stop text → IsBeforeOutput stop → out_now ≡ out
+pub print_not_quiet : {A : Type 0} (out out_now : Option (List ℕ)) (text : List ℕ) (before now : ℕ) (stop : Stop) → PrintStops out out_now before now stop text → IsBeforeOutput stop → A
 print_not_quiet out out_now text before now CannotWrite stops quiet = absurd quiet
 print_not_quiet out out_now text before now NoMemory stops quiet = absurd quiet
 print_not_quiet out out_now text before now _ stops quiet = absurd stops

@@ -2,11 +2,10 @@ pub mod WordLemmas
 pub mod RequestLemmas
 pub mod ReplyLemmas
 pub mod TellingLemmas
-pub mod PermLemmas
 pub mod GatheredLemmas
 pub mod AnswerLemmas
+pub mod FinderLemmas
 pub mod PrintLemmas
-pub mod CallLemmas
 pub mod ReadingLemmas
 pub mod EndLemmas
 pub mod StatusLemmas

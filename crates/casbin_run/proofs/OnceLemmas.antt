@@ -1,19 +1,20 @@
--- Requests have one text that answers them.
-use Rattle.std.proofs.Common.{◌≡◌, ℕ, ◌+◌, Bool, true, false, List, [], ◌∷◌, ◌++◌, length, ⊎_elim, refl, sym, ap, subst, ◌∙◌}
-use Rattle.std.specs.Prelude.{◌⊎◌, Ok, Err, codes, decimal, map}
-use Rattle.matcher_meaning.specs.Perm.{Judging, IsPerm}
+-- Where no pattern counts as refused, requests have one list of replies.
+use Rattle.std.proofs.Common.{◌≡◌, ℕ, Bool, true, false, List, [], ◌∷◌, ⊎_elim, refl, sym, ap, subst, ◌∙◌}
+use Rattle.std.specs.Prelude.{Option, None, Ok, Err, map}
+use Rattle.matcher_meaning.specs.Perm.{Judging, Refusal, IsJudged, IsPerm}
 use Rattle.effect_fold.specs.declared.verdict.Verdict.{Verdict}
+use Rattle.enforce_core.specs.Programs.{judging}
 use Rattle.model_conf.specs.ModelText.{ModelParts}
 use Rattle.perm_base.specs.FieldFaults.{IsFault}
 use Rattle.perm_base.specs.FieldLine.{IsFields}
 use Rattle.perm_base.specs.declared.quoted.FieldFault.{FieldFault}
 use Rattle.perm_base.specs.declared.quoted.FieldFault.TheVariants as field_fault
 use Rattle.perm_value.specs.Datum.{Datum, text}
-use Rattle.perm_value.specs.Fields.{fault_of, IsLineFault}
+use Rattle.perm_value.specs.Fields.{fault_of}
 use Rattle.perm_value.specs.declared.request.RequestFault.{RequestFault}
 use Rattle.perm_value.specs.declared.request.RequestFault.TheVariants as fault
-use Rattle.casbin_run.specs.Answer.{AreAnswers, IsAnswer, IsReply, refusal, shown, verdict_text, arity_text}
-use Rattle.casbin_run.specs.Judging.{judging}
+use Rattle.casbin_run.specs.Answer.{AreAnswers, IsAnswer, IsReply, Reply, arity, judged, refused}
+use Rattle.casbin_run.specs.Finders.{NoneBad}
 use Rattle.casbin_run.specs.Request.{Reading, Says, SaysFields}
 
 -- lists of rules
@@ -25,7 +26,7 @@ pub record SaysLinesOnce : Type 0 where
   pub fields : (line : List ℕ) (first second : List (List ℕ)) → IsFields line first → IsFields line second → first ≡ second
   pub fault : (line : List ℕ) (first second : FieldFault) → IsFault line first → IsFault line second → first ≡ second
   pub exclusive : (line : List ℕ) (e : FieldFault) (fields : List (List ℕ)) → IsFault line e → ¬ (IsFields line fields)
-  pub verdict : (model : Judging) (request : List Datum) (rows : Rules) (first second : Verdict) → IsPerm model request rows first → IsPerm model request rows second → first ≡ second
+  pub verdict : (model : Judging) (request : List Datum) (rows : Rules) (refused : Option Refusal) (first second : Verdict) → IsPerm model request rows refused first → IsPerm model request rows refused second → first ≡ second
 
 -- the fault of a line of fields
 as_field : (line : List ℕ) (e : RequestFault) → SaysFields line (Err e) → (f : FieldFault) × (e ≡ fault_of f) × IsFault line f
@@ -44,22 +45,37 @@ says_once : SaysLinesOnce → (json : Bool) (line : List ℕ) (a b : Reading) �
 says_once once true line a b p q = sym p ∙ q
 says_once once false line a b p q = fields_once once line a b p q
 
-reply_once : SaysLinesOnce → (model : ModelParts) (rules : Rules) (r : Reading) (s t : List ℕ) → IsReply model rules r s → IsReply model rules r t → s ≡ t
-reply_once once model rules (Err e) s t p q = p ∙ sym q
-reply_once once model rules (Ok values) s t p q =
-    ⊎_elim
-    (λ judged. ⊎_elim (λ other. judged.1.2 ∙ ap (verdict_text rules) (once.verdict (judging model) values rules judged.1.0 other.1.0 judged.1.1 other.1.1) ∙ sym other.1.2) (λ other. absurd (other.0 judged.0)) q)
-    (λ refused. ⊎_elim (λ other. absurd (refused.0 other.0)) (λ other. refused.1 ∙ sym other.1) q) p
+perm_only : (model : Judging) (request : List Datum) (rows : Rules) (v : Verdict) → IsJudged model request rows NoneBad v → IsPerm model request rows None v
+perm_only model request rows v is = ⊎_elim (λ perm. perm) (λ bad. absurd bad.1) is
 
-answer_once : SaysLinesOnce → (model : ModelParts) (rules : Rules) (json : Bool) (number : ℕ) (line s t : List ℕ) → IsAnswer model rules json number line s → IsAnswer model rules json number line t → s ≡ t
-answer_once once model rules json number line s t p q =
+same_arity : (a b c d : ℕ) → a ≡ c → b ≡ d → arity a b ≡ arity c d
+same_arity a b c d p q = rw (p, q) refl
+
+reply_once : SaysLinesOnce → (model : ModelParts) (rules : Rules) (r : Reading) (s t : Reply) → IsReply model NoneBad r rules s → IsReply model NoneBad r rules t → s ≡ t
+reply_once once model rules (Err e) (refused f) (refused g) p q = ap refused (p ∙ sym q)
+reply_once once model rules (Err e) (refused f) (judged v) p q = absurd q
+reply_once once model rules (Err e) (refused f) (arity c d) p q = absurd q
+reply_once once model rules (Err e) (judged v) t p q = absurd p
+reply_once once model rules (Err e) (arity a b) t p q = absurd p
+reply_once once model rules (Ok values) (judged v) (judged w) p q = ap judged (once.verdict (judging model) values rules None v w (perm_only (judging model) values rules v p.1) (perm_only (judging model) values rules w q.1))
+reply_once once model rules (Ok values) (judged v) (arity c d) p q = absurd (q.0 p.0)
+reply_once once model rules (Ok values) (judged v) (refused g) p q = absurd q
+reply_once once model rules (Ok values) (arity a b) (judged w) p q = absurd (p.0 q.0)
+reply_once once model rules (Ok values) (arity a b) (arity c d) p q = same_arity a b c d (p.1 ∙ sym q.1) (p.2 ∙ sym q.2)
+reply_once once model rules (Ok values) (arity a b) (refused g) p q = absurd q
+reply_once once model rules (Ok values) (refused f) t p q = absurd p
+
+answer_once : SaysLinesOnce → (model : ModelParts) (rules : Rules) (json : Bool) (line : List ℕ) (s t : Reply) → IsAnswer model rules json NoneBad line s → IsAnswer model rules json NoneBad line t → s ≡ t
+answer_once once model rules json line s t p q =
     let reading : p.reading ≡ q.reading = says_once once json line p.reading q.reading p.says q.says in
-    let reply : p.reply ≡ q.reply = reply_once once model rules q.reading p.reply q.reply (subst (λ (r : Reading). IsReply model rules r p.reply) reading p.replies) q.replies in
-    p.spelled ∙ ap (λ (r : List ℕ). decimal (shown number) ++ r ++ codes "\n") reply ∙ sym q.spelled
+    reply_once once model rules q.reading s t (subst (λ (r : Reading). IsReply model NoneBad r rules s) reading p.replies) q.replies
 
-pub answers_once : SaysLinesOnce → (model : ModelParts) (rules : Rules) (json : Bool) (number : ℕ) (lines : List (List ℕ)) (s t : List ℕ) → AreAnswers model rules json number lines s → AreAnswers model rules json number lines t → s ≡ t
-answers_once once model rules json number [] s t p q = p ∙ sym q
-answers_once once model rules json number (line ∷ lines) s t (a, u, is, are, parts) (b, v, was, were, spelled) =
-    let first : a ≡ b = answer_once once model rules json number line a b is was in
-    let others : u ≡ v = answers_once once model rules json (number + 1) lines u v are were in
-    parts ∙ ap (λ (x : List ℕ). x ++ u) first ∙ ap (λ (x : List ℕ). b ++ x) others ∙ sym spelled
+-- where no pattern counts as refused, lines have one list of replies
+pub answers_once : SaysLinesOnce → (model : ModelParts) (rules : Rules) (json : Bool) (lines : List (List ℕ)) (a b : List Reply) → AreAnswers model rules json NoneBad lines a → AreAnswers model rules json NoneBad lines b → a ≡ b
+answers_once once model rules json [] [] [] p q = refl
+answers_once once model rules json [] [] (t ∷ b) p q = absurd q
+answers_once once model rules json [] (s ∷ a) b p q = absurd p
+answers_once once model rules json (line ∷ lines) [] b p q = absurd p
+answers_once once model rules json (line ∷ lines) (s ∷ a) [] p q = absurd q
+answers_once once model rules json (line ∷ lines) (s ∷ a) (t ∷ b) p q =
+    ap (λ (r : Reply). r ∷ a) (answer_once once model rules json line s t p.0 q.0) ∙ ap (λ (rs : List Reply). t ∷ rs) (answers_once once model rules json lines a b p.1 q.1)

@@ -1,6 +1,6 @@
 -- Told words, files and input have one end: what is read comes to one state at each part, and the states to one end.
-use Rattle.std.proofs.Common.{◌≡◌, ℕ, ◌<◌, ◌≤◌, Bool, true, false, List, length, inl, inr, ⊎_elim, refl, sym, ap, subst, ◌∙◌, arith}
-use Rattle.std.specs.Prelude.{◌⊎◌, IsUtf8, Option, Some, None}
+use Rattle.std.proofs.Common.{◌≡◌, ℕ, ◌<◌, ◌≤◌, Bool, true, false, List, length, ⊎_elim, refl, sym, ap, subst, ◌∙◌, arith}
+use Rattle.std.specs.Prelude.{IsUtf8, Option, Some, None}
 use Rattle.perm_base.specs.Files.{Files}
 use Rattle.model_conf.specs.Faults.{IsModelFault}
 use Rattle.model_conf.specs.Later.{is_later}
@@ -10,9 +10,10 @@ use Rattle.policy_csv.specs.Policy.{IsPolicy}
 use Rattle.casbin_run.specs.declared.stop.Part.TheVariants.{Model, Policy, Input}
 use Rattle.casbin_run.specs.declared.stop.Stop.{Stop}
 use Rattle.casbin_run.specs.declared.stop.Stop.TheVariants.{Words, NoModel, NoPolicy, NoScript, CannotRead, TooLong}
-use Rattle.casbin_run.specs.Answer.{AreAnswers}
+use Rattle.casbin_run.specs.Answer.{AreAnswers, text_of_replies}
 use Rattle.casbin_run.specs.Answers.{IsAnswered, IsInOrder}
 use Rattle.casbin_run.specs.Cause.{Cause, SaysNoModel, SaysNoPolicy, SaysNoText}
+use Rattle.casbin_run.specs.Finders.{NoneBad}
 use Rattle.casbin_run.specs.Judging.{IsAnsweredBy}
 use Rattle.casbin_run.specs.Parts.{model_limit, policy_limit, input_limit}
 use Rattle.casbin_run.specs.Script.{requests_of}
@@ -209,8 +210,8 @@ one_cause once words files input first second p q = let same = ends_once once wo
 pub no_cause : SaysOnce → (words : List (List ℕ)) (files : Files) (input : List ℕ) (stop : Stop) → IsInOrder words (Some files) (Some input) → ¬ (Cause words (Some files) (Some input) stop)
 no_cause once words files input stop is cause = let same = ends_once once words files (Some input) None (Some stop) (in_order_ends words files input is) (cause_ends words files input stop cause) in absurd cc
 
--- one text answers what was told
-pub one_text : SaysOnce → (words : List (List ℕ)) (files : Files) (input first second : List ℕ) → IsAnswered words (Some files) (Some input) first → IsAnswered words (Some files) (Some input) second → first ≡ second
+-- one text answers what was told, where no search is refused
+pub one_text : SaysOnce → (words : List (List ℕ)) (files : Files) (input first second : List ℕ) → IsAnswered words (Some files) (Some input) NoneBad first → IsAnswered words (Some files) (Some input) NoneBad second → first ≡ second
 one_text once words files input first second p q =
     let x = p.in_order in
     let y = q.in_order in
@@ -221,8 +222,9 @@ one_text once words files input first second p q =
     let parts : x.parts ≡ y.parts = once.model y.model_bytes x.parts y.parts (subst (λ (b : List ℕ). IsModel b x.parts) model x.is_model.is_model) y.is_model.is_model in
     let x-policy : IsPolicy (length y.parts.policy) y.policy_bytes x.rules = subst (λ (m : ModelParts). IsPolicy (length m.policy) y.policy_bytes x.rules) parts (subst (λ (b : List ℕ). IsPolicy (length x.parts.policy) b x.rules) policy x.is_policy) in
     let rules : x.rules ≡ y.rules = once.policy (length y.parts.policy) y.policy_bytes x.rules y.rules x-policy y.is_policy in
-    let a : AreAnswers y.parts x.rules x.command.json 1 (requests_of x.input_bytes) first = subst (λ (m : ModelParts). AreAnswers m x.rules x.command.json 1 (requests_of x.input_bytes) first) parts p.answers in
-    let b : AreAnswers y.parts y.rules x.command.json 1 (requests_of x.input_bytes) first = subst (λ (r : Rules). AreAnswers y.parts r x.command.json 1 (requests_of x.input_bytes) first) rules a in
-    let d : AreAnswers y.parts y.rules y.command.json 1 (requests_of x.input_bytes) first = subst (λ (c : Command). AreAnswers y.parts y.rules c.json 1 (requests_of x.input_bytes) first) command b in
-    let e : AreAnswers y.parts y.rules y.command.json 1 (requests_of y.input_bytes) first = subst (λ (b : List ℕ). AreAnswers y.parts y.rules y.command.json 1 (requests_of b) first) script d in
-    answers_once once.lines y.parts y.rules y.command.json 1 (requests_of y.input_bytes) first second e q.answers
+    let a : AreAnswers y.parts x.rules x.command.json NoneBad (requests_of x.input_bytes) p.replies = subst (λ (m : ModelParts). AreAnswers m x.rules x.command.json NoneBad (requests_of x.input_bytes) p.replies) parts p.answers in
+    let b : AreAnswers y.parts y.rules x.command.json NoneBad (requests_of x.input_bytes) p.replies = subst (λ (r : Rules). AreAnswers y.parts r x.command.json NoneBad (requests_of x.input_bytes) p.replies) rules a in
+    let d : AreAnswers y.parts y.rules y.command.json NoneBad (requests_of x.input_bytes) p.replies = subst (λ (c : Command). AreAnswers y.parts y.rules c.json NoneBad (requests_of x.input_bytes) p.replies) command b in
+    let e : AreAnswers y.parts y.rules y.command.json NoneBad (requests_of y.input_bytes) p.replies = subst (λ (b : List ℕ). AreAnswers y.parts y.rules y.command.json NoneBad (requests_of b) p.replies) script d in
+    let same : p.replies ≡ q.replies = answers_once once.lines y.parts y.rules y.command.json (requests_of y.input_bytes) p.replies q.replies e q.answers in
+    p.spelled ∙ ap (λ (r : Rules). text_of_replies r 1 p.replies) rules ∙ ap (text_of_replies y.rules 1) same ∙ sym q.spelled

@@ -1,7 +1,7 @@
 -- The pieces of an answer.
 use Rattle.std.proofs.Common.{◌≡◌, ℕ, ◌-◌, List, [], ◌++◌, get_or, sym, ap, ◌∙◌, append_assoc}
 use Rattle.std.proofs.lemmas.List.{append-nil}
-use Rattle.std.specs.Prelude.{Some, None, codes, decimal, slice_get, unwrap_or, Option}
+use Rattle.std.specs.Prelude.{Some, None, codes, slice_get, unwrap_or, Option}
 use Rattle.std.proofs.lemmas.Option.{get_or_from_slice_get, unwrap_or-slice_get}
 use Rattle.perm_base.specs.FieldLine.{printed}
 use Rattle.casbin_run.specs.Answer.{place_text, rule_text}

@@ -1,5 +1,5 @@
 -- The lines of a text that are requests.
-use Rattle.std.proofs.Common.{◌≡◌, ◌≢◌, ℕ, ◌<◌, ◌||◌, suc, length, get_or, Option, Some, None, Bor, Bool, true, false, cond, not, List, [], ◌∷◌, ◌++◌, eqb, refl, sym, ap, ◌∙◌, arith}
+use Rattle.std.proofs.Common.{◌≡◌, ◌≢◌, ℕ, ◌<◌, ◌||◌, suc, length, get_or, Option, Some, None, Bor, Bool, true, false, cond, not, List, [], ◌∷◌, ◌++◌, eqb, refl, ap, arith}
 use Rattle.std.specs.Prelude.{IfNone, IfSome, MatchOption, filter, map}
 use Rattle.std.specs.List.{onto_first}
 use Rattle.std.proofs.lemmas.Bool.{eqb-true}

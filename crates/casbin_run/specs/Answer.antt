@@ -1,17 +1,16 @@
 -- The printed answers, one line a request.
-use Rattle.std.specs.Prelude.{◌≡◌, ◌≢◌, ◌⊎◌, ℕ, ◌+◌, ◌-◌, ◌^◌, Bool, List, [], ◌∷◌, ◌++◌, length, Option, Some, None, Result, Ok, Err, codes, decimal, min, slice_index_or}
+use Rattle.std.specs.Prelude.{◌≡◌, ◌≢◌, ℕ, ◌+◌, ◌-◌, ◌^◌, Bool, false, List, [], ◌∷◌, ◌++◌, length, Option, Some, None, Ok, Err, codes, count_by, decimal, min, slice_index_or, ⊤}
 use Rattle.effect_fold.specs.declared.fault.Cause.{Cause}
 use Rattle.effect_fold.specs.declared.fault.Cause.TheVariants as cause
 use Rattle.effect_fold.specs.declared.fault.Fault.{Fault}
 use Rattle.effect_fold.specs.declared.verdict.Verdict.{Verdict}
 use Rattle.effect_fold.specs.declared.verdict.Verdict.TheVariants as verdict
-use Rattle.matcher_meaning.specs.Perm.{IsPerm}
+use Rattle.enforce_core.specs.Programs.{judging}
+use Rattle.matcher_meaning.specs.Perm.{IsJudged, is_refusal}
 use Rattle.model_conf.specs.ModelText.{ModelParts}
 use Rattle.perm_base.specs.FieldLine.{printed}
-use Rattle.perm_value.specs.Datum.{Datum}
 use Rattle.perm_value.specs.declared.request.RequestFault.{RequestFault}
 use Rattle.perm_value.specs.declared.request.RequestFault.TheVariants as fault
-use Rattle.casbin_run.specs.Judging.{judging}
 use Rattle.casbin_run.specs.Request.{Reading, Says}
 
 -- a number above 2^32 - 1 is given as 2^32 - 1
@@ -62,23 +61,51 @@ refusal fault.NoMemory = codes "no memory"
 abbrev pub arity_text : ℕ → ℕ → List ℕ
 arity_text given wanted = codes " refused: " ++ decimal given ++ codes " fields, " ++ decimal wanted ++ codes " wanted"
 
--- what is answered to a reading, behind the number of its request: as many values as the model has columns are judged
-abbrev pub IsReply : ModelParts → List (List (List ℕ)) → Reading → List ℕ → Type 0
-IsReply model rules (Ok values) text =
-    ((length values ≡ length model.request) × ((v : Verdict) × IsPerm (judging model) values rules v × (text ≡ verdict_text rules v)))
-    ⊎ ((length values ≢ length model.request) × (text ≡ arity_text (length values) (length model.request)))
-IsReply model rules (Err e) text = text ≡ codes " refused: " ++ refusal e
+-- what is answered to a request, apart from its text: a verdict, another number of fields than the model wants, or a refusal of its line
+pub data Reply : Type 0 where
+  judged : Verdict → Reply
+  arity : ℕ → ℕ → Reply
+  refused : RequestFault → Reply
 
--- the line that answers the request of that number
-pub record IsAnswer (model : ModelParts) (rules : List (List (List ℕ))) (json : Bool) (number : ℕ) (line text : List ℕ) : Type 0 where
+-- a reply, behind the number of its request
+abbrev pub reply_text : List (List (List ℕ)) → Reply → List ℕ
+reply_text rules (judged v) = verdict_text rules v
+reply_text rules (arity given wanted) = arity_text given wanted
+reply_text rules (refused e) = codes " refused: " ++ refusal e
+
+-- the line of the reply to the request of that number
+abbrev pub line_text : List (List (List ℕ)) → ℕ → Reply → List ℕ
+line_text rules number reply = decimal (shown number) ++ reply_text rules reply ++ codes "\n"
+
+-- the lines of the replies, of which the first has this number
+abbrev pub text_of_replies : List (List (List ℕ)) → ℕ → List Reply → List ℕ
+text_of_replies rules number [] = []
+text_of_replies rules number (reply ∷ replies) = line_text rules number reply ++ text_of_replies rules (number + 1) replies
+
+-- the reply is the fault of a search that was refused
+abbrev pub is_refused_search : Reply → Bool
+is_refused_search (judged v) = is_refusal v
+is_refused_search _ = false
+
+-- how many of the replies are so
+abbrev pub refusals_in : List Reply → ℕ
+refusals_in replies = count_by is_refused_search replies
+
+-- what is answered to a reading, where some patterns count as refused: as many values as the model has columns are judged
+abbrev pub IsReply : ModelParts → (List ℕ → Type 0) → Reading → List (List (List ℕ)) → Reply → Type 0
+IsReply model IsBad (Ok values) rules (judged v) = (length values ≡ length model.request) × IsJudged (judging model) values rules IsBad v
+IsReply model IsBad (Ok values) rules (arity given wanted) = (length values ≢ length model.request) × (given ≡ length values) × (wanted ≡ length model.request)
+IsReply model IsBad (Err e) rules (refused f) = f ≡ e
+IsReply model IsBad _ rules _ = ⊥
+
+-- a line says a reading that gets this reply
+pub record IsAnswer (model : ModelParts) (rules : List (List (List ℕ))) (json : Bool) (IsBad : List ℕ → Type 0) (line : List ℕ) (reply : Reply) : Type 0 where
   pub reading : Reading
   pub says : Says json line reading
-  pub reply : List ℕ
-  pub replies : IsReply model rules reading reply
-  pub spelled : text ≡ decimal (shown number) ++ reply ++ codes "\n"
+  pub replies : IsReply model IsBad reading rules reply
 
--- a line for each request in their order, the first with this number
-abbrev pub AreAnswers : ModelParts → List (List (List ℕ)) → Bool → ℕ → List (List ℕ) → List ℕ → Type 0
-AreAnswers model rules json number [] text = text ≡ []
-AreAnswers model rules json number (line ∷ lines) text =
-    (first : List ℕ) × (others : List ℕ) × IsAnswer model rules json number line first × AreAnswers model rules json (number + 1) lines others × (text ≡ first ++ others)
+-- one reply for each line, in their order
+abbrev pub AreAnswers : ModelParts → List (List (List ℕ)) → Bool → (List ℕ → Type 0) → List (List ℕ) → List Reply → Type 0
+AreAnswers model rules json IsBad [] [] = ⊤
+AreAnswers model rules json IsBad (line ∷ lines) (reply ∷ replies) = IsAnswer model rules json IsBad line reply × AreAnswers model rules json IsBad lines replies
+AreAnswers model rules json IsBad _ _ = ⊥

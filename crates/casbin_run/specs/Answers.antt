@@ -1,10 +1,11 @@
 -- The meaning of a whole run: what the texts of a model, a policy and an input say, answered line by line.
-use Rattle.std.specs.Prelude.{◌≡◌, ◌≤◌, ℕ, Bool, List, Option, Some, length, IsUtf8}
+use Rattle.std.specs.Prelude.{◌≡◌, ◌≤◌, ℕ, List, Option, Some, length, IsUtf8}
 use Rattle.perm_base.specs.Files.{Files, Holds}
 use Rattle.perm_base.specs.Told.{TookFront, with_back}
 use Rattle.model_conf.specs.ModelText.{ModelParts}
 use Rattle.policy_csv.specs.Policy.{IsPolicy}
-use Rattle.casbin_run.specs.Answer.{AreAnswers}
+use Rattle.casbin_run.specs.Answer.{AreAnswers, Reply, refusals_in, text_of_replies}
+use Rattle.casbin_run.specs.Finders.{IsBad, RoseBy, Searches}
 use Rattle.casbin_run.specs.Judging.{IsAnsweredBy}
 use Rattle.casbin_run.specs.Parts.{Tells, model_limit, policy_limit, input_limit}
 use Rattle.casbin_run.specs.Script.{requests_of}
@@ -30,19 +31,23 @@ pub record IsInOrder (words : List (List ℕ)) (files : Option Files) (input : O
   pub is_policy : IsPolicy (length parts.policy) policy_bytes rules
   pub is_script : IsUtf8 input_bytes
 
--- they are in order, and the text answers the requests of the input by the model and the policy
-pub record IsAnswered (words : List (List ℕ)) (files : Option Files) (input : Option (List ℕ)) (text : List ℕ) : Type 0 where
+-- they are in order, and the text is that of the replies to the requests of the input by the model and the policy, where some patterns count as refused
+pub record IsAnswered (words : List (List ℕ)) (files : Option Files) (input : Option (List ℕ)) (IsBad : List ℕ → Type 0) (text : List ℕ) : Type 0 where
   pub in_order : IsInOrder words files input
-  pub answers : AreAnswers in_order.parts in_order.rules in_order.command.json 1 (requests_of in_order.input_bytes) text
+  pub replies : List Reply
+  pub answers : AreAnswers in_order.parts in_order.rules in_order.command.json IsBad (requests_of in_order.input_bytes) replies
+  pub spelled : text ≡ text_of_replies in_order.rules 1 replies
 
--- the sink took the text that answers the requests, and nothing else
-pub record TookAll (words : List (List ℕ)) (files : Option Files) (input out out_now : Option (List ℕ)) : Type 0 where
+-- the sink took the text that answers the requests, and nothing else; the finders refused as often as it tells at least
+pub record TookAll (words : List (List ℕ)) (files : Option Files) (input : Option (List ℕ)) (s : Searches) (out out_now : Option (List ℕ)) : Type 0 where
   pub text : List ℕ
-  pub answered : IsAnswered words files input text
+  pub answered : IsAnswered words files input (IsBad s.before s.now s.kept) text
+  pub counted : RoseBy (refusals_in answered.replies) s.before s.now
   pub took : out_now ≡ with_back out text
 
 -- the sink took a front of that text
-pub record TookSome (words : List (List ℕ)) (files : Option Files) (input out out_now : Option (List ℕ)) : Type 0 where
+pub record TookSome (words : List (List ℕ)) (files : Option Files) (input : Option (List ℕ)) (s : Searches) (out out_now : Option (List ℕ)) : Type 0 where
   pub text : List ℕ
-  pub answered : IsAnswered words files input text
+  pub answered : IsAnswered words files input (IsBad s.before s.now s.kept) text
+  pub counted : RoseBy (refusals_in answered.replies) s.before s.now
   pub took : TookFront out out_now text

@@ -11,6 +11,7 @@ use Rattle.casbin_run.specs.declared.stop.Part.TheVariants.{Model, Policy, Input
 use Rattle.casbin_run.specs.declared.stop.Stop.{Stop}
 use Rattle.casbin_run.specs.declared.stop.Stop.TheVariants.{Words, NoModel, NoPolicy, NoScript, CannotRead, CannotWrite, TooLong, NoMemory}
 use Rattle.casbin_run.specs.Answers.{TookSome}
+use Rattle.casbin_run.specs.Finders.{Searches}
 use Rattle.casbin_run.specs.Words.{command_of}
 use Rattle.casbin_run.specs.Parts.{model_limit, policy_limit, input_limit, FileIs, InputIs, Asks, WithModel, WithPolicy}
 
@@ -45,17 +46,17 @@ Cause words files input _ = ⊥
 
 -- a fault that came instead of a cause: the shelf failed, the source failed, the sink failed after it took a front of the
 -- text, or memory ran out before or while the text was pushed
-abbrev pub Fault : List (List ℕ) → Option Files → Option (List ℕ) → Option (List ℕ) → Option (List ℕ) → (shelf_rose source_rose sink_rose : Type 0) → Stop → Type 0
-Fault words files input out out_now shelf_rose source_rose sink_rose (CannotRead Model) = Asks words (λ command. shelf_rose)
-Fault words files input out out_now shelf_rose source_rose sink_rose (CannotRead Policy) = WithModel words files (λ command parts. shelf_rose)
-Fault words files input out out_now shelf_rose source_rose sink_rose (CannotRead Input) = WithPolicy words files source_rose
-Fault words files input out out_now shelf_rose source_rose sink_rose CannotWrite = TookSome words files input out out_now × sink_rose
-Fault words files input out out_now shelf_rose source_rose sink_rose NoMemory = Asks words (λ command. ⊤) × ((out_now ≡ out) ⊎ TookSome words files input out out_now)
-Fault words files input out out_now shelf_rose source_rose sink_rose _ = ⊥
+abbrev pub Fault : List (List ℕ) → Option Files → Option (List ℕ) → Searches → Option (List ℕ) → Option (List ℕ) → (shelf_rose source_rose sink_rose : Type 0) → Stop → Type 0
+Fault words files input s out out_now shelf_rose source_rose sink_rose (CannotRead Model) = Asks words (λ command. shelf_rose)
+Fault words files input s out out_now shelf_rose source_rose sink_rose (CannotRead Policy) = WithModel words files (λ command parts. shelf_rose)
+Fault words files input s out out_now shelf_rose source_rose sink_rose (CannotRead Input) = WithPolicy words files source_rose
+Fault words files input s out out_now shelf_rose source_rose sink_rose CannotWrite = TookSome words files input s out out_now × sink_rose
+Fault words files input s out out_now shelf_rose source_rose sink_rose NoMemory = Asks words (λ command. ⊤) × ((out_now ≡ out) ⊎ TookSome words files input s out out_now)
+Fault words files input s out out_now shelf_rose source_rose sink_rose _ = ⊥
 
 -- a stop has its cause, or came from a fault
-unfoldable pub EndsBy : List (List ℕ) → Option Files → Option (List ℕ) → Option (List ℕ) → Option (List ℕ) → (shelf_rose source_rose sink_rose : Type 0) → Stop → Type 0
-EndsBy words files input out out_now shelf_rose source_rose sink_rose stop = Cause words files input stop ⊎ Fault words files input out out_now shelf_rose source_rose sink_rose stop
+unfoldable pub EndsBy : List (List ℕ) → Option Files → Option (List ℕ) → Searches → Option (List ℕ) → Option (List ℕ) → (shelf_rose source_rose sink_rose : Type 0) → Stop → Type 0
+EndsBy words files input s out out_now shelf_rose source_rose sink_rose stop = Cause words files input stop ⊎ Fault words files input s out out_now shelf_rose source_rose sink_rose stop
 
 -- nothing went to the sink before such a stop
 abbrev pub IsBeforeOutput : Stop → Type 0

@@ -2,6 +2,7 @@ pub mod Words
 pub mod Script
 pub mod Request
 pub mod Judging
+pub mod Finders
 pub mod Answer
 pub mod Message
 pub mod Pieces

@@ -1,59 +1,65 @@
-ghost use Rattle.std.specs.Prelude.{◌≡◌, ◌≢◌, ◌≤◌, ◌^◌, ◌++◌, ◌+◌, ℕ, List, OnOk, IfErr, codes, decimal, length, map};
-ghost use Rattle.matcher_meaning.specs.Perm.{names_policy};
+ghost use Rattle.std.specs.Prelude.{◌≡◌, ◌≢◌, ◌≤◌, ◌^◌, ◌++◌, ◌+◌, ℕ, List, OnOk, IfErr, Ok, codes, decimal, length, map, true};
+ghost use Rattle.enforce_core.specs.Programs.{IsRefused};
+ghost use Rattle.perm_base.specs.Faults.{Rose};
 ghost use Rattle.perm_base.specs.Told.{with_back};
 ghost use Rattle.perm_value.specs.Seen.{datum};
-ghost use Rattle.casbin_run.specs.Answer.{IsAnswer, IsReply, arity_text, shown};
-ghost use Rattle.casbin_run.specs.Judging.{IsPlain};
-ghost use Rattle.casbin_run.specs.Print.{Answering, PrintStops};
+ghost use Rattle.regex_gate.specs.Refused.{HasGrown};
+ghost use Rattle.casbin_run.specs.Answer.{IsAnswer, IsReply, Reply, is_refused_search, line_text, refusals_in, reply_text, shown};
+ghost use Rattle.casbin_run.specs.Print.{Answering, PrintStops, RoseTo};
 ghost use Rattle.casbin_run.specs.Script.{requests_of};
 
-use crate::decision::verdict_of;
-use crate::names::names_policy;
 use crate::reply::{push_arity, push_number, push_refusal, push_verdict};
 use crate::requests::{next_request, read_request};
 use crate::stop::Stop;
-use matcher_meaning::verdict_is_there;
-use model_conf::Model;
+use enforce_core::{Program, Scratch, decide_rows};
+use matcher_meaning::{only_a_refusal_is_a_pattern, verdict_is_there};
 use perm_base::{NoMemory, Rules, Sink, every_line_is_fields_or_at_fault, push_all};
 use perm_value::Request;
+use regex_gate::{Finder, grown_lists_grow};
 use std::alloc::Global;
 
 // How many bytes of answers are gathered before they are pushed.
 const GATHERED: usize = 16_384;
 
-/// What requests are answered by: a model, whether its matcher names a column of the policy, the policy's rules, and
-/// whether requests are JSON.
+/// What requests are answered by: a program, the policy's rules, and whether requests are JSON.
 #[derive(Clone, Copy)]
 pub struct Court<'a> {
-    pub model: &'a Model,
-    pub by_row: bool,
+    pub program: &'a Program,
     pub rules: &'a Rules,
     pub json: bool,
 }
 
 /// Prints a line for each request of a text, numbered from 1.
-pub fn print_answers<K: Sink>(
+pub fn print_answers<K: Sink, P: Finder>(
     alloc: Global,
     out: &mut K,
     court: &Court<'_>,
     input: &str,
+    finder: &mut P,
 ) -> Result<(), Stop>
-    requires plain { IsPlain court.now.model.now }
-    requires by_row { court.now.by_row ≡ names_policy court.now.model.now.matcher }
-    ensures printed { OnOk result (Answering court.now.model.now court.now.rules.now court.now.json (requests_of input.now)
-        (λ text. K.taken out.new ≡ with_back (K.taken out.old) text)) }
-    ensures stopped { IfErr result (λ stop. Answering court.now.model.now court.now.rules.now court.now.json (requests_of input.now)
-        (PrintStops (K.taken out.old) (K.taken out.new) (K.faults out.old) (K.faults out.new) stop)) }
+    ensures printed { OnOk result (Answering court.now.program.now court.now.rules.now court.now.json
+        (IsRefused (P.refusals finder.old) (P.refusals finder.new) (P.bad finder.new)) (requests_of input.now)
+        (λ replies text. (K.taken out.new ≡ with_back (K.taken out.old) text)
+        × RoseTo (refusals_in replies) (P.refusals finder.old) (P.refusals finder.new))) }
+    ensures stopped { IfErr result (λ stop. Answering court.now.program.now court.now.rules.now court.now.json
+        (IsRefused (P.refusals finder.old) (P.refusals finder.new) (P.bad finder.new)) (requests_of input.now)
+        (λ replies text. PrintStops (K.taken out.old) (K.taken out.new) (K.faults out.old) (K.faults out.new) stop text
+        × RoseTo (refusals_in replies) (P.refusals finder.old) (P.refusals finder.new))) }
     ensures counted { K.faults out.old ≤ K.faults out.new }
+    ensures risen { P.refusals finder.old ≤ P.refusals finder.new }
+    ensures grown { HasGrown (P.bad finder.old) (P.bad finder.new) }
 {
     every_line_is_fields_or_at_fault();
     verdict_is_there();
+    only_a_refusal_is_a_pattern();
+    grown_lists_grow();
+    let mut scratch = Scratch::for_program(alloc, court.program);
     let mut text = Vec::new(alloc);
     let mut rest = input;
     let mut number = 0;
     while let Some((line, after)) = next_request(rest) {
         number = next_number(number);
-        push_answer(alloc, &mut text, number, court, line)?;
+        push_answer(alloc, &mut text, number, court, line, finder, &mut scratch)?;
         if text.len() >= GATHERED {
             push_all(out, &text)?;
             text.clear();
@@ -72,21 +78,26 @@ fn next_number(number: u32) -> u32
 }
 
 // Appends the line of the request with this number.
-fn push_answer(
+fn push_answer<P: Finder>(
     alloc: Global,
     text: &mut Vec<u8>,
     number: u32,
     court: &Court<'_>,
     line: &str,
+    finder: &mut P,
+    scratch: &mut Scratch,
 ) -> Result<(), NoMemory>
-    requires plain { IsPlain court.now.model.now }
-    requires by_row { court.now.by_row ≡ names_policy court.now.model.now.matcher }
-    ensures { OnOk result ((answer : List ℕ) × IsAnswer court.now.model.now court.now.rules.now court.now.json number line.now answer
-        × (text.new.items ≡ text.old.items ++ answer)) }
+    ensures answered { OnOk result ((reply : Reply) × IsAnswer court.now.program.now court.now.rules.now court.now.json
+        (IsRefused (P.refusals finder.old) (P.refusals finder.new) (P.bad finder.new)) line.now reply
+        × (text.new.items ≡ text.old.items ++ line_text court.now.rules.now number reply)
+        × (is_refused_search reply ≡ true → Rose (P.refusals finder.old) (P.refusals finder.new))) }
+    ensures counted { P.refusals finder.old ≤ P.refusals finder.new }
+    ensures grown { HasGrown (P.bad finder.old) (P.bad finder.new) }
 {
+    grown_lists_grow();
     push_number(text, number)?;
     match read_request(alloc, court.json, line) {
-        Ok(request) => push_reply(alloc, text, court, &request)?,
+        Ok(request) => push_reply(alloc, text, court, &request, finder, scratch)?,
         Err(fault) => push_refusal(text, fault)?,
     }
     text.extend_from_slice(b"\n")?;
@@ -94,21 +105,25 @@ fn push_answer(
 }
 
 // Appends what is answered to a request, behind its number.
-fn push_reply(
+fn push_reply<P: Finder>(
     alloc: Global,
     text: &mut Vec<u8>,
     court: &Court<'_>,
     request: &Request,
+    finder: &mut P,
+    scratch: &mut Scratch,
 ) -> Result<(), NoMemory>
-    requires plain { IsPlain court.now.model.now }
-    requires by_row { court.now.by_row ≡ names_policy court.now.model.now.matcher }
-    ensures { OnOk result ((reply : List ℕ) × IsReply court.now.model.now court.now.rules.now (Ok (map datum request.now)) reply
-        × (text.new.items ≡ text.old.items ++ reply)) }
+    ensures replied { OnOk result ((reply : Reply) × IsReply court.now.program.now
+        (IsRefused (P.refusals finder.old) (P.refusals finder.new) (P.bad finder.new)) (Ok (map datum request.now)) court.now.rules.now reply
+        × (text.new.items ≡ text.old.items ++ reply_text court.now.rules.now reply)
+        × (is_refused_search reply ≡ true → Rose (P.refusals finder.old) (P.refusals finder.new))) }
+    ensures counted { P.refusals finder.old ≤ P.refusals finder.new }
+    ensures grown { HasGrown (P.bad finder.old) (P.bad finder.new) }
 {
-    let wanted = court.model.request_columns().len();
-    if request.len() != wanted {
-        return push_arity(text, request.len(), wanted);
+    grown_lists_grow();
+    if let Err(arity) = court.program.takes(request) {
+        return push_arity(text, arity.got, arity.want);
     }
-    let verdict = verdict_of(court.model, court.by_row, court.rules, request);
+    let verdict = decide_rows(court.program, court.rules, request, finder, scratch)?;
     push_verdict(alloc, text, court.rules, verdict)
 }

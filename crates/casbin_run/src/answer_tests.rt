@@ -1,10 +1,13 @@
 use crate::{Status, run_casbin};
 use perm_base::{ListSink, SureShelf, SureSink, SureSource, Text};
+use regex_gate::ListFinder;
 use std::alloc::Global;
 use std::process::Abort;
 use std::test::Fail;
 
-const COLUMNS: &[u8] = b"sub, obj, act";
+pub const COLUMNS: &[u8] = b"sub, obj, act";
+
+pub const ALLOW: &[u8] = b"some(where (p.eft == allow))";
 
 const EQUAL: &[u8] = b"r.sub == p.sub && r.obj == p.obj && r.act == p.act";
 
@@ -16,16 +19,37 @@ const JSON: [&str; 4] = ["enforce", "--json", "m.conf", "p.csv"];
 
 /// The text of a model with these columns of a request and of a policy, and this matcher.
 fn model(alloc: Global, request: &[u8], policy: &[u8], matcher: &[u8]) -> Result<Vec<u8>, Fail> {
+    model_with(alloc, request, policy, ALLOW, matcher)
+}
+
+/// The same, and this effect.
+pub fn model_with(
+    alloc: Global,
+    request: &[u8],
+    policy: &[u8],
+    effect: &[u8],
+    matcher: &[u8],
+) -> Result<Vec<u8>, Fail> {
     let mut text = Vec::from_slice(alloc, b"[request_definition]\nr = ")?;
     text.extend_from_slice(request)?;
     text.extend_from_slice(b"\n\n[policy_definition]\np = ")?;
     text.extend_from_slice(policy)?;
-    text.extend_from_slice(
-        b"\n\n[policy_effect]\ne = some(where (p.eft == allow))\n\n[matchers]\nm = ",
-    )?;
+    text.extend_from_slice(b"\n\n[policy_effect]\ne = ")?;
+    text.extend_from_slice(effect)?;
+    text.extend_from_slice(b"\n\n[matchers]\nm = ")?;
     text.extend_from_slice(matcher)?;
     text.extend_from_slice(b"\n")?;
     Ok(text)
+}
+
+/// The finders of a run, of which the first refuses the call with this number too; none where it is 0.
+pub fn finders(alloc: Global, refused: u32) -> Result<Vec<ListFinder>, Fail> {
+    let mut finders = Vec::new(alloc);
+    finders.push(ListFinder::new(alloc, vec![in alloc; refused]?))?;
+    for _ in 1..9 {
+        finders.push(ListFinder::new(alloc, Vec::new(alloc)))?;
+    }
+    Ok(finders)
 }
 
 fn put(alloc: Global, shelf: &mut SureShelf, name: &str, bytes: Vec<u8>) -> Result<(), Fail> {
@@ -46,7 +70,29 @@ fn expect_of(
     err: &[u8],
     case: &str,
 ) -> Result<(), Fail> {
+    let searching = finders(rt.alloc(), 0)?;
+    expect_with(
+        rt, command, model, policy, input, searching, status, out, err, case,
+    )
+}
+
+/// The same with these finders.
+fn expect_with(
+    rt: &(impl Abort + AllocGlobal),
+    command: &[&str],
+    model: Vec<u8>,
+    policy: &[u8],
+    input: &[u8],
+    mut finders: Vec<ListFinder>,
+    status: Status,
+    out: &[u8],
+    err: &[u8],
+    case: &str,
+) -> Result<(), Fail> {
     let alloc = rt.alloc();
+    if finders.len() != 9 {
+        return Err(Fail::from("a run has nine finders"));
+    }
     let mut words = Vec::new(alloc);
     for word in command {
         words.push(String::from_str(alloc, word)?)?;
@@ -57,11 +103,44 @@ fn expect_of(
     let mut input = SureSource::new(Vec::from_slice(alloc, input)?);
     let mut told = sink(alloc)?;
     let mut line = sink(alloc)?;
-    let got = run_casbin(alloc, &words, &mut shelf, &mut input, &mut told, &mut line);
+    let got = run_casbin(
+        alloc,
+        &words,
+        &mut shelf,
+        &mut input,
+        &mut told,
+        &mut line,
+        &mut finders,
+    );
     assert_eq!(rt; got, status, "of {case}");
     assert_eq!(rt; told.bytes(), out, "on out, of {case}");
     assert_eq!(rt; line.bytes(), err, "on err, of {case}");
     Ok(())
+}
+
+/// Runs `enforce` over a model, where the first finder refuses the call with this number too.
+pub fn enforce(
+    rt: &(impl Abort + AllocGlobal),
+    model: Vec<u8>,
+    policy: &[u8],
+    input: &[u8],
+    refused: u32,
+    out: &[u8],
+    case: &str,
+) -> Result<(), Fail> {
+    let searching = finders(rt.alloc(), refused)?;
+    expect_with(
+        rt,
+        &WORDS,
+        model,
+        policy,
+        input,
+        searching,
+        Status::Done,
+        out,
+        b"",
+        case,
+    )
 }
 
 fn sink(alloc: Global) -> Result<ListSink, Fail> {
@@ -306,12 +385,6 @@ fn the_first_fault_of_a_matcher_is_told(rt: HostRuntime) -> Result<(), Fail> {
         b"g(r.sub, p.sub)",
         b"model: matcher at 1: role use\n",
         "a relation that is not declared",
-    )?;
-    refused_matcher(
-        &rt,
-        b"keyMatch(r.sub, p.sub)",
-        b"model: not yet\n",
-        "a function that is not answered by yet",
     )
 }
 
@@ -340,6 +413,12 @@ fn the_first_fault_of_a_model_is_told(rt: HostRuntime) -> Result<(), Fail> {
         b"[request_definition]\nr = sub\n[policy_definition]\np = sub\n[role_definition]\ng = _, _\ng2 = _\n[policy_effect]\ne = some(where (p.eft == allow))\n[matchers]\nm = r.sub == p.sub\n",
         b"model: shape of g2\n",
         "a shape",
+    )?;
+    refused_text(
+        &rt,
+        b"[request_definition]\nr = sub\n[policy_definition]\np = sub\n[role_definition]\ng = _, _\n[policy_effect]\ne = some(where (p.eft == allow))\n[matchers]\nm = g(r.sub, p.sub)\n",
+        b"model: not yet\n",
+        "a relation",
     )
 }
 

@@ -3,7 +3,7 @@ ghost use Rattle.perm_base.specs.Faults.{Rose};
 ghost use Rattle.perm_base.specs.Files.{Holds};
 ghost use Rattle.policy_csv.specs.Policy.{IsPolicy};
 ghost use Rattle.casbin_run.specs.Parts.{FileIs, InputIs, model_limit, policy_limit};
-ghost use Rattle.casbin_run.specs.Judging.{IsAnsweredBy, IsPlain};
+ghost use Rattle.casbin_run.specs.Judging.{IsAnsweredBy};
 ghost use Rattle.casbin_run.specs.Reading.{FetchStops, ModelStops, PolicyStops, InputStops};
 
 use crate::stop::{Part, Stop};
@@ -22,7 +22,6 @@ const INPUT_LIMIT: u64 = 16_777_216;
 /// Fetches and reads the model.
 pub fn read_model_file<F: Shelf>(alloc: Global, shelf: &mut F, name: &str) -> Result<Model, Stop>
     ensures read { IfOk result (λ model. FileIs (F.files shelf.old) name.now model_limit (λ bytes. IsAnsweredBy bytes model)) }
-    ensures plain { IfOk result IsPlain }
     ensures stopped { IfErr result (ModelStops (F.files shelf.old) name.now (Rose (F.faults shelf.old) (F.faults shelf.new))) }
     ensures same_files { F.files shelf.new ≡ F.files shelf.old }
     ensures counted { F.faults shelf.old ≤ F.faults shelf.new }

@@ -4,11 +4,13 @@
 mod answer;
 #[cfg(test)]
 mod answer_tests;
-mod decision;
+#[cfg(test)]
+mod call_tests;
+#[cfg(test)]
+mod example_tests;
 mod files;
 mod law;
 mod message;
-mod names;
 mod reply;
 mod requests;
 mod run;

@@ -1,3 +1,4 @@
+use crate::answer_tests::finders;
 use crate::{Status, run_casbin};
 use perm_base::{ListShelf, ListSink, ListSource, Text};
 use std::alloc::Global;
@@ -96,7 +97,19 @@ fn expect_of(
     let mut input = ListSource::new(bytes, vec![in alloc; outside.input_fails]?);
     let mut told = sink(alloc, outside.out_most, outside.out_fails)?;
     let mut line = sink(alloc, 1_000, outside.err_fails)?;
-    let got = run_casbin(alloc, &words, &mut shelf, &mut input, &mut told, &mut line);
+    let mut finders = finders(alloc, 0)?;
+    if finders.len() != 9 {
+        return Err(Fail::from("a run has nine finders"));
+    }
+    let got = run_casbin(
+        alloc,
+        &words,
+        &mut shelf,
+        &mut input,
+        &mut told,
+        &mut line,
+        &mut finders,
+    );
     assert_eq!(rt; got, status, "of {case}");
     assert_eq!(rt; told.bytes(), out, "on out, of {case}");
     assert_eq!(rt; line.bytes(), err, "on err, of {case}");

@@ -1,1 +1,4 @@
 mod PlaceLemmas
+mod TreeLemmas
+mod FoldLemmas
+mod EvaluateLemmas

@@ -1,31 +1,163 @@
-ghost use Rattle.std.specs.Prelude.{◌≡◌, map};
-ghost use Rattle.matcher_read.specs.Expression.{expression, expressions_of};
-ghost use Rattle.matcher_meaning.specs.Meaning.{has_calls, have_calls};
+ghost use Rattle.std.specs.Prelude.{◌≡◌, ℕ, true, false, List, [], ◌∷◌, Option, None};
+ghost use Rattle.matcher_read.specs.Expression.{function};
+ghost use Rattle.matcher_meaning.specs.Calls.{Calls, IsInBlock, OfThree, OfTwo, searched};
+ghost use Rattle.matcher_meaning.specs.Environment.{without_roles};
+ghost use Rattle.matcher_meaning.specs.Meaning.{is_search};
+ghost use Rattle.perm_value.specs.Datum.{Datum};
+ghost use Rattle.perm_value.specs.Seen.{datum_of_view};
+ghost use Rattle.enforce_core.specs.Seen.{EndsIn, IsUsed, answer_of, callee, refused_by};
 
-use matcher_read::Tree;
+use crate::halt::Halt;
+use crate::operators::kind;
+use effect_fold::{Cause, Fault};
+use ip_match::{IpFault, ip_match};
+use key_match::{
+    glob_match, key_get, key_get2, key_get3, key_match, key_match2, key_match3, key_match4,
+    key_match5,
+};
+use matcher_read::Function;
+use perm_value::View;
+use regex_gate::{FindStop, Finder};
 
-/// Whether a matcher calls a function or asks a role relation.
-#[cycle(calls)]
-pub fn has_calls(tree: &Tree) -> bool
-    ensures { result ≡ has_calls (expression tree.now) }
+/// What is called: a function, or a role relation by its number.
+#[derive(Clone, Copy)]
+pub(crate) enum Called {
+    Function(Function),
+    Relation(u8),
+}
+
+/// What a call gives for two values. No relation has rules here: each name is linked to itself alone.
+pub(crate) fn call_of_two<'a, P: Finder>(
+    at: u32,
+    called: Called,
+    first: &View<'a>,
+    second: &View<'a>,
+    finder: &mut P,
+) -> Result<View<'a>, Halt<'a>>
+    ensures value { (request_columns policy_columns : List (List ℕ)) (request : List Datum) (row : Option (List (List ℕ)))
+        → EndsIn (λ refused r. Calls (without_roles request_columns request policy_columns row refused) at (callee called) (datum_of_view first.now ∷ datum_of_view second.now ∷ []) r)
+        datum_of_view (is_search (callee called)) result }
+    ensures used { IsUsed (P.refusals finder.old) (P.refusals finder.new) (P.bad finder.old) (P.bad finder.new) (refused_by result) }
 {
-    match tree {
-        Tree::Not { operand, .. } | Tree::Negate { operand, .. } => has_calls(operand),
-        Tree::Binary { left, right, .. } => has_calls(left) || has_calls(right),
-        Tree::Among { value, members, .. } => has_calls(value) || have_calls(members),
-        Tree::Call { .. } | Tree::Role { .. } => true,
-        _ => false,
+    match (*first, *second) {
+        (View::Text(first), View::Text(second)) => match called {
+            Called::Function(function) => of_two(at, function, first, second, finder),
+            Called::Relation(_) => Ok(View::Truth(first == second)),
+        },
+        _ => Err(Halt::Fault(kind(at))),
     }
 }
 
-#[cycle(calls)]
-fn have_calls(trees: &[Tree]) -> bool
-    ensures { result ≡ have_calls (expressions_of (map expression trees.now)) }
+/// What a call gives for three values.
+pub(crate) fn call_of_three<'a>(
+    at: u32,
+    called: Called,
+    first: &View<'a>,
+    second: &View<'a>,
+    third: &View<'a>,
+) -> Result<View<'a>, Fault>
+    ensures { (request_columns policy_columns : List (List ℕ)) (request : List Datum) (row : Option (List (List ℕ)))
+        (refused : Option (ℕ × List ℕ)) → Calls (without_roles request_columns request policy_columns row refused) at (callee called)
+        (datum_of_view first.now ∷ datum_of_view second.now ∷ datum_of_view third.now ∷ []) (answer_of result) }
 {
-    for tree in trees {
-        if has_calls(tree) {
-            return true;
-        }
+    match (*first, *second, *third) {
+        (View::Text(first), View::Text(second), View::Text(third)) => match called {
+            Called::Function(function) => of_three(at, function, first, second, third),
+            Called::Relation(_) => Ok(View::Truth(first == second)),
+        },
+        _ => Err(kind(at)),
     }
-    false
+}
+
+// What a function gives for two texts.
+fn of_two<'a, P: Finder>(
+    at: u32,
+    called: Function,
+    first: &'a [u8],
+    second: &'a [u8],
+    finder: &mut P,
+) -> Result<View<'a>, Halt<'a>>
+    ensures value { EndsIn (λ refused r. OfTwo refused at called first.now second.now r) datum_of_view (is_search (function called)) result }
+    ensures used { IsUsed (P.refusals finder.old) (P.refusals finder.new) (P.bad finder.old) (P.bad finder.new) (refused_by result) }
+{
+    match called {
+        Function::RegexMatch => search(at, first, second, finder),
+        _ => Ok(of_two_texts(at, called, first, second)?),
+    }
+}
+
+// What a function that searches nothing gives for two texts.
+fn of_two_texts<'a>(
+    at: u32,
+    called: Function,
+    first: &'a [u8],
+    second: &'a [u8],
+) -> Result<View<'a>, Fault>
+    requires { is_search (function called) ≡ false }
+    ensures { OfTwo None at called first.now second.now (answer_of result) }
+{
+    let truth = match called {
+        Function::KeyMatch => key_match(first, second),
+        Function::KeyMatch2 => key_match2(first, second),
+        Function::KeyMatch3 => key_match3(first, second),
+        Function::KeyMatch4 => key_match4(first, second),
+        Function::KeyMatch5 => key_match5(first, second),
+        Function::GlobMatch => glob_match(first, second),
+        Function::IpMatch => return lies_in(at, first, second),
+        Function::KeyGet => return Ok(View::Text(key_get(first, second))),
+        Function::KeyGet2 | Function::KeyGet3 => return Err(kind(at)),
+        Function::RegexMatch => unreachable!(),
+    };
+    Ok(View::Truth(truth))
+}
+
+// What a function gives for three texts.
+fn of_three<'a>(
+    at: u32,
+    called: Function,
+    first: &'a [u8],
+    second: &[u8],
+    third: &[u8],
+) -> Result<View<'a>, Fault>
+    ensures { OfThree at called first.now second.now third.now (answer_of result) }
+{
+    match called {
+        Function::KeyGet2 => Ok(View::Text(key_get2(first, second, third))),
+        Function::KeyGet3 => Ok(View::Text(key_get3(first, second, third))),
+        _ => Err(kind(at)),
+    }
+}
+
+// Whether an address lies in a block.
+fn lies_in<'a>(at: u32, text: &[u8], block: &[u8]) -> Result<View<'a>, Fault>
+    ensures { IsInBlock at text.now block.now (answer_of result) }
+{
+    match ip_match(text, block) {
+        Ok(inside) => Ok(View::Truth(inside)),
+        Err(IpFault::BadAddress) => Err(Fault {
+            cause: Cause::BadAddress,
+            at,
+        }),
+        Err(IpFault::BadBlock) => Err(Fault {
+            cause: Cause::BadBlock,
+            at,
+        }),
+    }
+}
+
+// Whether the pattern is found in a text.
+fn search<'a, P: Finder>(
+    at: u32,
+    text: &'a [u8],
+    pattern: &'a [u8],
+    finder: &mut P,
+) -> Result<View<'a>, Halt<'a>>
+    ensures value { EndsIn (λ refused r. r ≡ searched refused at text.now pattern.now) datum_of_view true result }
+    ensures used { IsUsed (P.refusals finder.old) (P.refusals finder.new) (P.bad finder.old) (P.bad finder.new) (refused_by result) }
+{
+    match finder.find(pattern, text) {
+        Ok(found) => Ok(View::Truth(found)),
+        Err(FindStop::Refused) => Err(Halt::Refused { at, pattern }),
+        Err(FindStop::NoMemory) => Err(Halt::NoMemory),
+    }
 }

@@ -25,7 +25,7 @@ pub(crate) fn request_value<'a>(
     ensures { option_map datum_of_view result
         ≡ at_column columns.now (map datum request.now) name.now }
 {
-    let Some(at) = place_of(columns, name) else {
+    let Some(at) = place_of(columns, name.bytes()) else {
         return None;
     };
     if at < request.len() {
@@ -42,18 +42,18 @@ pub(crate) fn policy_text<'a>(columns: &Rule, row: Option<&'a Rule>, name: &Text
     let Some(row) = row else {
         return b"";
     };
-    let Some(at) = place_of(columns, name) else {
+    let Some(at) = place_of(columns, name.bytes()) else {
         return b"";
     };
     if at < row.len() { row.field(at) } else { b"" }
 }
 
 // The place of the first column with this name.
-fn place_of(columns: &Rule, name: &Text) -> Option<u32>
+pub(crate) fn place_of(columns: &Rule, name: &[u8]) -> Option<u32>
     ensures { result ≡ position (bytes_eq name.now) columns.now }
 {
     for at in 0..columns.len() {
-        if name.bytes() == columns.field(at) {
+        if name == columns.field(at) {
             return Some(at);
         }
     }

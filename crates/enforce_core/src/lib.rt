@@ -1,16 +1,24 @@
-//! The decision: the value of a matcher over borrowed parts of its text, a request and a row.
+//! The decision: the verdict of a model on a request over the rules of its policy.
 #![tactic(auto)]
 
 mod arithmetic;
 mod calls;
 mod columns;
+mod decide;
 mod evaluate;
+mod halt;
+mod names;
 mod operators;
+mod program;
+mod rows;
+mod scratch;
+mod stop;
 #[cfg(test)]
 mod tests;
 mod truth;
 
-pub use calls::has_calls;
-pub use columns::Columns;
-pub use evaluate::value_of;
-pub use truth::truth_of;
+pub use decide::decide_rows;
+pub use program::{Arity, Program, make_program};
+pub use rows::Rows;
+pub use scratch::Scratch;
+pub use stop::{Stop, tree_value};

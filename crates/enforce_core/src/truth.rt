@@ -1,30 +1,33 @@
-ghost use Rattle.std.specs.Prelude.{◌≡◌, false};
+ghost use Rattle.std.specs.Prelude.{◌≡◌};
 ghost use Rattle.matcher_read.specs.Expression.{expression};
-ghost use Rattle.matcher_meaning.specs.Meaning.{IsTruth, has_calls, place};
-ghost use Rattle.enforce_core.specs.Seen.{environment};
+ghost use Rattle.matcher_meaning.specs.Meaning.{IsTruth, place, searches};
+ghost use Rattle.enforce_core.specs.Seen.{EndsIn, IsUsed, environment, refused_by};
 
 use crate::columns::Columns;
 use crate::evaluate::value_of;
+use crate::halt::Halt;
 use crate::operators::kind;
-use effect_fold::Fault;
 use matcher_read::Tree;
 use perm_base::Rule;
 use perm_value::{Request, View};
+use regex_gate::Finder;
 
-/// Whether a whole matcher holds for a request and a row, or the fault at which its evaluation stops; a value that is no
-/// truth is one of another kind at the root's place. It takes no memory.
-pub fn truth_of(
-    tree: &Tree,
+/// Whether a whole matcher holds for a request and a row, or why it does not say; a value that is no truth is one of
+/// another kind at the root's place.
+pub(crate) fn truth_of<'a, P: Finder>(
+    tree: &'a Tree,
     columns: &Columns<'_>,
-    request: &Request,
-    row: Option<&Rule>,
-) -> Result<bool, Fault>
-    requires { has_calls (expression tree.now) ≡ false }
-    ensures { IsTruth (environment columns.now request.now row.entry) (expression tree.now) result }
+    request: &'a Request,
+    row: Option<&'a Rule>,
+    finder: &mut P,
+) -> Result<bool, Halt<'a>>
+    ensures value { EndsIn (λ refused r. IsTruth (environment columns.now request.now row.entry refused) (expression tree.now) r)
+        (λ b. b) (searches (expression tree.now)) result }
+    ensures used { IsUsed (P.refusals finder.old) (P.refusals finder.new) (P.bad finder.old) (P.bad finder.new) (refused_by result) }
 {
-    match value_of(tree, columns, request, row)? {
+    match value_of(tree, columns, request, row, finder)? {
         View::Truth(truth) => Ok(truth),
-        _ => Err(kind(place_of(tree))),
+        _ => Err(Halt::Fault(kind(place_of(tree)))),
     }
 }
 

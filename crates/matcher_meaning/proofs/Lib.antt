@@ -1,2 +1,5 @@
+mod CallLemmas
+mod RefusalLemmas
 mod MeaningLemmas
 mod PermLemmas
+mod PatternLemmas

@@ -1,5 +1,5 @@
 -- What an expression comes to: a value, or the fault at which its evaluation stopped.
-use Rattle.std.specs.Prelude.{◌≡◌, ℕ, Option, Some, None, Result, Ok, Err}
+use Rattle.std.specs.Prelude.{◌≡◌, ℕ, List, ◌∷◌, Option, Some, None, Result, Ok, Err}
 use Rattle.effect_fold.specs.declared.fault.Cause.{Cause}
 use Rattle.effect_fold.specs.declared.fault.Fault.{Fault}
 use Rattle.perm_value.specs.Datum.{Datum}
@@ -17,11 +17,16 @@ then (Ok d) next = next d
 then (Err fault) next = Err fault
 
 -- what is said of an answer behind this one: by its value, or it is the same fault
-abbrev pub After : Answer → (Datum → Type 0) → Answer → Type 0
-After (Ok d) next r = next d
+abbrev pub After : {X Y : Type 0} → Result X Fault → (X → Type 0) → Result Y Fault → Type 0
+After (Ok x) next r = next x
 After (Err fault) next r = r ≡ Err fault
 
 -- an answer is already there; else it is what is said behind
 abbrev pub Unless : Option Answer → Type 0 → Answer → Type 0
 Unless (Some answer) rest r = r ≡ answer
 Unless None rest r = rest
+
+-- a value before others; a fault stays one
+abbrev pub with_first : Datum → Result (List Datum) Fault → Result (List Datum) Fault
+with_first d (Ok ds) = Ok (d ∷ ds)
+with_first d (Err fault) = Err fault

@@ -1,5 +1,5 @@
 -- What a matcher is judged in: a request and a row, and what calls answer (Casbin, syntax for models: matchers).
-use Rattle.std.specs.Prelude.{ℕ, Bool, false, List, [], Option, Some, None, option_and_then, unwrap_or, position, slice_get}
+use Rattle.std.specs.Prelude.{ℕ, Bool, List, [], Option, Some, None, option_and_then, unwrap_or, position, slice_get}
 use Rattle.std.specs.Str.{bytes_eq}
 use Rattle.perm_value.specs.Datum.{Datum}
 
@@ -12,9 +12,18 @@ pub record Environment : Type 0 where
   pub link : ℕ → List ℕ → List ℕ → Option (List ℕ) → Bool
   pub refused : Option (ℕ × List ℕ)
 
--- a request and a row, without links and with nothing refused
-abbrev pub plain : List (List ℕ) → List Datum → List (List ℕ) → Option (List (List ℕ)) → Environment
-plain request_columns request policy_columns row = record { request_columns = request_columns; request = request; policy_columns = policy_columns; row = row; link = λ _ _ _ _. false; refused = None }
+-- a request and a row, by the columns of both, without role relations, where each name is linked to itself alone, and with the search that was refused, or none
+abbrev pub without_roles : List (List ℕ) → List Datum → List (List ℕ) → Option (List (List ℕ)) → Option (ℕ × List ℕ) → Environment
+without_roles request_columns request policy_columns row refused =
+    record { request_columns = request_columns; request = request; policy_columns = policy_columns; row = row; link = λ relation x y domain. bytes_eq x y; refused = refused }
+
+-- the same where nothing is refused
+abbrev pub unrefused : Environment → Environment
+unrefused env = record env { refused = None }
+
+-- the same where the search at this place for this pattern is refused
+abbrev pub refusing : Environment → ℕ → List ℕ → Environment
+refusing env at pattern = record env { refused = Some (at, pattern) }
 
 -- what stands at the place of a column; None where no column has the name
 abbrev pub at_column : {X : Type 0} → List (List ℕ) → List X → List ℕ → Option X

@@ -5,8 +5,10 @@ use Rattle.effect_fold.specs.declared.fault.Fault.{Fault}
 use Rattle.perm_value.specs.Attribute.{attribute}
 use Rattle.perm_value.specs.Datum.{Datum}
 use Rattle.perm_value.specs.Datum as datum
-use Rattle.matcher_read.specs.Expression.{Expression, text, whole, truth, request, policy, negation, opposite, binary, among, call, Expressions, no_more, one_more}
-use Rattle.matcher_meaning.specs.Answers.{Answer, fails, then, After, Unless}
+use Rattle.matcher_read.specs.Expression.{Callee, function, Expression, text, whole, truth, request, policy, negation, opposite, binary, among, call, Expressions, no_more, one_more}
+use Rattle.matcher_read.specs.declared.tree.Function.TheVariants.{RegexMatch}
+use Rattle.matcher_meaning.specs.Answers.{Answer, fails, then, After, Unless, with_first}
+use Rattle.matcher_meaning.specs.Calls.{Calls}
 use Rattle.matcher_meaning.specs.Environment.{Environment, request_value, policy_text}
 use Rattle.matcher_meaning.specs.Operators.{negated, opposed, settled, joined, found}
 
@@ -17,7 +19,7 @@ along at (Some d) [] = Ok d
 along at (Some d) (name ∷ names) = along at (attribute d name) names
 
 abbrev mutual
-  -- the expression comes to this answer; a call has no meaning yet
+  -- the expression comes to this answer
   pub Means : Environment → Expression → Answer → Type 0
   Means env (text at bytes) r = r ≡ Ok (datum.text bytes)
   Means env (whole at n) r = r ≡ Ok (datum.whole n)
@@ -28,12 +30,17 @@ abbrev mutual
   Means env (opposite at e) r = (x : Answer) × Means env e x × (r ≡ then x (opposed at))
   Means env (binary at op e f) r = (x : Answer) × Means env e x × After x (λ d. Unless (settled at op d) ((y : Answer) × Means env f y × (r ≡ then y (joined at op d))) r) r
   Means env (among at e es) r = (x : Answer) × Means env e x × After x (λ d. IsAmong env d es r) r
-  Means env (call at callee es) r = ⊥
+  Means env (call at callee es) r = (x : Result (List Datum) Fault) × AreArguments env es x × After x (λ ds. Calls env at callee ds r) r
 
   -- whether the value is among these members: true at the first that is or holds it, and no later one is evaluated
   pub IsAmong : Environment → Datum → Expressions → Answer → Type 0
   IsAmong env d no_more r = r ≡ Ok (datum.truth false)
   IsAmong env d (one_more e es) r = (x : Answer) × Means env e x × Unless (found d x) (IsAmong env d es r) r
+
+  -- these arguments come to these values, or to the first fault
+  pub AreArguments : Environment → Expressions → Result (List Datum) Fault → Type 0
+  AreArguments env no_more r = r ≡ Ok []
+  AreArguments env (one_more e es) r = (x : Answer) × Means env e x × After x (λ d. (y : Result (List Datum) Fault) × AreArguments env es y × (r ≡ with_first d y)) r
 
 -- where the root of an expression stands
 abbrev pub place : Expression → ℕ
@@ -57,20 +64,24 @@ truth_at at _ = fails Kind at
 abbrev pub IsTruth : Environment → Expression → Result Bool Fault → Type 0
 IsTruth env e r = (x : Answer) × Means env e x × (r ≡ then x (truth_at (place e)))
 
--- the expression calls a function or asks a role relation
-abbrev mutual
-  pub has_calls : Expression → Bool
-  has_calls (text at bytes) = false
-  has_calls (whole at n) = false
-  has_calls (truth at b) = false
-  has_calls (request at column path) = false
-  has_calls (policy at column) = false
-  has_calls (negation at e) = has_calls e
-  has_calls (opposite at e) = has_calls e
-  has_calls (binary at op e f) = has_calls e || has_calls f
-  has_calls (among at e es) = has_calls e || have_calls es
-  has_calls (call at callee es) = true
+abbrev pub is_search : Callee → Bool
+is_search (function RegexMatch) = true
+is_search _ = false
 
-  pub have_calls : Expressions → Bool
-  have_calls no_more = false
-  have_calls (one_more e es) = has_calls e || have_calls es
+-- the expression calls `regexMatch`
+abbrev mutual
+  pub searches : Expression → Bool
+  searches (text at bytes) = false
+  searches (whole at n) = false
+  searches (truth at b) = false
+  searches (request at column path) = false
+  searches (policy at column) = false
+  searches (negation at e) = searches e
+  searches (opposite at e) = searches e
+  searches (binary at op e f) = searches e || searches f
+  searches (among at e es) = searches e || some_searches es
+  searches (call at callee es) = is_search callee || some_searches es
+
+  pub some_searches : Expressions → Bool
+  some_searches no_more = false
+  some_searches (one_more e es) = searches e || some_searches es

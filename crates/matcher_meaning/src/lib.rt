@@ -3,4 +3,7 @@
 
 mod law;
 
-pub use law::{meaning_is_there, meaning_is_unique, verdict_is_there, verdict_is_unique};
+pub use law::{
+    meaning_is_there, meaning_is_unique, only_a_refusal_is_a_pattern, refusal_is_the_fault,
+    verdict_is_there, verdict_is_unique,
+};

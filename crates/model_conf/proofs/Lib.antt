@@ -18,6 +18,5 @@ pub mod MatcherLemmas
 pub mod KeptLemmas
 pub mod TextLemmas
 pub mod EndLemmas
-pub mod LaterLemmas
 pub mod PrintLemmas
 pub mod AsciiLemmas

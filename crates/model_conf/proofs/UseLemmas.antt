@@ -11,7 +11,6 @@ use Rattle.std.proofs.Math.Numerals.{add-one}
 use Rattle.matcher_read.specs.Expression.{Expression, Expressions, no_more, one_more, count, expression, expressions_of}
 use Rattle.matcher_read.specs.declared.tree.Tree.{Tree}
 use Rattle.perm_base.specs.declared.shapes.RoleShape.{RoleShape}
-use Rattle.model_conf.specs.Later.{has_call, have_call}
 use Rattle.model_conf.specs.Misuses.{misuse_of, misuse_place, earlier, column_misuse, role_misuse}
 use Rattle.model_conf.specs.Uses.{Use, of_request, of_policy, of_relation, uses, all_uses, names_of, is_declared, place_of, sooner, first_by_place, first_undeclared}
 use Rattle.model_conf.specs.declared.uses.Misuse.{Misuse}
@@ -104,19 +103,6 @@ misuse_more requests policies relations trees d at first found within is =
     let rest = misuse_in requests policies relations (uses_of (drop (at + 1) trees)) in
     let here : uses_of (drop at trees) ≡ uses (expression (get_or trees at d)) ++ uses_of (drop (at + 1) trees) = rw (add-one, drop-cons trees at d within) refl in
     earlier-earlier first found rest ∙ ap (earlier first) (ap (λ (o : Option Misuse). earlier o rest) is ∙ sym (misuse_in-append requests policies relations (uses (expression (get_or trees at d))) (uses_of (drop (at + 1) trees))) ∙ ap (misuse_in requests policies relations) (sym here))
-
--- some of the trees calls a function
-abbrev pub have_call_in : List Tree → Bool
-have_call_in trees = have_call (expressions_of (map expression trees))
-
-or_or : (a b c : Bool) → ((a || b) || c) ≡ (a || (b || c))
-or_or true b c = refl
-or_or false b c = refl
-
-pub call_more : (trees : List Tree) (d : Tree) (at : ℕ) (first found : Bool) → at < length trees → found ≡ has_call (expression (get_or trees at d)) → ((first || found) || have_call_in (drop (at + 1) trees)) ≡ (first || have_call_in (drop at trees))
-call_more trees d at first found within is =
-    let here : have_call_in (drop at trees) ≡ (has_call (expression (get_or trees at d)) || have_call_in (drop (at + 1) trees)) = rw (add-one, drop-cons trees at d within) refl in
-    or_or first found (have_call_in (drop (at + 1) trees)) ∙ ap (λ (b : Bool). first || b) (ap (λ (b : Bool). b || have_call_in (drop (at + 1) trees)) is ∙ sym here)
 
 -- before the first of some trees, and behind the last
 pub misuse_begin : (requests policies : List (List ℕ)) (relations : List RoleShape) (first : Option Misuse) (us whole : List Use) (trees items : List Tree) → first ≡ misuse_in requests policies relations us → items ≡ trees → whole ≡ us ++ uses_of trees

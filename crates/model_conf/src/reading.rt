@@ -1,7 +1,7 @@
 ghost use Rattle.std.specs.Prelude.{◌≡◌, ◌≢◌, ◌≤◌, ℕ, List, false, IfErr, IfOk, IsErrOf, IsTrue, MatchResult, length, IsUtf8};
 ghost use Rattle.effect_fold.specs.declared.effect.Effect.{Effect};
 ghost use Rattle.model_conf.specs.Faults as faults;
-ghost use Rattle.model_conf.specs.Later.{is_later, is_other_effect};
+ghost use Rattle.model_conf.specs.Later.{is_later};
 ghost use Rattle.model_conf.specs.Misuses.{misuse_fault};
 ghost use Rattle.model_conf.specs.ModelText.{HasEffect, IsModel, ModelParts, SayModel};
 ghost use Rattle.model_conf.specs.ModelText as text;
@@ -13,7 +13,7 @@ use crate::entries::{Entry, read_entries};
 use crate::fault::ModelFault;
 use crate::model::Model;
 use crate::outline::{read_outline, values_of};
-use crate::uses::{Declared, Misuse, has_call, has_column};
+use crate::uses::{Declared, Misuse};
 use effect_fold::Effect;
 use matcher_read::read_matcher;
 use perm_base::Text;
@@ -110,25 +110,9 @@ fn misuse_fault(misuse: Misuse) -> ModelFault
     }
 }
 
-// A model that is not answered by yet: it declares a relation, has another effect than allow-override or the policy
-// column `eft`, or calls a function.
+// A model that is not answered by yet: it declares some relation.
 fn is_later(model: &Model) -> bool
     ensures { result ≡ is_later model.now }
 {
-    if !model.relations().is_empty() {
-        return true;
-    }
-    if is_other_effect(model.effect()) {
-        return true;
-    }
-    if has_column(model.policy_columns(), b"eft") {
-        return true;
-    }
-    has_call(model.matcher())
-}
-
-fn is_other_effect(effect: Effect) -> bool
-    ensures { result ≡ is_other_effect effect }
-{
-    !matches!(effect, Effect::AllowOverride)
+    !model.relations().is_empty()
 }

@@ -3,7 +3,6 @@ ghost use Rattle.std.specs.List.{list_any};
 ghost use Rattle.std.specs.Str.{bytes_eq};
 ghost use Rattle.matcher_read.specs.Expression.{expression};
 ghost use Rattle.model_conf.specs.Misuses.{column_misuse, earlier, misuse_of, misuse_place, role_misuse};
-ghost use Rattle.model_conf.specs.Later.{has_call};
 ghost use Rattle.model_conf.specs.Uses.{first_undeclared, names_of, uses};
 
 use matcher_read::Tree;
@@ -66,36 +65,6 @@ impl<'a> Declared<'a> {
     }
 }
 
-/// Whether a matcher calls a function.
-pub(crate) fn has_call(tree: &Tree) -> bool
-    ensures { result ≡ has_call (expression tree.now) }
-{
-    match tree {
-        Tree::Text { .. }
-        | Tree::Whole { .. }
-        | Tree::Truth { .. }
-        | Tree::Request { .. }
-        | Tree::Policy { .. } => false,
-        Tree::Not { operand, .. } | Tree::Negate { operand, .. } => has_call(operand),
-        Tree::Binary { left, right, .. } => has_call(left) || has_call(right),
-        Tree::Among { value, members, .. } => {
-            let mut found = has_call(value);
-            for member in members {
-                found = found || has_call(member);
-            }
-            found
-        }
-        Tree::Call { .. } => true,
-        Tree::Role { arguments, .. } => {
-            let mut found = false;
-            for argument in arguments {
-                found = found || has_call(argument);
-            }
-            found
-        }
-    }
-}
-
 // Of two, the one at the lesser place, and at one place the first.
 fn earlier(first: Option<Misuse>, other: Option<Misuse>) -> Option<Misuse>
     ensures { result ≡ earlier first other }
@@ -124,8 +93,8 @@ fn column_misuse(columns: &Rule, at: u32, column: &[u8]) -> Option<Misuse>
     Some(Misuse::Column { at })
 }
 
-/// Whether a column is one of these.
-pub(crate) fn has_column(columns: &Rule, column: &[u8]) -> bool
+// Whether a column is one of these.
+fn has_column(columns: &Rule, column: &[u8]) -> bool
     ensures { result ≡ list_any (bytes_eq column.now) columns.now }
 {
     for at in 0..columns.len() {

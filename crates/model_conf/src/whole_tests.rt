@@ -104,6 +104,14 @@ fn reads(
     Ok(())
 }
 
+// The text is a model with this effect.
+fn has_effect(rt: &(impl Abort + AllocGlobal), text: &str, effect: Effect) {
+    match read_model(rt.alloc(), text.as_bytes()) {
+        Ok(model) => assert_eq!(rt; model.effect(), effect, "e of {text}"),
+        Err(fault) => assert!(rt; false, "{fault:?} of {text}"),
+    }
+}
+
 #[test]
 fn models_are_read_as_they_are_written(rt: HostRuntime) -> Result<(), Fail> {
     reads(
@@ -354,35 +362,54 @@ fn relations_are_told_by_their_numbers(rt: HostRuntime) -> Result<(), Fail> {
 }
 
 #[test]
-fn models_of_later_parts_are_not_answered_by_yet(rt: HostRuntime) -> Result<(), Fail> {
+fn a_model_with_relations_is_not_answered_by_yet(rt: HostRuntime) {
     refuses(&rt, TENANTS.as_bytes(), ModelFault::NotYet);
+}
+
+#[test]
+fn models_with_every_effect_and_with_calls_are_read(rt: HostRuntime) -> Result<(), Fail> {
     let cases = [
-        ("a", "b", "!some(where (p.eft == deny))", "true"),
-        ("a", "b", "!some(where(p.eft==deny))", "true"),
         (
-            "a",
+            "b",
+            "!some(where (p.eft == deny))",
+            "true",
+            Effect::DenyOverride,
+        ),
+        (
+            "b",
+            "!some(where(p.eft==deny))",
+            "true",
+            Effect::DenyOverride,
+        ),
+        (
             "b",
             "some(where (p.eft == allow)) && !some(where (p.eft == deny))",
             "true",
+            Effect::AllowAndDeny,
         ),
-        ("a", "b", "priority(p.eft)||deny", "true"),
-        ("a", "b, eft", "some(where (p.eft == allow))", "true"),
+        ("b", "priority(p.eft)||deny", "true", Effect::Priority),
         (
-            "a",
+            "b, eft",
+            "some(where (p.eft == allow))",
+            "p.eft == r.a",
+            Effect::AllowOverride,
+        ),
+        (
             "b",
             "some(where (p.eft == allow))",
             "keyMatch2(r.a, p.b)",
+            Effect::AllowOverride,
         ),
         (
-            "a",
-            "b",
-            "some(where (p.eft == allow))",
+            "b, eft",
+            "priority(p.eft) || deny",
             "r.a in (p.b, keyGet(r.a, p.b))",
+            Effect::Priority,
         ),
     ];
-    for (request, policy, effect, matcher) in cases {
-        let text = text_of(rt.alloc(), request, policy, effect, matcher)?;
-        refuses(&rt, text.as_bytes(), ModelFault::NotYet);
+    for (policy, effect, matcher, expected) in cases {
+        let text = text_of(rt.alloc(), "a", policy, effect, matcher)?;
+        has_effect(&rt, text.as_str(), expected);
     }
     Ok(())
 }

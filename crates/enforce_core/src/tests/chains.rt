@@ -1,7 +1,9 @@
 use super::trees::rule;
-use crate::{Columns, has_calls, value_of};
-use matcher_read::{Function, Operator, Tree};
+use crate::columns::Columns;
+use crate::evaluate::value_of;
+use matcher_read::{Operator, Tree};
 use perm_value::{Request, View};
+use regex_gate::ListFinder;
 use std::alloc::Global;
 use std::test::Fail;
 
@@ -45,35 +47,8 @@ fn the_longest_chain_and_the_deepest_level(rt: HostRuntime) -> Result<(), Fail> 
     };
     let request = Request::from_vec(Vec::new(alloc));
     let tree = signs(alloc, LEVELS, chain(alloc, OPERATORS)?)?;
-    if has_calls(&tree) {
-        return Err(Fail::from("a call"));
-    }
-    let value = value_of(&tree, &columns, &request, None);
+    let mut finder = ListFinder::new(alloc, Vec::new(alloc));
+    let value = value_of(&tree, &columns, &request, None, &mut finder);
     assert!(rt; matches!(value, Ok(View::Whole(1_024))));
-    Ok(())
-}
-
-#[test]
-fn a_call_is_found_at_any_depth(rt: HostRuntime) -> Result<(), Fail> {
-    let alloc = rt.alloc();
-    let call = Tree::Call {
-        at: 1,
-        function: Function::KeyMatch,
-        arguments: Vec::new(alloc),
-    };
-    let role = Tree::Role {
-        at: 1,
-        relation: 1,
-        arguments: Vec::new(alloc),
-    };
-    let members = vec![in alloc; Tree::Truth { at: 1, truth: true }, signs(alloc, 2, role)?]?;
-    let among = Tree::Among {
-        at: 1,
-        value: Box::new(alloc, Tree::Truth { at: 1, truth: true })?,
-        members,
-    };
-    assert!(rt; has_calls(&signs(alloc, 3, call)?), "a function");
-    assert!(rt; has_calls(&among), "a role relation");
-    assert!(rt; !has_calls(&chain(alloc, 3)?), "neither");
     Ok(())
 }

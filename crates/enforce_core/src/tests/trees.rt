@@ -1,8 +1,12 @@
-use crate::{Columns, has_calls, truth_of, value_of};
+use crate::columns::Columns;
+use crate::evaluate::value_of;
+use crate::halt::Halt;
+use crate::truth::truth_of;
 use effect_fold::{Cause, Fault};
-use matcher_read::{Operator, Tree};
+use matcher_read::{Function, Operator, Tree};
 use perm_base::{Rule, Text};
 use perm_value::{Request, View, request_of_json};
+use regex_gate::ListFinder;
 use std::alloc::{AllocGlobal, Global};
 use std::process::Abort;
 use std::test::Fail;
@@ -37,6 +41,7 @@ pub fn assert_each(rt: &(impl Abort + AllocGlobal), of: Of, cases: &str) -> Resu
         };
         let tree = tree_of(alloc, words)?;
         let is_so = comes_to(
+            alloc,
             of,
             &tree,
             told,
@@ -50,8 +55,9 @@ pub fn assert_each(rt: &(impl Abort + AllocGlobal), of: Of, cases: &str) -> Resu
     Ok(())
 }
 
-// Whether a tree without calls comes to what a word tells.
+// Whether a tree comes to what a word tells, by a finder that refuses only what `regex` does not build.
 fn comes_to<'a>(
+    alloc: Global,
     of: Of,
     tree: &'a Tree,
     told: &str,
@@ -60,29 +66,33 @@ fn comes_to<'a>(
     request: &'a Request,
     row: &'a Rule,
 ) -> bool {
-    if has_calls(tree) {
-        return false;
-    }
     let columns = Columns {
         request: request_columns,
         policy: policy_columns,
     };
+    let mut finder = ListFinder::new(alloc, Vec::new(alloc));
     match of {
-        Of::Values => is_told(value_of(tree, &columns, request, Some(row)), told),
-        Of::ValuesWithoutRow => is_told(value_of(tree, &columns, request, None), told),
-        Of::Truths => is_told(as_value(truth_of(tree, &columns, request, Some(row))), told),
+        Of::Values => is_told(
+            value_of(tree, &columns, request, Some(row), &mut finder),
+            told,
+        ),
+        Of::ValuesWithoutRow => is_told(value_of(tree, &columns, request, None, &mut finder), told),
+        Of::Truths => is_told(
+            as_value(truth_of(tree, &columns, request, Some(row), &mut finder)),
+            told,
+        ),
     }
 }
 
-fn as_value(truth: Result<bool, Fault>) -> Result<View<'static>, Fault> {
+fn as_value<'a>(truth: Result<bool, Halt<'a>>) -> Result<View<'a>, Halt<'a>> {
     match truth {
         Ok(truth) => Ok(View::Truth(truth)),
-        Err(fault) => Err(fault),
+        Err(halt) => Err(halt),
     }
 }
 
 // Whether this is what a word tells: a value, or a cause and a place.
-fn is_told(value: Result<View<'_>, Fault>, told: &str) -> bool {
+fn is_told(value: Result<View<'_>, Halt<'_>>, told: &str) -> bool {
     match value {
         Ok(View::Truth(truth)) => told == (if truth { "true" } else { "false" }),
         Ok(View::Whole(number)) => told.parse::<i64>().ok() == Some(number),
@@ -92,7 +102,9 @@ fn is_told(value: Result<View<'_>, Fault>, told: &str) -> bool {
         Ok(View::Nothing) => told == "nothing",
         Ok(View::List(_)) => told == "list",
         Ok(View::Object(_)) => told == "object",
-        Err(fault) => is_fault(fault, told),
+        Err(Halt::Fault(fault)) => is_fault(fault, told),
+        Err(Halt::Refused { at, .. }) => is_at(at, "pattern", told),
+        Err(Halt::NoMemory) => false,
     }
 }
 
@@ -103,12 +115,19 @@ fn is_fault(fault: Fault, told: &str) -> bool {
         Cause::NoAttribute => "no-attribute",
         Cause::Overflow => "overflow",
         Cause::ZeroDivisor => "zero-divisor",
-        _ => return false,
+        Cause::BadAddress => "bad-address",
+        Cause::BadBlock => "bad-block",
+        Cause::Pattern => return false,
     };
-    let Some((name, at)) = told.split_once(' ') else {
+    is_at(fault.at, cause, told)
+}
+
+// Whether this cause and this place are told.
+fn is_at(at: u32, cause: &str, told: &str) -> bool {
+    let Some((name, place)) = told.split_once(' ') else {
         return false;
     };
-    name == cause && at.parse::<u32>().ok() == Some(fault.at)
+    name == cause && place.parse::<u32>().ok() == Some(at)
 }
 
 /// The rule of these words.
@@ -152,6 +171,10 @@ fn node(alloc: Global, word: &str, at: u32, trees: &mut Vec<Tree>) -> Result<Tre
             right,
         });
     }
+    if let Some(function) = function_of(word) {
+        let count = count_of(function);
+        return call(alloc, at, function, count, trees);
+    }
     match word {
         "!" => Ok(Tree::Not {
             at,
@@ -164,18 +187,41 @@ fn node(alloc: Global, word: &str, at: u32, trees: &mut Vec<Tree>) -> Result<Tre
         "in1" => members(alloc, at, 1, trees),
         "in2" => members(alloc, at, 2, trees),
         "in3" => members(alloc, at, 3, trees),
+        "keyMatch1arg" => call(alloc, at, Function::KeyMatch, 1, trees),
+        "g2args" => role(alloc, at, 2, trees),
+        "g3args" => role(alloc, at, 3, trees),
         _ => leaf(alloc, word, at),
     }
 }
 
 fn members(alloc: Global, at: u32, count: u32, trees: &mut Vec<Tree>) -> Result<Tree, Fail> {
-    let mut members = Vec::new(alloc);
-    for _ in 0..count {
-        members.push(last(trees)?)?;
-    }
-    members.reverse();
+    let members = last_trees(alloc, count, trees)?;
     let value = Box::new(alloc, last(trees)?)?;
     Ok(Tree::Among { at, value, members })
+}
+
+fn call(
+    alloc: Global,
+    at: u32,
+    function: Function,
+    count: u32,
+    trees: &mut Vec<Tree>,
+) -> Result<Tree, Fail> {
+    let arguments = last_trees(alloc, count, trees)?;
+    Ok(Tree::Call {
+        at,
+        function,
+        arguments,
+    })
+}
+
+fn role(alloc: Global, at: u32, count: u32, trees: &mut Vec<Tree>) -> Result<Tree, Fail> {
+    let arguments = last_trees(alloc, count, trees)?;
+    Ok(Tree::Role {
+        at,
+        relation: 1,
+        arguments,
+    })
 }
 
 fn leaf(alloc: Global, word: &str, at: u32) -> Result<Tree, Fail> {
@@ -211,6 +257,40 @@ fn leaf(alloc: Global, word: &str, at: u32) -> Result<Tree, Fail> {
 
 fn last(trees: &mut Vec<Tree>) -> Result<Tree, Fail> {
     Ok(trees.pop().ok_or("too few operands")?)
+}
+
+fn last_trees(alloc: Global, count: u32, trees: &mut Vec<Tree>) -> Result<Vec<Tree>, Fail> {
+    let mut taken = Vec::new(alloc);
+    for _ in 0..count {
+        taken.push(last(trees)?)?;
+    }
+    taken.reverse();
+    Ok(taken)
+}
+
+// How many arguments a function's own word takes.
+fn count_of(function: Function) -> u32 {
+    match function {
+        Function::KeyGet2 | Function::KeyGet3 => 3,
+        _ => 2,
+    }
+}
+
+fn function_of(word: &str) -> Option<Function> {
+    match word {
+        "keyMatch" => Some(Function::KeyMatch),
+        "keyMatch2" => Some(Function::KeyMatch2),
+        "keyMatch3" => Some(Function::KeyMatch3),
+        "keyMatch4" => Some(Function::KeyMatch4),
+        "keyMatch5" => Some(Function::KeyMatch5),
+        "regexMatch" => Some(Function::RegexMatch),
+        "ipMatch" => Some(Function::IpMatch),
+        "globMatch" => Some(Function::GlobMatch),
+        "keyGet" => Some(Function::KeyGet),
+        "keyGet2" => Some(Function::KeyGet2),
+        "keyGet3" => Some(Function::KeyGet3),
+        _ => None,
+    }
 }
 
 fn operator_of(word: &str) -> Option<Operator> {

@@ -3,8 +3,7 @@ use Rattle.std.proofs.lemmas.Result.{err_from_is_err_and}
 use Rattle.perm_base.specs.Faults.{Rose}
 use Rattle.perm_base.specs.Files.{Holds}
 use Rattle.casbin_run.specs.Parts.{model_limit}
-use Rattle.casbin_run.proofs.CallLemmas.{plain_model}
-use Rattle.casbin_run.proofs.ReadingLemmas.{answered_by, found_file, model_stops}
+use Rattle.casbin_run.proofs.ReadingLemmas.{found_file, model_stops}
 use Rattle.casbin_run.proofs.files.read_model_file.Goals as goal
 
 pub returns-in_err-read_model-clause-stopped : goal.returns-in_err-read_model-clause-stopped
@@ -19,6 +18,3 @@ returns-clause-read g c =
     let holds : Holds (g.F.Shelf.files c.args.shelf.now) c.args.name.now c.deref.result.now = search rules in
     let within : length c.deref.result.now ≤ model_limit = search rules in
     found_file _ _ _ _ holds within c.in_ok-read_model.ensures.found c.in_ok-read_model.ensures.only_not_yet
-
-pub returns-clause-plain : goal.returns-clause-plain
-returns-clause-plain g c = plain_model c.deref.result.now _ (answered_by _ _ c.in_ok-read_model.ensures.found c.in_ok-read_model.ensures.only_not_yet)

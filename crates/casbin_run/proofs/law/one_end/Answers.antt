@@ -1,4 +1,4 @@
-use Rattle.casbin_run.proofs.OneEnd.{SaysOnce, one_cause, no_cause, one_text}
+use Rattle.casbin_run.proofs.OneEnd.{one_cause, no_cause, one_text}
 use Rattle.casbin_run.proofs.law.one_end.Goals as goal
 
 pub returns-clause-one_cause : goal.returns-clause-one_cause

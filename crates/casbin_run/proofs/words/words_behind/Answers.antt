@@ -1,4 +1,4 @@
-use Rattle.std.proofs.Common.{ℕ, List, String, Global, ◌+◌, ◌-◌, drop, length, sym, ap, ◌∙◌, arith, take}
+use Rattle.std.proofs.Common.{String, Global, ◌+◌, ◌-◌, drop, length, sym, ap, ◌∙◌, arith}
 use Rattle.std.specs.Prelude.{map, string_bytes}
 use Rattle.std.proofs.lemmas.List.{drop-map, take_all, length-drop}
 use Rattle.casbin_run.proofs.words.words_behind.Goals as goal

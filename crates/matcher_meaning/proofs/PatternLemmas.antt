@@ -1,0 +1,299 @@
+-- Where no search is refused, no fault is that of a pattern.
+use Rattle.std.proofs.Common.{◌≡◌, inl, inr, ℕ, ◌+◌, ℤ, ◌+ℤ◌, ◌-ℤ◌, ◌*ℤ◌, neg_ℤ, Bool, true, false, List, [], ◌∷◌, Option, Some, None, Result, Ok, Err, cond, find, if◌then◌else◌, pos, int_div, int_rem, refl, sym, ap, ◌∙◌, subst}
+use Rattle.std.specs.Bool.{⊤}
+use Rattle.std.specs.Ordering.{int_eq, is_lt, is_le, is_gt, is_ge}
+use Rattle.std.specs.declared.cmp.Ordering.{Ordering}
+use Rattle.effect_fold.specs.Verdict.{Taken, ends, unsettled, allow_by, allows, settled_by, verdict_at}
+use Rattle.effect_fold.specs.declared.effect.Effect.{Effect}
+use Rattle.effect_fold.specs.declared.effect.Effect.TheVariants as effect
+use Rattle.effect_fold.specs.declared.fault.Cause.TheVariants.{Kind, Overflow, ZeroDivisor, BadAddress, BadBlock}
+use Rattle.effect_fold.specs.declared.fault.Fault.{Fault}
+use Rattle.effect_fold.specs.declared.outcome.Outcome.{Outcome}
+use Rattle.effect_fold.specs.declared.outcome.Outcome.TheVariants.{Unmatched, Matched, Failed}
+use Rattle.effect_fold.specs.declared.verdict.Verdict.{Verdict}
+use Rattle.ip_match.specs.Blocks.{IsInside}
+use Rattle.key_match.specs.Divisions.{LongerFirst, ShorterSegmentFirst, IsNamedPart}
+use Rattle.key_match.specs.Names.{CoversAlike}
+use Rattle.key_match.specs.Patterns.{brace_pieces, colon_pieces, glob_pieces}
+use Rattle.key_match.specs.Pieces.{Covers}
+use Rattle.key_match.specs.Stars.{AgreesToStar, part_at_star}
+use Rattle.matcher_read.specs.Expression.{Callee, function, relation, unknown, Expression, text, whole, truth, request, policy, negation, opposite, binary, among, call, Expressions, no_more, one_more}
+use Rattle.matcher_read.specs.declared.tree.Function.{Function}
+use Rattle.matcher_read.specs.declared.tree.Function.TheVariants as f
+use Rattle.matcher_read.specs.declared.tree.Operator.{Operator}
+use Rattle.matcher_read.specs.declared.tree.Operator.TheVariants as op
+use Rattle.perm_value.specs.Attribute.{attribute}
+use Rattle.perm_value.specs.Datum.{Datum}
+use Rattle.perm_value.specs.Datum as datum
+use Rattle.matcher_meaning.specs.Answers as answers
+use Rattle.matcher_meaning.specs.Answers.{Answer, After, Unless, with_first}
+use Rattle.matcher_meaning.specs.Arithmetic.{fits, fitted, divided, of_wholes}
+use Rattle.matcher_meaning.specs.Calls.{IsWhether, IsText, searched, IsInBlock, without_query, OfTwo, OfThree, linked, CallsTexts, texts_of, Calls}
+use Rattle.matcher_meaning.specs.Environment.{Environment, unrefused, without_roles, request_value, policy_text}
+use Rattle.matcher_meaning.specs.Meaning.{Means, IsAmong, AreArguments, IsTruth, along, place, truth_at}
+use Rattle.matcher_meaning.specs.Operators.{negated, opposed, as_truth, ended_by, settled, ordered, joined, is_member, found}
+use Rattle.matcher_meaning.specs.Perm.{Judging, IsOutcome, AreOutcomes, IsOnce, HasOutcomes, IsPerm, outcome_of, row_word, names_policy, is_pattern, is_refusal}
+
+-- the result is a value, or a fault of another cause than a pattern
+abbrev pub IsClear : {X : Type 0} → Result X Fault → Type 0
+IsClear (Ok x) = ⊤
+IsClear (Err fault) = is_pattern fault.cause ≡ false
+
+-- no result of which this holds is the fault of a pattern
+abbrev pub AreClear : {X : Type 0} → (Result X Fault → Type 0) → Type 0
+AreClear {X} P = (r : Result X Fault) → P r → IsClear r
+
+-- an answer that is there is not the fault of a pattern
+abbrev pub IsClearThere : Option Answer → Type 0
+IsClearThere (Some answer) = IsClear answer
+IsClearThere None = ⊤
+
+same_clear : {X : Type 0} (r s : Result X Fault) → r ≡ s → IsClear s → IsClear r
+same_clear {X} r s e clear = subst (λ (x : Result X Fault). IsClear x) (sym e) clear
+
+then_clear : {X : Type 0} (x : Answer) (next : Datum → Result X Fault) → IsClear x → ((d : Datum) → IsClear (next d)) → IsClear (answers.then x next)
+then_clear (Ok d) next clear follows = follows d
+then_clear (Err fault) next clear follows = clear
+
+next_clear : {X Y : Type 0} (P : Result X Fault → Type 0) (next : Result X Fault → Result Y Fault) → AreClear P → ((x : Result X Fault) → IsClear x → IsClear (next x))
+    → AreClear (λ r. (x : Result X Fault) × P x × (r ≡ next x))
+next_clear P next clear follows r (x, p, e) = same_clear r (next x) e (follows x (clear x p))
+
+after_clear : {X Y : Type 0} (P : Result X Fault → Type 0) (R : X → Result Y Fault → Type 0) → AreClear P → ((x : X) → AreClear (R x))
+    → AreClear (λ r. (x : Result X Fault) × P x × After x (λ d. R d r) r)
+after_clear {X} {Y} P R clear follows r (x, p, after) = go x (clear x p) after
+  where
+    go : (y : Result X Fault) → IsClear y → After y (λ d. R d r) r → IsClear r
+    go (Ok d) given q = follows d r q
+    go (Err fault) given e = same_clear r (Err fault) e given
+
+unless_clear : (there : Option Answer) (P : Answer → Type 0) → IsClearThere there → AreClear P → AreClear (λ r. Unless there (P r) r)
+unless_clear (Some answer) P there clear r e = same_clear r answer e there
+unless_clear None P there clear r p = clear r p
+
+first_clear : (d : Datum) (x : Result (List Datum) Fault) → IsClear x → IsClear (with_first d x)
+first_clear d (Ok ds) clear = tt
+first_clear d (Err fault) clear = clear
+
+negated_clear : (at : ℕ) (d : Datum) → IsClear (negated at d)
+negated_clear at (datum.truth b) = tt
+negated_clear at _ = refl
+
+cond_clear : {X : Type 0} (test : Bool) (r s : Result X Fault) → IsClear r → IsClear s → IsClear (if test then r else s)
+cond_clear true r s clear other = clear
+cond_clear false r s clear other = other
+
+fitted_clear : (at : ℕ) (n : ℤ) → IsClear (fitted at n)
+fitted_clear at n = cond_clear (fits n) (Ok (datum.whole n)) (answers.fails Overflow at) tt refl
+
+divided_clear : (at : ℕ) (n by given : ℤ) → IsClear (divided at n by given)
+divided_clear at n by given =
+    cond_clear (int_eq by (pos 0)) (answers.fails ZeroDivisor at) (if fits (int_div n by) then Ok (datum.whole given) else answers.fails Overflow at) refl
+    (cond_clear (fits (int_div n by)) (Ok (datum.whole given)) (answers.fails Overflow at) tt refl)
+
+opposed_clear : (at : ℕ) (d : Datum) → IsClear (opposed at d)
+opposed_clear at (datum.whole n) = fitted_clear at (neg_ℤ n)
+opposed_clear at _ = refl
+
+wholes_clear : (at : ℕ) (give : ℤ → ℤ → Answer) → ((n m : ℤ) → IsClear (give n m)) → (d e : Datum) → IsClear (of_wholes at give d e)
+wholes_clear at give clear (datum.whole n) (datum.whole m) = clear n m
+wholes_clear at give clear _ _ = refl
+
+side_clear : (at : ℕ) (d : Datum) → IsClear (as_truth at d)
+side_clear at (datum.truth b) = tt
+side_clear at _ = refl
+
+ordered_clear : (at : ℕ) (is_so : Ordering → Bool) (d e : Datum) → IsClear (ordered at is_so d e)
+ordered_clear at is_so (datum.whole n) (datum.whole m) = tt
+ordered_clear at is_so (datum.text s) (datum.text t) = tt
+ordered_clear at is_so _ _ = refl
+
+joined_clear : (at : ℕ) (o : Operator) (d e : Datum) → IsClear (joined at o d e)
+joined_clear at op.Or d e = side_clear at e
+joined_clear at op.And d e = side_clear at e
+joined_clear at op.Equal d e = tt
+joined_clear at op.NotEqual d e = tt
+joined_clear at op.Less d e = ordered_clear at is_lt d e
+joined_clear at op.AtMost d e = ordered_clear at is_le d e
+joined_clear at op.Greater d e = ordered_clear at is_gt d e
+joined_clear at op.AtLeast d e = ordered_clear at is_ge d e
+joined_clear at op.Plus d e = wholes_clear at (λ n m. fitted at (n +ℤ m)) (λ n m. fitted_clear at (n +ℤ m)) d e
+joined_clear at op.Minus d e = wholes_clear at (λ n m. fitted at (n -ℤ m)) (λ n m. fitted_clear at (n -ℤ m)) d e
+joined_clear at op.Times d e = wholes_clear at (λ n m. fitted at (n *ℤ m)) (λ n m. fitted_clear at (n *ℤ m)) d e
+joined_clear at op.Over d e = wholes_clear at (λ n m. divided at n m (int_div n m)) (λ n m. divided_clear at n m (int_div n m)) d e
+joined_clear at op.Remainder d e = wholes_clear at (λ n m. divided at n m (int_rem n m)) (λ n m. divided_clear at n m (int_rem n m)) d e
+
+ended_clear : (at : ℕ) (by : Bool) (d : Datum) → IsClearThere (ended_by at by d)
+ended_clear at true (datum.truth true) = tt
+ended_clear at true (datum.truth false) = tt
+ended_clear at false (datum.truth false) = tt
+ended_clear at false (datum.truth true) = tt
+ended_clear at _ _ = refl
+
+settled_clear : (at : ℕ) (o : Operator) (d : Datum) → IsClearThere (settled at o d)
+settled_clear at op.Or d = ended_clear at true d
+settled_clear at op.And d = ended_clear at false d
+settled_clear at _ d = tt
+
+found_clear : (d : Datum) (x : Answer) → IsClear x → IsClearThere (found d x)
+found_clear d (Ok e) clear = go (is_member d e)
+  where
+    go : (b : Bool) → IsClearThere (if b then Some (Ok (datum.truth true)) else None)
+    go true = tt
+    go false = tt
+found_clear d (Err fault) clear = clear
+
+along_clear : (at : ℕ) (d : Option Datum) (names : List (List ℕ)) → IsClear (along at d names)
+along_clear at None names = refl
+along_clear at (Some d) [] = tt
+along_clear at (Some d) (name ∷ names) = along_clear at (attribute d name) names
+
+whether_clear : (fact : Type 0) → AreClear (IsWhether fact)
+whether_clear fact r (b, p, e) = same_clear r (Ok (datum.truth b)) e tt
+
+text_clear : (fact : List ℕ → Type 0) → AreClear (IsText fact)
+text_clear fact r (t, p, e) = same_clear r (Ok (datum.text t)) e tt
+
+block_clear : (at : ℕ) (s t : List ℕ) → AreClear (IsInBlock at s t)
+block_clear at s t r (inl p) = same_clear r (answers.fails BadAddress at) p.1 refl
+block_clear at s t r (inr (inl p)) = same_clear r (answers.fails BadBlock at) p.2 refl
+block_clear at s t r (inr (inr p)) = whether_clear (IsInside p.0 p.1.address p.1.bits) r p.4
+
+two_clear : (at : ℕ) (called : Function) (s t : List ℕ) → AreClear (OfTwo None at called s t)
+two_clear at f.KeyMatch s t r p = whether_clear (AgreesToStar s t) r p
+two_clear at f.KeyMatch2 s t r p = whether_clear (Covers (colon_pieces t) s) r p
+two_clear at f.KeyMatch3 s t r p = whether_clear (Covers (brace_pieces t) s) r p
+two_clear at f.KeyMatch4 s t r p = whether_clear (CoversAlike (brace_pieces t) s) r p
+two_clear at f.KeyMatch5 s t r p = whether_clear (Covers (brace_pieces t) (without_query s)) r p
+two_clear at f.GlobMatch s t r p = whether_clear (Covers (glob_pieces t) s) r p
+two_clear at f.RegexMatch s t r e = same_clear r (searched None at s t) e tt
+two_clear at f.IpMatch s t r p = block_clear at s t r p
+two_clear at f.KeyGet s t r e = same_clear r (Ok (datum.text (part_at_star s t))) e tt
+two_clear at f.KeyGet2 s t r e = same_clear r (answers.fails Kind at) e refl
+two_clear at f.KeyGet3 s t r e = same_clear r (answers.fails Kind at) e refl
+
+three_clear : (at : ℕ) (called : Function) (s t u : List ℕ) → AreClear (OfThree at called s t u)
+three_clear at f.KeyGet2 s t u r p = text_clear (IsNamedPart LongerFirst (colon_pieces t) s u) r p
+three_clear at f.KeyGet3 s t u r p = text_clear (IsNamedPart ShorterSegmentFirst (brace_pieces t) s u) r p
+three_clear at _ s t u r e = same_clear r (answers.fails Kind at) e refl
+
+texts_clear : (env : Environment) (at : ℕ) (callee : Callee) (ts : Option (List (List ℕ))) → AreClear (CallsTexts (unrefused env) at callee ts)
+texts_clear env at (function called) (Some (s ∷ t ∷ [])) r p = two_clear at called s t r p
+texts_clear env at (relation number) (Some (s ∷ t ∷ [])) r e = same_clear r (linked env number s t None) e tt
+texts_clear env at (unknown parts) (Some (s ∷ t ∷ [])) r e = same_clear r (answers.fails Kind at) e refl
+texts_clear env at (function called) (Some (s ∷ t ∷ u ∷ [])) r p = three_clear at called s t u r p
+texts_clear env at (relation number) (Some (s ∷ t ∷ u ∷ [])) r e = same_clear r (linked env number s t (Some u)) e tt
+texts_clear env at (unknown parts) (Some (s ∷ t ∷ u ∷ [])) r e = same_clear r (answers.fails Kind at) e refl
+texts_clear env at callee None r e = same_clear r (answers.fails Kind at) e refl
+texts_clear env at callee (Some []) r e = same_clear r (answers.fails Kind at) e refl
+texts_clear env at callee (Some (s ∷ [])) r e = same_clear r (answers.fails Kind at) e refl
+texts_clear env at callee (Some (s ∷ t ∷ u ∷ v ∷ more)) r e = same_clear r (answers.fails Kind at) e refl
+
+mutual
+  pub value_clear : (env : Environment) (e : Expression) → AreClear (Means (unrefused env) e)
+  value_clear env (text at bytes) r e = same_clear r (Ok (datum.text bytes)) e tt
+  value_clear env (whole at n) r e = same_clear r (Ok (datum.whole n)) e tt
+  value_clear env (truth at b) r e = same_clear r (Ok (datum.truth b)) e tt
+  value_clear env (request at column path) r e = same_clear r (along at (request_value env column) path) e (along_clear at (request_value env column) path)
+  value_clear env (policy at column) r e = same_clear r (Ok (datum.text (policy_text env column))) e tt
+  value_clear env (negation at e) r p = next_clear (Means (unrefused env) e) (λ x. answers.then x (negated at)) (value_clear env e) (λ x clear. then_clear x (negated at) clear (negated_clear at)) r p
+  value_clear env (opposite at e) r p = next_clear (Means (unrefused env) e) (λ x. answers.then x (opposed at)) (value_clear env e) (λ x clear. then_clear x (opposed at) clear (opposed_clear at)) r p
+  value_clear env (binary at o e g) r p =
+      after_clear (Means (unrefused env) e) (λ d r. Unless (settled at o d) ((y : Answer) × Means (unrefused env) g y × (r ≡ answers.then y (joined at o d))) r)
+      (value_clear env e)
+      (λ d. unless_clear (settled at o d) (λ r. (y : Answer) × Means (unrefused env) g y × (r ≡ answers.then y (joined at o d))) (settled_clear at o d)
+      (next_clear (Means (unrefused env) g) (λ y. answers.then y (joined at o d)) (value_clear env g) (λ y clear. then_clear y (joined at o d) clear (joined_clear at o d)))) r p
+  value_clear env (among at e es) r p = after_clear (Means (unrefused env) e) (λ d r. IsAmong (unrefused env) d es r) (value_clear env e) (λ d. among_clear env d es) r p
+  value_clear env (call at callee es) r p =
+      after_clear (AreArguments (unrefused env) es) (λ ds r. Calls (unrefused env) at callee ds r) (arguments_clear env es) (λ ds. texts_clear env at callee (texts_of ds)) r p
+
+  among_clear : (env : Environment) (d : Datum) (es : Expressions) → AreClear (IsAmong (unrefused env) d es)
+  among_clear env d no_more r e = same_clear r (Ok (datum.truth false)) e tt
+  among_clear env d (one_more e es) r (x, p, unless) =
+      unless_clear (found d x) (IsAmong (unrefused env) d es) (found_clear d x (value_clear env e x p)) (among_clear env d es) r unless
+
+  arguments_clear : (env : Environment) (es : Expressions) → AreClear (AreArguments (unrefused env) es)
+  arguments_clear env no_more r e = same_clear r (Ok []) e tt
+  arguments_clear env (one_more e es) r p =
+      after_clear (Means (unrefused env) e) (λ d r. (y : Result (List Datum) Fault) × AreArguments (unrefused env) es y × (r ≡ with_first d y)) (value_clear env e)
+      (λ d. next_clear (AreArguments (unrefused env) es) (with_first d) (arguments_clear env es) (first_clear d)) r p
+
+truth_at_clear : (at : ℕ) (d : Datum) → IsClear (truth_at at d)
+truth_at_clear at (datum.truth b) = tt
+truth_at_clear at _ = refl
+
+pub truth_clear : (env : Environment) (e : Expression) → AreClear (IsTruth (unrefused env) e)
+truth_clear env e = next_clear (Means (unrefused env) e) (λ x. answers.then x (truth_at (place e))) (value_clear env e) (λ x clear. then_clear x (truth_at (place e)) clear (truth_at_clear (place e)))
+
+-- the outcome is not the fault of a pattern
+abbrev IsClearOutcome : Outcome → Type 0
+IsClearOutcome Unmatched = ⊤
+IsClearOutcome (Matched allow) = ⊤
+IsClearOutcome (Failed fault) = is_pattern fault.cause ≡ false
+
+-- none of these outcomes is the fault of a pattern
+abbrev AreClearOutcomes : List Taken → Type 0
+AreClearOutcomes [] = ⊤
+AreClearOutcomes (taken ∷ others) = IsClearOutcome taken.1 × AreClearOutcomes others
+
+-- an outcome that was found is not the fault of a pattern
+abbrev IsClearFound : Option Taken → Type 0
+IsClearFound (Some taken) = IsClearOutcome taken.1
+IsClearFound None = ⊤
+
+outcome_of_clear : (t : Result Bool Fault) (word : Option Bool) → IsClear t → IsClearOutcome (outcome_of t word)
+outcome_of_clear (Err failed) word clear = clear
+outcome_of_clear (Ok false) word clear = tt
+outcome_of_clear (Ok true) None clear = tt
+outcome_of_clear (Ok true) (Some word) clear = tt
+
+outcome_clear : (m : Judging) (q : List Datum) (row : Option (List (List ℕ))) (word : Option Bool) (outcome : Outcome) → IsOutcome m q None row word outcome → IsClearOutcome outcome
+outcome_clear m q row word outcome (t, is, e) =
+    subst IsClearOutcome (sym e) (outcome_of_clear t word (truth_clear (without_roles m.request_columns q m.policy_columns row None) m.matcher t is))
+
+outcomes_clear : (m : Judging) (q : List Datum) (number : ℕ) (rows : List (List (List ℕ))) (outcomes : List Taken) → AreOutcomes m q None number rows outcomes → AreClearOutcomes outcomes
+outcomes_clear m q number [] [] p = tt
+outcomes_clear m q number [] (taken ∷ others) p = absurd p
+outcomes_clear m q number (row ∷ rows) [] p = absurd p
+outcomes_clear m q number (row ∷ rows) (taken ∷ others) p =
+    (outcome_clear m q (Some row) (row_word m.policy_columns row) taken.1 p.1, outcomes_clear m q (number + 1) rows others p.2)
+
+once_clear : (m : Judging) (q : List Datum) (outcomes : List Taken) → IsOnce m q None outcomes → AreClearOutcomes outcomes
+once_clear m q outcomes (outcome, is, e) = subst AreClearOutcomes (sym e) (outcome_clear m q None (Some true) outcome is, tt)
+
+all_clear : (m : Judging) (q : List Datum) (named : Bool) (rows : List (List (List ℕ))) (outcomes : List Taken) → HasOutcomes m q None named rows outcomes → AreClearOutcomes outcomes
+all_clear m q false rows outcomes p = once_clear m q outcomes p
+all_clear m q true [] outcomes p = once_clear m q outcomes p
+all_clear m q true (row ∷ rows) outcomes p = outcomes_clear m q 1 (row ∷ rows) outcomes p
+
+find_clear : (test : Taken → Bool) (outcomes : List Taken) → AreClearOutcomes outcomes → IsClearFound (find test outcomes)
+find_clear test [] clear = tt
+find_clear test (taken ∷ others) clear = go (test taken) (find_clear test others clear.1)
+  where
+    go : (b : Bool) → IsClearFound (find test others) → IsClearFound (cond b (Some taken) (find test others))
+    go true later = clear.0
+    go false later = later
+
+settled_by_clear : (row : Option ℕ) (outcome : Outcome) → IsClearOutcome outcome → is_refusal (settled_by row outcome) ≡ false
+settled_by_clear row (Failed fault) clear = clear
+settled_by_clear row (Matched true) clear = refl
+settled_by_clear row (Matched false) clear = refl
+settled_by_clear row Unmatched clear = refl
+
+unsettled_clear : (e : Effect) (outcomes : List Taken) → is_refusal (unsettled e outcomes) ≡ false
+unsettled_clear effect.AllowOverride outcomes = refl
+unsettled_clear effect.DenyOverride outcomes = refl
+unsettled_clear effect.AllowAndDeny outcomes = go (find allows outcomes)
+  where
+    go : (taken : Option Taken) → is_refusal (allow_by taken) ≡ false
+    go (Some taken) = refl
+    go None = refl
+unsettled_clear effect.Priority outcomes = refl
+
+verdict_at_clear : (e : Effect) (outcomes : List Taken) (taken : Option Taken) → IsClearFound taken → is_refusal (verdict_at e outcomes taken) ≡ false
+verdict_at_clear e outcomes (Some taken) clear = settled_by_clear taken.0 taken.1 clear
+verdict_at_clear e outcomes None clear = unsettled_clear e outcomes
+
+pub verdict_clear : (m : Judging) (q : List Datum) (rows : List (List (List ℕ))) (v : Verdict) → IsPerm m q rows None v → is_refusal v ≡ false
+verdict_clear m q rows v (outcomes, are, e) =
+    ap is_refusal e ∙ verdict_at_clear m.effect outcomes (find (ends m.effect) outcomes) (find_clear (ends m.effect) outcomes (all_clear m q (names_policy m.matcher) rows outcomes are))
