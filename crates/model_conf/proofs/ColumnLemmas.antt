@@ -61,7 +61,7 @@ lacks p none (first ∷ others) all =
     let parts = both (is_word first) (list_all is_word others) all in
     rw (none first parts.0, lacks p none others parts.1) refl
 
-differs : (byte other : ℕ) → is_word byte ≡ false → is_word other ≡ true → eqb other byte ≡ false
+pub differs : (byte other : ℕ) → is_word byte ≡ false → is_word other ≡ true → eqb other byte ≡ false
 differs byte other outside inside = grind (arith, nat_tests)
 
 pub has_byte-identifier : (byte : ℕ) (name : List ℕ) → is_word byte ≡ false → IsTrue (is_identifier name) → has_byte byte name ≡ false

@@ -20,3 +20,9 @@ pub mod TextLemmas
 pub mod EndLemmas
 pub mod PrintLemmas
 pub mod AsciiLemmas
+pub mod TameLemmas
+pub mod JoinedLemmas
+pub mod SteadyLemmas
+pub mod SpelledLemmas
+pub mod SlotLemmas
+pub mod ReadBackLemmas

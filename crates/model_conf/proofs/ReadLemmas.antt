@@ -38,10 +38,10 @@ section_behind-push [] s = sym (or_none (name_of s.said))
 section_behind-push (first ∷ front) s = ap (λ (o : Option (List ℕ)). option_or o (name_of first.said)) (section_behind-push front s) ∙ or_later (name_of s.said) (section_behind front) (name_of first.said)
 
 -- what stands behind some lines
-abbrev stands_behind : List Statement → Standing
+abbrev pub stands_behind : List Statement → Standing
 stands_behind front = standing (section_behind front) (entries_of front)
 
-stands-push : (front : List Statement) (number : ℕ) (said : Said) → stands_behind (front ++ statement number said ∷ []) ≡ behind (stands_behind front) said
+pub stands-push : (front : List Statement) (number : ℕ) (said : Said) → stands_behind (front ++ statement number said ∷ []) ≡ behind (stands_behind front) said
 stands-push front number (header name) =
     ap (λ (o : Option (List ℕ)). standing o (entries_of (front ++ statement number (header name) ∷ []))) (section_behind-push front (statement number (header name)))
     ∙ ap (λ (l : List Entry). standing (Some name) l) (filter_map-append (λ (s : Statement). entry_of s.said) front (statement number (header name) ∷ []) ∙ append-nil (entries_of front))

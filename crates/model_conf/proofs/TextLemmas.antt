@@ -128,7 +128,7 @@ still byte bytes true none left =
     sym (rw (parts.0, rest) refl) ∙ none
 still byte bytes false none left = refl
 
-before_again : (text : List ℕ) → before_blanks (before_blanks text) ≡ before_blanks text
+pub before_again : (text : List ℕ) → before_blanks (before_blanks text) ≡ before_blanks text
 before_again [] = refl
 before_again (byte ∷ bytes) = again_by byte bytes (list_all is_blank (byte ∷ bytes)) refl (λ none. still byte bytes (list_all is_blank (byte ∷ before_blanks bytes)) none refl) (before_again bytes)
 
@@ -136,7 +136,7 @@ before_again (byte ∷ bytes) = again_by byte bytes (list_all is_blank (byte ∷
 bare_by : (byte : ℕ) (bytes : List ℕ) → is_blank byte ≡ false → behind_blanks (before_blanks (byte ∷ bytes)) ≡ before_blanks (byte ∷ bytes)
 bare_by byte bytes e = rw e (rw e refl)
 
-behind_first : (text : List ℕ) → behind_blanks (before_blanks (behind_blanks text)) ≡ before_blanks (behind_blanks text)
+pub behind_first : (text : List ℕ) → behind_blanks (before_blanks (behind_blanks text)) ≡ before_blanks (behind_blanks text)
 behind_first [] = refl
 behind_first (byte ∷ bytes) = by_test byte bytes (is_blank byte) refl (behind_first bytes)
   where

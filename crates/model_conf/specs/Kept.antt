@@ -27,11 +27,12 @@ pub record IsPartOfLine (text : List ℕ) : Type 0 where
   pub whole_line : has_byte 10 text ≡ false
   pub trimmed_is : trimmed text ≡ text
 
--- columns and relations are in order, the text says the matcher, and what the matcher names is declared so
+-- columns and relations are in order, the text is UTF-8 and says the matcher, and what the matcher names is declared so
 pub record IsKept (model : ModelParts) : Type 0 where
   pub request : AreColumns model.request
   pub policy : AreColumns model.policy
   pub relations : AreRelations model.relations
   pub part : IsPartOfLine model.matcher_text
+  pub utf8 : IsUtf8 model.matcher_text
   pub matcher : IsMatcher model.matcher_text model.matcher
   pub declared : first_undeclared model.request model.policy model.relations (uses model.matcher) ≡ None

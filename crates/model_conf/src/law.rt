@@ -1,6 +1,8 @@
-ghost use Rattle.std.specs.Prelude.{◌≡◌, ℕ, List};
+ghost use Rattle.std.specs.Prelude.{◌≡◌, ◌≤◌, ℕ, List, length};
 ghost use Rattle.model_conf.specs.Faults.{IsModelFault};
-ghost use Rattle.model_conf.specs.ModelText.{IsModel, ModelParts};
+ghost use Rattle.model_conf.specs.Kept.{IsKept};
+ghost use Rattle.model_conf.specs.ModelText.{IsModel, ModelParts, most_bytes};
+ghost use Rattle.model_conf.specs.Printed.{printed};
 ghost use Rattle.model_conf.specs.declared.fault.ModelFault.{ModelFault};
 
 use matcher_read::{faulty_text_is_no_matcher, text_has_one_fault, text_says_one_matcher};
@@ -31,3 +33,8 @@ pub fn faulty_text_is_no_model()
     text_has_one_fault();
     faulty_text_is_no_matcher();
 }
+
+/// The law that the printed text of a model says this model, where it has no more bytes than a model may have.
+pub fn printed_model_is_read()
+    ensures { (model : ModelParts) → IsKept model → length (printed model) ≤ most_bytes → IsModel (printed model) model }
+{}

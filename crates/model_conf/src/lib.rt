@@ -25,7 +25,9 @@ mod whole_tests;
 
 pub use fault::ModelFault;
 pub use key::Key;
-pub use law::{faulty_text_is_no_model, text_has_one_model_fault, text_says_one_model};
+pub use law::{
+    faulty_text_is_no_model, printed_model_is_read, text_has_one_model_fault, text_says_one_model,
+};
 pub use model::Model;
 pub use printing::print_model;
 pub use reading::read_model;

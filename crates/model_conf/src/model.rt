@@ -92,11 +92,12 @@ impl Model {
         self.effect
     }
 
-    /// The matcher as it was written.
+    /// The matcher as it was written. All that a model keeps holds of this one.
     pub fn matcher_text(&self) -> &Text
         ensures value { result.now ≡ self.now.matcher_text }
         ensures matcher { IsMatcher result.now self.now.matcher }
         ensures part { IsPartOfLine result.now }
+        ensures kept { IsKept self.now }
     {
         &self.matcher_text
     }

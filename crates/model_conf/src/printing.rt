@@ -1,6 +1,7 @@
-ghost use Rattle.std.specs.Prelude.{◌≡◌, [], ◌∷◌, ◌++◌, All, IfOk, OnOk, codes, if◌then◌else◌};
+ghost use Rattle.std.specs.Prelude.{◌≡◌, ◌≤◌, [], ◌∷◌, ◌++◌, All, IfOk, OnOk, codes, if◌then◌else◌, length};
 ghost use Rattle.perm_base.specs.Lines.{with_ends};
 ghost use Rattle.model_conf.specs.Kept.{IsRelation};
+ghost use Rattle.model_conf.specs.ModelText.{IsModel, most_bytes};
 ghost use Rattle.model_conf.specs.Printed.{printed, role_lines};
 
 use crate::effects::effect_text;
@@ -12,7 +13,9 @@ use std::alloc::Global;
 /// The text of a model: its sections with an empty line between two, each line with LF behind it. The section of
 /// relations is left out where there are none.
 pub fn print_model(alloc: Global, model: &Model) -> Result<Text, NoMemory>
-    ensures { IfOk result (λ text. text ≡ printed model.now) }
+    ensures form { IfOk result (λ text. text ≡ printed model.now) }
+    // The text says the model, where it has no more bytes than a model may have.
+    ensures read_back { IfOk result (λ text. length text ≤ most_bytes → IsModel text model.now) }
 {
     let mut text = Vec::new(alloc);
     text.extend_from_slice(b"[request_definition]\nr = ")?;

@@ -1,4 +1,4 @@
-use Rattle.std.proofs.Common.{◌≡◌, List, sym, ap, ◌∙◌, subst}
+use Rattle.std.proofs.Common.{◌≡◌, sym, ap, ◌∙◌, subst}
 use Rattle.std.specs.Prelude.{IsUtf8}
 use Rattle.model_conf.specs.Columns.{AreNames}
 use Rattle.perm_base.specs.Fields.{joined}
@@ -7,6 +7,7 @@ use Rattle.model_conf.specs.Effects.{effect_text}
 use Rattle.model_conf.specs.Printed.{printed, role_lines}
 use Rattle.model_conf.proofs.AsciiLemmas.{IsUtf8-printed}
 use Rattle.model_conf.proofs.PrintLemmas.{copied_as, push_one, pushed-parts}
+use Rattle.model_conf.proofs.ReadBackLemmas.{read_back}
 use Rattle.model_conf.proofs.printing.print_model.Goals as goal
 use Rattle.model_conf.proofs.printing.print_model.Goals.{After-from_utf8}
 
@@ -19,8 +20,11 @@ whole c =
     ∙ pushed-parts c.args.model.now _ _ _ _ _ (ap joined c.request_columns.ensures.value) (ap joined c.policy_columns.ensures.value) (ap (λ l. with_ends (role_lines l)) c.relations.ensures.value)
     (c.as_bytes.ensures.value ∙ c.effect_text.ensures ∙ ap effect_text c.effect.ensures) (c.bytes.ensures.value ∙ c.matcher_text.ensures.value)
 
-pub returns : goal.returns
-returns c = copied_as c.from_str.result _ _ (c.in-Ok.ensures.cases.0 ∙ whole (goal.at.returns c).After-from_utf8) c.from_str.ensures
+pub returns-clause-form : goal.returns-clause-form
+returns-clause-form c = copied_as c.from_str.result _ _ (c.in-Ok.ensures.cases.0 ∙ whole (goal.at.returns-clause-form c).After-from_utf8) c.from_str.ensures
+
+pub returns-clause-read_back : goal.returns-clause-read_back
+returns-clause-read_back c = read_back c.from_str.result c.args.model.now c.matcher_text.ensures.kept (copied_as c.from_str.result _ _ (c.in-Ok.ensures.cases.0 ∙ whole (goal.at.returns-clause-read_back c).After-from_utf8) c.from_str.ensures)
 
 pub unreachable-requires : goal.unreachable-requires
 unreachable-requires c =

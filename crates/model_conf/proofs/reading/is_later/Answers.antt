@@ -1,4 +1,4 @@
-use Rattle.std.proofs.Common.{◌≡◌, ◌==◌, length, not, ap, ◌∙◌}
+use Rattle.std.proofs.Common.{◌==◌, length, not, ap, ◌∙◌}
 use Rattle.model_conf.specs.Later.{is_later}
 use Rattle.model_conf.proofs.reading.is_later.Goals as goal
 

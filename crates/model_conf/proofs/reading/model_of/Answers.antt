@@ -4,7 +4,7 @@ use Rattle.model_conf.specs.Columns.{AreColumns}
 use Rattle.model_conf.specs.Kept.{AreRelations, IsPartOfLine}
 use Rattle.matcher_read.specs.Matcher.{IsMatcher}
 use Rattle.matcher_read.specs.Expression.{expression}
-use Rattle.std.specs.Prelude.{option_map}
+use Rattle.std.specs.Prelude.{option_map, IsUtf8}
 use Rattle.matcher_read.specs.Faults.{IsFault}
 use Rattle.model_conf.specs.Misuses.{misuse_of}
 use Rattle.model_conf.specs.Outlines.{IsSettled, values_seen}
@@ -64,6 +64,7 @@ from_parts-requires c =
       policy = subst AreColumns (sym o.policy) o.has.has.policy;
       relations = subst AreRelations (sym o.relations) (relations_kept _);
       part = subst IsPartOfLine (sym c.in-Ok.ensures.cases.0 ∙ sym text) part;
+      utf8 = subst IsUtf8 (sym c.in-Ok.ensures.cases.0 ∙ sym text) (c.requires _ c.in_ok-values.ensures.matcher).0;
       matcher = subst (λ t. IsMatcher t e) (sym text) c.in_ok-tree.ensures.found;
       declared = all_declared outline.request outline.policy outline.relations.items (uses e) (c.in_default-first_misuse.ensures ∙ ap (λ x. option_map misuse_of (first_undeclared outline.request outline.policy x (uses e))) c.deref.ensures.value);
     }
