@@ -16,6 +16,7 @@ pub mod UniqueLemmas
 pub mod LawLemmas
 pub mod MatcherLemmas
 pub mod KeptLemmas
+pub mod ShapeLemmas
 pub mod TextLemmas
 pub mod EndLemmas
 pub mod PrintLemmas

@@ -19,3 +19,4 @@ pub mod MatcherStops
 pub mod Outlines
 pub mod Printed
 pub mod ExpressionCode
+pub mod Shapes

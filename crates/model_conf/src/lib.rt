@@ -17,6 +17,7 @@ mod reading;
 mod relations;
 mod saying;
 mod sections;
+mod shapes;
 #[cfg(test)]
 mod tests;
 mod uses;
@@ -31,3 +32,4 @@ pub use law::{
 pub use model::Model;
 pub use printing::print_model;
 pub use reading::read_model;
+pub use shapes::{ShapeFault, shapes_of};
