@@ -4,11 +4,8 @@
 # rule or none by turns, and every rule's path fits, so `regexMatch` searches at each rule. The last column is the time of a
 # row as a ratio to a row of the equalities. Usage: bench/calls.sh [REQUESTS], how many over 10 rules; over 1,000 rules a
 # hundredth of them.
-set -euo pipefail
-root="$(cd "$(dirname "${BASH_SOURCE[0]}")/.." && pwd)"
+source "$(dirname "${BASH_SOURCE[0]}")/timing.sh"
 most="${1:-20000}"
-work="$(mktemp -d)"
-trap 'rm -rf "$work"' EXIT
 
 # The text of a model with this matcher.
 model() {
@@ -18,25 +15,14 @@ model() {
 
 model 'r.sub == p.sub && r.obj == p.obj && r.act == p.act' >"$work/equal.conf"
 model 'keyMatch2(r.obj, p.obj) && regexMatch(r.act, p.act)' >"$work/calls.conf"
-: >"$work/empty"
-"$root/casbin_cli" enforce "$work/equal.conf" "$work/empty" <"$work/empty" # builds the program where it is not built yet
-
-# The milliseconds of a run by a model over a policy and an input.
-run() {
-  local before after
-  before="$(date +%s%N)"
-  "$root/casbin_cli" enforce "$work/$1" "$work/$2" <"$3" >"$work/answers"
-  after="$(date +%s%N)"
-  echo $(((after - before) / 1000000))
-}
+run equal.conf empty empty >/dev/null # builds the program where it is not built yet
 
 # Measures one model over one policy: the nanoseconds of a row.
 measure() {
-  local load whole allowed
-  load="$(run "$1" "$2" "$work/empty")"
-  whole="$(run "$1" "$2" "$work/input")"
-  allowed="$(grep -c " allow @0 p#$rules " "$work/answers" || true)"
-  [ "$allowed" -eq $(((requests + 1) / 2)) ] || { echo "$1, $rules rules: $allowed of $requests allowed" >&2; exit 1; }
+  local load whole
+  load="$(run "$1" "$2" empty)"
+  whole="$(run "$1" "$2" input)"
+  check_answers "$requests" "$rules"
   awk -v ms="$((whole - load))" -v q="$requests" -v n="$rules" 'BEGIN { printf "%.1f", ms * 1e6 / q / n }'
 }
 

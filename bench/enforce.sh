@@ -4,11 +4,8 @@
 # by turns, so the rows are evaluated to the end. The last column is the time of one row, as a ratio to that over the
 # smallest policy. It takes some ten minutes, nearly all of them over 10,000 rules. Usage: bench/enforce.sh [BYTES], the size
 # of the inputs.
-set -euo pipefail
-root="$(cd "$(dirname "${BASH_SOURCE[0]}")/.." && pwd)"
+source "$(dirname "${BASH_SOURCE[0]}")/timing.sh"
 bytes="${1:-4194304}"
-work="$(mktemp -d)"
-trap 'rm -rf "$work"' EXIT
 
 cat >"$work/model.conf" <<'MODEL'
 [request_definition]
@@ -20,17 +17,7 @@ e = some(where (p.eft == allow))
 [matchers]
 m = r.sub == p.sub && r.obj == p.obj && r.act == p.act
 MODEL
-: >"$work/empty"
-"$root/casbin_cli" enforce "$work/model.conf" "$work/empty" <"$work/empty" # builds the program where it is not built yet
-
-# The milliseconds of a run over an input.
-run() {
-  local before after
-  before="$(date +%s%N)"
-  "$root/casbin_cli" enforce "$work/model.conf" "$work/policy.csv" <"$1" >"$work/answers"
-  after="$(date +%s%N)"
-  echo $(((after - before) / 1000000))
-}
+run model.conf empty empty >/dev/null # builds the program where it is not built yet
 
 first=""
 for rules in 10 1000 10000; do
@@ -40,10 +27,9 @@ for rules in 10 1000 10000; do
     for (i = size = 0; size + length(line[i % 2]) + 1 <= most; i++) { print line[i % 2]; size += length(line[i % 2]) + 1 }
   }' >"$work/input"
   requests="$(wc -l <"$work/input")"
-  load="$(run "$work/empty")"
-  whole="$(run "$work/input")"
-  allowed="$(grep -c " allow @0 p#$rules " "$work/answers" || true)"
-  [ "$allowed" -eq $(((requests + 1) / 2)) ] || { echo "$rules rules: $allowed of $requests allowed"; exit 1; }
+  load="$(run model.conf policy.csv empty)"
+  whole="$(run model.conf policy.csv input)"
+  check_answers "$requests" "$rules"
   row="$(awk -v ms="$((whole - load))" -v q="$requests" -v n="$rules" 'BEGIN { printf "%.3f", ms * 1e6 / q / n }')"
   first="${first:-$row}"
   awk -v n="$rules" -v ms="$((whole - load))" -v load="$load" -v q="$requests" -v row="$row" -v first="$first" 'BEGIN {
