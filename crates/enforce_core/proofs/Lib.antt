@@ -1,4 +1,3 @@
-mod PlaceLemmas
 mod TreeLemmas
 mod FoldLemmas
 mod EvaluateLemmas

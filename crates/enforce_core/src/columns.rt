@@ -1,5 +1,4 @@
-ghost use Rattle.std.specs.Prelude.{◌≡◌, map, option_map, position, Some};
-ghost use Rattle.std.specs.Str.{bytes_eq};
+ghost use Rattle.std.specs.Prelude.{◌≡◌, map, option_map};
 ghost use Rattle.perm_value.specs.Seen.{datum, datum_of_view};
 ghost use Rattle.matcher_meaning.specs.Environment.{at_column, field_of};
 ghost use Rattle.matcher_meaning.specs.Meaning.{along};
@@ -25,7 +24,7 @@ pub(crate) fn request_value<'a>(
     ensures { option_map datum_of_view result
         ≡ at_column columns.now (map datum request.now) name.now }
 {
-    let Some(at) = place_of(columns, name.bytes()) else {
+    let Some(at) = columns.place_of(name.bytes()) else {
         return None;
     };
     if at < request.len() {
@@ -42,22 +41,10 @@ pub(crate) fn policy_text<'a>(columns: &Rule, row: Option<&'a Rule>, name: &Text
     let Some(row) = row else {
         return b"";
     };
-    let Some(at) = place_of(columns, name.bytes()) else {
+    let Some(at) = columns.place_of(name.bytes()) else {
         return b"";
     };
     if at < row.len() { row.field(at) } else { b"" }
-}
-
-// The place of the first column with this name.
-pub(crate) fn place_of(columns: &Rule, name: &[u8]) -> Option<u32>
-    ensures { result ≡ position (bytes_eq name.now) columns.now }
-{
-    for at in 0..columns.len() {
-        if name == columns.field(at) {
-            return Some(at);
-        }
-    }
-    None
 }
 
 // The attribute at the end of a path, from a value or from none.

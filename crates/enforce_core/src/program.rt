@@ -3,7 +3,7 @@ ghost use Rattle.std.specs.Str.{bytes_eq};
 ghost use Rattle.matcher_meaning.specs.Perm.{names_policy};
 ghost use Rattle.enforce_core.specs.Programs.{IsProgram};
 
-use crate::columns::{Columns, place_of};
+use crate::columns::Columns;
 use crate::names::names_policy;
 use model_conf::Model;
 use perm_base::NoMemory;
@@ -46,7 +46,7 @@ pub fn make_program(model: Model) -> Result<Program, NoMemory>
     ensures { IfOk result (λ program. program ≡ model) }
 {
     let by_row = names_policy(model.matcher());
-    let effect_place = place_of(model.policy_columns(), b"eft");
+    let effect_place = model.policy_columns().place_of(b"eft");
     Ok(Program {
         model,
         by_row,

@@ -33,7 +33,7 @@ rise_more first (s ∷ rest) above rising with_domain (suc k) within =
 one_more : (low high : ℕ) (declared : Option Bool) (rest : List RoleShape) → 0 < low → low ≤ 8 → Rise (low + 1) high rest → Rise low high (with_relation low declared rest)
 one_more low high None rest some few is = record { each = is.each; above = lower low rest is.above; rising = is.rising }
 one_more low high (Some with_domain) rest some few is = record {
-  each = (record { some = some; few = few; names = refl; domains = refl }, is.each);
+  each = (record { numbered = record { some = some; few = few }; names = refl; domains = refl }, is.each);
   above = (omega arith, lower low rest is.above);
   rising = rise_more low rest is.above is.rising with_domain;
 }

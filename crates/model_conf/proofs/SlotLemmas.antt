@@ -191,7 +191,7 @@ one_slot number name names s relations are is e h = record {
 
 slots_some : (number : ℕ) (names : List (List ℕ)) (relations : List RoleShape) → 0 < number → number + length names ≡ 9 → AreFrom number names → Rises number relations → HasSlots number names relations
 slots_some number [] [] some counted are rise = record { slots = []; counted = refl; relations_are = refl; entries_are = refl }
-slots_some number [] (s ∷ relations) some counted are rise = absurd (omega (arith, counted, rise.0, rise.1.few))
+slots_some number [] (s ∷ relations) some counted are rise = absurd (omega (arith, counted, rise.0, rise.1.numbered.few))
 slots_some number (name ∷ names) [] some counted are rise =
     no_more_slots number name names [] (slots_some (number + 1) names [] (omega arith) (omega (arith, counted)) (from_next number name names some are) tt)
 slots_some number (name ∷ names) (s ∷ relations) some counted are rise =
@@ -217,4 +217,4 @@ slots_of relations are =
 
     first : (relations : List RoleShape) → 0 < length relations → AllByRecursion IsRelation relations → 1 ≤ slice_index (numbers relations) 0
     first [] some each = absurd (omega arith)
-    first (s ∷ relations) some each = omega (arith, each.0.some)
+    first (s ∷ relations) some each = omega (arith, each.0.numbered.some)

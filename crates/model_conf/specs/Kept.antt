@@ -1,8 +1,9 @@
 -- What each model keeps.
-use Rattle.std.specs.Prelude.{◌≡◌, ℕ, ◌<◌, ◌≤◌, false, List, All, map, IsUtf8, None}
+use Rattle.std.specs.Prelude.{◌≡◌, ℕ, false, List, All, map, IsUtf8, None}
 use Rattle.std.specs.List.Sorted.{IsStrictlyIncreasing}
 use Rattle.matcher_read.specs.Matcher.{IsMatcher}
 use Rattle.perm_base.specs.Lines.{has_byte}
+use Rattle.perm_base.specs.RoleShapes.{IsNumbered}
 use Rattle.perm_base.specs.declared.shapes.Fit.TheVariants.{Exact}
 use Rattle.perm_base.specs.declared.shapes.RoleShape.{RoleShape}
 use Rattle.model_conf.specs.Blanks.{trimmed}
@@ -12,8 +13,7 @@ use Rattle.model_conf.specs.Uses.{uses, first_undeclared}
 
 -- a relation numbered 1 to 8, whose texts are compared byte by byte
 pub record IsRelation (shape : RoleShape) : Type 0 where
-  pub some : 0 < shape.number
-  pub few : shape.number ≤ 8
+  pub numbered : IsNumbered shape
   pub names : shape.names ≡ Exact
   pub domains : shape.domains ≡ Exact
 

@@ -1,10 +1,10 @@
 ghost use Rattle.std.specs.Prelude.{◌≡◌, ◌↔◌, ◌<◌, ◌≤◌, ℕ, None, Some, IfOk, IsErrOf, MatchResult, map};
 ghost use Rattle.perm_base.specs.Shapes.{AreValid};
 ghost use Rattle.model_conf.specs.Kept.{AreRelations};
-ghost use Rattle.model_conf.specs.Shapes.{AreNamedOnce, first_absent, first_failing, fit_of, fitted, has_domain, has_relation, place_of, shapes_of};
+ghost use Rattle.model_conf.specs.Shapes.{AreNamedOnce, first_absent, first_failing, fit_of, fitted, has_domain, has_relation, shapes_of};
 
 use crate::model::Model;
-use perm_base::{Fit, NoMemory, RoleShape, RoleShapes, Rule, Shapes};
+use perm_base::{Fit, NoMemory, RoleShape, RoleShapes, Shapes};
 use std::alloc::Global;
 
 #[cfg(test)]
@@ -59,8 +59,8 @@ pub fn shapes_of(
     let roles = roles_of(alloc, relations, names, domains)?;
     Ok(Shapes {
         columns: columns.len(),
-        effect_column: place_of(columns, b"eft"),
-        subject_column: place_of(columns, b"sub").unwrap_or(0),
+        effect_column: columns.place_of(b"eft"),
+        subject_column: columns.place_of(b"sub").unwrap_or(0),
         roles,
         limit,
     })
@@ -140,16 +140,4 @@ fn fit_of(fits: &[(u8, Fit)], relation: u8) -> Fit
         }
     }
     Fit::Exact
-}
-
-// The place of a column, counted from 0.
-fn place_of(columns: &Rule, name: &[u8]) -> Option<u32>
-    ensures { result ≡ place_of columns.now name.now }
-{
-    for at in 0..columns.len() {
-        if name == columns.field(at) {
-            return Some(at);
-        }
-    }
-    None
 }

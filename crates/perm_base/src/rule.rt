@@ -1,10 +1,17 @@
-ghost use Rattle.std.specs.Prelude.{◌≡◌, ◌<◌, ◌^◌, IfOk, IfErr, OnOk, IsUtf8, Some, None, false, length, position, slice_get, vec_len};
+ghost use Rattle.std.specs.Prelude.{◌≡◌, ◌<◌, ◌^◌, IfOk, IfErr, OnOk, IsUtf8, Some, None, false, length, nat_eq, position, slice_get, vec_len};
+ghost use Rattle.std.specs.Cmp.Lexicographic.{nat_list_eq_equiv, pointwise};
+ghost use Rattle.std.specs.Cmp.{partial_equiv_from_equiv};
+ghost use Rattle.std.specs.Hash as fed;
+ghost use Rattle.std.specs.Str.{bytes_eq};
+ghost use Rattle.std.proofs.lemmas.Cmp.{lists_equiv};
+ghost use Rattle.std.proofs.lemmas.Slice.Eq.{bytes_eq-Decides};
 ghost use Rattle.perm_base.specs.LineEnds.{has_line_end};
 ghost use Rattle.perm_base.specs.Rule.{line_end_of, IsFirstLineEnd};
 
 use crate::fault::NoMemory;
 use crate::text::Text;
 use std::alloc::Global;
+use std::hash::{Hash, Hasher};
 use std::marker::Model;
 
 /// A rule: fewer than 2^32 texts, none of which holds CR or LF. Contracts see the list of its texts.
@@ -64,6 +71,14 @@ impl Rule {
         self.fields[at as usize].bytes()
     }
 
+    /// The place of the first text that is this name, counted from 0: where a list of columns has that column.
+    pub fn place_of(&self, name: &[u8]) -> Option<u32>
+        ensures { result ≡ position (bytes_eq name.now) self.now }
+    {
+        let at = self.fields.iter().position(|field| name == field.bytes())?;
+        Some(at as u32)
+    }
+
     /// The same rule once more.
     pub fn copy(&self, alloc: Global) -> Result<Rule, NoMemory>
         ensures { IfOk result (λ copy. copy ≡ self.now) }
@@ -73,6 +88,30 @@ impl Rule {
             fields.push(Text::from_str(alloc, field.as_str())?)?;
         }
         Ok(Rule { fields })
+    }
+}
+
+impl PartialEq for Rule {
+    ghost eq = { pointwise (pointwise nat_eq) };
+
+    ghost laws = { partial_equiv_from_equiv (lists_equiv nat_list_eq_equiv) };
+
+    fn eq(&self, other: &Rule) -> bool {
+        self.fields == other.fields
+    }
+}
+
+impl Eq for Rule {
+    ghost laws = { lists_equiv nat_list_eq_equiv };
+}
+
+impl Hash for Rule {
+    ghost hash_input = { fed.slice fed.str };
+
+    ghost respects_eq = { (fed.items_Alike (fed.same_Alike fed.str bytes_eq-Decides)).fed };
+
+    fn hash<H: Hasher>(&self, state: &mut H) {
+        self.fields.hash(state);
     }
 }
 
