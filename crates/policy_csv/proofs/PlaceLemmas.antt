@@ -2,7 +2,8 @@
 use Rattle.std.proofs.Common.{◌≡◌, ◌≢◌, ◌≤◌, ◌↔◌, ◌+◌, ◌&&◌, ◌||◌, ℕ, suc, Bool, true, false, cond, not, List, [], ◌∷◌, ◌++◌, length, drop, Some, refl, sym, ap, ◌∙◌, subst, arith, rules, tests}
 use Rattle.std.specs.Prelude.{filter, bytes_eq, slice_get, Contains, AllPairs, All}
 use Rattle.std.specs.Bool.{Decides}
-use Rattle.std.proofs.lemmas.Bool.{not-false, not-true}
+use Rattle.std.specs.List.{list_any}
+use Rattle.std.proofs.lemmas.Cmp.{lists_equiv, nat_list_eq_equiv}
 use Rattle.std.proofs.lemmas.Bool.Decides.{Decides-by_or}
 use Rattle.std.proofs.lemmas.List.{append_assoc, append-nil, drop_more, length-append}
 use Rattle.std.proofs.lemmas.List.Elements.{All-cons, All-filter, All-head, All-tail, Contains-get_or, Decides-contains, filter-append}
@@ -15,32 +16,6 @@ use Rattle.policy_csv.specs.FirstPlaces.{first_places, same_rule, stands}
 -- rules that are the same are equal
 pub same_rule-Decides : (first second : List (List ℕ)) → Decides (same_rule first second) (first ≡ second)
 same_rule-Decides first second = slice_eq-Decides bytes_eq-Decides first second (same_rule first second) refl
-
--- rules of different lengths are not the same
-pub same_rule-lengths : (first second : List (List ℕ)) → length first ≢ length second → same_rule first second ≡ false
-same_rule-lengths [] [] other = absurd (other refl)
-same_rule-lengths [] (s ∷ second) other = refl
-same_rule-lengths (f ∷ first) [] other = refl
-same_rule-lengths (f ∷ first) (s ∷ second) other =
-    rw (same_rule-lengths first second (λ e. other (ap suc e))) (search (rules, tests))
-
--- at the next field
-pub same_rule-drop : (first second : List (List ℕ)) (at : ℕ) (f s : List ℕ) → slice_get first at ≡ Some f → slice_get second at ≡ Some s → same_rule (drop at first) (drop at second) ≡ (bytes_eq f s && same_rule (drop (at + 1) first) (drop (at + 1) second))
-same_rule-drop first second at f s here there =
-    rw (drop_more first at f (slice_get_within first at f here), drop_more second at s (slice_get_within second at s there), get_or_from_slice_get first at f f here, get_or_from_slice_get second at s s there) refl
-
--- where the fields at a place differ, and where they are the same
-pub same_rule-differs : (first second : List (List ℕ)) (at : ℕ) (f s : List ℕ) → same_rule (drop at first) (drop at second) ≡ same_rule first second → slice_get first at ≡ Some f → slice_get second at ≡ Some s → not (bytes_eq f s) ≡ true → false ≡ same_rule first second
-same_rule-differs first second at f s so_far here there differ =
-    let next = same_rule-drop first second at f s here there in
-    let other : bytes_eq f s ≡ false = not-true (bytes_eq f s) differ in
-    sym (rw other at next) ∙ so_far
-
-pub same_rule-more : (first second : List (List ℕ)) (at : ℕ) (f s : List ℕ) → same_rule (drop at first) (drop at second) ≡ same_rule first second → slice_get first at ≡ Some f → slice_get second at ≡ Some s → not (bytes_eq f s) ≡ false → same_rule (drop (at + 1) first) (drop (at + 1) second) ≡ same_rule first second
-same_rule-more first second at f s so_far here there same =
-    let next = same_rule-drop first second at f s here there in
-    let is : bytes_eq f s ≡ true = not-false (bytes_eq f s) same in
-    sym (rw is at next) ∙ so_far
 
 -- a rule is among the rules exactly where the test says so
 pub stands-Decides : (rules : List (List (List ℕ))) (rule : List (List ℕ)) → Decides (stands rules rule) (Contains rules rule)
@@ -141,3 +116,7 @@ unfolding first_places
 All-first_places P [] all = all
 All-first_places P (rule ∷ rules) all =
     All-cons P rule _ (All-head P rule rules all) (All-filter (λ (other : List (List ℕ)). not (same_rule rule other)) P (first_places rules) (All-first_places P rules (All-tail P rule rules all)))
+
+-- the test of a set of rules is the same
+pub stands-flipped : (rules : List (List (List ℕ))) (rule : List (List ℕ)) → list_any (λ (other : List (List ℕ)). same_rule rule other) rules ≡ stands rules rule
+stands-flipped rules rule = λ j. list_any (λ (other : List (List ℕ)). (lists_equiv nat_list_eq_equiv).symm rule other j) rules

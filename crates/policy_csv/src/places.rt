@@ -1,8 +1,11 @@
-ghost use Rattle.std.specs.Prelude.{◌≡◌, ◌≢◌, ◌≤◌, ◌↔◌, ◌++◌, [], ◌∷◌, ℕ, List, AllPairs, Contains, IsErrOf, OnOk, false, if◌then◌else◌, length, vec_len};
-ghost use Rattle.policy_csv.specs.FirstPlaces.{first_places, same_rule, stands};
+ghost use Rattle.std.specs.Prelude.{◌≡◌, ◌≢◌, ◌≤◌, ◌↔◌, ◌++◌, [], ◌∷◌, ℕ, List, AllPairs, Contains, IfOk, IsErrOf, OnOk, false, if◌then◌else◌};
+ghost use Rattle.indexmap.specs.IndexSet.{index_set_len};
+ghost use Rattle.policy_csv.specs.FirstPlaces.{first_places, stands};
 
 use crate::policy::PolicyFault;
+use indexmap::IndexSet;
 use perm_base::{NoMemory, Rule};
+use std::alloc::Global;
 
 // The greatest number of different rules that is read.
 const MOST_RULES: usize = 200_000;
@@ -29,40 +32,31 @@ pub fn first_places_keep_the_order()
 {}
 
 // Puts the rule behind the others, unless it is among them.
-pub(crate) fn keep(rules: &mut Vec<Rule>, rule: Rule) -> Result<(), PolicyFault>
-    requires { vec_len rules.old ≤ MOST_RULES }
-    ensures kept { OnOk result (rules.new.items
-        ≡ (if stands rules.old.items rule then rules.old.items else rules.old.items ++ rule ∷ [])) }
-    ensures few { OnOk result (vec_len rules.new ≤ MOST_RULES) }
-    ensures another { IsErrOf result PolicyFault.NotYet → stands rules.old.items rule ≡ false }
-    ensures full { IsErrOf result PolicyFault.NotYet → vec_len rules.old ≡ MOST_RULES }
+pub(crate) fn keep(rules: &mut IndexSet<Rule>, rule: Rule) -> Result<(), PolicyFault>
+    requires { index_set_len rules.old ≤ MOST_RULES }
+    ensures kept { OnOk result (rules.new.keys
+        ≡ (if stands rules.old.keys rule then rules.old.keys else rules.old.keys ++ rule ∷ [])) }
+    ensures few { OnOk result (index_set_len rules.new ≤ MOST_RULES) }
+    ensures another { IsErrOf result PolicyFault.NotYet → stands rules.old.keys rule ≡ false }
+    ensures full { IsErrOf result PolicyFault.NotYet → index_set_len rules.old ≡ MOST_RULES }
 {
-    if stands(rules, &rule) {
+    if rules.contains(&rule) {
         return Ok(());
     }
     if rules.len() == MOST_RULES {
         return Err(PolicyFault::NotYet);
     }
-    rules.push(rule).map_err(NoMemory::from)?;
+    let _new = rules.insert(rule).map_err(NoMemory::from)?;
     Ok(())
 }
 
-fn stands(rules: &[Rule], rule: &Rule) -> bool
-    ensures { result ≡ stands rules.now rule.now }
+// The rules in their order.
+pub(crate) fn listed(alloc: Global, rules: IndexSet<Rule>) -> Result<Vec<Rule>, NoMemory>
+    ensures { IfOk result (λ list. list.items ≡ rules.keys) }
 {
-    rules.iter().any(|other| same_rule(other, rule))
-}
-
-fn same_rule(first: &Rule, second: &Rule) -> bool
-    ensures { result ≡ same_rule first.now second.now }
-{
-    if first.len() != second.len() {
-        return false;
+    let mut list = Vec::with_capacity(alloc, rules.len())?;
+    for rule in rules {
+        list.push(rule)?;
     }
-    for at in 0..first.len() {
-        if first.field(at) != second.field(at) {
-            return false;
-        }
-    }
-    true
+    Ok(list)
 }

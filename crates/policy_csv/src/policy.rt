@@ -2,7 +2,8 @@ ghost use Rattle.std.specs.Prelude.{◌≡◌, ◌++◌, ◌∷◌, ℕ, List, A
 ghost use Rattle.perm_base.specs.Fields.{joined};
 ghost use Rattle.policy_csv.specs.Policy.{IsPlainRule, IsPolicy, policy_line};
 
-use crate::places::keep;
+use crate::places::{keep, listed};
+use indexmap::IndexSet;
 use perm_base::{
     NoMemory, PlainFault, Rule, Rules, next_full_line, plain_fields_are_unique, read_plain_fields,
 };
@@ -44,7 +45,7 @@ impl From<PlainFault> for PolicyFault {
 ///
 /// Each line is `p` and the fields of a rule, joined by a comma and a blank; empty lines are passed over, and the
 /// last line may lack its LF. A field is 1 to 4,096 bytes of UTF-8 without comma, double quote and CR, does not
-/// begin with `#` and has no blank at either end. The time grows with the square of the number of different rules.
+/// begin with `#` and has no blank at either end.
 pub fn read_policy(alloc: Global, bytes: &[u8], columns: u32) -> Result<Rules, PolicyFault>
     ensures found { IfOk result (λ rules. IsPolicy columns bytes.now rules) }
     ensures only { (rules : List (List (List ℕ))) → IsPolicy columns bytes.now rules
@@ -53,14 +54,14 @@ pub fn read_policy(alloc: Global, bytes: &[u8], columns: u32) -> Result<Rules, P
         → ¬ (IsPolicy columns bytes.now rules) }
     ensures columns { IfOk result (λ rules. All (λ rule. length rule ≡ columns) rules) }
 {
-    let mut rules = Vec::new(alloc);
+    let mut rules = IndexSet::new(alloc);
     let mut rest = bytes;
     while let Some((line, after)) = next_full_line(rest) {
         let rule = read_line(alloc, line, columns)?;
         keep(&mut rules, rule)?;
         rest = after;
     }
-    Ok(Rules::from_vec(rules))
+    Ok(Rules::from_vec(listed(alloc, rules)?))
 }
 
 /// The law that a text has at most one list of rules.
