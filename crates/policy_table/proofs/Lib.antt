@@ -1,0 +1,8 @@
+mod RowLemmas
+mod FilterLemmas
+mod StepLemmas
+mod TableLemmas
+mod CommitLemmas
+mod InsertLemmas
+mod RoomLemmas
+mod ChangeLemmas

@@ -1,0 +1,5 @@
+pub mod Tables
+pub mod Changes
+pub mod Held
+pub mod Filters
+pub mod Steps

@@ -1,0 +1,42 @@
+-- The tables of a policy: for p, and for each role relation g to g8, a list of rules without repeats (Casbin, policy).
+use Rattle.std.specs.Prelude.{◌≡◌, ℕ, ◌<◌, ◌^◌, ◌&&◌, Bool, nat_lt, List, [], length, All, Option, Some, None, if◌then◌else◌, get_or}
+use Rattle.std.specs.Cmp.Lexicographic.{pointwise}
+use Rattle.std.specs.List.{list_any}
+use Rattle.std.specs.Option.{option_map_or}
+use Rattle.std.specs.Str.{bytes_eq}
+use Rattle.perm_base.specs.declared.shapes.TableId.{TableId}
+use Rattle.perm_base.specs.declared.shapes.TableId.TheVariants.{P, G}
+
+-- the fields of a rule
+abbrev pub Fields : Type 0
+Fields = List (List ℕ)
+
+-- one list of rules for each table: that of p, then those of g to g8
+abbrev pub Lists : Type 0
+Lists = List (List Fields)
+
+-- how many tables there are
+abbrev pub most_tables : ℕ
+most_tables = 9
+
+-- the place of a table among them; a relation that is not numbered 1 to 8 has none
+abbrev pub place : TableId → Option ℕ
+place P = Some 0
+place (G number) = if nat_lt 0 number && nat_lt number most_tables then Some number else None
+
+-- the rules of a table
+abbrev pub rows : Lists → TableId → List Fields
+rows lists table = option_map_or (λ (at : ℕ). get_or lists at []) (place table) []
+
+-- two rules with the same fields
+abbrev pub same : Fields → Fields → Bool
+same first second = pointwise bytes_eq first second
+
+-- the rule stands among these
+abbrev pub stands : Fields → List Fields → Bool
+stands rule rules = list_any (same rule) rules
+
+-- nine lists, each of fewer than 2^32 rules
+pub record AreLists (lists : Lists) : Type 0 where
+  pub counted : length lists ≡ most_tables
+  pub few : All (λ (rules : List Fields). length rules < 2 ^ 32) lists

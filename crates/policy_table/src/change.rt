@@ -1,0 +1,102 @@
+ghost use Rattle.std.specs.Prelude.{◌≡◌, IfOk};
+ghost use Rattle.policy_table.specs.Changes.{table_of};
+
+use perm_base::{NoMemory, Rule, TableId};
+use std::alloc::Global;
+use std::marker::Model;
+
+/// A change of one rule of a table.
+#[derive(Drop)]
+pub enum Change {
+    /// A rule that goes last.
+    Insert {
+        table: TableId,
+        rule: Rule,
+    },
+    /// A rule that is taken out; the others keep their order.
+    Remove {
+        table: TableId,
+        rule: Rule,
+    },
+    /// A rule whose place a new one takes.
+    Replace {
+        table: TableId,
+        old: Rule,
+        new: Rule,
+    },
+}
+
+impl Change {
+    /// The table that it is a change of.
+    pub fn table(&self) -> TableId
+        ensures { result ≡ table_of self.now }
+    {
+        match self {
+            Change::Insert { table, .. }
+            | Change::Remove { table, .. }
+            | Change::Replace { table, .. } => *table,
+        }
+    }
+}
+
+/// What a management call changes: a list of changes that are made one after the other. Contracts see that list.
+#[derive(Drop)]
+pub struct Edit {
+    changes: Vec<Change>,
+}
+
+impl Model for Edit {
+    ghost use Rattle.std.specs.Prelude.{List};
+    ghost use Rattle.policy_table.specs.declared.change.Change.{Change};
+
+    ghost Value = { List Change };
+
+    ghost view = { λ e. e.changes.items };
+}
+
+impl Edit {
+    /// The edit of these changes. It takes no memory.
+    pub fn from_vec(changes: Vec<Change>) -> Edit
+        ensures { result ≡ changes.items }
+    {
+        Edit { changes }
+    }
+
+    /// The changes in their order.
+    pub fn as_slice(&self) -> &[Change]
+        ensures { result.now ≡ self.now }
+    {
+        &self.changes
+    }
+}
+
+/// The same edit once more.
+pub fn copy_edit(alloc: Global, edit: &Edit) -> Result<Edit, NoMemory>
+    ensures { IfOk result (λ copy. copy ≡ edit.now) }
+{
+    let mut changes = Vec::with_capacity(alloc, edit.changes.len())?;
+    for change in &edit.changes {
+        changes.push(copy_change(alloc, change)?)?;
+    }
+    Ok(Edit { changes })
+}
+
+fn copy_change(alloc: Global, change: &Change) -> Result<Change, NoMemory>
+    ensures { IfOk result (λ copy. copy ≡ change.now) }
+{
+    match change {
+        Change::Insert { table, rule } => Ok(Change::Insert {
+            table: *table,
+            rule: rule.copy(alloc)?,
+        }),
+        Change::Remove { table, rule } => Ok(Change::Remove {
+            table: *table,
+            rule: rule.copy(alloc)?,
+        }),
+        Change::Replace { table, old, new } => Ok(Change::Replace {
+            table: *table,
+            old: old.copy(alloc)?,
+            new: new.copy(alloc)?,
+        }),
+    }
+}
