@@ -15,7 +15,7 @@ model() {
 
 model 'r.sub == p.sub && r.obj == p.obj && r.act == p.act' >"$work/equal.conf"
 model 'keyMatch2(r.obj, p.obj) && regexMatch(r.act, p.act)' >"$work/calls.conf"
-run equal.conf empty empty >/dev/null # builds the program where it is not built yet
+build "$root"
 
 # Measures one model over one policy: the nanoseconds of a row.
 measure() {

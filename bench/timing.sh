@@ -6,13 +6,26 @@ work="$(mktemp -d)"
 trap 'rm -rf "$work"' EXIT
 : >"$work/empty"
 
-# The milliseconds of a run by a model over a policy and an input, all of them files in `work`.
+# The checkout whose program is timed.
+checkout="$root"
+
+# Builds the program of a checkout where it is not built yet. Without words it only says how it is used.
+build() {
+  "$1/casbin_cli" </dev/null >/dev/null 2>&1 || true
+}
+
+# The milliseconds of a run by a model over a policy and an input, all of them files in `work`: the least of three runs, or
+# of one that takes five seconds.
 run() {
-  local before after
-  before="$(date +%s%N)"
-  "$root/casbin_cli" enforce "$work/$1" "$work/$2" <"$work/$3" >"$work/answers"
-  after="$(date +%s%N)"
-  echo $(((after - before) / 1000000))
+  local before took least=""
+  for _ in 1 2 3; do
+    before="$(date +%s%N)"
+    "$checkout/crates/casbin_cli/out/casbin_cli" enforce "$work/$1" "$work/$2" <"$work/$3" >"$work/answers"
+    took="$((($(date +%s%N) - before) / 1000000))"
+    [ -n "$least" ] && [ "$least" -le "$took" ] || least="$took"
+    [ "$took" -lt 5000 ] || break
+  done
+  echo "$least"
 }
 
 # Ends the script unless every other of so many requests was allowed by the last of so many rules.
