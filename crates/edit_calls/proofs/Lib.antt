@@ -1,0 +1,12 @@
+mod RefusalLemmas
+mod EditLemmas
+mod ApplyLemmas
+mod ShapeLemmas
+mod ResolveLemmas
+mod ListLemmas
+mod SoundLemmas
+mod LimitLemmas
+mod RoleLemmas
+mod RowLemmas
+mod CountLemmas
+mod PassedLemmas

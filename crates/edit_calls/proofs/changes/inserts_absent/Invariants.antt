@@ -1,0 +1,7 @@
+use Rattle.std.proofs.Common.{◌≡◌, filter, not, take}
+use Rattle.policy_table.specs.Tables.{Fields, rows, stands}
+use Rattle.edit_calls.specs.Edits.{inserts}
+use Rattle.edit_calls.proofs.changes.inserts_absent.Given as goal
+
+abbrev pub invariant-loop-at : goal.invariant-loop-at
+invariant-loop-at g l = l.changes.items ≡ inserts l.table (filter (λ (rule : Fields). not (stands rule (rows l.tables.lists l.table))) (take l.at (g.L.RuleList.rules l.rules)))

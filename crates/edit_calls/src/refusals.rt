@@ -1,0 +1,191 @@
+ghost use Rattle.std.specs.Prelude.{◌≡◌, ◌==◌, [], ◌∷◌, length, nat_lt};
+ghost use Rattle.std.specs.List.{flat_map, list_all, list_any};
+ghost use Rattle.edit_calls.specs.Limits.{columns_of};
+ghost use Rattle.edit_calls.specs.Refusals.{bad_filter, filter_fault, has_long_field, named_rules, other_length, refusal, added_rules, table_of};
+
+use crate::call::{Call, Pairs};
+use crate::listed::{News, RuleList};
+use crate::refused::CallRefused;
+use perm_base::{Rule, Rules, Shapes, TableId};
+
+// The greatest number of bytes of a field that is added.
+const LONGEST: usize = 4096;
+
+// Why a call is refused, whatever stands in the tables.
+pub(crate) fn refusal(call: &Call, shapes: &Shapes) -> Option<CallRefused>
+    ensures { result ≡ refusal shapes.now call.now }
+{
+    let table = table_of(call);
+    let Some(columns) = columns_of(shapes, table) else {
+        return Some(CallRefused::NoTable { table });
+    };
+    if let Some(refused) = other_length(columns, call) {
+        return Some(refused);
+    }
+    if let Some(refused) = filter_fault(columns, call) {
+        return Some(refused);
+    }
+    if has_long_field(call) {
+        Some(CallRefused::FieldTooLong)
+    } else {
+        None
+    }
+}
+
+// The table of a call.
+pub(crate) fn table_of(call: &Call) -> TableId
+    ensures { result ≡ table_of call.now }
+{
+    match call {
+        Call::Add { table, .. }
+        | Call::AddAll { table, .. }
+        | Call::AddEx { table, .. }
+        | Call::Remove { table, .. }
+        | Call::RemoveAll { table, .. }
+        | Call::Update { table, .. }
+        | Call::RemoveFiltered { table, .. }
+        | Call::UpdateFiltered { table, .. } => *table,
+        Call::DeleteUser { .. } | Call::DeleteRole { .. } => TableId::G(1),
+    }
+}
+
+// The columns of a table, where the shapes have it.
+pub(crate) fn columns_of(shapes: &Shapes, table: TableId) -> Option<u32>
+    ensures { result ≡ columns_of shapes.now table }
+{
+    match table {
+        TableId::P => Some(shapes.columns),
+        TableId::G(number) => {
+            let shape = shapes.roles.find(number)?;
+            Some(if shape.with_domain { 3 } else { 2 })
+        }
+    }
+}
+
+// The first rule that the call names with another number of columns.
+fn other_length(columns: u32, call: &Call) -> Option<CallRefused>
+    ensures { result ≡ other_length columns (named_rules call.now) }
+{
+    match call {
+        Call::Add { rule, .. } | Call::Remove { rule, .. } => other_rule(columns, rule),
+        Call::AddAll { rules, .. }
+        | Call::AddEx { rules, .. }
+        | Call::RemoveAll { rules, .. }
+        | Call::UpdateFiltered { rules, .. } => first_other(columns, rules),
+        Call::Update { pairs, .. } => first_other_of_pairs(columns, pairs),
+        Call::RemoveFiltered { .. } | Call::DeleteUser { .. } | Call::DeleteRole { .. } => None,
+    }
+}
+
+fn other_rule(columns: u32, rule: &Rule) -> Option<CallRefused>
+    ensures { result ≡ other_length columns (rule.now ∷ []) }
+{
+    let got = rule.len();
+    if got == columns {
+        None
+    } else {
+        Some(CallRefused::Columns { want: columns, got })
+    }
+}
+
+fn first_other(columns: u32, rules: &Rules) -> Option<CallRefused>
+    ensures { result ≡ other_length columns rules.now }
+{
+    for at in 0..rules.len() {
+        if let Some(refused) = other_rule(columns, rules.at(at)) {
+            return Some(refused);
+        }
+    }
+    None
+}
+
+fn first_other_of_pairs(columns: u32, pairs: &Pairs) -> Option<CallRefused>
+    ensures { result ≡ other_length columns (flat_map (λ pair. pair.0 ∷ pair.1 ∷ []) pairs.now) }
+{
+    for at in 0..pairs.len() {
+        if let Some(refused) = other_rule(columns, pairs.old(at)) {
+            return Some(refused);
+        }
+        if let Some(refused) = other_rule(columns, pairs.new(at)) {
+            return Some(refused);
+        }
+    }
+    None
+}
+
+// A fault of the call's filter, where it has one.
+fn filter_fault(columns: u32, call: &Call) -> Option<CallRefused>
+    ensures { result ≡ filter_fault columns call.now }
+{
+    match call {
+        Call::RemoveFiltered { at, values, .. } | Call::UpdateFiltered { at, values, .. } => {
+            bad_filter(columns, *at, values)
+        }
+        _ => None,
+    }
+}
+
+fn bad_filter(columns: u32, at: u32, values: &Rule) -> Option<CallRefused>
+    ensures { result ≡ bad_filter columns at values.now }
+{
+    if u64::from(at) + u64::from(values.len()) > u64::from(columns) {
+        return Some(CallRefused::FilterPlace);
+    }
+    if is_open(values) {
+        Some(CallRefused::EmptyFilter)
+    } else {
+        None
+    }
+}
+
+// Whether each value is empty.
+fn is_open(values: &Rule) -> bool
+    ensures { result ≡ list_all (λ value. length value == 0) values.now }
+{
+    for at in 0..values.len() {
+        if !values.field(at).is_empty() {
+            return false;
+        }
+    }
+    true
+}
+
+// Whether a field of a rule that the call adds is too long.
+fn has_long_field(call: &Call) -> bool
+    ensures { result ≡ has_long_field (added_rules call.now) }
+{
+    match call {
+        Call::Add { rule, .. } => is_long(rule),
+        Call::AddAll { rules, .. }
+        | Call::AddEx { rules, .. }
+        | Call::UpdateFiltered { rules, .. } => one_is_long(rules),
+        Call::Update { pairs, .. } => one_is_long(&News(pairs)),
+        Call::Remove { .. }
+        | Call::RemoveAll { .. }
+        | Call::RemoveFiltered { .. }
+        | Call::DeleteUser { .. }
+        | Call::DeleteRole { .. } => false,
+    }
+}
+
+fn is_long(rule: &Rule) -> bool
+    ensures { result ≡ list_any (λ field. nat_lt 4096 (length field)) rule.now }
+{
+    for at in 0..rule.len() {
+        if rule.field(at).len() > LONGEST {
+            return true;
+        }
+    }
+    false
+}
+
+fn one_is_long<L: RuleList>(rules: &L) -> bool
+    ensures { result ≡ has_long_field (L.rules rules.now) }
+{
+    for at in 0..rules.len() {
+        if is_long(rules.at(at)) {
+            return true;
+        }
+    }
+    false
+}

@@ -1,0 +1,71 @@
+ghost use Rattle.std.specs.Prelude.{◌≡◌, ◌≤◌, length, true};
+ghost use Rattle.std.specs.List.{count_by};
+ghost use Rattle.edit_calls.specs.Counts.{inserts, is_table, removes};
+ghost use Rattle.policy_table.specs.Changes.{applies, edited};
+ghost use Rattle.policy_table.specs.Tables.{most_tables, rows};
+
+use perm_base::TableId;
+use policy_table::{Change, Edit, Tables};
+
+// How many rules a table has after an edit that applies.
+pub(crate) fn rows_after(edit: &Edit, tables: &Tables, table: TableId) -> u64
+    requires { applies edit.now tables.now.lists ≡ true }
+    ensures value { result ≡ length (rows (edited edit.now tables.now.lists) table) }
+    ensures nine { length tables.now.lists ≡ most_tables }
+    ensures still_nine { length (edited edit.now tables.now.lists) ≡ most_tables }
+{
+    let changes = edit.as_slice();
+    // `len` says that there are nine tables, `rows` that no rule stands twice.
+    let before = u64::from(tables.len(table));
+    let _rows = tables.rows(table);
+    before + inserted(changes, table) - removed(changes, table)
+}
+
+fn inserted(changes: &[Change], table: TableId) -> u64
+    ensures value { result ≡ count_by (inserts table) changes.now }
+    ensures few { result ≤ length changes.now }
+{
+    let mut count = 0;
+    for change in changes {
+        if inserts(change, table) {
+            count += 1;
+        }
+    }
+    count
+}
+
+fn removed(changes: &[Change], table: TableId) -> u64
+    ensures { result ≡ count_by (removes table) changes.now }
+{
+    let mut count = 0;
+    for change in changes {
+        if removes(change, table) {
+            count += 1;
+        }
+    }
+    count
+}
+
+fn inserts(change: &Change, table: TableId) -> bool
+    ensures { result ≡ inserts table change.now }
+{
+    match change {
+        Change::Insert { table: there, .. } => is_table(table, *there),
+        Change::Remove { .. } | Change::Replace { .. } => false,
+    }
+}
+
+fn removes(change: &Change, table: TableId) -> bool
+    ensures { result ≡ removes table change.now }
+{
+    match change {
+        Change::Remove { table: there, .. } => is_table(table, *there),
+        Change::Insert { .. } | Change::Replace { .. } => false,
+    }
+}
+
+fn is_table(table: TableId, other: TableId) -> bool
+    ensures { result ≡ is_table table other }
+{
+    table == other
+}
