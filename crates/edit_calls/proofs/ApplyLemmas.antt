@@ -22,6 +22,7 @@ use Rattle.edit_calls.specs.Edits.{edit_by, fitting, has_repeat, inserts, one_is
 use Rattle.edit_calls.specs.Refusals.{table_of as call_table}
 use Rattle.edit_calls.specs.declared.call.Call.{Call}
 use Rattle.edit_calls.specs.declared.call.Call.TheVariants.{Add, AddAll, AddEx, Remove, RemoveAll, Update, RemoveFiltered, UpdateFiltered, DeleteUser, DeleteRole}
+use Rattle.edit_calls.proofs.PlaceLemmas.{place_few, same-Decides, same_symm}
 
 -- neither of two tests
 neither : (a b : Bool) → (a || b) ≡ false → (a ≡ false) × (b ≡ false)
@@ -48,13 +49,6 @@ both_true a b x y = rw (x, y) refl
 pub both : (a b : Bool) → (a && b) ≡ true → (a ≡ true) × (b ≡ true)
 both true b e = (refl, e)
 both false b e = absurd (true≢false (sym e))
-
--- two rules are the same where their fields are
-same-Decides : (first second : Fields) → Decides (same first second) (first ≡ second)
-same-Decides first second = slice_eq-Decides bytes_eq-Decides first second (same first second) refl
-
-same_symm : (x y : Fields) → same x y ≡ same y x
-same_symm x y = same_from_decides (same x y) (same y x) (same-Decides x y) ((λ e. sym ((same-Decides y x).0 e)), (λ e. (same-Decides y x).1 (sym e)))
 
 same_self : (x : Fields) → same x x ≡ true
 same_self x = (same-Decides x x).1 refl
@@ -115,15 +109,6 @@ applies_here table at (first ∷ changes) lists here within of =
     ∙ applies_here table at changes after here (subst (λ n. at < n) (sym (length-set lists at _)) within) of.1
     ∙ ap (suit changes) (rows_set table at lists _ here within) in
     ap (λ (b : Bool). b && applies changes (changed first lists)) now ∙ ap (λ (b : Bool). suits first (rows lists table) && b) later
-
--- the place of a table is below nine
-place_few : (table : TableId) (at : ℕ) → place table ≡ Some at → at < most_tables
-place_few P at e = subst (λ n. n < most_tables) (same_Some 0 at e) (omega arith)
-place_few (G number) at e = by_test (nat_lt 0 number && nat_lt number most_tables) refl e
-  where
-    by_test : (test : Bool) → (nat_lt 0 number && nat_lt number most_tables) ≡ test → (if test then Some number else None) ≡ Some at → at < most_tables
-    by_test true t there = subst (λ n. n < most_tables) (same_Some number at there) (ltb-true number most_tables (both _ _ t).1)
-    by_test false t there = absurd cc
 
 -- so changes that suit the rules of a table that has a place apply
 applies_at : (table : TableId) (changes edit : List Change) (lists : Lists) → length lists ≡ most_tables → is_some (place table) ≡ true → AreOf table changes

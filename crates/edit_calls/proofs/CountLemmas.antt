@@ -17,29 +17,15 @@ use Rattle.policy_table.specs.declared.change.Change.{Change}
 use Rattle.policy_table.specs.declared.change.Change.TheVariants.{Insert, Remove, Replace}
 use Rattle.edit_calls.specs.Counts.{inserts, is_table, removes}
 use Rattle.edit_calls.proofs.RowLemmas.{distinct_changed, is_insert, is_remove, length_changed}
+use Rattle.edit_calls.proofs.PlaceLemmas.{left_of, one_table, place_few, right_of}
 
-right_of : (a b : Bool) → (a && b) ≡ true → b ≡ true
-right_of true b e = e
-right_of false b e = absurd (true≢false (sym e))
+-- tables with one place have one name
+itself : (table : TableId) → is_table table table ≡ true
+itself P = refl
+itself (G number) = (Decides-eqb number number).1 refl
 
-left_of : (a b : Bool) → (a && b) ≡ true → a ≡ true
-left_of true b e = refl
-left_of false b e = e
-
--- the place of a relation is its number, which is 1 to 8
-place_number : (number at : ℕ) → place (G number) ≡ Some at → (number ≡ at) × (0 < at) × (at < most_tables)
-place_number number at e = by_test (nat_lt 0 number && nat_lt number most_tables) refl e
-  where
-    by_test : (test : Bool) → (nat_lt 0 number && nat_lt number most_tables) ≡ test → (if test then Some number else None) ≡ Some at → (number ≡ at) × (0 < at) × (at < most_tables)
-    by_test true t there =
-        let same = same_Some number at there in
-        (same, subst (λ n. 0 < n) same (ltb-true 0 number (left_of _ _ t)), subst (λ n. n < most_tables) same (ltb-true number most_tables (right_of _ _ t)))
-    by_test false t there = absurd cc
-
--- a table's place is below nine
-place_few : (table : TableId) (at : ℕ) → place table ≡ Some at → at < most_tables
-place_few P at e = subst (λ n. n < most_tables) (same_Some 0 at e) (omega arith)
-place_few (G number) at e = (place_number number at e).2
+told_table : (table other : TableId) (at : ℕ) → place table ≡ Some at → place other ≡ Some at → is_table table other ≡ true
+told_table table other at here there = subst (λ (t : TableId). is_table table t ≡ true) (one_table table other at here there) (itself table)
 
 -- two names are the same table where the test says so
 pub same_table : (table other : TableId) → is_table table other ≡ true → table ≡ other
@@ -47,13 +33,6 @@ same_table P P e = refl
 same_table P (G number) e = absurd (true≢false (sym e))
 same_table (G number) P e = absurd (true≢false (sym e))
 same_table (G number) (G other) e = ap (λ n. G n) (eqb-true number other e)
-
--- tables at one place are the same
-one_table : (table other : TableId) (at : ℕ) → place table ≡ Some at → place other ≡ Some at → is_table table other ≡ true
-one_table P P at e f = refl
-one_table P (G number) at e f = absurd (let zero : 0 ≡ at = same_Some 0 at e in let some = (place_number number at f).1 in omega (arith, zero, some))
-one_table (G number) P at e f = absurd (let zero : 0 ≡ at = same_Some 0 at f in let some = (place_number number at e).1 in omega (arith, zero, some))
-one_table (G number) (G other) at e f = (Decides-eqb number other).1 ((place_number number at e).0 ∙ sym (place_number other at f).0)
 
 right_true : (b : Bool) → b ≡ (b && true)
 right_true true = refl
@@ -105,7 +84,7 @@ module _ (change : Change) (lists : Lists) (counted : length lists ≡ most_tabl
 
   -- another table has another place
   apart : (table : TableId) (at : ℕ) → is_table table (table_of change) ≡ false → place table ≡ Some at → at ≡ there.0 → ⊥
-  apart table at other here same = true≢false (sym (one_table table (table_of change) there.0 (here ∙ ap (λ n. Some n) same) there.1) ∙ other)
+  apart table at other here same = true≢false (sym (told_table table (table_of change) there.0 (here ∙ ap (λ n. Some n) same) there.1) ∙ other)
 
   -- the rules of another table
   pub rows_other : (table : TableId) → is_table table (table_of change) ≡ false → rows (changed change lists) table ≡ rows lists table

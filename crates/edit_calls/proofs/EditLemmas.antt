@@ -15,6 +15,7 @@ use Rattle.std.specs.List.{list_any}
 use Rattle.policy_table.specs.Tables.{Fields, same, stands}
 use Rattle.policy_table.specs.declared.change.Change.{Change}
 use Rattle.edit_calls.specs.Edits.{has_repeat, is_empty, unless}
+use Rattle.edit_calls.proofs.PlaceLemmas.{same-Decides}
 
 module _ {X : Type 0} (items : List X) (at : ℕ) (item : X) (here : slice_get items at ≡ Some item) where
   -- the items in front and one more
@@ -62,10 +63,6 @@ module _ {X : Type 0} (items : List X) (at : ℕ) (item : X) (here : slice_get i
     -- and stays as it is at one that does not
     pub passed_same : (new : List Y) → test item ≡ false → new ≡ old → new ≡ before ++ map f (filter test (take (at + 1) items))
     passed_same new fails same = same ∙ made ∙ ap (λ l. before ++ map f l) (sym (filter_same test fails))
-
--- two rules are the same where their fields are
-same-Decides : (first second : Fields) → Decides (same first second) (first ≡ second)
-same-Decides first second = slice_eq-Decides bytes_eq-Decides first second (same first second) refl
 
 -- a rule that stands meets what each of the rules meets
 pub met_by_one : (P : Fields → Type 0) (rule : Fields) (rules : List Fields) → All P rules → stands rule rules ≡ true → P rule

@@ -1,3 +1,4 @@
+mod PlaceLemmas
 mod RefusalLemmas
 mod EditLemmas
 mod ApplyLemmas

@@ -8,14 +8,7 @@ use Rattle.policy_table.specs.Changes.{changed_rules, suits}
 use Rattle.policy_table.specs.Tables.{Fields, same, stands}
 use Rattle.policy_table.specs.declared.change.Change.{Change}
 use Rattle.policy_table.specs.declared.change.Change.TheVariants.{Insert, Remove, Replace}
-
--- two rules are the same where their fields are
-same-Decides : (first second : Fields) → Decides (same first second) (first ≡ second)
-same-Decides first second = slice_eq-Decides bytes_eq-Decides first second (same first second) refl
-
--- equality has two sides
-flipped : (a b : Fields) → same a b ≡ same b a
-flipped a b = same_from_decides (same a b) (same b a) (same-Decides a b) ((λ e. sym ((same-Decides b a).0 e)), (λ e. (same-Decides b a).1 (sym e)))
+use Rattle.edit_calls.proofs.PlaceLemmas.{right_of, same-Decides, same_symm}
 
 -- no rule of these is this one
 abbrev AreApart : Fields → List Fields → Type 0
@@ -90,7 +83,7 @@ apart_push x rule (y ∷ rules) apart e = (apart.0, apart_push x rule rules apar
 distinct_push : (rule : Fields) (rules : List Fields) → IsDistinct same rules → AreApart rule rules → IsDistinct same (rules ++ rule ∷ [])
 unfolding IsDistinct
 distinct_push rule [] distinct apart = (tt, tt)
-distinct_push rule (x ∷ rules) distinct apart = (apart_push x rule rules distinct.0 (flipped x rule ∙ apart.0), distinct_push rule rules distinct.1 apart.1)
+distinct_push rule (x ∷ rules) distinct apart = (apart_push x rule rules distinct.0 (same_symm x rule ∙ apart.0), distinct_push rule rules distinct.1 apart.1)
 
 -- what is apart from the rules and from the new one is apart from them when it has taken a place
 apart_renamed : (x old new : Fields) (rules : List Fields) → AreApart x rules → same x new ≡ false → AreApart x (renamed old new rules)
@@ -108,7 +101,7 @@ distinct_renamed old new (x ∷ rules) distinct apart = (by (same old x) refl, d
   where
     by : (b : Bool) → same old x ≡ b → AreApart (if b then new else x) (renamed old new rules)
     by true e = subst (AreApart new) (sym (renamed_absent old new rules (apart_from old x rules e distinct.0))) apart.1
-    by false e = apart_renamed x old new rules distinct.0 (flipped x new ∙ apart.0)
+    by false e = apart_renamed x old new rules distinct.0 (same_symm x new ∙ apart.0)
 
 -- the change puts a rule behind the others
 abbrev pub is_insert : Change → Bool
@@ -125,10 +118,6 @@ is_remove (Replace table old new) = false
 absent_of : (b : Bool) → not b ≡ true → b ≡ false
 absent_of true e = absurd (true≢false (sym e))
 absent_of false e = refl
-
-right_of : (a b : Bool) → (a && b) ≡ true → b ≡ true
-right_of true b e = e
-right_of false b e = absurd (true≢false (sym e))
 
 -- how many rules there are after a change that suits them
 pub length_changed : (change : Change) (rules : List Fields) → IsDistinct same rules → suits change rules ≡ true

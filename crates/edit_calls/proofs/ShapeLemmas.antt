@@ -22,6 +22,7 @@ use Rattle.edit_calls.specs.declared.call.Call.TheVariants.{Add, AddAll, AddEx, 
 use Rattle.edit_calls.specs.declared.refused.CallRefused.{CallRefused}
 use Rattle.edit_calls.specs.declared.refused.CallRefused.TheVariants.{Columns, FieldTooLong, NoTable}
 use Rattle.edit_calls.proofs.ApplyLemmas.{both, edit_of, replaces}
+use Rattle.edit_calls.proofs.PlaceLemmas.{one_table}
 
 -- the rule has as many fields as its table has columns
 abbrev Fits : Shapes → TableId → Fields → Type 0
@@ -50,21 +51,6 @@ rules_fit shapes (change.Replace table old new) rules shaped fit =
     by : (b : Bool) (other : Fields) → Fits shapes table other → Fits shapes table (if b then new else other)
     by true other is = shaped
     by false other is = is
-
--- the number of a relation with a place
-place_number : (number at : ℕ) → place (G number) ≡ Some at → (number ≡ at) × (0 < number)
-place_number number at e = by (nat_lt 0 number && nat_lt number most_tables) refl e
-  where
-    by : (test : Bool) → (nat_lt 0 number && nat_lt number most_tables) ≡ test → (if test then Some number else None) ≡ Some at → (number ≡ at) × (0 < number)
-    by true t there = (same_Some number at there, ltb-true 0 number (both _ _ t).0)
-    by false t there = absurd cc
-
--- one table stands at a place
-one_table : (table other : TableId) (at : ℕ) → place table ≡ Some at → place other ≡ Some at → table ≡ other
-one_table P P at here there = refl
-one_table P (G number) at here there = let n = place_number number at there in let zero = same_Some 0 at here in absurd (omega (arith, n.0, n.1, zero))
-one_table (G number) P at here there = let n = place_number number at here in let zero = same_Some 0 at there in absurd (omega (arith, n.0, n.1, zero))
-one_table (G number) (G another) at here there = ap G ((place_number number at here).0 ∙ sym (place_number another at there).0)
 
 -- what holds of the rules that are written holds of those at their place
 written : (R : Fields → Type 0) (lists : Lists) (at : ℕ) (rules : List Fields) → All R rules → All R (get_or (set lists at rules) at [])

@@ -1,6 +1,5 @@
 ghost use Rattle.std.specs.Prelude.{◌≡◌, List, None, Some, true, length, is_some};
 ghost use Rattle.std.specs.List.{IsDistinct};
-ghost use Rattle.perm_base.specs.Shapes.{AreValid};
 ghost use Rattle.perm_base.specs.declared.shapes.Shapes.{Shapes};
 ghost use Rattle.perm_base.specs.declared.shapes.TableId.TheVariants.{P};
 ghost use Rattle.policy_table.specs.Changes.{applies, edited};
@@ -34,7 +33,6 @@ pub fn edits_keep_shapes()
 /// The law that no table within the limits has 2^32 rules.
 pub fn tables_within_limits_are_lists()
     ensures { (shapes : Shapes) (lists : Lists)
-        → AreValid shapes
         → length lists ≡ most_tables
         → HaveShapes shapes lists
         → passed shapes lists ≡ None

@@ -9,6 +9,6 @@ pub enum Limit {
     PatternRows,
     /// 16,384 different pairs of a role relation and a domain of its rules.
     Domains,
-    /// 4,000,000,000 published and pending edits.
+    /// 4,000,000,000 published and pending edits, which `resolve` does not count.
     Edits,
 }

@@ -2,4 +2,4 @@ use Rattle.edit_calls.proofs.ListLemmas.{are_lists}
 use Rattle.edit_calls.proofs.laws.tables_within_limits_are_lists.Goals as goal
 
 pub returns : goal.returns
-returns c = λ shapes lists valid. are_lists shapes lists
+returns c = are_lists
