@@ -1,0 +1,4 @@
+pub mod Lines
+pub mod Blanks
+pub mod Passed
+pub mod Names

@@ -1,0 +1,20 @@
+ghost use Rattle.std.specs.Prelude.{◌≡◌, ◌<◌, ◌∷◌, ◌++◌, false, IfNone, IfSome};
+ghost use Rattle.text_parts.specs.Lines.{has_byte};
+
+/// What stands before the first such byte of ASCII in a text, and what stands behind it.
+pub fn cut_at(text: &str, byte: u8) -> Option<(&str, &str)>
+    requires { byte < 128 }
+    ensures none { IfNone result (has_byte byte text.now ≡ false) }
+    ensures parts { IfSome result (λ cut. text.now ≡ cut.0.now ++ byte ∷ cut.1.now) }
+    ensures first { IfSome result (λ cut. has_byte byte cut.0.now ≡ false) }
+{
+    let at = text.as_bytes().iter().position(|b| *b == byte)?;
+    Some((&text[..at], &text[at + 1..]))
+}
+
+/// The text holds the byte.
+pub fn has_byte(text: &str, byte: u8) -> bool
+    ensures { result ≡ has_byte byte text.now }
+{
+    text.as_bytes().iter().any(|b| *b == byte)
+}
