@@ -13,7 +13,7 @@ pub fn is_passed(line: &str) -> bool
     }
 }
 
-/// A line that is passed over in a model's text: so is one whose first byte that is no blank is `;`, too.
+/// A line that is passed over in a model's text: also one whose first byte that is no blank is `;`.
 pub fn is_passed_in_model(line: &str) -> bool
     ensures { result ≡ is_passed_in_model line.now }
 {
