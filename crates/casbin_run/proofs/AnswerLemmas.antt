@@ -9,7 +9,7 @@ use Rattle.matcher_meaning.specs.Perm.{Judging, Refusal, IsJudged, IsPerm, is_re
 use Rattle.effect_fold.specs.declared.verdict.Verdict.{Verdict}
 use Rattle.enforce_core.specs.Programs.{judging}
 use Rattle.model_conf.specs.ModelText.{ModelParts}
-use Rattle.perm_base.specs.Faults.{Rose}
+use Rattle.outside.specs.Faults.{Rose}
 use Rattle.perm_base.specs.FieldFaults.{IsFault}
 use Rattle.perm_base.specs.FieldLine.{IsFields}
 use Rattle.perm_base.specs.declared.quoted.FieldFault.{FieldFault}

@@ -1,8 +1,8 @@
 -- Where no count rose, the status is the one that the told words, files and input give.
 use Rattle.std.proofs.Common.{◌≡◌, ℕ, List, inl, inr, ⊎_elim, ap, ◌∙◌, refl}
 use Rattle.std.specs.Prelude.{◌⊎◌, Option, Some, None, IsSome}
-use Rattle.perm_base.specs.Files.{Files}
-use Rattle.perm_base.specs.Told.{with_back}
+use Rattle.outside.specs.Files.{Files}
+use Rattle.outside.specs.Told.{with_back}
 use Rattle.casbin_run.specs.declared.status.Status.TheVariants as statuses
 use Rattle.casbin_run.specs.declared.stop.Part.TheVariants.{Model, Policy, Input}
 use Rattle.casbin_run.specs.declared.stop.Stop.{Stop}

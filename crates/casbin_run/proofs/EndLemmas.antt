@@ -1,9 +1,9 @@
 -- How the stops of the parts of a run are stops of the run.
 use Rattle.std.proofs.Common.{◌≡◌, ℕ, ◌≤◌, List, inl, inr, ⊎_elim, length, refl, sym, subst}
 use Rattle.std.specs.Prelude.{IsUtf8, Option, Some, None}
-use Rattle.perm_base.specs.Files.{Files}
-use Rattle.perm_base.specs.Faults.{Rose}
-use Rattle.perm_base.specs.Told.{TookFront, with_back}
+use Rattle.outside.specs.Files.{Files}
+use Rattle.outside.specs.Faults.{Rose}
+use Rattle.outside.specs.Told.{TookFront, with_back}
 use Rattle.model_conf.specs.ModelText.{ModelParts}
 use Rattle.policy_csv.specs.Policy.{IsPolicy}
 use Rattle.casbin_run.specs.declared.stop.Part.TheVariants.{Model, Policy, Input}

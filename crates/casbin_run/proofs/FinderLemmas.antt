@@ -3,7 +3,7 @@ use Rattle.std.proofs.Common.{◌≡◌, ℕ, ◌+◌, ◌<◌, ◌≤◌, leb, 
 use Rattle.std.specs.Prelude.{sum, map}
 use Rattle.std.proofs.lemmas.List.Sums.{sum_by-append}
 use Rattle.enforce_core.specs.Programs.{IsRefused}
-use Rattle.perm_base.specs.Faults.{most_faults}
+use Rattle.outside.specs.Faults.{most_faults}
 use Rattle.model_conf.specs.ModelText.{ModelParts}
 use Rattle.regex_gate.specs.Refused.{HasGrown}
 use Rattle.casbin_run.specs.Answer.{refusals_in}

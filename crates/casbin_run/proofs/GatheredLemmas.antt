@@ -2,8 +2,8 @@
 use Rattle.std.proofs.Common.{◌≡◌, ℕ, ◌≤◌, List, [], ◌++◌, refl, sym, ap, append_assoc, arith}
 use Rattle.std.specs.Prelude.{Option, Some, None}
 use Rattle.std.proofs.lemmas.List.{append-nil}
-use Rattle.perm_base.specs.Faults.{Rose}
-use Rattle.perm_base.specs.Told.{with_back, TookFront}
+use Rattle.outside.specs.Faults.{Rose}
+use Rattle.outside.specs.Told.{with_back, TookFront}
 
 -- what was pushed and what is gathered are the text so far
 pub record IsGathered (before now : Option (List ℕ)) (gathered so_far : List ℕ) (faults_before faults_now : ℕ) : Type 0 where

@@ -1,7 +1,7 @@
 -- Told words, files and input have one end: what is read comes to one state at each part, and the states to one end.
 use Rattle.std.proofs.Common.{◌≡◌, ℕ, ◌<◌, ◌≤◌, Bool, true, false, List, length, ⊎_elim, refl, sym, ap, subst, ◌∙◌, arith}
 use Rattle.std.specs.Prelude.{IsUtf8, Option, Some, None}
-use Rattle.perm_base.specs.Files.{Files}
+use Rattle.outside.specs.Files.{Files}
 use Rattle.model_conf.specs.Faults.{IsModelFault}
 use Rattle.model_conf.specs.Later.{is_later}
 use Rattle.model_conf.specs.ModelText.{ModelParts, IsModel}

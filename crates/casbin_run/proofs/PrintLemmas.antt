@@ -4,8 +4,8 @@ use Rattle.std.specs.Prelude.{Option, Contains}
 use Rattle.std.proofs.lemmas.List.{append-nil}
 use Rattle.enforce_core.specs.Programs.{IsRefused}
 use Rattle.model_conf.specs.ModelText.{ModelParts}
-use Rattle.perm_base.specs.Faults.{Rose}
-use Rattle.perm_base.specs.Told.{with_back, TookFront}
+use Rattle.outside.specs.Faults.{Rose}
+use Rattle.outside.specs.Told.{with_back, TookFront}
 use Rattle.regex_gate.specs.Refused.{HasGrown}
 use Rattle.casbin_run.specs.Answer.{IsAnswer, Reply, is_refused_search, line_text, refusals_in, shown, text_of_replies}
 use Rattle.casbin_run.specs.Print.{Answering, PrintStops, RoseTo}

@@ -1,7 +1,7 @@
 -- Why a file was not read.
 use Rattle.std.proofs.Common.{◌≡◌, ◌≢◌, ℕ, ◌≤◌, Bool, true, false, List, length, inl, inr, refl}
 use Rattle.std.specs.Prelude.{IsTrue, Option}
-use Rattle.perm_base.specs.Files.{Files, Holds}
+use Rattle.outside.specs.Files.{Files, Holds}
 use Rattle.model_conf.specs.Faults.{IsModelFault}
 use Rattle.model_conf.specs.Later.{is_later}
 use Rattle.model_conf.specs.ModelText.{IsModel, ModelParts}

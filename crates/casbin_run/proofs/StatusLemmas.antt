@@ -2,7 +2,7 @@
 use Rattle.std.proofs.Common.{◌≡◌, ℕ, List, inl, inr, ⊎_elim, refl}
 use Rattle.std.specs.Prelude.{◌⊎◌, ◌↔◌, Option, Some, None}
 use Rattle.model_conf.specs.declared.fault.ModelFault.{ModelFault}
-use Rattle.perm_base.specs.Files.{Files}
+use Rattle.outside.specs.Files.{Files}
 use Rattle.casbin_run.specs.declared.status.Status.TheVariants as statuses
 use Rattle.casbin_run.specs.declared.stop.Part.{Part}
 use Rattle.casbin_run.specs.declared.stop.Part.TheVariants.{Model, Policy, Input}

@@ -2,8 +2,8 @@
 use Rattle.std.proofs.Common.{◌≡◌, ℕ, List, ◌++◌, refl, sym, ap, append_assoc}
 use Rattle.std.specs.Prelude.{[], Option, Some, None, Result, Ok, Err, OnOk, OnErr}
 use Rattle.std.proofs.lemmas.List.{append-nil}
-use Rattle.perm_base.specs.declared.fault.Failed.{Failed}
-use Rattle.perm_base.specs.Told.{with_back, TookFront}
+use Rattle.outside.specs.declared.fault.Failed.{Failed}
+use Rattle.outside.specs.Told.{with_back, TookFront}
 
 with_back-append : (told : Option (List ℕ)) (a b : List ℕ) → with_back (with_back told a) b ≡ with_back told (a ++ b)
 with_back-append None a b = refl

@@ -1,7 +1,7 @@
 -- The meaning of a whole run: what the texts of a model, a policy and an input say, answered line by line.
 use Rattle.std.specs.Prelude.{◌≡◌, ◌≤◌, ℕ, List, Option, Some, length, IsUtf8}
-use Rattle.perm_base.specs.Files.{Files, Holds}
-use Rattle.perm_base.specs.Told.{TookFront, with_back}
+use Rattle.outside.specs.Files.{Files, Holds}
+use Rattle.outside.specs.Told.{TookFront, with_back}
 use Rattle.model_conf.specs.ModelText.{ModelParts}
 use Rattle.policy_csv.specs.Policy.{IsPolicy}
 use Rattle.casbin_run.specs.Answer.{AreAnswers, Reply, refusals_in, text_of_replies}

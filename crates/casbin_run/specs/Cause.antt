@@ -1,6 +1,6 @@
 -- What keeps a run from its end: the cause of each stop, by cases on the stop.
 use Rattle.std.specs.Prelude.{◌≡◌, ◌⊎◌, ℕ, ◌<◌, List, Option, None, IfSome, length, ⊤, IsTrue, IsUtf8}
-use Rattle.perm_base.specs.Files.{Files, Lacks, OfFile}
+use Rattle.outside.specs.Files.{Files, Lacks, OfFile}
 use Rattle.model_conf.specs.Faults.{IsModelFault}
 use Rattle.model_conf.specs.Later.{is_later}
 use Rattle.model_conf.specs.ModelText.{ModelParts, IsModel}

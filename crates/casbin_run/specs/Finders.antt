@@ -1,7 +1,7 @@
 -- What the finders of a run did: their counts of refusals, and the patterns that they keep.
 use Rattle.std.specs.Prelude.{◌≤◌, ◌⊎◌, ℕ, ◌+◌, List, [], ◌∷◌, Contains, ⊤}
 use Rattle.std.specs.List.{sum}
-use Rattle.perm_base.specs.Faults.{most_faults}
+use Rattle.outside.specs.Faults.{most_faults}
 
 -- the counts of all finders before a run and after it, and then what each of them keeps
 pub record Searches : Type 0 where

@@ -1,7 +1,7 @@
 -- What the words, the files and the input of a run say, where they are in order. Where files or an input are not
 -- told, some bytes stand for what was read.
 use Rattle.std.specs.Prelude.{◌≡◌, ℕ, ◌≤◌, List, Option, Some, None, length, ⊤}
-use Rattle.perm_base.specs.Files.{Files, Holds}
+use Rattle.outside.specs.Files.{Files, Holds}
 use Rattle.model_conf.specs.ModelText.{ModelParts}
 use Rattle.policy_csv.specs.Policy.{IsPolicy}
 use Rattle.casbin_run.specs.Judging.{IsAnsweredBy}

@@ -1,8 +1,8 @@
 -- Whether the answers were all printed, and why not.
 use Rattle.std.specs.Prelude.{◌≤◌, ℕ, ◌+◌, Bool, List, Option, min}
 use Rattle.model_conf.specs.ModelText.{ModelParts}
-use Rattle.perm_base.specs.Faults.{Rose, most_faults}
-use Rattle.perm_base.specs.Told.{TookFront}
+use Rattle.outside.specs.Faults.{Rose, most_faults}
+use Rattle.outside.specs.Told.{TookFront}
 use Rattle.casbin_run.specs.Answer.{AreAnswers, Reply, text_of_replies}
 use Rattle.casbin_run.specs.declared.stop.Stop.{Stop}
 use Rattle.casbin_run.specs.declared.stop.Stop.TheVariants.{CannotWrite, NoMemory}

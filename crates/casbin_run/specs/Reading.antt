@@ -1,6 +1,6 @@
 -- Why a part of a run was not read, by cases on the stop.
 use Rattle.std.specs.Prelude.{◌≡◌, ◌⊎◌, ℕ, ◌<◌, List, Option, IfSome, length, ⊤}
-use Rattle.perm_base.specs.Files.{Files, Lacks, OfFile}
+use Rattle.outside.specs.Files.{Files, Lacks, OfFile}
 use Rattle.model_conf.specs.declared.fault.ModelFault.{ModelFault}
 use Rattle.model_conf.specs.declared.fault.ModelFault.TheVariants as model
 use Rattle.policy_csv.specs.declared.policy.PolicyFault.{PolicyFault}

@@ -1,7 +1,7 @@
 ghost use Rattle.std.specs.Prelude.{◌≡◌, ◌≢◌, ◌≤◌, ◌^◌, ◌++◌, ◌+◌, ℕ, List, OnOk, IfErr, Ok, codes, decimal, length, map, true};
 ghost use Rattle.enforce_core.specs.Programs.{IsRefused};
-ghost use Rattle.perm_base.specs.Faults.{Rose};
-ghost use Rattle.perm_base.specs.Told.{with_back};
+ghost use Rattle.outside.specs.Faults.{Rose};
+ghost use Rattle.outside.specs.Told.{with_back};
 ghost use Rattle.perm_value.specs.Seen.{datum};
 ghost use Rattle.regex_gate.specs.Refused.{HasGrown};
 ghost use Rattle.casbin_run.specs.Answer.{IsAnswer, IsReply, Reply, is_refused_search, line_text, refusals_in, reply_text, shown};

@@ -1,6 +1,6 @@
 ghost use Rattle.std.specs.Prelude.{◌≡◌, ◌≤◌, ◌<◌, ◌^◌, IfOk, IfErr, OnErr, OnOk, IfSome, All, [], length, string_bytes};
-ghost use Rattle.perm_base.specs.Faults.{Rose};
-ghost use Rattle.perm_base.specs.Files.{Holds};
+ghost use Rattle.outside.specs.Faults.{Rose};
+ghost use Rattle.outside.specs.Files.{Holds};
 ghost use Rattle.policy_csv.specs.Policy.{IsPolicy};
 ghost use Rattle.casbin_run.specs.Parts.{FileIs, InputIs, model_limit, policy_limit};
 ghost use Rattle.casbin_run.specs.Judging.{IsAnsweredBy};

@@ -1,5 +1,5 @@
 ghost use Rattle.std.specs.Prelude.{◌≡◌, List, ℕ, Some};
-ghost use Rattle.perm_base.specs.Files.{Files};
+ghost use Rattle.outside.specs.Files.{Files};
 ghost use Rattle.casbin_run.specs.declared.stop.Stop.{Stop};
 ghost use Rattle.casbin_run.specs.Answers.{IsAnswered, IsInOrder};
 ghost use Rattle.casbin_run.specs.Cause.{Cause};

@@ -1,6 +1,6 @@
 ghost use Rattle.std.specs.Prelude.{◌≡◌, ◌≢◌, ◌≤◌, ◌⊎◌, ◌↔◌, ℕ, List, [], None, IfErr, IfSome, IsSome, OnOk, drop, length, map, string_bytes};
-ghost use Rattle.perm_base.specs.Faults.{Rose};
-ghost use Rattle.perm_base.specs.Told.{TookFront, with_back};
+ghost use Rattle.outside.specs.Faults.{Rose};
+ghost use Rattle.outside.specs.Told.{TookFront, with_back};
 ghost use Rattle.regex_gate.specs.Refused.{HasGrown};
 ghost use Rattle.casbin_run.specs.Answer.{refusals_in};
 ghost use Rattle.casbin_run.specs.Answers.{IsAnswered, IsInOrder, TookAll, TookSome};

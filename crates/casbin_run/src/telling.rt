@@ -1,6 +1,6 @@
 ghost use Rattle.std.specs.Prelude.{◌≡◌, ◌≤◌, ◌⊎◌, OnOk, OnErr};
-ghost use Rattle.perm_base.specs.Faults.{Rose};
-ghost use Rattle.perm_base.specs.Told.{TookFront, with_back};
+ghost use Rattle.outside.specs.Faults.{Rose};
+ghost use Rattle.outside.specs.Told.{TookFront, with_back};
 ghost use Rattle.casbin_run.specs.Message.{line_of};
 ghost use Rattle.casbin_run.specs.Pieces.{number_text, text_of};
 

@@ -16,7 +16,7 @@ use Rattle.matcher_meaning.specs.Calls.{Calls, CallsTexts, text_of, text_before,
 use Rattle.matcher_meaning.specs.Environment.{Environment, unrefused, refusing}
 use Rattle.matcher_meaning.specs.Meaning.{Means, IsAmong, AreArguments, is_search, searches, some_searches}
 use Rattle.matcher_meaning.specs.Operators.{settled, joined, is_member}
-use Rattle.perm_base.specs.Faults.{Rose}
+use Rattle.outside.specs.Faults.{Rose}
 use Rattle.enforce_core.specs.Seen.{EndsIn, EndsAll, IsUsed}
 use Rattle.enforce_core.specs.declared.halt.Halt.{Halt}
 use Rattle.enforce_core.specs.declared.halt.Halt.TheVariants as halt

@@ -15,8 +15,8 @@ use Rattle.effect_fold.specs.declared.verdict.Verdict.TheVariants as verdicts
 use Rattle.matcher_meaning.specs.Environment.{Environment, without_roles}
 use Rattle.matcher_meaning.specs.Meaning.{IsTruth}
 use Rattle.matcher_meaning.specs.Perm.{Judging, Refusal, refused_at, AreOutcomes, IsOnce, IsOutcome, IsPerm, IsJudged, is_refusal, outcome_of, refusal_fault, row_word}
-use Rattle.perm_base.specs.Faults.{Rose}
-use Rattle.perm_base.specs.declared.fault.NoMemory.{NoMemory}
+use Rattle.outside.specs.Faults.{Rose}
+use Rattle.outside.specs.declared.fault.NoMemory.{NoMemory}
 use Rattle.matcher_read.specs.Expression.{Expression}
 use Rattle.perm_value.specs.Datum.{Datum}
 use Rattle.std.specs.Borrow.{Bor}

@@ -8,7 +8,7 @@ use Rattle.effect_fold.specs.Verdict.{Taken, verdict}
 use Rattle.effect_fold.specs.declared.verdict.Verdict.{Verdict}
 use Rattle.matcher_meaning.specs.Perm.{Judging, Refusal, IsOutcome, names_policy, refusal_fault, row_word}
 use Rattle.model_conf.specs.ModelText.{ModelParts}
-use Rattle.perm_base.specs.Faults.{Rose}
+use Rattle.outside.specs.Faults.{Rose}
 use Rattle.perm_value.specs.Datum.{Datum}
 use Rattle.perm_value.specs.declared.value.View.{View}
 use Rattle.perm_value.specs.declared.value.View.TheVariants as view

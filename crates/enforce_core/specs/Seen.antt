@@ -4,7 +4,7 @@ use Rattle.std.specs.Borrow.{Bor}
 use Rattle.effect_fold.specs.declared.fault.Cause.TheVariants.{Pattern}
 use Rattle.effect_fold.specs.declared.fault.Fault.{Fault}
 use Rattle.matcher_read.specs.Expression.{Callee, function, relation}
-use Rattle.perm_base.specs.Faults.{Rose}
+use Rattle.outside.specs.Faults.{Rose}
 use Rattle.perm_value.specs.Datum.{Datum}
 use Rattle.perm_value.specs.Seen.{datum, datum_of_view}
 use Rattle.perm_value.specs.declared.value.Value.{Value}

@@ -1,7 +1,7 @@
 ghost use Rattle.std.specs.Prelude.{◌≡◌, ◌≤◌, true, IfErr, IfOk, IsTrue, Ok, map};
 ghost use Rattle.matcher_meaning.specs.Meaning.{searches};
 ghost use Rattle.matcher_meaning.specs.Perm.{AreOutcomes, IsJudged, IsOnce, is_refusal, outcome_of, word_of};
-ghost use Rattle.perm_base.specs.Faults.{Rose};
+ghost use Rattle.outside.specs.Faults.{Rose};
 ghost use Rattle.perm_value.specs.Seen.{datum};
 ghost use Rattle.regex_gate.specs.Refused.{HasGrown};
 ghost use Rattle.enforce_core.specs.Programs.{ComesTo, IsJudgedOn, IsRefused, judging, word_of_row};

@@ -1,6 +1,4 @@
 pub mod Tests
-pub mod Outside
-pub mod EntryLemmas
 pub mod LineLemmas
 pub mod FieldLemmas
 pub mod QuotedLemmas

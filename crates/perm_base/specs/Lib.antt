@@ -1,5 +1,3 @@
-pub mod Faults
-pub mod Told
 pub mod Lines
 pub mod Fields
 pub mod LineEnds
@@ -7,10 +5,6 @@ pub mod FieldLine
 pub mod FieldFaults
 pub mod FieldSteps
 pub mod Rule
-pub mod Files
-pub mod Fetch
-pub mod Entries
-pub mod Listed
 pub mod RoleShapes
 pub mod Shapes
 pub mod Patterns

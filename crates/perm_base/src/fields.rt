@@ -1,10 +1,9 @@
 ghost use Rattle.std.specs.Prelude.{◌≡◌, ◌<◌, ◌++◌, ℕ, List, ◌∷◌, All, IfOk, IfSome, IfNone, IsErrOf, MatchResult, OnErr, OnOk, length, map};
 ghost use Rattle.perm_base.specs.Fields.{IsJoined, IsPlainField, IsPlainLine, has_plain_ends, has_special, is_blank, is_plain, is_special, joined};
 
-use crate::fault::NoMemory;
 use crate::lines::cut_at;
 use crate::rule::Rule;
-use crate::text::Text;
+use outside::{NoMemory, Text};
 use std::alloc::Global;
 
 // The greatest number of bytes of a plain field.

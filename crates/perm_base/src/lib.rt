@@ -1,16 +1,12 @@
-//! The ground of the engine: texts, rules, the traits of the outside, and the lines and fields of a text.
+//! The ground of the engine: rules, the shapes of tables, and the lines and fields of a text.
 #![tactic(auto)]
 
-mod fault;
 mod fields;
 #[cfg(test)]
 mod fields_tests;
 mod lines;
 #[cfg(test)]
 mod lines_tests;
-mod memory;
-#[cfg(test)]
-mod memory_tests;
 mod patterns;
 mod quoted;
 mod quoted_print;
@@ -18,22 +14,22 @@ mod quoted_print;
 mod quoted_tests;
 mod role_shapes;
 mod rule;
+#[cfg(test)]
+mod rule_tests;
 mod rules;
 mod shapes;
 #[cfg(test)]
 mod shapes_tests;
-mod shelf;
-mod sink;
-mod source;
-mod text;
 
-pub use fault::{Failed, NoMemory};
 pub use fields::{
     JoinFault, PlainFault, cut_joined, joined_texts_are_unique, plain_fields_are_unique,
     push_joined, read_plain_fields,
 };
 pub use lines::{lines_with_ends, lines_without_last_end, next_full_line, next_line};
-pub use memory::{ListShelf, ListSink, ListSource, SureShelf, SureSink, SureSource};
+pub use outside::{
+    Failed, Fetch, ListShelf, ListSink, ListSource, NoMemory, ReadStop, Shelf, Sink, Source,
+    SureShelf, SureSink, SureSource, Text, push_all, read_all,
+};
 pub use patterns::is_pattern;
 pub use quoted::{
     FieldFault, every_line_is_fields_or_at_fault, fault_of_a_line_is_unique,
@@ -44,7 +40,3 @@ pub use role_shapes::RoleShapes;
 pub use rule::{Rule, RuleFault};
 pub use rules::Rules;
 pub use shapes::{Fit, RoleShape, Shapes, TableId};
-pub use shelf::{Fetch, Shelf};
-pub use sink::{Sink, push_all};
-pub use source::{ReadStop, Source, read_all};
-pub use text::Text;

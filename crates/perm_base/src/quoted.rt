@@ -5,8 +5,7 @@ ghost use Rattle.perm_base.specs.Lines.{has_byte};
 ghost use Rattle.perm_base.specs.LineEnds.{AreFields, is_line_end, has_line_end};
 ghost use Rattle.perm_base.specs.FieldSteps.{Gives, IsCutAt, before_comma, behind_comma, column_of, closed_field, fields_of, first_field, line_end_column, plain_field, quoted_field, quoted_text, without_back_blanks, without_front_blanks};
 
-use crate::fault::NoMemory;
-use crate::text::Text;
+use outside::{NoMemory, Text};
 use std::alloc::Global;
 
 // The greatest number of fields of a line.

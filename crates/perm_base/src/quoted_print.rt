@@ -4,10 +4,9 @@ ghost use Rattle.perm_base.specs.Lines.{has_byte};
 ghost use Rattle.perm_base.specs.LineEnds.{AreFields};
 ghost use Rattle.perm_base.specs.FieldLine.{IsFields, doubled, has_odd_ends, needs_quotes, printed, printed_field};
 
-use crate::fault::NoMemory;
 use crate::quoted::cut_at_quote;
 use crate::rule::Rule;
-use crate::text::Text;
+use outside::{NoMemory, Text};
 use std::alloc::Global;
 
 /// Prints the fields of a rule, joined by a comma and a blank. A field that is empty, begins or ends with a space or

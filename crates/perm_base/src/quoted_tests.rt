@@ -1,7 +1,7 @@
 use crate::quoted::{FieldFault, read_fields};
 use crate::quoted_print::print_fields;
 use crate::rule::Rule;
-use crate::text::Text;
+use outside::Text;
 use std::alloc::AllocGlobal;
 use std::process::Abort;
 use std::test::Fail;

@@ -8,8 +8,7 @@ ghost use Rattle.std.proofs.lemmas.Slice.Eq.{bytes_eq-Decides};
 ghost use Rattle.perm_base.specs.LineEnds.{has_line_end};
 ghost use Rattle.perm_base.specs.Rule.{line_end_of, IsFirstLineEnd};
 
-use crate::fault::NoMemory;
-use crate::text::Text;
+use outside::{NoMemory, Text};
 use std::alloc::Global;
 use std::hash::{Hash, Hasher};
 use std::marker::Model;

@@ -5,7 +5,7 @@ use Rattle.std.specs.Option.{option_map_or}
 use Rattle.std.proofs.Math.ListN.{set}
 use Rattle.std.proofs.lemmas.List.{length-append, length-set, map-set, get_or-map, set-get_or}
 use Rattle.std.proofs.lemmas.List.Elements.{All-set}
-use Rattle.perm_base.specs.declared.fault.NoMemory.{NoMemory}
+use Rattle.outside.specs.declared.fault.NoMemory.{NoMemory}
 use Rattle.perm_base.specs.declared.shapes.TableId.{TableId}
 use Rattle.policy_table.specs.Changes.{changed}
 use Rattle.policy_table.specs.Held.{Held, Rows}

@@ -1,7 +1,7 @@
 -- What contracts see of the two finders.
 use Rattle.std.specs.Prelude.{ℕ, ◌+◌, List, min}
-use Rattle.perm_base.specs.Faults.{most_faults}
-use Rattle.perm_base.specs.Listed.{Schedule, after_call, after_fault}
+use Rattle.outside.specs.Faults.{most_faults}
+use Rattle.outside.specs.Listed.{Schedule, after_call, after_fault}
 use Rattle.regex_gate.specs.Refused.{with_pattern}
 
 -- how often a finder has refused, and which patterns

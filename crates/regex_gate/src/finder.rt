@@ -1,10 +1,10 @@
 ghost use Rattle.std.specs.Prelude.{◌≡◌, ◌≤◌, ℕ, List, Some, Contains, IfOk, OnOk, IsErrOf, IsUtf8};
-ghost use Rattle.perm_base.specs.Faults.{Rose};
+ghost use Rattle.outside.specs.Faults.{Rose};
 ghost use Rattle.regex_gate.specs.Found.{found};
 ghost use Rattle.regex_gate.specs.Refused.{with_pattern, IsEachOnce, HasGrown};
 ghost use Rattle.regex_gate.specs.declared.finder.FindStop.TheVariants as stops;
 
-use perm_base::NoMemory;
+use outside::NoMemory;
 
 #[cfg(test)]
 mod tests;

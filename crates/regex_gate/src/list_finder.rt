@@ -1,5 +1,5 @@
 ghost use Rattle.std.specs.Prelude.{◌≡◌, ◌≤◌, [], Some, true, Contains, IfOk, OnOk, IsErr, IsErrOf, IsUtf8};
-ghost use Rattle.perm_base.specs.Listed.{fresh, is_listed};
+ghost use Rattle.outside.specs.Listed.{fresh, is_listed};
 ghost use Rattle.regex_gate.specs.Found.{found};
 ghost use Rattle.regex_gate.specs.Refused.{IsEachOnce};
 ghost use Rattle.regex_gate.specs.Finders.{after_find, after_refused_find};

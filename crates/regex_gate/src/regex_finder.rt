@@ -6,7 +6,7 @@ ghost use Rattle.regex_gate.specs.Finders.{after_refusal};
 use crate::finder::{FindStop, Finder};
 use crate::pattern::Pattern;
 use crate::search::search;
-use perm_base::NoMemory;
+use outside::NoMemory;
 use std::alloc::Global;
 use std::marker::Model;
 

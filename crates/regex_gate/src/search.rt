@@ -1,7 +1,7 @@
 ghost use Rattle.std.specs.Prelude.{◌≡◌, Some, IfOk, IfSome, IsUtf8, OnSome};
 ghost use Rattle.regex_gate.specs.Found.{found};
 
-use perm_base::NoMemory;
+use outside::NoMemory;
 use regex::bytes::Regex;
 use std::alloc::Global;
 

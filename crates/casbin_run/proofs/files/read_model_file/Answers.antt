@@ -1,7 +1,7 @@
 use Rattle.std.proofs.Common.{◌≤◌, length, refl, rules}
 use Rattle.std.proofs.lemmas.Result.{err_from_is_err_and}
-use Rattle.perm_base.specs.Faults.{Rose}
-use Rattle.perm_base.specs.Files.{Holds}
+use Rattle.outside.specs.Faults.{Rose}
+use Rattle.outside.specs.Files.{Holds}
 use Rattle.casbin_run.specs.Parts.{model_limit}
 use Rattle.casbin_run.proofs.ReadingLemmas.{found_file, model_stops}
 use Rattle.casbin_run.proofs.files.read_model_file.Goals as goal

@@ -1,7 +1,7 @@
 use Rattle.std.proofs.Common.{refl, ◌≤◌, length, rules}
 use Rattle.std.proofs.lemmas.Result.{err_from_is_err_and}
-use Rattle.perm_base.specs.Faults.{Rose}
-use Rattle.perm_base.specs.Files.{Holds}
+use Rattle.outside.specs.Faults.{Rose}
+use Rattle.outside.specs.Files.{Holds}
 use Rattle.casbin_run.specs.Parts.{policy_limit}
 use Rattle.casbin_run.proofs.ReadingLemmas.{policy_stops}
 use Rattle.casbin_run.proofs.files.read_policy_file.Goals as goal

@@ -1,6 +1,6 @@
 use Rattle.std.proofs.Common.{◌≡◌, ◌≤◌, ◌<◌, length, arith}
 use Rattle.std.proofs.lemmas.Result.{IfErr-weaker, on_ok_weaker}
-use Rattle.perm_base.specs.Told.{with_back}
+use Rattle.outside.specs.Told.{with_back}
 use Rattle.regex_gate.specs.Refused.{HasGrown}
 use Rattle.casbin_run.specs.Print.{PrintStops}
 use Rattle.casbin_run.proofs.FinderLemmas.{answering_first, pairwise_first}

@@ -1,0 +1,18 @@
+//! The outside of the engine: texts, sources, sinks and shelves, and their forms in memory.
+#![tactic(auto)]
+
+mod fault;
+mod memory;
+#[cfg(test)]
+mod memory_tests;
+mod shelf;
+mod sink;
+mod source;
+mod text;
+
+pub use fault::{Failed, NoMemory};
+pub use memory::{ListShelf, ListSink, ListSource, SureShelf, SureSink, SureSource};
+pub use shelf::{Fetch, Shelf};
+pub use sink::{Sink, push_all};
+pub use source::{ReadStop, Source, read_all};
+pub use text::Text;

@@ -1,0 +1,48 @@
+ghost use Rattle.std.specs.Prelude.{◌≡◌, Some};
+ghost use Rattle.outside.specs.Listed.{fresh};
+
+use crate::fault::Failed;
+use crate::memory::calls::Calls;
+use crate::memory::unread::Unread;
+use crate::source::Source;
+use std::marker::Model;
+
+/// A source in memory that fails at listed calls. Contracts see the bytes that are left, and the schedule.
+#[derive(Drop)]
+pub struct ListSource {
+    unread: Unread,
+    calls: Calls,
+}
+
+impl Model for ListSource {
+    ghost use Rattle.outside.specs.Listed.{ListedSource};
+
+    ghost Value = { ListedSource };
+
+    ghost view = { λ s. record { left = s.unread; schedule = s.calls } };
+}
+
+impl ListSource {
+    /// A source with these bytes that fails at the calls with these numbers, counted from 1. It takes no memory.
+    pub fn new(bytes: Vec<u8>, fails: Vec<u32>) -> ListSource
+        ensures { result ≡ record { left = bytes.items; schedule = fresh fails.items } }
+    {
+        ListSource {
+            unread: Unread::new(bytes),
+            calls: Calls::new(fails),
+        }
+    }
+}
+
+impl Source for ListSource {
+    ghost left = { λ s. Some s.left };
+
+    ghost faults = { λ s. s.schedule.faults };
+
+    fn pull(&mut self, buf: &mut [u8]) -> Result<usize, Failed> {
+        if self.calls.begin() {
+            return Err(self.calls.fail());
+        }
+        Ok(self.unread.give(buf))
+    }
+}
