@@ -5,7 +5,7 @@ mod ApplyLemmas
 mod ShapeLemmas
 mod ResolveLemmas
 mod ListLemmas
-mod SoundLemmas
+pub mod CallerLemmas
 mod LimitLemmas
 mod RoleLemmas
 mod RowLemmas

@@ -11,11 +11,7 @@ mod listed;
 mod named;
 mod passed;
 mod refusals;
-#[cfg(test)]
-mod refusals_tests;
 mod refused;
-#[cfg(test)]
-mod resolve_tests;
 mod resolving;
 mod rows_after;
 

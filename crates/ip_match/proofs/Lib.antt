@@ -8,6 +8,5 @@ pub mod ShortenedLemmas
 pub mod ColonLemmas
 pub mod AddressLemmas
 pub mod UniqueLemmas
-pub mod PlainLemmas
 pub mod DecidedLemmas
 pub mod DecidedAddressLemmas

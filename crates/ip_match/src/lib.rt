@@ -14,6 +14,3 @@ pub use address::{Address, address_is_unique, read_address};
 pub use block::{Block, block_is_unique, read_block};
 pub use law::addresses_are_decided;
 pub use matching::{IpFault, ip_match};
-
-#[cfg(test)]
-mod tests;

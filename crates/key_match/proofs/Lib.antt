@@ -9,7 +9,6 @@ pub mod Parts
 pub mod First
 pub mod Agree
 pub mod Tried
-pub mod Searched
 pub mod Decided
 pub mod Divided
 pub mod Named

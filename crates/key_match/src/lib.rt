@@ -8,8 +8,6 @@ mod law;
 mod part;
 mod patterns;
 mod star;
-#[cfg(test)]
-mod tests;
 mod token;
 
 pub use alike::key_match4;

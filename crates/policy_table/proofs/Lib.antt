@@ -5,4 +5,4 @@ mod TableLemmas
 mod CommitLemmas
 mod InsertLemmas
 mod RoomLemmas
-mod ChangeLemmas
+pub mod CallerLemmas

@@ -6,8 +6,6 @@ mod filter;
 mod prepared;
 mod table;
 mod tables;
-#[cfg(test)]
-mod tables_tests;
 
 pub use change::{Change, Edit, copy_edit};
 pub use filter::fits_filter;

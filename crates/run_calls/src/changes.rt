@@ -1,0 +1,111 @@
+//! Changes of tables, made one by one.
+
+use crate::shown::{rules, table_of};
+use crate::words::{cut, filter, rule};
+use anyhow::{Context, Result, bail, ensure};
+use case_list::Case;
+use perm_base::{Rule, TableId};
+use policy_table::{Change, Edit, Tables, fits_filter, no_tables};
+use std::alloc::Global;
+use std::io::Write;
+use std::str;
+
+/// Makes the changes of a case in tables that are empty before, and writes each line with what it comes to.
+pub fn answer(alloc: Global, case: &Case, out: &mut impl Write) -> Result<()> {
+    let text = case.text(alloc, "changes")?;
+    let mut tables = no_tables(alloc);
+    for line in str::from_utf8(&text)?.lines() {
+        let answer = answer_line(alloc, &mut tables, line).context(format_args!(
+            "no such change: {line}"
+        ))?;
+        writeln!(out, "  {line} = {answer}")?;
+    }
+    Ok(())
+}
+
+fn answer_line(alloc: Global, tables: &mut Tables, line: &str) -> Result<String> {
+    let (word, rest) = cut(line, ' ');
+    if word == "fits" {
+        let fits = fits(alloc, rest)?;
+        return Ok(format!(in alloc; "{fits}")?);
+    }
+    if word == "insert" {
+        return insert(alloc, tables, rule(alloc, rest)?);
+    }
+    let (name, fields) = cut(rest, ' ');
+    let table = table_of(name)?;
+    match word {
+        "rows" => rules(alloc, tables.rows(table)),
+        "copied_rows" => copied_rows(alloc, tables, table),
+        "has" => {
+            let found = tables.has(table, &rule(alloc, fields)?);
+            Ok(format!(in alloc; "{found}")?)
+        }
+        _ => {
+            let change = change(alloc, word, table, fields)?;
+            make(alloc, tables, change)
+        }
+    }
+}
+
+// Whether a rule fits a filter: `0: value, value = rule`.
+fn fits(alloc: Global, text: &str) -> Result<bool> {
+    let (front, fields) = cut(text, '=');
+    let rule = rule(alloc, fields)?;
+    let (at, values) = filter(alloc, front)?;
+    ensure!(
+        u64::from(at) + u64::from(values.len()) <= u64::from(rule.len()),
+        "the filter goes past the rule"
+    );
+    Ok(fits_filter(&rule, at, &values))
+}
+
+fn change(alloc: Global, word: &str, table: TableId, fields: &str) -> Result<Change> {
+    match word {
+        "+" => Ok(Change::Insert {
+            table,
+            rule: rule(alloc, fields)?,
+        }),
+        "-" => Ok(Change::Remove {
+            table,
+            rule: rule(alloc, fields)?,
+        }),
+        ">" => {
+            let (old, new) = cut(fields, '>');
+            let new = rule(alloc, new)?;
+            let old = rule(alloc, old)?;
+            Ok(Change::Replace { table, old, new })
+        }
+        _ => bail!("no change has this name"),
+    }
+}
+
+// Makes a change, where the tables allow it.
+fn make(alloc: Global, tables: &mut Tables, change: Change) -> Result<String> {
+    if !tables.allows(&change) {
+        return Ok(String::from_str(alloc, "not allowed")?);
+    }
+    ensure!(tables.len(change.table()) < u32::MAX, "the table is full");
+    let edits = [Edit::from_vec(vec![in alloc; change]?)];
+    let prepared = tables
+        .prepare(alloc, &edits)
+        .ok()
+        .context("memory ran out")?;
+    tables.commit(prepared);
+    Ok(String::from_str(alloc, "made")?)
+}
+
+// Puts a rule into p, unless it stands there; whether it did so.
+fn insert(alloc: Global, tables: &mut Tables, rule: Rule) -> Result<String> {
+    ensure!(tables.len(TableId::P) < u32::MAX, "the table is full");
+    let is_new = tables
+        .insert(TableId::P, rule)
+        .ok()
+        .context("memory ran out")?;
+    Ok(format!(in alloc; "{is_new}")?)
+}
+
+fn copied_rows(alloc: Global, tables: &Tables, table: TableId) -> Result<String> {
+    let copy = tables.copy(alloc).ok().context("memory ran out")?;
+    rules(alloc, copy.rows(table))
+}

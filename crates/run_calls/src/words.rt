@@ -1,0 +1,162 @@
+//! Rules and management calls, read from the lines of a case.
+
+use crate::shown::table_of;
+use anyhow::{Context, Result, bail, ensure};
+use edit_calls::{Call, Pairs};
+use perm_base::{Rule, Rules, TableId, Text, read_fields};
+use std::alloc::Global;
+
+const MOST: usize = 1_000_000;
+
+/// The call of a line: `add`, `remove`, `add_all`, `add_ex` and `remove_all` with a table and rules, `update` with
+/// pairs as `old > new`, a filter as `0: value, value` and behind `=` the rules that come with it, or a name to delete.
+pub fn call(alloc: Global, line: &str) -> Result<Call> {
+    let (word, rest) = cut(line, ' ');
+    if word == "delete_user" {
+        let name = text(alloc, rest)?;
+        return Ok(Call::DeleteUser { name });
+    }
+    if word == "delete_role" {
+        let name = text(alloc, rest)?;
+        return Ok(Call::DeleteRole { name });
+    }
+    let (table, rest) = cut(rest, ' ');
+    call_on(alloc, word, table_of(table)?, rest)
+}
+
+fn call_on(alloc: Global, word: &str, table: TableId, rest: &str) -> Result<Call> {
+    match word {
+        "add" => {
+            let rule = rule(alloc, rest)?;
+            Ok(Call::Add { table, rule })
+        }
+        "remove" => {
+            let rule = rule(alloc, rest)?;
+            Ok(Call::Remove { table, rule })
+        }
+        "add_all" => {
+            let rules = rules(alloc, rest)?;
+            Ok(Call::AddAll { table, rules })
+        }
+        "add_ex" => {
+            let rules = rules(alloc, rest)?;
+            Ok(Call::AddEx { table, rules })
+        }
+        "remove_all" => {
+            let rules = rules(alloc, rest)?;
+            Ok(Call::RemoveAll { table, rules })
+        }
+        "update" => {
+            let pairs = pairs(alloc, rest)?;
+            Ok(Call::Update { table, pairs })
+        }
+        "remove_filtered" => {
+            let (at, values) = filter(alloc, rest)?;
+            Ok(Call::RemoveFiltered { table, at, values })
+        }
+        "update_filtered" => update_filtered(alloc, table, rest),
+        _ => bail!("no call has this name"),
+    }
+}
+
+fn update_filtered(alloc: Global, table: TableId, text: &str) -> Result<Call> {
+    let (front, added) = cut(text, '=');
+    let rules = rules(alloc, added)?;
+    let (at, values) = filter(alloc, front)?;
+    Ok(Call::UpdateFiltered {
+        table,
+        at,
+        values,
+        rules,
+    })
+}
+
+/// The text before and behind the first such sign, or all of it.
+pub fn cut(text: &str, sign: char) -> (&str, &str) {
+    text.split_once(sign).unwrap_or((text, ""))
+}
+
+/// The place of a filter's first value, and its values.
+pub fn filter(alloc: Global, text: &str) -> Result<(u32, Rule)> {
+    let (at, values) = cut(text, ':');
+    let at = at.parse::<u32>()?;
+    Ok((at, rule(alloc, values)?))
+}
+
+fn pairs(alloc: Global, text: &str) -> Result<Pairs> {
+    let mut pairs = Vec::new(alloc);
+    if text.is_empty() {
+        return Ok(Pairs::from_vec(pairs));
+    }
+    for pair in text.split('|') {
+        let (old, new) = cut(pair, '>');
+        pairs.push((rule(alloc, old)?, rule(alloc, new)?))?;
+    }
+    ensure!(pairs.len() < MOST, "too many pairs");
+    Ok(Pairs::from_vec(pairs))
+}
+
+// The rules between `|`.
+fn rules(alloc: Global, text: &str) -> Result<Rules> {
+    let mut rules = Vec::new(alloc);
+    if text.is_empty() {
+        return Ok(Rules::from_vec(rules));
+    }
+    for part in text.split('|') {
+        push_rules(alloc, &mut rules, part)?;
+    }
+    ensure!(rules.len() < MOST, "too many rules");
+    Ok(Rules::from_vec(rules))
+}
+
+// The rule of a text; of `3 times: a#, b` the rules `a0, b`, `a1, b` and `a2, b`.
+fn push_rules(alloc: Global, rules: &mut Vec<Rule>, text: &str) -> Result<()> {
+    let Some((count, fields)) = text.split_once(" times:") else {
+        rules.push(rule(alloc, text)?)?;
+        return Ok(());
+    };
+    let (front, back) = cut(fields, '#');
+    for number in 0..count.trim().parse::<u32>()? {
+        let line = format!(in alloc; "{front}{number}{back}")?;
+        rules.push(rule(alloc, line.as_str())?)?;
+    }
+    Ok(())
+}
+
+/// The rule of a line of fields, which has none where the line is empty.
+pub fn rule(alloc: Global, line: &str) -> Result<Rule> {
+    let fields = fields(alloc, line)?;
+    ensure!(fields.len() < MOST, "too many fields");
+    Rule::from_fields(fields)
+        .ok()
+        .context("the fields are no rule")
+}
+
+fn fields(alloc: Global, line: &str) -> Result<Vec<Text>> {
+    let mut fields = Vec::new(alloc);
+    if line.is_empty() {
+        return Ok(fields);
+    }
+    let read = read_fields(alloc, line)
+        .ok()
+        .context("the line is no fields")?;
+    for field in &read {
+        fields.push(text(alloc, field.as_str())?)?;
+    }
+    Ok(fields)
+}
+
+// A text as it stands; `4096 bytes` is a text of that length.
+fn text(alloc: Global, word: &str) -> Result<Text> {
+    let mut long = String::new(alloc);
+    if let Some(count) = word.strip_suffix(" bytes") {
+        for _ in 0..count.parse::<u32>()? {
+            long.push('a')?;
+        }
+    } else {
+        long.push_str(word)?;
+    }
+    Text::from_str(alloc, long.as_str())
+        .ok()
+        .context("memory ran out")
+}
