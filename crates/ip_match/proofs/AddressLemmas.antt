@@ -7,7 +7,7 @@ use Rattle.ip_match.specs.declared.address.Address.TheVariants.{V4, V6}
 use Rattle.ip_match.specs.declared.block.Block.{Block}
 use Rattle.ip_match.specs.Addresses.{IsAddress, IsGroup, IsV4, IsV6, AreGroups}
 use Rattle.ip_match.specs.Blocks.{IsBlock, HasPrefix, width_of}
-use Rattle.ip_match.specs.Parts.{parts_of}
+use Rattle.ip_match.specs.Helps.Parts.{parts_of}
 use Rattle.ip_match.proofs.PartLemmas.{Lacks, Lacks-append, parts_cut, parts_one, parts_some, text_of_parts}
 use Rattle.ip_match.proofs.NumeralLemmas.{Lacks-digits, decimal_digits}
 use Rattle.ip_match.proofs.DottedLemmas.{octets_in}

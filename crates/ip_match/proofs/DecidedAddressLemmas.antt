@@ -9,7 +9,7 @@ use Rattle.ip_match.specs.declared.address.Address.TheVariants.{V4, V6}
 use Rattle.ip_match.specs.declared.block.Block.{Block}
 use Rattle.ip_match.specs.Addresses.{IsAddress, IsV4, IsV6, IsWhole, IsShortened, group_numbers}
 use Rattle.ip_match.specs.Blocks.{IsBlock, IsInside, width_of}
-use Rattle.ip_match.specs.Parts.{parts_of}
+use Rattle.ip_match.specs.Helps.Parts.{parts_of}
 use Rattle.ip_match.proofs.PartLemmas.{text_of_parts, text_of_cut}
 use Rattle.ip_match.proofs.DottedLemmas.{octets_in}
 use Rattle.ip_match.proofs.GapLemmas.{NoGap, NoGap-nil, NoGap-cons, one_colon}

@@ -7,7 +7,7 @@ use Rattle.std.specs.Str.Parse.{AllDigits, IsNumeral}
 use Rattle.std.proofs.lemmas.Bool.{cases_lt, false≢true, eqb-true, eq-eqb}
 use Rattle.std.proofs.lemmas.Slice.Eq.{bytes_eq-Decides}
 use Rattle.ip_match.specs.Addresses.{IsGroup, AreGroups}
-use Rattle.ip_match.specs.Parts.{parts_of}
+use Rattle.ip_match.specs.Helps.Parts.{parts_of}
 use Rattle.ip_match.proofs.PartLemmas.{parts_at, parts_whole, text_of_parts}
 use Rattle.ip_match.proofs.GroupLemmas.{parts_are}
 

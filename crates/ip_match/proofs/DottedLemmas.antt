@@ -3,7 +3,7 @@ use Rattle.std.proofs.Common.{◌≡◌, ℕ, ◌≤◌, List, [], ◌∷◌, le
 use Rattle.std.specs.List.{AllByRecursion, join_with_byte}
 use Rattle.std.specs.Int.Digits.{number_from_digits}
 use Rattle.ip_match.specs.Addresses.{IsV4}
-use Rattle.ip_match.specs.Parts.{parts_of}
+use Rattle.ip_match.specs.Helps.Parts.{parts_of}
 use Rattle.ip_match.proofs.PartLemmas.{Lacks, parts_joined, text_of_cut, text_of_parts}
 use Rattle.ip_match.proofs.NumeralLemmas.{Lacks-digits, decimal_digits}
 

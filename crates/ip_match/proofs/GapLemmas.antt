@@ -2,7 +2,7 @@
 use Rattle.std.proofs.Common.{◌≡◌, ℕ, zero, suc, List, [], ◌∷◌, ◌++◌, length, get_or, ◌<◌, refl, sym, subst, add-one, append_assoc, arith}
 use Rattle.std.specs.List.{AllByRecursion, join_with_byte}
 use Rattle.std.proofs.lemmas.Bool.{eqb-false}
-use Rattle.ip_match.specs.Parts.{HasNoGap}
+use Rattle.ip_match.specs.Helps.Parts.{HasNoGap}
 use Rattle.ip_match.proofs.PartLemmas.{Lacks}
 
 -- the same as `HasNoGap`, counting up by `suc`

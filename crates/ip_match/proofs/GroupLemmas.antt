@@ -9,7 +9,7 @@ use Rattle.std.proofs.lemmas.Int.Digits.{digits_value-lt, number_push}
 use Rattle.std.proofs.lemmas.List.{length-append, length_push, map_push}
 use Rattle.std.proofs.lemmas.Nat.{pow-add, mul-add-lt}
 use Rattle.ip_match.specs.Addresses.{IsGroup, AreGroups, group_numbers}
-use Rattle.ip_match.specs.Parts.{parts_of}
+use Rattle.ip_match.specs.Helps.Parts.{parts_of}
 use Rattle.ip_match.proofs.PartLemmas.{Lacks, parts_joined, text_of_parts}
 use Rattle.ip_match.proofs.NumeralLemmas.{Lacks-digits}
 use Rattle.ip_match.proofs.GapLemmas.{IsSolid}

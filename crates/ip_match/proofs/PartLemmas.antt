@@ -6,7 +6,7 @@ use Rattle.std.proofs.lemmas.List.Elements.{All-from_recursion}
 use Rattle.std.proofs.lemmas.List.Splits.{slice_split_at, slice_split_first, slice_split_none, join_with_byte-slice_split}
 use Rattle.std.proofs.lemmas.List.Sums.{fails_before_first}
 use Rattle.std.proofs.lemmas.Option.{cond_some}
-use Rattle.ip_match.specs.Parts.{parts_of}
+use Rattle.ip_match.specs.Helps.Parts.{parts_of}
 
 -- the separator is none of the bytes
 abbrev pub Lacks : ℕ → List ℕ → Type 0

@@ -3,9 +3,16 @@ use Rattle.std.specs.Prelude.{◌≡◌, ℕ, ◌+◌, ◌≤◌, ◌⊎◌, Lis
 use Rattle.std.specs.List.{AllByRecursion, join_with_byte}
 use Rattle.std.specs.Int.Digits.{number_from_digits}
 use Rattle.std.specs.Str.Parse.{IsNumeral, digits_value}
-use Rattle.ip_match.specs.Parts.{dot, colon}
 use Rattle.ip_match.specs.declared.address.Address.{Address}
 use Rattle.ip_match.specs.declared.address.Address.TheVariants.{V4, V6}
+
+-- `.`
+abbrev pub dot : ℕ
+dot = 46
+
+-- `:`
+abbrev pub colon : ℕ
+colon = 58
 
 -- four numbers of at most 255, in decimal without leading zeros, joined by dots
 pub record IsV4 (text : List ℕ) (number : ℕ) : Type 0 where

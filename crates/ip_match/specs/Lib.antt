@@ -1,3 +1,3 @@
-pub mod Parts
 pub mod Addresses
 pub mod Blocks
+pub mod Helps

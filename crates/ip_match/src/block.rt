@@ -46,7 +46,7 @@ pub fn block_is_unique()
     ensures { (text : List ℕ) (a b : Block) → IsBlock text a → IsBlock text b → a ≡ b }
 {}
 
-/// Whether the numbers agree but for so many bits at their end.
+// Whether the numbers agree but for so many bits at their end.
 fn same_quotients(a: u128, b: u128, bits_behind: u32) -> bool
     ensures { IsTrue result ↔ (a / 2 ^ bits_behind ≡ b / 2 ^ bits_behind) }
 {

@@ -10,7 +10,7 @@ use crate::parts::{cut, cut_at_gap};
 
 const EIGHT: u32 = 8;
 
-/// How many groups were read, and the number that they write.
+// How many groups were read, and the number that they write.
 #[derive(Clone, Copy)]
 struct Groups {
     count: u32,
@@ -18,7 +18,7 @@ struct Groups {
 }
 
 impl Groups {
-    /// One more group behind these, where there is room.
+    // One more group behind these, where there is room.
     fn push(self, group: u16) -> Option<Groups>
         requires { self.number < 2 ^ (16 * self.count) }
         ensures { SomeIff result (self.count < 8)
@@ -34,12 +34,18 @@ impl Groups {
     }
 }
 
-/// Groups joined by colons, at most eight; none is the empty text.
+// Groups joined by colons, at most eight; none is the empty text.
 fn read_groups(text: &[u8]) -> Option<Groups>
     ensures found { IfSome result (λ read. (groups : List (List ℕ)) × AreGroups text.now groups
-        × (read ≡ record { count = length groups; number = number_from_digits 65536 (group_numbers groups) })) }
+        × (read ≡ record {
+          count = length groups;
+          number = number_from_digits 65536 (group_numbers groups);
+        })) }
     ensures only { (groups : List (List ℕ)) → AreGroups text.now groups → length groups ≤ 8
-        → result ≡ Some (record { count = length groups; number = number_from_digits 65536 (group_numbers groups) }) }
+        → result ≡ Some (record {
+          count = length groups;
+          number = number_from_digits 65536 (group_numbers groups);
+        }) }
     ensures most { IfSome result (λ read. read.count ≤ 8) }
     ensures small { IfSome result (λ read. read.number < 2 ^ (16 * read.count)) }
 {
@@ -58,7 +64,7 @@ fn read_groups(text: &[u8]) -> Option<Groups>
     groups.push(read_group(rest)?)
 }
 
-/// The number of eight groups.
+// The number of eight groups.
 fn read_whole(text: &[u8]) -> Option<u128>
     ensures found { IfSome result (λ number. IsWhole text.now number) }
     ensures only { (number : ℕ) → IsWhole text.now number → result ≡ Some number }
@@ -71,7 +77,7 @@ fn read_whole(text: &[u8]) -> Option<u128>
     }
 }
 
-/// The number of the groups on both sides of a `::`.
+// The number of the groups on both sides of a `::`.
 fn read_shortened(front: &[u8], back: &[u8]) -> Option<u128>
     ensures found { IfSome result (λ number. IsShortened front.now back.now number) }
     ensures only { (number : ℕ) → IsShortened front.now back.now number → result ≡ Some number }
@@ -89,7 +95,7 @@ fn read_shortened(front: &[u8], back: &[u8]) -> Option<u128>
 }
 
 /// The number of an IPv6 address.
-pub fn read_v6(text: &[u8]) -> Option<u128>
+pub(crate) fn read_v6(text: &[u8]) -> Option<u128>
     ensures found { IfSome result (λ number. IsV6 text.now number) }
     ensures only { (number : ℕ) → IsV6 text.now number → result ≡ Some number }
 {

@@ -9,7 +9,7 @@ use crate::parts::cut;
 const LARGEST_OCTET: u8 = 255;
 
 /// The number of an IPv4 address.
-pub fn read_v4(text: &[u8]) -> Option<u32>
+pub(crate) fn read_v4(text: &[u8]) -> Option<u32>
     ensures found { IfSome result (λ number. IsV4 text.now number) }
     ensures only { (number : ℕ) → IsV4 text.now number → result ≡ Some number }
 {

@@ -11,6 +11,7 @@ ghost use Rattle.ip_match.specs.Blocks.{IsBlock, IsInside};
 pub fn addresses_are_decided()
     ensures address { (text : List ℕ) → ((a : Address) × IsAddress text a)
         ⊎ ((a : Address) → ¬ (IsAddress text a)) }
-    ensures block { (text : List ℕ) → ((b : Block) × IsBlock text b) ⊎ ((b : Block) → ¬ (IsBlock text b)) }
+    ensures block { (text : List ℕ) → ((b : Block) × IsBlock text b)
+        ⊎ ((b : Block) → ¬ (IsBlock text b)) }
     ensures inside { (a b : Address) (bits : ℕ) → (t : Bool) × (IsTrue t ↔ IsInside a b bits) }
 {}

@@ -7,7 +7,7 @@ ghost use Rattle.ip_match.specs.Addresses.{IsGroup};
 
 const ZERO: u8 = b'0';
 
-/// What the digits write, where it is at most `most`.
+// What the digits write, where it is at most `most`.
 fn read_digits(text: &[u8], radix: u32, most: u32) -> Option<u32>
     requires radix_above { 2 ≤ radix }
     requires radix_below { radix ≤ 16 }
@@ -30,7 +30,7 @@ fn read_digits(text: &[u8], radix: u32, most: u32) -> Option<u32>
 }
 
 /// A decimal number without leading zeros, at most `most`.
-pub fn read_decimal(text: &[u8], most: u8) -> Option<u8>
+pub(crate) fn read_decimal(text: &[u8], most: u8) -> Option<u8>
     ensures found { IfSome result (λ number. (text.now ≡ decimal number) × (number ≤ most)) }
     ensures only { (number : ℕ) → number ≤ most → text.now ≡ decimal number → result ≡ Some number }
 {
@@ -42,7 +42,7 @@ pub fn read_decimal(text: &[u8], most: u8) -> Option<u8>
 }
 
 /// A group of an IPv6 address.
-pub fn read_group(text: &[u8]) -> Option<u16>
+pub(crate) fn read_group(text: &[u8]) -> Option<u16>
     ensures { SomeIff result (IsGroup text.now) (digits_value 16 text.now) }
 {
     if text.len() > 4 {

@@ -1,10 +1,10 @@
 //! Where a text is cut.
 
 ghost use Rattle.std.specs.Prelude.{◌≡◌, ◌<◌, ◌++◌, [], ◌∷◌, codes, length, IfNone, IfSome, MatchOption};
-ghost use Rattle.ip_match.specs.Parts.{parts_of, HasNoGap};
+ghost use Rattle.ip_match.specs.Helps.Parts.{parts_of, HasNoGap};
 
 /// The text before the first separator and the text after it.
-pub fn cut(text: &[u8], separator: u8) -> Option<(&[u8], &[u8])>
+pub(crate) fn cut(text: &[u8], separator: u8) -> Option<(&[u8], &[u8])>
     ensures parts { MatchOption result
         (parts_of separator text.now ≡ text.now ∷ [])
         (λ cut. parts_of separator text.now ≡ cut.0.now ∷ parts_of separator cut.1.now) }
@@ -15,7 +15,7 @@ pub fn cut(text: &[u8], separator: u8) -> Option<(&[u8], &[u8])>
 }
 
 /// The text before the first `::` and the text after it.
-pub fn cut_at_gap(text: &[u8]) -> Option<(&[u8], &[u8])>
+pub(crate) fn cut_at_gap(text: &[u8]) -> Option<(&[u8], &[u8])>
     ensures spelled { IfSome result (λ cut. text.now ≡ cut.0.now ++ codes "::" ++ cut.1.now) }
     ensures first { IfSome result (λ cut. HasNoGap (cut.0.now ++ codes ":")) }
     ensures none { IfNone result (HasNoGap text.now) }

@@ -8,9 +8,9 @@ use Rattle.std.proofs.lemmas.Slice.Eq.{bytes_eq-Decides}
 use Rattle.key_match.specs.Pieces.{ByteSet, Piece, One, Segment, Stretch, Rest, StandsFor, Divides}
 use Rattle.key_match.specs.Divisions.{has_name}
 use Rattle.key_match.specs.Names.{EachNamed, NamesAgree, CoversAlike}
-use Rattle.key_match.specs.Fits.{fits}
-use Rattle.key_match.specs.Parts.{part_between}
-use Rattle.key_match.specs.Given.{given_part, given_to, repeats, is_free_of, AreParts, GivenAgree, CoversGiven, CutsAlike, IsNameless}
+use Rattle.key_match.specs.Helps.Fits.{fits}
+use Rattle.key_match.specs.Helps.Parts.{part_between}
+use Rattle.key_match.specs.Helps.Given.{given_part, given_to, repeats, is_free_of, AreParts, GivenAgree, CoversGiven, CutsAlike, IsNameless}
 use Rattle.key_match.specs.declared.alike.Given.{Given, Nothing, And'}
 use Rattle.key_match.proofs.Bools.{and_first, and_second, or-false_first, or-false_second}
 use Rattle.key_match.proofs.Covers.{Covers-from_fits, fits-from_Covers}

@@ -3,7 +3,7 @@ use Rattle.std.proofs.Common.{◌≡◌, ◌≢◌, ℕ, Bool, true, List, [], �
 use Rattle.std.specs.List.{concat, list_all}
 use Rattle.std.proofs.lemmas.Bool.{false≢true}
 use Rattle.key_match.specs.Pieces.{Piece, One, Segment, Stretch, Rest, has, not_slash, is_one, StandsFor, EachStandsFor, Covers}
-use Rattle.key_match.specs.Fits.{byte_fits, stretch_fits, end_fits, piece_fits, fits}
+use Rattle.key_match.specs.Helps.Fits.{byte_fits, stretch_fits, end_fits, piece_fits, fits}
 use Rattle.key_match.proofs.Bools.{or_second, or_cases, and_both, and_first, and_second}
 use Rattle.key_match.proofs.Leads.{stretch-here, end-here}
 

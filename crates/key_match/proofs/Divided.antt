@@ -7,7 +7,7 @@ use Rattle.key_match.specs.Pieces.{Piece, One, Segment, Stretch, Rest, StandsFor
 use Rattle.key_match.specs.Stars.{AgreesToStar, star_of}
 use Rattle.key_match.specs.Divisions.{has_name}
 use Rattle.key_match.specs.Names.{EachNamed, NamesAgree, CoversAlike}
-use Rattle.key_match.specs.Fits.{fits}
+use Rattle.key_match.specs.Helps.Fits.{fits}
 use Rattle.key_match.proofs.Covers.{Covers-from_fits, fits-from_Covers}
 use Rattle.key_match.proofs.First.{stands, stands-from, from-stands}
 use Rattle.key_match.proofs.Decided.{Decided, decided_by, decided_true, decided_false, decided_and, decided_where, same_text, HasHalves, halves_decided}

@@ -5,8 +5,8 @@ use Rattle.std.proofs.lemmas.Bool.{false≢true}
 use Rattle.key_match.specs.Pieces.{Piece, One, Segment, Stretch, Rest, has, not_slash, is_one, StandsFor}
 use Rattle.key_match.specs.Patterns.{is_some_text}
 use Rattle.key_match.specs.Divisions.{IsFirstDivision}
-use Rattle.key_match.specs.Fits.{fits}
-use Rattle.key_match.specs.Parts.{order_of, part_between, IsChosen}
+use Rattle.key_match.specs.Helps.Fits.{fits}
+use Rattle.key_match.specs.Helps.Parts.{order_of, part_between, IsChosen}
 use Rattle.key_match.specs.declared.part.Choice.{Choice}
 use Rattle.key_match.specs.declared.part.Choice.TheVariants.{Longest, Shortest}
 use Rattle.key_match.proofs.Bools.{and_both, and_first, and_second}

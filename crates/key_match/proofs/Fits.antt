@@ -1,7 +1,7 @@
 -- What the matcher's loops keep.
 use Rattle.std.proofs.Common.{◌≡◌, ◌≤◌, ℕ, List, ◌∷◌, length, drop}
 use Rattle.key_match.specs.Pieces.{Stretch, Rest}
-use Rattle.key_match.specs.Fits.{LeadsTo, pieces_from, fits}
+use Rattle.key_match.specs.Helps.Fits.{LeadsTo, pieces_from, fits}
 use Rattle.key_match.specs.declared.token.Dialect.{Dialect}
 use Rattle.key_match.specs.declared.fit.Place.{Place}
 

@@ -5,7 +5,7 @@ use Rattle.std.proofs.lemmas.Bool.Decides.{eqb_tells}
 use Rattle.std.specs.List.{prefix_len}
 use Rattle.std.proofs.lemmas.List.{drop_all, drop-drop}
 use Rattle.key_match.specs.Pieces.{ByteSet, Only, NotSlash, Class, Piece, One, Segment, Stretch, Rest, has, not_slash}
-use Rattle.key_match.specs.Fits.{byte_fits, stretch_fits, end_fits, fits, LeadsTo}
+use Rattle.key_match.specs.Helps.Fits.{byte_fits, stretch_fits, end_fits, fits, LeadsTo}
 use Rattle.key_match.proofs.Bools.{or_first, or_second, or_cases, and_both, and_first, and_second, and_true, and_false, or_false, or-false_first, or-false_second, same_test, false_by}
 
 abbrev Test : Type 0

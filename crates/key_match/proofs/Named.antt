@@ -4,8 +4,8 @@ use Rattle.std.specs.List.{concat}
 use Rattle.std.proofs.lemmas.Bool.{false≢true, cases_lt}
 use Rattle.key_match.specs.Pieces.{Piece, One, Segment, Stretch, Rest, EachStandsFor}
 use Rattle.key_match.specs.Divisions.{IsFirstDivision, IsNamedPart, GoesBefore, part_named}
-use Rattle.key_match.specs.Fits.{fits}
-use Rattle.key_match.specs.Parts.{order_of}
+use Rattle.key_match.specs.Helps.Fits.{fits}
+use Rattle.key_match.specs.Helps.Parts.{order_of}
 use Rattle.key_match.specs.declared.part.Choice.{Choice}
 use Rattle.key_match.specs.declared.part.Choice.TheVariants.{Longest, Shortest}
 use Rattle.key_match.proofs.Covers.{fits-from_Covers}

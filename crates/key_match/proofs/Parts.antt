@@ -6,8 +6,8 @@ use Rattle.std.proofs.lemmas.List.{drop-drop, take_all, take-append-le, take-app
 use Rattle.std.proofs.Math.Seq.{drop-append_seam}
 use Rattle.key_match.specs.Pieces.{ByteSet, Piece, One, Segment, Stretch, Rest, has, not_slash, is_one, StandsFor, Divides}
 use Rattle.key_match.specs.Divisions.{Order, GoesBefore, IsFirstDivision}
-use Rattle.key_match.specs.Fits.{fits}
-use Rattle.key_match.specs.Parts.{part_between, HasPart, AreEnds, NoneLater, NoneEarlier, IsChosen}
+use Rattle.key_match.specs.Helps.Fits.{fits}
+use Rattle.key_match.specs.Helps.Parts.{part_between, HasPart, AreEnds, NoneLater, NoneEarlier, IsChosen}
 use Rattle.key_match.specs.declared.part.Ends.{Ends}
 use Rattle.key_match.proofs.Bools.{and_both, and_first, and_second}
 use Rattle.key_match.proofs.Covers.{split-piece, fits-each}

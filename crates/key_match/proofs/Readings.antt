@@ -6,7 +6,7 @@ use Rattle.std.proofs.lemmas.Bool.{false≢true, eqb-true}
 use Rattle.std.proofs.lemmas.List.Sums.{prefix_len_stops}
 use Rattle.key_match.specs.Pieces.{Segment, One, Class, Rest}
 use Rattle.key_match.specs.Patterns.{Reader, reading, is_lone_star, is_some_text, begins_with, in_braces, brace_piece, in_class, items_or_literal, ranges_of, colon_piece, glob_piece, key_pieces}
-use Rattle.key_match.specs.Tokens.{last_byte, byte_before, pieces_at, first_at, reader_of, pieces_of, piece_of, IsFirst, IsReadAt}
+use Rattle.key_match.specs.Helps.Tokens.{last_byte, byte_before, pieces_at, first_at, reader_of, pieces_of, piece_of, IsFirst, IsReadAt}
 use Rattle.key_match.specs.declared.token.Dialect.{Dialect}
 use Rattle.key_match.specs.declared.token.Dialect.TheVariants.{Colon, Brace, Glob}
 use Rattle.key_match.specs.declared.token.Reading.{Reading}

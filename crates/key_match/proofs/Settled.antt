@@ -1,10 +1,10 @@
 -- What is kept while the parts of the first division are taken from the left.
 use Rattle.std.proofs.Common.{◌≡◌, ◌≤◌, ℕ, true, false, List, [], ◌∷◌, length, drop, cond, inl, ap, sym, ◌∙◌, subst, arith}
 use Rattle.key_match.specs.Pieces.{Piece}
-use Rattle.key_match.specs.Tokens.{pieces_at, pieces_of}
-use Rattle.key_match.specs.Fits.{fits, pieces_from}
+use Rattle.key_match.specs.Helps.Tokens.{pieces_at, pieces_of}
+use Rattle.key_match.specs.Helps.Fits.{fits, pieces_from}
 use Rattle.key_match.specs.Divisions.{Order, IsFirstDivision, IsNamedPart, part_named, has_name}
-use Rattle.key_match.specs.Parts.{order_of, part_between, IsChosen}
+use Rattle.key_match.specs.Helps.Parts.{order_of, part_between, IsChosen}
 use Rattle.key_match.specs.declared.token.Dialect.{Dialect}
 use Rattle.key_match.specs.declared.fit.Place.{Place}
 use Rattle.key_match.specs.declared.part.Choice.{Choice}

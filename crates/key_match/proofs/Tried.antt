@@ -2,8 +2,8 @@
 use Rattle.std.proofs.Common.{◌≡◌, ℕ, ◌+◌, ◌<◌, ◌≤◌, List, ◌∷◌, length, drop, subst, ⊎_elim, arith}
 use Rattle.std.proofs.lemmas.Bool.{cases_lt}
 use Rattle.key_match.specs.Pieces.{Piece}
-use Rattle.key_match.specs.Parts.{AreEnds}
-use Rattle.key_match.specs.Given.{CoversGiven, CutsAlike}
+use Rattle.key_match.specs.Helps.Parts.{AreEnds}
+use Rattle.key_match.specs.Helps.Given.{CoversGiven, CutsAlike}
 use Rattle.key_match.specs.declared.alike.Given.{Given}
 use Rattle.key_match.specs.declared.part.Ends.{Ends}
 use Rattle.key_match.proofs.Agree.{HasCut-from}

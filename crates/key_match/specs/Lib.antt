@@ -1,9 +1,6 @@
 pub mod Pieces
 pub mod Patterns
-pub mod Tokens
-pub mod Fits
 pub mod Stars
 pub mod Divisions
-pub mod Parts
 pub mod Names
-pub mod Given
+pub mod Helps

@@ -1,41 +1,23 @@
 //! Patterns in which equal names stand for equal parts.
 
-ghost use Rattle.std.specs.Prelude.{
-  ◌≡◌,
-  ◌≤◌,
-  ◌↔◌,
-  ◌∷◌,
-  IsTrue,
-  drop,
-  length,
-  option_copied,
-  None,
-  true,
-};
+ghost use Rattle.std.specs.Prelude.{◌≡◌, ◌≤◌, ◌↔◌, ◌∷◌, IsTrue, drop, length, option_copied, None, true};
 ghost use Rattle.std.specs.List.{list_any};
 ghost use Rattle.key_match.specs.Pieces.{Segment};
 ghost use Rattle.key_match.specs.Patterns.{brace_pieces};
-ghost use Rattle.key_match.specs.Tokens.{piece_of, pieces_at};
+ghost use Rattle.key_match.specs.Helps.Tokens.{piece_of, pieces_at};
 ghost use Rattle.key_match.specs.Names.{CoversAlike};
-ghost use Rattle.key_match.specs.Parts.{AreEnds};
-ghost use Rattle.key_match.specs.Fits.{fits, pieces_from};
+ghost use Rattle.key_match.specs.Helps.Parts.{AreEnds};
+ghost use Rattle.key_match.specs.Helps.Fits.{fits, pieces_from};
 ghost use Rattle.key_match.specs.Divisions.{has_name};
-ghost use Rattle.key_match.specs.Given.{
-  given_part,
-  is_free_of,
-  AreParts,
-  CoversGiven,
-  IsNameless,
-  PassesTo,
-};
+ghost use Rattle.key_match.specs.Helps.Given.{given_part, is_free_of, AreParts, CoversGiven, IsNameless, PassesTo};
 
 use crate::fit::{Place, fits_from};
 use crate::part::{Ends, is_named, part_ends};
 use crate::token::{Dialect, Reading, Token, token_at};
 
-/// The parts that names were given.
+// The parts that names were given.
 #[derive(Clone, Copy)]
-pub enum Given<'a> {
+enum Given<'a> {
     Nothing,
     And {
         name: &'a [u8],
@@ -52,13 +34,13 @@ pub fn key_match4(key: &[u8], pattern: &[u8]) -> bool
     fits_given(pattern, key, Place { pattern: 0, key: 0 }, &Given::Nothing)
 }
 
-/// Whether the key fits from a place on, with the parts that names were given before.
+// Whether the key fits from a place on, with the parts that names were given before.
 #[cycle(search)]
 fn fits_given<'a>(pattern: &'a [u8], key: &'a [u8], from: Place, given: &'a Given<'a>) -> bool
     requires within { from.key ≤ length key.now }
     requires parts { AreParts given.now }
-    ensures { IsTrue result
-        ↔ CoversGiven given.now (pieces_from Dialect.Brace pattern.now from) (drop from.key key.now) }
+    ensures { IsTrue result ↔ CoversGiven given.now
+        (pieces_from Dialect.Brace pattern.now from) (drop from.key key.now) }
 {
     if !fits_from(Dialect::Brace, pattern, key, from) {
         return false;
@@ -96,7 +78,7 @@ fn fits_given<'a>(pattern: &'a [u8], key: &'a [u8], from: Place, given: &'a Give
     }
 }
 
-/// Whether the key fits with some part for a segment whose name was given none.
+// Whether the key fits with some part for a segment whose name was given none.
 #[cycle(search)]
 fn fits_new_name<'a>(
     pattern: &'a [u8],
@@ -139,7 +121,7 @@ fn fits_new_name<'a>(
     }
 }
 
-/// Whether the key fits with some part for a token that has no name.
+// Whether the key fits with some part for a token that has no name.
 #[cycle(search)]
 fn fits_some_end<'a>(
     pattern: &'a [u8],
@@ -176,7 +158,8 @@ fn fits_some_end<'a>(
         end += 1;
     }
 }
-/// The part that a name was given.
+
+// The part that a name was given.
 fn part_of<'a>(given: &Given<'a>, name: &[u8]) -> Option<&'a [u8]>
     ensures { option_copied result ≡ given_part given.now name.now }
 {
@@ -195,7 +178,7 @@ fn part_of<'a>(given: &Given<'a>, name: &[u8]) -> Option<&'a [u8]>
     None
 }
 
-/// Whether the pattern has a segment of the name from a place on.
+// Whether the pattern has a segment of the name from a place on.
 fn occurs(pattern: &[u8], from: usize, name: &[u8]) -> bool
     ensures { result ≡ list_any (has_name name.now) (pieces_at Dialect.Brace pattern.now from) }
 {
@@ -209,7 +192,7 @@ fn occurs(pattern: &[u8], from: usize, name: &[u8]) -> bool
     false
 }
 
-/// Whether the names from a place of the pattern on are all new, and none comes twice.
+// Whether the names from a place of the pattern on are all new, and none comes twice.
 fn is_free(pattern: &[u8], from: usize, given: &Given) -> bool
     ensures { result ≡ is_free_of given.now (pieces_at Dialect.Brace pattern.now from) }
 {
@@ -225,10 +208,11 @@ fn is_free(pattern: &[u8], from: usize, given: &Given) -> bool
     true
 }
 
-/// Passes over what stands for itself, where the key fits.
+// Passes over what stands for itself, where the key fits.
 fn pass_bytes(pattern: &[u8], key: &[u8], from: Place) -> Place
     requires within { from.key ≤ length key.now }
-    requires fitting { fits (pieces_from Dialect.Brace pattern.now from) (drop from.key key.now) ≡ true }
+    requires fitting { fits
+        (pieces_from Dialect.Brace pattern.now from) (drop from.key key.now) ≡ true }
     ensures { PassesTo pattern.now key.now from result }
 {
     let mut at = from;

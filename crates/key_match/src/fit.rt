@@ -3,49 +3,49 @@
 
 ghost use Rattle.std.specs.Prelude.{◌≡◌, ◌≤◌, ◌∷◌, drop, length};
 ghost use Rattle.key_match.specs.Pieces.{Stretch, Rest};
-ghost use Rattle.key_match.specs.Fits.{fits, pieces_from, StopsAt, Reaches};
+ghost use Rattle.key_match.specs.Helps.Fits.{fits, pieces_from, StopsAt, Reaches};
 
 use crate::bytes::place_from;
 use crate::token::{Dialect, Token, passes, token_at};
 
 /// A place in the pattern, and one in the key.
 #[derive(Clone, Copy)]
-pub struct Place {
-    pub pattern: usize,
-    pub key: usize,
+pub(crate) struct Place {
+    pub(crate) pattern: usize,
+    pub(crate) key: usize,
 }
 
-/// What comes of matching byte by byte from a place.
+// What comes of matching byte by byte from a place.
 #[derive(Clone, Copy)]
-pub enum Stop {
-    /// The pattern and the key end together.
+enum Stop {
+    // The pattern and the key end together.
     Fits,
-    /// The key does not fit from this place on.
+    // The key does not fit from this place on.
     Mismatch,
-    /// Nor does it from any later place in the key.
+    // Nor does it from any later place in the key.
     KeyEnded,
-    /// What stands here may take bytes without `/`.
+    // What stands here may take bytes without `/`.
     Stretch(Place),
-    /// What stands here may take any bytes.
+    // What stands here may take any bytes.
     Rest(Place),
 }
 
-/// What comes of matching from a place up to the next rest.
+// What comes of matching from a place up to the next rest.
 #[derive(Clone, Copy)]
-pub enum Reach {
-    /// The key fits.
+enum Reach {
+    // The key fits.
     Fits,
-    /// It does not fit from this place on.
+    // It does not fit from this place on.
     NotHere,
-    /// Nor does it from a later place before the next `/`.
+    // Nor does it from a later place before the next `/`.
     NotBeforeSlash,
-    /// Nor does it from any later place in the key.
+    // Nor does it from any later place in the key.
     Nowhere,
-    /// What stands here may take any bytes.
+    // What stands here may take any bytes.
     Rest(Place),
 }
 
-/// Matches byte by byte, up to a piece whose part may be chosen.
+// Matches byte by byte, up to a piece whose part may be chosen.
 fn run(dialect: Dialect, pattern: &[u8], key: &[u8], from: Place) -> Stop
     requires { from.key ≤ length key.now }
     ensures { StopsAt dialect pattern.now key.now from result }
@@ -92,7 +92,7 @@ fn run(dialect: Dialect, pattern: &[u8], key: &[u8], from: Place) -> Stop
     }
 }
 
-/// Matches from within a stretch up to the next rest.
+// Matches from within a stretch up to the next rest.
 fn stretch(dialect: Dialect, pattern: &[u8], key: &[u8], from: Place) -> Reach
     requires { from.key ≤ length key.now }
     ensures { Reaches dialect pattern.now key.now (Stretch ∷ pieces_from dialect pattern.now from)
@@ -115,10 +115,11 @@ fn stretch(dialect: Dialect, pattern: &[u8], key: &[u8], from: Place) -> Reach
     }
 }
 
-/// Matches from a place up to the next rest.
+// Matches from a place up to the next rest.
 fn reach_rest(dialect: Dialect, pattern: &[u8], key: &[u8], from: Place) -> Reach
     requires { from.key ≤ length key.now }
-    ensures { Reaches dialect pattern.now key.now (pieces_from dialect pattern.now from) from result }
+    ensures { Reaches dialect pattern.now key.now
+        (pieces_from dialect pattern.now from) from result }
 {
     match run(dialect, pattern, key, from) {
         Stop::Fits => Reach::Fits,
@@ -129,7 +130,7 @@ fn reach_rest(dialect: Dialect, pattern: &[u8], key: &[u8], from: Place) -> Reac
     }
 }
 
-/// Whether the key fits from within a rest.
+// Whether the key fits from within a rest.
 fn fits_rest(dialect: Dialect, pattern: &[u8], key: &[u8], from: Place) -> bool
     requires { from.key ≤ length key.now }
     ensures { result ≡ fits (Rest ∷ pieces_from dialect pattern.now from) (drop from.key key.now) }
@@ -158,7 +159,7 @@ fn fits_rest(dialect: Dialect, pattern: &[u8], key: &[u8], from: Place) -> bool
 }
 
 /// Whether the key fits from a place on.
-pub fn fits_from(dialect: Dialect, pattern: &[u8], key: &[u8], from: Place) -> bool
+pub(crate) fn fits_from(dialect: Dialect, pattern: &[u8], key: &[u8], from: Place) -> bool
     requires { from.key ≤ length key.now }
     ensures { result ≡ fits (pieces_from dialect pattern.now from) (drop from.key key.now) }
 {

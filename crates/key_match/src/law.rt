@@ -10,8 +10,10 @@ ghost use Rattle.key_match.specs.Divisions.{LongerFirst, ShorterSegmentFirst, Is
 /// whether they do so that equal names stand for equal parts.
 pub fn covering_is_decided()
     ensures star { (key pattern : List ℕ) → (b : Bool) × (IsTrue b ↔ AgreesToStar key pattern) }
-    ensures covers { (pieces : List Piece) (text : List ℕ) → (b : Bool) × (IsTrue b ↔ Covers pieces text) }
-    ensures alike { (pieces : List Piece) (text : List ℕ) → (b : Bool) × (IsTrue b ↔ CoversAlike pieces text) }
+    ensures covers { (pieces : List Piece) (text : List ℕ)
+        → (b : Bool) × (IsTrue b ↔ Covers pieces text) }
+    ensures alike { (pieces : List Piece) (text : List ℕ)
+        → (b : Bool) × (IsTrue b ↔ CoversAlike pieces text) }
 {}
 
 /// The law that pieces and a key give each name exactly one part, whichever of the two orders counts.

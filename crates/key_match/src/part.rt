@@ -2,15 +2,15 @@
 
 ghost use Rattle.std.specs.Prelude.{◌≡◌, ◌≤◌, ◌<◌, ◌∷◌, ℕ, drop, length, true, MatchBool};
 ghost use Rattle.key_match.specs.Patterns.{colon_pieces, brace_pieces};
-ghost use Rattle.key_match.specs.Tokens.{piece_of, pieces_of, pieces_at};
-ghost use Rattle.key_match.specs.Fits.{fits};
+ghost use Rattle.key_match.specs.Helps.Tokens.{piece_of, pieces_of, pieces_at};
+ghost use Rattle.key_match.specs.Helps.Fits.{fits};
 ghost use Rattle.key_match.specs.Divisions.{
   LongerFirst,
   ShorterSegmentFirst,
   IsNamedPart,
   has_name,
 };
-ghost use Rattle.key_match.specs.Parts.{
+ghost use Rattle.key_match.specs.Helps.Parts.{
   order_of,
   HasPart,
   AreEnds,
@@ -23,18 +23,18 @@ use crate::bytes::place_from;
 use crate::fit::{Place, fits_from};
 use crate::token::{Dialect, Reading, Token, token_at};
 
-/// Which part of a segment is taken, of those with which the rest of the key fits.
+// Which part of a segment is taken, of those with which the rest of the key fits.
 #[derive(Clone, Copy)]
-pub enum Choice {
+enum Choice {
     Longest,
     Shortest,
 }
 
 /// The least and the greatest place where a part may end.
 #[derive(Clone, Copy)]
-pub struct Ends {
-    pub least: usize,
-    pub most: usize,
+pub(crate) struct Ends {
+    pub(crate) least: usize,
+    pub(crate) most: usize,
 }
 
 /// The part of a key that the first segment `:name` stands for, with the pattern of `key_match2`, as Casbin's `keyGet2`
@@ -84,7 +84,7 @@ fn named_part<'a>(
 }
 
 /// Whether a token is a segment with the name.
-pub fn is_named(token: Token, name: &[u8]) -> bool
+pub(crate) fn is_named(token: Token, name: &[u8]) -> bool
     ensures { result ≡ has_name name.now (piece_of token.entry) }
 {
     match token {
@@ -93,7 +93,7 @@ pub fn is_named(token: Token, name: &[u8]) -> bool
     }
 }
 
-/// Where the part of a token ends that begins at a place of the key.
+// Where the part of a token ends that begins at a place of the key.
 fn part_end(
     dialect: Dialect,
     segments: Choice,
@@ -117,7 +117,7 @@ fn part_end(
     }
 }
 
-/// Whether the shortest part of a token is taken, rather than the longest.
+// Whether the shortest part of a token is taken, rather than the longest.
 fn is_shortest(segments: Choice, token: Token) -> bool
     ensures { MatchBool result
         ((one other : ℕ) → order_of segments (piece_of token.entry) one other → one < other)
@@ -130,7 +130,7 @@ fn is_shortest(segments: Choice, token: Token) -> bool
 }
 
 /// Where a part of a token may end, if there is one.
-pub fn part_ends(token: Token, key: &[u8], from: usize) -> Ends
+pub(crate) fn part_ends(token: Token, key: &[u8], from: usize) -> Ends
     requires { HasPart (piece_of token) key.now from }
     ensures { AreEnds (piece_of token.entry) key.now from result }
 {
@@ -154,11 +154,12 @@ pub fn part_ends(token: Token, key: &[u8], from: usize) -> Ends
     }
 }
 
-/// The last of some places of the key from which it fits the pattern from `next` on; the first place where there is none.
+// The last of some places of the key from which it fits the pattern from `next` on; the first place where there is none.
 fn last_fit(dialect: Dialect, pattern: &[u8], key: &[u8], next: usize, ends: Ends) -> usize
     requires ordered { ends.least ≤ ends.most }
     requires within { ends.most ≤ length key.now }
-    ensures last { NoneLater (pieces_at dialect pattern.now next) key.now ends.least ends.most result }
+    ensures last { NoneLater
+        (pieces_at dialect pattern.now next) key.now ends.least ends.most result }
     ensures fitting { ends.least < result
         → fits (pieces_at dialect pattern.now next) (drop result key.now) ≡ true }
 {
@@ -179,12 +180,13 @@ fn last_fit(dialect: Dialect, pattern: &[u8], key: &[u8], next: usize, ends: End
     end
 }
 
-/// The first of some places of the key from which it fits the pattern from `next` on; the last place where there is
-/// none.
+// The first of some places of the key from which it fits the pattern from `next` on; the last place where there is
+// none.
 fn first_fit(dialect: Dialect, pattern: &[u8], key: &[u8], next: usize, ends: Ends) -> usize
     requires ordered { ends.least ≤ ends.most }
     requires within { ends.most ≤ length key.now }
-    ensures first { NoneEarlier (pieces_at dialect pattern.now next) key.now ends.least ends.most result }
+    ensures first { NoneEarlier
+        (pieces_at dialect pattern.now next) key.now ends.least ends.most result }
     ensures fitting { result < ends.most
         → fits (pieces_at dialect pattern.now next) (drop result key.now) ≡ true }
 {

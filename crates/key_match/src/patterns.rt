@@ -4,7 +4,7 @@ ghost use Rattle.std.specs.Prelude.{◌≡◌, ◌↔◌, ◌==◌, IsTrue};
 ghost use Rattle.std.specs.List.{before_first};
 ghost use Rattle.key_match.specs.Pieces.{Covers};
 ghost use Rattle.key_match.specs.Patterns.{colon_pieces, brace_pieces, glob_pieces};
-ghost use Rattle.key_match.specs.Tokens.{pieces_of};
+ghost use Rattle.key_match.specs.Helps.Tokens.{pieces_of};
 
 use crate::bytes::place_from;
 use crate::fit::{Place, fits_from};
@@ -46,7 +46,7 @@ fn fits_whole(dialect: Dialect, pattern: &[u8], key: &[u8]) -> bool
     fits_from(dialect, pattern, key, Place { pattern: 0, key: 0 })
 }
 
-/// A key without its first `?` and what follows.
+// A key without its first `?` and what follows.
 fn without_query(key: &[u8]) -> &[u8]
     ensures { result.now ≡ before_first (λ byte. byte == 63) key.now }
 {

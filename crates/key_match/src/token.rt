@@ -4,13 +4,13 @@ ghost use Rattle.std.specs.Prelude.{◌≡◌, ◌<◌, ◌≤◌, ◌+◌, ◌-
 ghost use Rattle.std.specs.List.{prefix_len, list_any};
 ghost use Rattle.key_match.specs.Pieces.{in_range, has};
 ghost use Rattle.key_match.specs.Patterns.{in_braces, colon_piece, brace_piece, glob_piece, rest_or_literal, class_or_literal, items_or_literal, ranges_of};
-ghost use Rattle.key_match.specs.Tokens.{pieces_at, first_at, reader_of, set_of, byte_before, IsFirst, IsReadAt, IsItemAt};
+ghost use Rattle.key_match.specs.Helps.Tokens.{pieces_at, first_at, reader_of, set_of, byte_before, IsFirst, IsReadAt, IsItemAt};
 
 use crate::bytes::place_from;
 
 /// How the segments of a pattern are written.
 #[derive(Clone, Copy)]
-pub enum Dialect {
+pub(crate) enum Dialect {
     /// `:name`, up to the next `/`.
     Colon,
     /// `{name}`.
@@ -21,7 +21,7 @@ pub enum Dialect {
 
 /// What one byte may be.
 #[derive(Clone, Copy)]
-pub enum ByteTest<'p> {
+pub(crate) enum ByteTest<'p> {
     /// This byte.
     Only(u8),
     /// Any but `/`.
@@ -32,7 +32,7 @@ pub enum ByteTest<'p> {
 
 /// A piece of a pattern.
 #[derive(Clone, Copy)]
-pub enum Token<'p> {
+pub(crate) enum Token<'p> {
     /// One byte.
     One(ByteTest<'p>),
     /// One or more bytes without `/`, under a name.
@@ -45,21 +45,21 @@ pub enum Token<'p> {
 
 /// A token, and the place in the pattern after it.
 #[derive(Clone, Copy)]
-pub struct Reading<'p> {
-    pub token: Token<'p>,
-    pub next: usize,
+pub(crate) struct Reading<'p> {
+    pub(crate) token: Token<'p>,
+    pub(crate) next: usize,
 }
 
-/// The bytes of an item of a class, from the first to the last, and the place after it.
+// The bytes of an item of a class, from the first to the last, and the place after it.
 #[derive(Clone, Copy)]
-pub struct Item {
-    pub first: u8,
-    pub last: u8,
-    pub next: usize,
+struct Item {
+    first: u8,
+    last: u8,
+    next: usize,
 }
 
 /// The token at a place of the pattern, or `None` at its end.
-pub fn token_at<'p>(dialect: Dialect, pattern: &'p [u8], at: usize) -> Option<Reading<'p>>
+pub(crate) fn token_at<'p>(dialect: Dialect, pattern: &'p [u8], at: usize) -> Option<Reading<'p>>
     ensures found { IfSome result (IsReadAt dialect pattern.now at) }
     ensures ended { IfNone result (pieces_at dialect pattern.now at ≡ []) }
 {
@@ -118,7 +118,7 @@ fn brace_token<'p>(pattern: &'p [u8], at: usize) -> Reading<'p>
     plain_token(pattern, at)
 }
 
-/// The token of a byte that begins no segment.
+// The token of a byte that begins no segment.
 fn plain_token<'p>(pattern: &'p [u8], at: usize) -> Reading<'p>
     requires { at < length pattern.now }
     ensures first { IsFirst
@@ -136,7 +136,7 @@ fn plain_token<'p>(pattern: &'p [u8], at: usize) -> Reading<'p>
     }
 }
 
-/// Whether a place stands after `/`. The lone `*` counts as such.
+// Whether a place stands after `/`. The lone `*` counts as such.
 fn is_after_slash(pattern: &[u8], at: usize) -> bool
     requires { at < length pattern.now }
     ensures { result ≡ (byte_before pattern.now at == 47) }
@@ -165,7 +165,7 @@ fn glob_token<'p>(pattern: &'p [u8], at: usize) -> Reading<'p>
     }
 }
 
-/// The class that begins with `[` at a place, or else the `[`.
+// The class that begins with `[` at a place, or else the `[`.
 fn class_token<'p>(pattern: &'p [u8], at: usize) -> Reading<'p>
     requires { at < length pattern.now }
     ensures first { IsFirst (class_or_literal (drop (at + 1) pattern.now)) at result }
@@ -178,7 +178,7 @@ fn class_token<'p>(pattern: &'p [u8], at: usize) -> Reading<'p>
     }
 }
 
-/// The same, where the items begin at `start`.
+// The same, where the items begin at `start`.
 fn items_token<'p>(pattern: &'p [u8], at: usize, negated: bool, start: usize) -> Reading<'p>
     requires after { at < start }
     requires in_pattern { start ≤ length pattern.now }
@@ -200,7 +200,7 @@ fn items_token<'p>(pattern: &'p [u8], at: usize, negated: bool, start: usize) ->
     }
 }
 
-/// The place of the first `/`, `{` or `}` from a place on, or the pattern's end.
+// The place of the first `/`, `{` or `}` from a place on, or the pattern's end.
 fn name_end(pattern: &[u8], from: usize) -> usize
     requires { from ≤ length pattern.now }
     ensures end { result ≡ from + prefix_len in_braces (drop from pattern.now) }
@@ -215,7 +215,7 @@ fn name_end(pattern: &[u8], from: usize) -> usize
 }
 
 /// Whether a byte passes.
-pub fn passes(test: ByteTest, byte: u8) -> bool
+pub(crate) fn passes(test: ByteTest, byte: u8) -> bool
     ensures { result ≡ has (set_of test.entry) byte }
 {
     match test {
@@ -225,7 +225,7 @@ pub fn passes(test: ByteTest, byte: u8) -> bool
     }
 }
 
-/// Whether a byte is among the items of a class, of which `a-b` is a range.
+// Whether a byte is among the items of a class, of which `a-b` is a range.
 fn is_among(items: &[u8], byte: u8) -> bool
     ensures { result ≡ list_any (in_range byte) (ranges_of items.now) }
 {
@@ -240,7 +240,7 @@ fn is_among(items: &[u8], byte: u8) -> bool
     false
 }
 
-/// The item at a place of a class.
+// The item at a place of a class.
 fn item_at(items: &[u8], at: usize) -> Item
     requires { at < length items.now }
     ensures { IsItemAt items.now at result }

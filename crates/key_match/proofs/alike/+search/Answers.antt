@@ -3,9 +3,9 @@ use Rattle.std.proofs.lemmas.Bool.{false≢true}
 use Rattle.std.proofs.lemmas.List.{take_all}
 use Rattle.std.specs.Str.{bytes_eq}
 use Rattle.key_match.specs.Pieces.{Piece, Segment}
-use Rattle.key_match.specs.Fits.{fits, pieces_from}
-use Rattle.key_match.specs.Tokens.{pieces_at, piece_of}
-use Rattle.key_match.specs.Given.{given_part, CoversGiven}
+use Rattle.key_match.specs.Helps.Fits.{fits, pieces_from}
+use Rattle.key_match.specs.Helps.Tokens.{pieces_at, piece_of}
+use Rattle.key_match.specs.Helps.Given.{given_part, CoversGiven}
 use Rattle.key_match.specs.declared.token.Dialect.TheVariants.{Brace}
 use Rattle.key_match.specs.declared.token.Token.{Token}
 use Rattle.key_match.proofs.Parts.{HasPart-from}

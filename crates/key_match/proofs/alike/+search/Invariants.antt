@@ -1,6 +1,6 @@
 use Rattle.std.proofs.Common.{◌+◌, ◌-◌, ◌*◌, length}
 use Rattle.key_match.specs.Pieces.{Segment}
-use Rattle.key_match.specs.Tokens.{piece_of, pieces_at}
+use Rattle.key_match.specs.Helps.Tokens.{piece_of, pieces_at}
 use Rattle.key_match.specs.declared.token.Dialect.TheVariants.{Brace}
 use Rattle.key_match.proofs.Tried.{AreTried}
 use Rattle.key_match.proofs.alike.+search.Given as goal

@@ -1,6 +1,6 @@
 use Rattle.std.proofs.Common.{◌≡◌, ◌-◌, length}
-use Rattle.key_match.specs.Tokens.{pieces_at}
-use Rattle.key_match.specs.Given.{is_free_of}
+use Rattle.key_match.specs.Helps.Tokens.{pieces_at}
+use Rattle.key_match.specs.Helps.Given.{is_free_of}
 use Rattle.key_match.specs.declared.token.Dialect.TheVariants.{Brace}
 use Rattle.key_match.proofs.alike.is_free.Given as goal
 

@@ -1,7 +1,7 @@
 use Rattle.std.proofs.Common.{List, sym, subst}
 use Rattle.key_match.specs.Pieces.{Piece}
 use Rattle.key_match.specs.Patterns.{brace_pieces}
-use Rattle.key_match.specs.Given.{CoversGiven}
+use Rattle.key_match.specs.Helps.Given.{CoversGiven}
 use Rattle.key_match.specs.declared.token.Dialect.TheVariants.{Brace}
 use Rattle.key_match.specs.declared.alike.Given.{Nothing}
 use Rattle.key_match.proofs.Readings.{pieces_at-start}

@@ -1,6 +1,6 @@
 use Rattle.std.proofs.Common.{◌≡◌, ◌-◌, length}
 use Rattle.std.specs.List.{list_any}
-use Rattle.key_match.specs.Tokens.{pieces_at}
+use Rattle.key_match.specs.Helps.Tokens.{pieces_at}
 use Rattle.key_match.specs.Divisions.{has_name}
 use Rattle.key_match.specs.declared.token.Dialect.TheVariants.{Brace}
 use Rattle.key_match.proofs.alike.occurs.Given as goal

@@ -1,5 +1,5 @@
 use Rattle.std.proofs.Common.{◌≡◌}
-use Rattle.key_match.specs.Given.{given_part}
+use Rattle.key_match.specs.Helps.Given.{given_part}
 use Rattle.key_match.proofs.alike.part_of.Given as goal
 
 abbrev pub invariant-loop-at : goal.invariant-loop-at

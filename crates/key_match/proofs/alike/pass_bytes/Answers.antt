@@ -1,8 +1,8 @@
 use Rattle.std.proofs.Common.{◌≡◌, ◌∷◌, true, drop, ap, sym, ◌∙◌, subst, arith, List}
 use Rattle.key_match.specs.Pieces.{Piece, One}
-use Rattle.key_match.specs.Fits.{fits}
-use Rattle.key_match.specs.Tokens.{pieces_at, piece_of, set_of}
-use Rattle.key_match.specs.Given.{CoversGiven}
+use Rattle.key_match.specs.Helps.Fits.{fits}
+use Rattle.key_match.specs.Helps.Tokens.{pieces_at, piece_of, set_of}
+use Rattle.key_match.specs.Helps.Given.{CoversGiven}
 use Rattle.key_match.specs.declared.token.Dialect.TheVariants.{Brace}
 use Rattle.key_match.specs.declared.token.Token.{Token}
 use Rattle.key_match.proofs.Agree.{byte-fits, byte-forward, byte-backward}

@@ -1,5 +1,5 @@
 use Rattle.std.proofs.Common.{◌-◌, length}
-use Rattle.key_match.specs.Given.{PassesTo}
+use Rattle.key_match.specs.Helps.Given.{PassesTo}
 use Rattle.key_match.proofs.alike.pass_bytes.Given as goal
 
 abbrev pub invariant-loop-reading : goal.invariant-loop-reading

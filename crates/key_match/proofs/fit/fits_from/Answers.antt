@@ -1,5 +1,5 @@
 use Rattle.std.proofs.Common.{drop, sym, subst, ⊎_elim}
-use Rattle.key_match.specs.Fits.{fits, stretch_fits, end_fits, pieces_from, Reaches}
+use Rattle.key_match.specs.Helps.Fits.{fits, stretch_fits, end_fits, pieces_from, Reaches}
 use Rattle.key_match.specs.declared.fit.Reach.{Reach}
 use Rattle.key_match.proofs.Bools.{false_by}
 use Rattle.key_match.proofs.Leads.{stretch-here, end-here}

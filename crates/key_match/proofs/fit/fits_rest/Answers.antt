@@ -1,5 +1,5 @@
 use Rattle.std.proofs.Common.{drop, sym, ◌∙◌, arith}
-use Rattle.key_match.specs.Fits.{fits, end_fits, pieces_from}
+use Rattle.key_match.specs.Helps.Fits.{fits, end_fits, pieces_from}
 use Rattle.key_match.proofs.Bools.{same_test}
 use Rattle.key_match.proofs.Leads.{end-here, end-end, end-past, slash-none_at, slash-some_at}
 use Rattle.key_match.proofs.fit.fits_rest.Goals as goal

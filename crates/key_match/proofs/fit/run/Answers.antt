@@ -1,6 +1,6 @@
 use Rattle.std.proofs.Common.{◌≡◌, true, ◌∷◌, get_or, ap, sym, ◌∙◌, arith}
 use Rattle.key_match.specs.Pieces.{One, Segment, has}
-use Rattle.key_match.specs.Tokens.{pieces_at, piece_of, set_of}
+use Rattle.key_match.specs.Helps.Tokens.{pieces_at, piece_of, set_of}
 use Rattle.key_match.specs.declared.token.Token.{Token}
 use Rattle.key_match.proofs.Leads.{LeadsTo-byte, LeadsTo-segment, pattern_ended, not_slash-other}
 use Rattle.key_match.proofs.fit.run.Goals as goal

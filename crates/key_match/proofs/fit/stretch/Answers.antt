@@ -1,6 +1,6 @@
 use Rattle.std.proofs.Common.{◌∷◌, get_or, drop, ◌∙◌, arith}
 use Rattle.key_match.specs.Pieces.{Stretch, Rest}
-use Rattle.key_match.specs.Fits.{fits, end_fits, pieces_from}
+use Rattle.key_match.specs.Helps.Fits.{fits, end_fits, pieces_from}
 use Rattle.key_match.proofs.Bools.{false_by}
 use Rattle.key_match.proofs.Leads.{stretch-here, end-stretch, LeadsTo-trans, LeadsTo-stretch, keeps-rest, keeps-stretch, LeadsTo-past_at, not_slash-other}
 use Rattle.key_match.proofs.fit.stretch.Goals as goal

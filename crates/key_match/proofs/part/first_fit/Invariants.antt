@@ -1,6 +1,6 @@
 use Rattle.std.proofs.Common.{◌-◌}
-use Rattle.key_match.specs.Tokens.{pieces_at}
-use Rattle.key_match.specs.Parts.{NoneEarlier}
+use Rattle.key_match.specs.Helps.Tokens.{pieces_at}
+use Rattle.key_match.specs.Helps.Parts.{NoneEarlier}
 use Rattle.key_match.proofs.part.first_fit.Given as goal
 
 abbrev pub invariant-loop-end : goal.invariant-loop-end

@@ -1,5 +1,5 @@
-use Rattle.key_match.specs.Tokens.{pieces_at}
-use Rattle.key_match.specs.Parts.{NoneLater}
+use Rattle.key_match.specs.Helps.Tokens.{pieces_at}
+use Rattle.key_match.specs.Helps.Parts.{NoneLater}
 use Rattle.key_match.proofs.part.last_fit.Given as goal
 
 abbrev pub invariant-loop-end : goal.invariant-loop-end

@@ -1,8 +1,8 @@
 use Rattle.std.proofs.Common.{sym, ◌∙◌, ap, inr, refl}
 use Rattle.std.proofs.lemmas.Bool.{false≢true}
-use Rattle.key_match.specs.Fits.{fits}
-use Rattle.key_match.specs.Tokens.{piece_of, pieces_of}
-use Rattle.key_match.specs.Parts.{order_of}
+use Rattle.key_match.specs.Helps.Fits.{fits}
+use Rattle.key_match.specs.Helps.Tokens.{piece_of, pieces_of}
+use Rattle.key_match.specs.Helps.Parts.{order_of}
 use Rattle.key_match.proofs.Readings.{pieces_at-start}
 use Rattle.key_match.proofs.Covers.{fits-from_Covers}
 use Rattle.key_match.proofs.Settled.{settled_start, settled_step, settled_found, settled_end}

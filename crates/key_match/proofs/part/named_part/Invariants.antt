@@ -1,6 +1,6 @@
 use Rattle.std.proofs.Common.{◌-◌, length}
-use Rattle.key_match.specs.Tokens.{pieces_of}
-use Rattle.key_match.specs.Parts.{order_of}
+use Rattle.key_match.specs.Helps.Tokens.{pieces_of}
+use Rattle.key_match.specs.Helps.Parts.{order_of}
 use Rattle.key_match.proofs.Settled.{IsSettled}
 use Rattle.key_match.proofs.part.named_part.Given as goal
 

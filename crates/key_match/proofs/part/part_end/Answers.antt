@@ -1,5 +1,5 @@
-use Rattle.key_match.specs.Tokens.{piece_of, pieces_at}
-use Rattle.key_match.specs.Parts.{order_of}
+use Rattle.key_match.specs.Helps.Tokens.{piece_of, pieces_at}
+use Rattle.key_match.specs.Helps.Parts.{order_of}
 use Rattle.key_match.proofs.Parts.{HasPart-from, HasFit-from, IsChosen-last, IsChosen-first}
 use Rattle.key_match.proofs.part.part_end.Goals as goal
 

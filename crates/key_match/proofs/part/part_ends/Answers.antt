@@ -1,6 +1,6 @@
 use Rattle.std.proofs.Common.{◌+◌, sym, subst}
-use Rattle.key_match.specs.Tokens.{piece_of, set_of}
-use Rattle.key_match.specs.Parts.{HasPart, AreEnds}
+use Rattle.key_match.specs.Helps.Tokens.{piece_of, set_of}
+use Rattle.key_match.specs.Helps.Parts.{HasPart, AreEnds}
 use Rattle.key_match.specs.declared.token.Token.{Token}
 use Rattle.key_match.proofs.Parts.{AreEnds-one, AreEnds-segment, AreEnds-stretch}
 use Rattle.key_match.proofs.part.part_ends.Goals as goal

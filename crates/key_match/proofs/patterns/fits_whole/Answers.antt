@@ -1,6 +1,6 @@
 use Rattle.std.proofs.Common.{◌≡◌, ap, ◌∙◌, sym}
-use Rattle.key_match.specs.Tokens.{pieces_of}
-use Rattle.key_match.specs.Fits.{fits}
+use Rattle.key_match.specs.Helps.Tokens.{pieces_of}
+use Rattle.key_match.specs.Helps.Fits.{fits}
 use Rattle.key_match.proofs.Readings.{pieces_at-start}
 use Rattle.key_match.proofs.Covers.{Covers-from_fits, fits-from_Covers}
 use Rattle.key_match.proofs.patterns.fits_whole.Goals as goal

@@ -3,7 +3,7 @@ use Rattle.std.specs.List.{prefix_len}
 use Rattle.std.proofs.lemmas.List.{get_or-drop}
 use Rattle.key_match.specs.Pieces.{Segment}
 use Rattle.key_match.specs.Patterns.{FirstPiece, in_braces}
-use Rattle.key_match.specs.Tokens.{byte_before}
+use Rattle.key_match.specs.Helps.Tokens.{byte_before}
 use Rattle.key_match.proofs.Readings.{brace_piece-segment}
 use Rattle.key_match.proofs.token.brace_token.Goals as goal
 

@@ -1,7 +1,7 @@
 use Rattle.std.proofs.Common.{◌≡◌, Bool, true, false, not, if◌then◌else◌, refl, ap, sym, ◌∙◌}
 use Rattle.std.specs.Bool.{beq}
 use Rattle.key_match.specs.Pieces.{has, not_slash}
-use Rattle.key_match.specs.Tokens.{set_of}
+use Rattle.key_match.specs.Helps.Tokens.{set_of}
 use Rattle.key_match.specs.declared.token.ByteTest.{ByteTest}
 use Rattle.key_match.proofs.Bools.{and_true}
 use Rattle.key_match.proofs.Leads.{not_slash-other}

@@ -2,7 +2,7 @@
 use Rattle.std.specs.Prelude.{◌≡◌, ◌≤◌, ◌<◌, ◌-◌, ℕ, true, false, List, length, take, drop}
 use Rattle.key_match.specs.Pieces.{Piece, StandsFor}
 use Rattle.key_match.specs.Divisions.{Order, LongerFirst, ShorterSegmentFirst}
-use Rattle.key_match.specs.Fits.{fits}
+use Rattle.key_match.specs.Helps.Fits.{fits}
 use Rattle.key_match.specs.declared.part.Choice.{Choice}
 use Rattle.key_match.specs.declared.part.Choice.TheVariants.{Longest, Shortest}
 use Rattle.key_match.specs.declared.part.Ends.{Ends}

@@ -1,14 +1,7 @@
 -- Texts as parts between separators.
 use Rattle.std.specs.Prelude.{◌≡◌, ◌≢◌, ℕ, ◌+◌, ◌==◌, List, slice_index}
 use Rattle.std.specs.List.{slice_split}
-
--- `.`
-abbrev pub dot : ℕ
-dot = 46
-
--- `:`
-abbrev pub colon : ℕ
-colon = 58
+use Rattle.ip_match.specs.Addresses.{colon}
 
 -- the parts of a text between the separators, one more than there are separators
 abbrev pub parts_of : ℕ → List ℕ → List (List ℕ)

@@ -2,7 +2,7 @@
 use Rattle.std.specs.Prelude.{◌≡◌, ◌<◌, ◌≤◌, ℕ, Bool, true, false, not, ◌&&◌, ◌||◌, List, [], ◌∷◌, length, drop}
 use Rattle.key_match.specs.Pieces.{not_slash, has, Piece, One, Segment, Stretch, Rest}
 use Rattle.key_match.specs.Patterns.{is_some_text}
-use Rattle.key_match.specs.Tokens.{pieces_at}
+use Rattle.key_match.specs.Helps.Tokens.{pieces_at}
 use Rattle.key_match.specs.declared.token.Dialect.{Dialect}
 use Rattle.key_match.specs.declared.fit.Place.{Place}
 use Rattle.key_match.specs.declared.fit.Stop.{Stop}

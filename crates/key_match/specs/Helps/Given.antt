@@ -5,8 +5,8 @@ use Rattle.std.specs.Str.{bytes_eq}
 use Rattle.key_match.specs.Pieces.{Piece, One, Segment, Stretch, Rest, StandsFor, Divides}
 use Rattle.key_match.specs.Divisions.{has_name}
 use Rattle.key_match.specs.Names.{NamesAgree}
-use Rattle.key_match.specs.Fits.{fits, pieces_from}
-use Rattle.key_match.specs.Parts.{part_between}
+use Rattle.key_match.specs.Helps.Fits.{fits, pieces_from}
+use Rattle.key_match.specs.Helps.Parts.{part_between}
 use Rattle.key_match.specs.declared.token.Dialect.TheVariants.{Brace}
 use Rattle.key_match.specs.declared.fit.Place.{Place}
 use Rattle.key_match.specs.declared.alike.Given.{Given, Nothing, And'}
