@@ -1,12 +1,13 @@
-ghost use Rattle.std.specs.Prelude.{◌≡◌, ◌<◌, ◌≤◌, ◌⊎◌, ℕ, List, ◌∷◌, false, IfOk, IfSome, IfNone, IsErrOf, MatchOption, MatchResult, length, option_map, position};
+ghost use Rattle.std.specs.Prelude.{◌≡◌, ◌<◌, ◌≤◌, ◌⊎◌, ℕ, List, ◌∷◌, IfOk, IsErrOf, MatchOption, MatchResult, length, option_map};
 ghost use Rattle.perm_base.specs.FieldFaults.{HasTooMany, IsBadAt, IsFault, IsQuoteFault};
 ghost use Rattle.perm_base.specs.FieldLine.{IsFields};
-ghost use Rattle.perm_base.specs.Lines.{has_byte};
-ghost use Rattle.perm_base.specs.LineEnds.{AreFields, is_line_end, has_line_end};
-ghost use Rattle.perm_base.specs.FieldSteps.{Gives, IsCutAt, before_comma, behind_comma, column_of, closed_field, fields_of, first_field, line_end_column, plain_field, quoted_field, quoted_text, without_back_blanks, without_front_blanks};
+ghost use Rattle.perm_base.specs.LineEnds.{AreFields};
+ghost use Rattle.perm_base.specs.Helps.FieldSteps.{Gives, before_comma, behind_comma, column_of, closed_field, fields_of, first_field, line_end_column, plain_field, quoted_field, quoted_text};
 
+use crate::line_ends::{first_line_end, has_line_end};
 use outside::{NoMemory, Text};
 use std::alloc::Global;
+use text_parts::{before_blanks, behind_blanks, cut_at};
 
 // The greatest number of fields of a line.
 const MOST_FIELDS: usize = 34;
@@ -101,7 +102,7 @@ fn fields_of(alloc: Global, line: &str) -> Result<Vec<Text>, FieldFault>
 fn first_field(alloc: Global, size: usize, rest: &str) -> Result<(Text, Option<&str>), FieldFault>
     ensures { Gives (λ read. (read.0, option_map (λ behind. behind.now) read.1)) result (first_field size rest.now) }
 {
-    let field = without_front_blanks(rest);
+    let field = behind_blanks(rest);
     match behind_quote(field) {
         Some(inside) => quoted_field(alloc, size, inside),
         None => plain_field(alloc, size, field),
@@ -117,7 +118,7 @@ fn plain_field(alloc: Global, size: usize, field: &str) -> Result<(Text, Option<
         let column = line_end_column(size, field);
         return Err(FieldFault::Quote { column });
     }
-    let text = Text::from_str(alloc, without_back_blanks(text))?;
+    let text = Text::from_str(alloc, before_blanks(text))?;
     Ok((text, behind))
 }
 
@@ -137,7 +138,7 @@ fn quoted_field(
         let column = line_end_column(size, inside);
         return Err(FieldFault::Quote { column });
     }
-    closed_field(size, text, without_front_blanks(after))
+    closed_field(size, text, behind_blanks(after))
 }
 
 // A field behind whose closing quote, and the blanks there, this stands.
@@ -161,7 +162,7 @@ fn quoted_text(alloc: Global, inside: &str) -> Result<Option<(Text, &str)>, NoMe
 {
     let mut text = String::new(alloc);
     let mut rest = inside;
-    while let Some((before, after)) = cut_at_quote(rest) {
+    while let Some((before, after)) = cut_at(rest, b'"') {
         text.push_str(before)?;
         let Some(next) = behind_quote(after) else {
             return Ok(Some((Text::from_str(alloc, text.as_str())?, after)));
@@ -172,26 +173,12 @@ fn quoted_text(alloc: Global, inside: &str) -> Result<Option<(Text, &str)>, NoMe
     Ok(None)
 }
 
-// What stands before the first quote, and what stands behind it.
-pub(crate) fn cut_at_quote(text: &str) -> Option<(&str, &str)>
-    ensures { MatchOption result (has_byte 34 text.now ≡ false) (λ cut. IsCutAt 34 text.now cut.0.now cut.1.now) }
-{
-    text.split_once('"')
-}
-
-// What stands before the first comma, and what stands behind it.
-fn cut_at_comma(text: &str) -> Option<(&str, &str)>
-    ensures { MatchOption result (has_byte 44 text.now ≡ false) (λ cut. IsCutAt 44 text.now cut.0.now cut.1.now) }
-{
-    text.split_once(',')
-}
-
 // What stands before the first comma, or all, and what stands behind that comma.
 fn comma_parts(text: &str) -> (&str, Option<&str>)
     ensures before { result.0.now ≡ before_comma text.now }
     ensures behind { option_map (λ behind. behind.now) result.1 ≡ behind_comma text.now }
 {
-    match cut_at_comma(text) {
+    match cut_at(text, b',') {
         Some((before, behind)) => (before, Some(behind)),
         None => (text, None),
     }
@@ -211,59 +198,6 @@ fn behind_comma(text: &str) -> Option<&str>
     text.strip_prefix(',')
 }
 
-// The text without the blanks at its front.
-fn without_front_blanks(text: &str) -> &str
-    ensures { result.now ≡ without_front_blanks text.now }
-{
-    let mut rest = text;
-    while let Some(behind) = behind_blank(rest) {
-        rest = behind;
-    }
-    rest
-}
-
-// What stands behind the blank that the text begins with.
-fn behind_blank(text: &str) -> Option<&str>
-    ensures none { IfNone result (without_front_blanks text.now ≡ text.now) }
-    ensures same { IfSome result (λ behind. without_front_blanks text.now ≡ without_front_blanks behind.now) }
-    ensures shorter { IfSome result (λ behind. length behind.now < length text.now) }
-{
-    match text.strip_prefix(' ') {
-        Some(behind) => Some(behind),
-        None => text.strip_prefix('\t'),
-    }
-}
-
-// The text without the blanks at its back.
-fn without_back_blanks(text: &str) -> &str
-    ensures { result.now ≡ without_back_blanks text.now }
-{
-    let mut rest = text;
-    while let Some(before) = before_blank(rest) {
-        rest = before;
-    }
-    rest
-}
-
-// What stands before the blank that the text ends with.
-fn before_blank(text: &str) -> Option<&str>
-    ensures none { IfNone result (without_back_blanks text.now ≡ text.now) }
-    ensures same { IfSome result (λ before. without_back_blanks text.now ≡ without_back_blanks before.now) }
-    ensures shorter { IfSome result (λ before. length before.now < length text.now) }
-{
-    match text.strip_suffix(' ') {
-        Some(before) => Some(before),
-        None => text.strip_suffix('\t'),
-    }
-}
-
-// The text holds CR or LF.
-fn has_line_end(text: &str) -> bool
-    ensures { result ≡ has_line_end text.now }
-{
-    text.as_bytes().iter().any(|byte| is_line_end(*byte))
-}
-
 // The column of the first CR or LF of the last bytes of a line of this size.
 fn line_end_column(size: usize, bytes: &str) -> u32
     ensures { result ≡ line_end_column size bytes.now }
@@ -274,20 +208,7 @@ fn line_end_column(size: usize, bytes: &str) -> u32
     }
 }
 
-// The place of the first CR or LF.
-fn first_line_end(text: &str) -> Option<usize>
-    ensures { result ≡ position is_line_end text.now }
-{
-    text.as_bytes().iter().position(|byte| is_line_end(*byte))
-}
-
-fn is_line_end(byte: u8) -> bool
-    ensures { result ≡ is_line_end byte }
-{
-    byte == b'\r' || byte == b'\n'
-}
-
-#[tactic(auto, unfolding(crate::specs::FieldSteps::column_of))]
+#[tactic(auto, unfolding(crate::specs::Helps::FieldSteps::column_of))]
 // The column, from 1, of the byte with which the last so many bytes of a line of this size begin.
 fn column_of(size: usize, left: usize) -> u32
     ensures { result ≡ column_of size left }

@@ -1,7 +1,7 @@
--- A help for proofs, which no public clause cites: the fields of a line that may stand in double quotes, as they are read from left to right.
-use Rattle.std.specs.Prelude.{◌≡◌, ℕ, zero, suc, ◌+◌, ◌-◌, ◌==◌, false, if◌then◌else◌, min, List, [], ◌∷◌, ◌++◌, length, reverse, position, Option, Some, None, option_map, Result, Ok, Err}
-use Rattle.perm_base.specs.Fields.{is_blank}
-use Rattle.perm_base.specs.Lines.{has_byte}
+-- The fields of a line that may stand in double quotes, as they are read from left to right.
+use Rattle.std.specs.Prelude.{◌≡◌, ℕ, zero, suc, ◌+◌, ◌-◌, ◌==◌, false, if◌then◌else◌, min, List, [], ◌∷◌, ◌++◌, length, position, Option, Some, None, option_map, Result, Ok, Err}
+use Rattle.text_parts.specs.Blanks.{before_blanks, behind_blanks}
+use Rattle.text_parts.specs.Lines.{has_byte}
 use Rattle.perm_base.specs.LineEnds.{is_line_end, has_line_end}
 use Rattle.perm_base.specs.declared.quoted.FieldFault.{FieldFault}
 use Rattle.perm_base.specs.declared.quoted.FieldFault.TheVariants.{Quote, TooMany, NoMemory}
@@ -19,15 +19,6 @@ place_column size bytes (Some at) = column_of size (length bytes - at)
 unfoldable pub line_end_column : ℕ → List ℕ → ℕ
 line_end_column size bytes = place_column size bytes (position is_line_end bytes)
 
--- without the blanks at the front
-unfoldable pub without_front_blanks : List ℕ → List ℕ
-without_front_blanks [] = []
-without_front_blanks (byte ∷ bytes) = if is_blank byte then without_front_blanks bytes else byte ∷ bytes
-
--- without the blanks at the back
-unfoldable pub without_back_blanks : List ℕ → List ℕ
-without_back_blanks bytes = reverse (without_front_blanks (reverse bytes))
-
 -- a field that was read: its text, and what stands behind its comma, if there is one
 abbrev pub Read : Type 0
 Read = List ℕ × Option (List ℕ)
@@ -44,7 +35,7 @@ behind_comma (byte ∷ bytes) = if byte == 44 then Some bytes else behind_comma 
 
 -- a field that does not begin with a quote: up to the comma or the end, without the blanks at its back
 unfoldable pub plain_field : ℕ → List ℕ → Result Read FieldFault
-plain_field size bytes = if has_line_end (before_comma bytes) then Err (Quote (line_end_column size bytes)) else Ok (without_back_blanks (before_comma bytes), behind_comma bytes)
+plain_field size bytes = if has_line_end (before_comma bytes) then Err (Quote (line_end_column size bytes)) else Ok (before_blanks (before_comma bytes), behind_comma bytes)
 
 -- the text is cut at its first such byte
 pub record IsCutAt (byte : ℕ) (text before behind : List ℕ) : Type 0 where
@@ -69,7 +60,7 @@ closed_field size text (byte ∷ bytes) = if byte == 44 then Ok (text, Some byte
 -- a field that begins with a quote, behind that quote, by its quoted text
 abbrev pub quoted_part : ℕ → List ℕ → Option (List ℕ × List ℕ) → Result Read FieldFault
 quoted_part size bytes None = Err (Quote (column_of size (length bytes + 1)))
-quoted_part size bytes (Some cut) = if has_line_end (cut.0) then Err (Quote (line_end_column size bytes)) else closed_field size (cut.0) (without_front_blanks (cut.1))
+quoted_part size bytes (Some cut) = if has_line_end (cut.0) then Err (Quote (line_end_column size bytes)) else closed_field size (cut.0) (behind_blanks (cut.1))
 
 -- a field that begins with a quote, behind that quote
 unfoldable pub quoted_field : ℕ → List ℕ → Result Read FieldFault
@@ -82,7 +73,7 @@ full_field size (byte ∷ bytes) = if byte == 34 then quoted_field size bytes el
 
 -- the field at the front of the last bytes of a line of this size
 unfoldable pub first_field : ℕ → List ℕ → Result Read FieldFault
-first_field size bytes = full_field size (without_front_blanks bytes)
+first_field size bytes = full_field size (behind_blanks bytes)
 
 -- the fields in front of those that are read next
 abbrev pub more_fields : List (List ℕ) → Result (List (List ℕ)) FieldFault → Result (List (List ℕ)) FieldFault
