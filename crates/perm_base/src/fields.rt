@@ -1,10 +1,10 @@
-ghost use Rattle.std.specs.Prelude.{◌≡◌, ◌<◌, ◌++◌, ℕ, List, ◌∷◌, All, IfOk, IsErrOf, MatchOption, MatchResult, OnErr, OnOk, length, map, string_bytes};
+ghost use Rattle.std.specs.Prelude.{◌≡◌, ◌<◌, ◌++◌, ℕ, List, ◌∷◌, All, IfOk, IsErrOf, MatchResult, OnErr, OnOk, length, map, string_bytes};
 ghost use Rattle.perm_base.specs.Fields.{IsJoined, IsPlainField, IsPlainLine, has_plain_ends, has_special, is_plain, is_special, joined};
 
 use crate::rule::Rule;
 use outside::{NoMemory, Text};
 use std::alloc::Global;
-use text_parts::{cut_at, is_blank};
+use text_parts::{behind, cut_at, is_blank};
 
 // The greatest number of bytes of a plain field.
 const LONGEST_FIELD: usize = 4096;
@@ -67,16 +67,17 @@ pub fn cut_joined(alloc: Global, line: &str) -> Result<Vec<&str>, JoinFault>
     ensures only { (texts : List (List ℕ)) → IsJoined line.now texts
         → MatchResult result (λ found. map (λ text. text.now) found.items ≡ texts)
         (λ fault. fault ≡ JoinFault.NoMemory) }
-    ensures refused { IsErrOf result JoinFault.NotJoined → (texts : List (List ℕ)) → ¬ (IsJoined line.now texts) }
+    ensures refused { IsErrOf result JoinFault.NotJoined
+        → (texts : List (List ℕ)) → ¬ (IsJoined line.now texts) }
 {
     let mut texts = Vec::new(alloc);
     let mut rest = line;
     while let Some((text, after)) = cut_at(rest, b',') {
         texts.push(text).map_err(NoMemory::from)?;
-        let Some(behind) = behind_blank(after) else {
+        let Some(next) = behind(after, b' ') else {
             return Err(JoinFault::NotJoined);
         };
-        rest = behind;
+        rest = next;
     }
     texts.push(rest).map_err(NoMemory::from)?;
     Ok(texts)
@@ -84,14 +85,14 @@ pub fn cut_joined(alloc: Global, line: &str) -> Result<Vec<&str>, JoinFault>
 
 /// The law that a line is at most one list of joined texts.
 pub fn joined_texts_are_unique()
-    ensures { (line : List ℕ) (first second : List (List ℕ)) → IsJoined line first → IsJoined line second
-        → first ≡ second }
+    ensures { (line : List ℕ) (first second : List (List ℕ))
+        → IsJoined line first → IsJoined line second → first ≡ second }
 {}
 
 /// The law that a line is at most one list of plain fields.
 pub fn plain_fields_are_unique()
-    ensures { (columns width : ℕ) (line : List ℕ) (first second : List (List ℕ)) → IsPlainLine columns line first → IsPlainLine width line second
-        → first ≡ second }
+    ensures { (columns width : ℕ) (line : List ℕ) (first second : List (List ℕ))
+        → IsPlainLine columns line first → IsPlainLine width line second → first ≡ second }
 {}
 
 /// Reads a line as a rule: exactly so many plain fields, joined by a comma and a blank. A plain field is UTF-8 of
@@ -147,18 +148,12 @@ pub fn push_texts(text: &mut String, rule: &Rule) -> Result<(), NoMemory>
     Ok(())
 }
 
-// What stands behind the blank that the text begins with.
-fn behind_blank(text: &str) -> Option<&str>
-    ensures { MatchOption result ((behind : List ℕ) → ¬ (text.now ≡ 32 ∷ behind)) (λ behind. text.now ≡ 32 ∷ behind.now) }
-{
-    text.strip_prefix(' ')
-}
-
 // The texts as plain fields.
 fn plain_fields(alloc: Global, texts: &[&str]) -> Result<Vec<Text>, PlainFault>
     ensures found { IfOk result (λ fields. fields.items ≡ map (λ text. text.now) texts.now) }
     ensures plain { OnOk result (All IsPlainField (map (λ text. text.now) texts.now)) }
-    ensures refused { IsErrOf result PlainFault.NotPlain → ¬ (All IsPlainField (map (λ text. text.now) texts.now)) }
+    ensures refused { IsErrOf result PlainFault.NotPlain
+        → ¬ (All IsPlainField (map (λ text. text.now) texts.now)) }
 {
     let mut fields = Vec::new(alloc);
     for text in texts {

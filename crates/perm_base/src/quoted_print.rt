@@ -40,7 +40,8 @@ pub fn printed_fields_are_read()
 
 // Appends a field as it is printed.
 fn push_field(text: &mut String, field: &str) -> Result<(), NoMemory>
-    ensures { OnOk result (string_bytes text.new ≡ string_bytes text.old ++ printed_field field.now) }
+    ensures { OnOk result
+        (string_bytes text.new ≡ string_bytes text.old ++ printed_field field.now) }
 {
     if !needs_quotes(field) {
         text.push_str(field)?;

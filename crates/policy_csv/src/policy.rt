@@ -5,9 +5,7 @@ ghost use Rattle.policy_csv.specs.Policy.{IsPlainRule, IsPolicy, policy_line};
 use crate::lines::next_full_line;
 use crate::places::{keep, listed};
 use indexmap::IndexSet;
-use perm_base::{
-    NoMemory, PlainFault, Rule, Rules, plain_fields_are_unique, read_plain_fields,
-};
+use perm_base::{NoMemory, PlainFault, Rule, Rules, plain_fields_are_unique, read_plain_fields};
 use std::alloc::Global;
 
 /// Why a text is not read as a policy.

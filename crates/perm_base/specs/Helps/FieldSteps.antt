@@ -1,5 +1,6 @@
 -- The fields of a line that may stand in double quotes, as they are read from left to right.
 use Rattle.std.specs.Prelude.{◌≡◌, ℕ, zero, suc, ◌+◌, ◌-◌, ◌==◌, false, if◌then◌else◌, min, List, [], ◌∷◌, ◌++◌, length, position, Option, Some, None, option_map, Result, Ok, Err}
+use Rattle.std.specs.Borrow.{Bor}
 use Rattle.text_parts.specs.Blanks.{before_blanks, behind_blanks}
 use Rattle.text_parts.specs.Lines.{has_byte}
 use Rattle.perm_base.specs.LineEnds.{is_line_end, has_line_end}
@@ -22,6 +23,10 @@ line_end_column size bytes = place_column size bytes (position is_line_end bytes
 -- a field that was read: its text, and what stands behind its comma, if there is one
 abbrev pub Read : Type 0
 Read = List ℕ × Option (List ℕ)
+
+-- a field that was read, as contracts see it
+abbrev pub seen : List ℕ × Option (Bor (List ℕ)) → Read
+seen read = (read.0, option_map (λ (behind : Bor (List ℕ)). behind.now) read.1)
 
 -- what stands before the first comma, or all
 unfoldable pub before_comma : List ℕ → List ℕ

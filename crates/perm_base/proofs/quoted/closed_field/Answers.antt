@@ -11,7 +11,7 @@ returns-then-is_empty c =
     closed_end c.args.size c.args.text c.args.after.now none
 
 pub returns-in-Some : goal.returns-in-Some
-returns-in-Some c = closed_comma c.args.size c.args.text c.args.after.now c.in-Some.behind.now c.in-Some.ensures
+returns-in-Some c = closed_comma c.args.size c.args.text c.args.after.now c.in-Some.rest.now c.in-Some.ensures
 
 pub returns-in-None : goal.returns-in-None
 returns-in-None c =
