@@ -1,6 +1,6 @@
 ghost use Rattle.std.specs.Prelude.{◌≡◌, IsTrue, ◌↔◌};
-ghost use Rattle.perm_value.specs.Equality.{datum_eq, items_eq, members_eq};
-ghost use Rattle.perm_value.specs.EqualityLaws.{view_eq, view_eq-laws};
+ghost use Rattle.perm_value.specs.Helps.EqualityLaws.{view_eq-laws};
+ghost use Rattle.perm_value.specs.Equality.{datum_eq, items_eq, members_eq, view_eq};
 ghost use Rattle.perm_value.specs.Seen.{datum_of_view, items, members};
 
 use crate::value::{Value, View};

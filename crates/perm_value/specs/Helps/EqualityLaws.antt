@@ -4,10 +4,9 @@ use Rattle.std.proofs.lemmas.Bool.Decides.{Decides-int_eq}
 use Rattle.std.proofs.lemmas.Slice.Eq.{bytes_eq-Decides}
 use Rattle.std.specs.Bool.{Decides}
 use Rattle.std.specs.Cmp.{IsPartialEquivalence, decided, partial_equiv_from_equiv, on_equiv, booleans_Decides}
-use Rattle.std.specs.Ordering.{on}
 use Rattle.std.specs.Str.{bytes_eq}
 use Rattle.perm_value.specs.Datum.{Datum, nothing, truth, whole, text, list, object, Items, no_items, item, Members, no_members, member}
-use Rattle.perm_value.specs.Equality.{datum_eq, items_eq, members_eq}
+use Rattle.perm_value.specs.Equality.{datum_eq, items_eq, members_eq, view_eq}
 use Rattle.perm_value.specs.Seen.{datum_of_view}
 use Rattle.perm_value.specs.declared.value.View.{View}
 
@@ -59,10 +58,6 @@ mutual
 
 pub datum_eq-Decides : (a b : Datum) → Decides (datum_eq a b) (a ≡ b)
 datum_eq-Decides a b = (same_data a b, λ h. subst (λ d. datum_eq a d ≡ true) h (datum_itself a))
-
--- the equality of views
-abbrev pub view_eq : View → View → Bool
-view_eq = on datum_of_view datum_eq
 
 pub view_eq-laws : IsPartialEquivalence view_eq
 view_eq-laws = partial_equiv_from_equiv (on_equiv datum_of_view (decided datum_eq datum_eq-Decides))
