@@ -41,15 +41,16 @@ fn is_same(one: &View<'_>, other: &View<'_>) -> bool
 fn are_same_items(values: &[Value], others: &[Value]) -> bool
     ensures { result ≡ items_eq (items values.now) (items others.now) }
 {
-    if values.len() != others.len() {
-        return false;
-    }
-    for (at, value) in values.iter().enumerate() {
-        if !is_same(&value.view(), &others[at].view()) {
+    let mut others = others.iter();
+    for value in values {
+        let Some(other) = others.next() else {
+            return false;
+        };
+        if !is_same(&value.view(), &other.view()) {
             return false;
         }
     }
-    true
+    others.next().is_none()
 }
 
 #[cycle(same)]

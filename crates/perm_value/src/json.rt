@@ -66,9 +66,7 @@ fn member_values(alloc: Global, items: &Vec<Json>) -> Result<Vec<Value>, Request
     let mut values = Vec::new(alloc);
     for (at, item) in items.iter().enumerate() {
         let value = member_value(alloc, at as u32 + 1, item)?;
-        if values.push(value).is_err() {
-            return Err(RequestFault::NoMemory);
-        }
+        values.push(value).map_err(NoMemory::from)?;
     }
     Ok(values)
 }
