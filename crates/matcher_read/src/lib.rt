@@ -10,12 +10,8 @@ mod nodes;
 mod number;
 mod parser;
 mod reading;
-#[cfg(test)]
-mod reading_tests;
 mod token;
 mod tokens;
-#[cfg(test)]
-mod tokens_tests;
 mod tree;
 mod words;
 

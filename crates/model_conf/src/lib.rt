@@ -18,11 +18,7 @@ mod relations;
 mod saying;
 mod sections;
 mod shapes;
-#[cfg(test)]
-mod tests;
 mod uses;
-#[cfg(test)]
-mod whole_tests;
 
 pub use fault::ModelFault;
 pub use key::Key;

@@ -7,9 +7,6 @@ use crate::model::Model;
 use perm_base::{Fit, NoMemory, RoleShape, RoleShapes, Shapes};
 use std::alloc::Global;
 
-#[cfg(test)]
-mod tests;
-
 /// Why a model has no shapes with two lists of functions.
 #[derive(Clone, Copy, Debug, PartialEq, Eq)]
 pub enum ShapeFault {

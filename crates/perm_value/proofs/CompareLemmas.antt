@@ -1,25 +1,19 @@
 -- The test of two lists and of two objects, member by member.
-use Rattle.std.proofs.Common.{◌≡◌, ◌≢◌, ℕ, suc, Bool, true, false, not, ◌&&◌, List, [], ◌∷◌, length, Option, Some, None, String, Global, string_bytes, string_cmp, refl, sym, ap, ◌∙◌}
+use Rattle.std.proofs.Common.{◌≡◌, ℕ, Bool, true, false, not, ◌&&◌, List, [], ◌∷◌, Option, Some, None, String, Global, string_bytes, string_cmp, refl, sym, ap, ◌∙◌}
 use Rattle.std.specs.Borrow.{Bor}
 use Rattle.std.specs.Option.{MatchOption, is_some}
 use Rattle.std.specs.List.Sorted.{IsStrictlySortedBy}
 use Rattle.std.specs.Map.{keys_of}
 use Rattle.std.specs.Str.{bytes_eq}
 use Rattle.perm_value.specs.Datum.{Datum, no_members}
-use Rattle.perm_value.specs.Equality.{datum_eq, items_eq, members_eq}
-use Rattle.perm_value.specs.Seen.{datum, items, members}
+use Rattle.perm_value.specs.Equality.{datum_eq, members_eq}
+use Rattle.perm_value.specs.Seen.{datum, members}
 use Rattle.perm_value.specs.declared.value.Value.{Value}
 use Rattle.perm_value.proofs.MemberLemmas.{Named, listed, members_listed}
 
 with_false : (b : Bool) → (b && false) ≡ false
 with_false true = refl
 with_false false = refl
-
-pub unequal_lengths : (vs ws : List Value) → length vs ≢ length ws → items_eq (items vs) (items ws) ≡ false
-unequal_lengths [] [] differ = absurd (differ refl)
-unequal_lengths [] (w ∷ ws) differ = refl
-unequal_lengths (v ∷ vs) [] differ = refl
-unequal_lengths (v ∷ vs) (w ∷ ws) differ = ap (λ b. datum_eq (datum v) (datum w) && b) (unequal_lengths vs ws (λ h. differ (ap suc h))) ∙ with_false (datum_eq (datum v) (datum w))
 
 -- objects as their entries are listed
 pub as_listed : (es fs : List Named) → IsStrictlySortedBy string_cmp (keys_of es) → IsStrictlySortedBy string_cmp (keys_of fs) → members_eq (members es) (members fs) ≡ members_eq (listed es) (listed fs)

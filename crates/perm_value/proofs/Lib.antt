@@ -4,6 +4,8 @@ mod CompareLemmas
 mod RisingLemmas
 mod AttributeLemmas
 mod WithinLemmas
+mod MadeLemmas
+mod CopyLemmas
 mod ValueLemmas
 mod FaultLemmas
 mod FieldLemmas

@@ -1,9 +1,11 @@
 -- When two data are equal: the same kind and the same content.
 use Rattle.std.specs.Prelude.{Bool, false, true, ◌&&◌}
 use Rattle.std.specs.Bool.{beq}
-use Rattle.std.specs.Ordering.{int_eq}
+use Rattle.std.specs.Ordering.{int_eq, on}
 use Rattle.std.specs.Str.{bytes_eq}
 use Rattle.perm_value.specs.Datum.{Datum, nothing, truth, whole, text, list, object, Items, no_items, item, Members, no_members, member}
+use Rattle.perm_value.specs.Seen.{datum_of_view}
+use Rattle.perm_value.specs.declared.value.View.{View}
 
 -- texts by their bytes, lists by their items in order, objects by their names and data in order
 abbrev mutual
@@ -25,3 +27,7 @@ abbrev mutual
   members_eq no_members no_members = true
   members_eq (member m a ds) (member n b bs) = bytes_eq m n && datum_eq a b && members_eq ds bs
   members_eq _ _ = false
+
+-- the equality of views
+abbrev pub view_eq : View → View → Bool
+view_eq = on datum_of_view datum_eq

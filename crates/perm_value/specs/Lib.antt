@@ -2,6 +2,6 @@ pub mod Datum
 pub mod Attribute
 pub mod Equality
 pub mod Seen
-pub mod EqualityLaws
 pub mod Json
 pub mod Fields
+pub mod Helps

@@ -1,6 +1,6 @@
 ghost use Rattle.std.specs.Prelude.{◌≡◌, IsTrue, ◌↔◌};
-ghost use Rattle.perm_value.specs.Equality.{datum_eq, items_eq, members_eq};
-ghost use Rattle.perm_value.specs.EqualityLaws.{view_eq, view_eq-laws};
+ghost use Rattle.perm_value.specs.Helps.EqualityLaws.{view_eq-laws};
+ghost use Rattle.perm_value.specs.Equality.{datum_eq, items_eq, members_eq, view_eq};
 ghost use Rattle.perm_value.specs.Seen.{datum_of_view, items, members};
 
 use crate::value::{Value, View};
@@ -41,15 +41,16 @@ fn is_same(one: &View<'_>, other: &View<'_>) -> bool
 fn are_same_items(values: &[Value], others: &[Value]) -> bool
     ensures { result ≡ items_eq (items values.now) (items others.now) }
 {
-    if values.len() != others.len() {
-        return false;
-    }
-    for (at, value) in values.iter().enumerate() {
-        if !is_same(&value.view(), &others[at].view()) {
+    let mut others = others.iter();
+    for value in values {
+        let Some(other) = others.next() else {
+            return false;
+        };
+        if !is_same(&value.view(), &other.view()) {
             return false;
         }
     }
-    true
+    others.next().is_none()
 }
 
 #[cycle(same)]

@@ -1,12 +1,12 @@
 ghost use Rattle.std.specs.Prelude.{◌≡◌, IfOk, IfErr, List, MatchResult, map};
 ghost use Rattle.perm_value.specs.Datum.{Datum, text};
-ghost use Rattle.perm_value.specs.Fields.{AreTexts, IsLineFault, fault_of};
+ghost use Rattle.perm_value.specs.Fields.{AreTexts, IsLineFault};
 ghost use Rattle.perm_value.specs.Seen.{datum};
 ghost use Rattle.perm_value.specs.declared.request.RequestFault.TheVariants as fault;
 
 use crate::request::{Request, RequestFault};
 use crate::value::Value;
-use perm_base::{FieldFault, NoMemory, Text, read_fields};
+use perm_base::{NoMemory, Text, read_fields};
 use std::alloc::Global;
 
 /// The request of the fields of a line, which are joined by commas and may be quoted. Each field is a text.
@@ -16,25 +16,8 @@ pub fn request_of_fields(alloc: Global, line: &str) -> Result<Request, RequestFa
         → MatchResult result (λ request. map datum request ≡ values) (λ e. e ≡ fault.NoMemory) }
     ensures fault { IfErr result (IsLineFault line.now) }
 {
-    let fields = match read_fields(alloc, line) {
-        Ok(fields) => fields,
-        Err(fault) => return Err(fault_of(fault)),
-    };
-    let Ok(values) = text_values(alloc, fields) else {
-        return Err(RequestFault::NoMemory);
-    };
-    Ok(Request::from_vec(values))
-}
-
-// Why a line that is not read as fields is no request.
-fn fault_of(fault: FieldFault) -> RequestFault
-    ensures { result ≡ fault_of fault }
-{
-    match fault {
-        FieldFault::Quote { column } => RequestFault::Quote { column },
-        FieldFault::TooMany => RequestFault::TooMany,
-        FieldFault::NoMemory => RequestFault::NoMemory,
-    }
+    let fields = read_fields(alloc, line)?;
+    Ok(Request::from_vec(text_values(alloc, fields)?))
 }
 
 // The fields as values.

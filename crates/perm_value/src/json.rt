@@ -1,8 +1,10 @@
-ghost use Rattle.std.specs.Prelude.{◌≡◌, ◌≢◌, ◌≤◌, IfOk, IfErr, Some, None, Ok, Err, length, map, nat_le, option_map};
+ghost use Rattle.std.specs.Prelude.{◌≡◌, ◌≢◌, ◌≤◌, IfErr, IfOk};
+ghost use Rattle.std.specs.Prelude.{Err, None, Ok, Some, length, map, nat_le, option_map};
 ghost use Rattle.serde_json.specs.Data.{depth, items_depth, members_depth};
 ghost use Rattle.serde_json.specs.Read.{read};
 ghost use Rattle.serde_json.specs.View.{view, items_view, members_view};
-ghost use Rattle.perm_value.specs.Json.{most_values, datum_of, member_value, items_of_json, members_of_json, values_from, values_of};
+ghost use Rattle.perm_value.specs.Json.{datum_of, items_of_json, member_value, members_of_json};
+ghost use Rattle.perm_value.specs.Json.{most_values, values_from, values_of};
 ghost use Rattle.perm_value.specs.Seen.{datum, items, members};
 ghost use Rattle.perm_value.specs.declared.request.RequestFault.TheVariants as fault;
 
@@ -37,7 +39,8 @@ pub fn request_of_json(alloc: Global, line: &str) -> Result<Request, RequestFaul
 // The JSON value of a text.
 fn read_json(alloc: Global, line: &str) -> Result<Json, RequestFault>
     ensures found { IfOk result (λ j. read line.now ≡ Some (view j)) }
-    ensures fault { IfErr result (λ e. e ≢ fault.NoMemory → (e ≡ fault.Syntax) × (read line.now ≡ None)) }
+    ensures fault { IfErr result (λ e. e ≢ fault.NoMemory
+        → (e ≡ fault.Syntax) × (read line.now ≡ None)) }
 {
     match Json::from_str(alloc, line) {
         Ok(json) => Ok(json),
@@ -54,16 +57,16 @@ fn read_json(alloc: Global, line: &str) -> Result<Json, RequestFault>
 // The values of the members of an array, or the first fault.
 fn member_values(alloc: Global, items: &Vec<Json>) -> Result<Vec<Value>, RequestFault>
     requires { length items.now.items ≤ most_values }
-    ensures found { IfOk result (λ vs. values_from 1 (items_view items.now.items) ≡ Ok (map datum vs.items)) }
+    ensures found { IfOk result (λ vs. values_from 1 (items_view items.now.items)
+        ≡ Ok (map datum vs.items)) }
     ensures counted { IfOk result (λ vs. length vs.items ≡ length items.now.items) }
-    ensures fault { IfErr result (λ e. e ≢ fault.NoMemory → values_from 1 (items_view items.now.items) ≡ Err e) }
+    ensures fault { IfErr result (λ e. e ≢ fault.NoMemory
+        → values_from 1 (items_view items.now.items) ≡ Err e) }
 {
     let mut values = Vec::new(alloc);
     for (at, item) in items.iter().enumerate() {
         let value = member_value(alloc, at as u32 + 1, item)?;
-        if values.push(value).is_err() {
-            return Err(RequestFault::NoMemory);
-        }
+        values.push(value).map_err(NoMemory::from)?;
     }
     Ok(values)
 }
@@ -71,15 +74,15 @@ fn member_values(alloc: Global, items: &Vec<Json>) -> Result<Vec<Value>, Request
 // The value of the member at a place, counted from 1, or its fault.
 fn member_value(alloc: Global, field: u32, item: &Json) -> Result<Value, RequestFault>
     ensures found { IfOk result (λ v. member_value field (view item.now) ≡ Ok (datum v)) }
-    ensures fault { IfErr result (λ e. e ≢ fault.NoMemory → member_value field (view item.now) ≡ Err e) }
+    ensures fault { IfErr result (λ e. e ≢ fault.NoMemory
+        → member_value field (view item.now) ≡ Err e) }
 {
     if !is_within(item, MOST_LEVELS) {
         return Err(RequestFault::TooDeep { field });
     }
-    match value_of(alloc, item) {
-        Ok(Some(value)) => Ok(value),
-        Ok(None) => Err(RequestFault::NotWhole { field }),
-        Err(NoMemory) => Err(RequestFault::NoMemory),
+    match value_of(alloc, item)? {
+        Some(value) => Ok(value),
+        None => Err(RequestFault::NotWhole { field }),
     }
 }
 
@@ -145,7 +148,8 @@ fn value_of(alloc: Global, json: &Json) -> Result<Option<Value>, NoMemory>
 
 #[cycle(values)]
 fn values_of(alloc: Global, list: &Vec<Json>) -> Result<Option<Vec<Value>>, NoMemory>
-    ensures { IfOk result (λ found. items_of_json (items_view list.now.items) ≡ option_map (λ vs. items vs.items) found) }
+    ensures { IfOk result (λ found. items_of_json (items_view list.now.items)
+        ≡ option_map (λ vs. items vs.items) found) }
 {
     let mut values = Vec::new(alloc);
     for item in list {
@@ -162,7 +166,8 @@ fn members_of(
     alloc: Global,
     object: &BTreeMap<String, Json>,
 ) -> Result<Option<BTreeMap<String, Value>>, NoMemory>
-    ensures { IfOk result (λ found. members_of_json (members_view object.now.entries) ≡ option_map (λ m. members m.entries) found) }
+    ensures { IfOk result (λ found. members_of_json (members_view object.now.entries)
+        ≡ option_map (λ m. members m.entries) found) }
 {
     let mut copies = BTreeMap::new(alloc);
     for (key, member) in object.iter() {

@@ -2,20 +2,15 @@
 #![tactic(auto)]
 
 mod compare;
-#[cfg(test)]
-mod compare_tests;
+mod copy;
 mod fields;
-#[cfg(test)]
-mod fields_tests;
 mod json;
-#[cfg(test)]
-mod json_tests;
 mod request;
+mod shared;
 mod value;
-#[cfg(test)]
-mod value_tests;
 
 pub use fields::request_of_fields;
 pub use json::request_of_json;
 pub use request::{Request, RequestFault};
+pub use shared::values_may_be_shared;
 pub use value::{Value, View};

@@ -1,8 +1,12 @@
-ghost use Rattle.std.specs.Prelude.{◌≡◌, ◌<◌, ◌^◌, Some, length, map, slice_get, vec_len, All};
+ghost use Rattle.std.specs.Prelude.{◌≡◌, ◌<◌, ◌^◌, All, IfOk, Some};
+ghost use Rattle.std.specs.Prelude.{length, map, slice_get, vec_len};
 ghost use Rattle.perm_value.specs.Datum.{HasRisingNames};
 ghost use Rattle.perm_value.specs.Seen.{datum, datum_of_view};
 
+use crate::copy::copy_values;
 use crate::value::{Value, View};
+use perm_base::{FieldFault, NoMemory};
+use std::alloc::Global;
 use std::marker::Model;
 
 /// The values of a request in their order, fewer than 2^32. Contracts see the list of its values.
@@ -45,6 +49,32 @@ pub enum RequestFault {
     NoMemory,
 }
 
+impl From<NoMemory> for RequestFault {
+    ghost use Rattle.std.specs.Prelude.{◌≡◌};
+    ghost use Rattle.perm_value.specs.declared.request.RequestFault.TheVariants.{NoMemory};
+
+    ghost from_gives = { λ _ fault. fault ≡ NoMemory };
+
+    fn from(_: NoMemory) -> RequestFault {
+        RequestFault::NoMemory
+    }
+}
+
+impl From<FieldFault> for RequestFault {
+    ghost use Rattle.std.specs.Prelude.{◌≡◌};
+    ghost use Rattle.perm_value.specs.Fields.{fault_of};
+
+    ghost from_gives = { λ field fault. fault ≡ fault_of field };
+
+    fn from(fault: FieldFault) -> RequestFault {
+        match fault {
+            FieldFault::Quote { column } => RequestFault::Quote { column },
+            FieldFault::TooMany => RequestFault::TooMany,
+            FieldFault::NoMemory => RequestFault::NoMemory,
+        }
+    }
+}
+
 impl Request {
     /// The request of these values. It takes no memory.
     pub fn from_vec(values: Vec<Value>) -> Request
@@ -52,6 +82,29 @@ impl Request {
         ensures { result ≡ values.items }
     {
         Request { values }
+    }
+
+    /// The values as a `Vec`. It takes no memory.
+    pub fn into_vec(self) -> Vec<Value>
+        ensures { result.items ≡ self }
+    {
+        self.values
+    }
+
+    /// The values in their order.
+    pub fn as_slice(&self) -> &[Value]
+        ensures { result.now ≡ self.now }
+    {
+        &self.values
+    }
+
+    /// The same request once more.
+    pub fn copy(&self, alloc: Global) -> Result<Request, NoMemory>
+        ensures { IfOk result (λ copy. map datum copy ≡ map datum self.now) }
+    {
+        Ok(Request {
+            values: copy_values(alloc, &self.values)?,
+        })
     }
 
     /// How many values it has.

@@ -59,7 +59,8 @@ impl Value {
 impl<'a> View<'a> {
     /// The attribute with a name, where this is an object that has the name. It takes no memory.
     pub fn attribute(&self, name: &str) -> Option<View<'a>>
-        ensures value { option_map datum_of_view result ≡ attribute (datum_of_view self.now) name.now }
+        ensures value { option_map datum_of_view result
+            ≡ attribute (datum_of_view self.now) name.now }
         ensures exact { (d : Datum) → (option_map datum_of_view result ≡ Some d)
             ↔ HasAttribute (datum_of_view self.now) name.now d }
     {

@@ -4,8 +4,6 @@
 mod lines;
 mod places;
 mod policy;
-#[cfg(test)]
-mod policy_tests;
 
 pub use places::{
     first_places_have_the_same_rules, first_places_keep_the_order, first_places_stand_once,

@@ -3,17 +3,14 @@ use Rattle.perm_value.specs.Equality.{members_eq}
 use Rattle.perm_value.specs.Seen.{datum, datum_of_view, items, members}
 use Rattle.perm_value.proofs.MemberLemmas.{Named, listed, members_listed}
 use Rattle.perm_value.proofs.WeightLemmas.{weight, items_weight, item_lighter, members_weight, member_lighter}
-use Rattle.perm_value.proofs.CompareLemmas.{unequal_lengths, as_listed, other_name, other_datum, same_member, told, seen, ended}
+use Rattle.perm_value.proofs.CompareLemmas.{as_listed, other_name, other_datum, same_member, told, seen, ended}
 use Rattle.perm_value.proofs.compare.+same.Goals as goal
 use Rattle.perm_value.proofs.compare.+same.Goals.{are_same_members-then-ne-via-then-ne, are_same_members-then-ne-via-else-ne+then-not-is_same}
 
-pub are_same_items-returns-then-values-others : goal.are_same_items-returns-then-values-others
-are_same_items-returns-then-values-others t c = sym (unequal_lengths c.args.values.now c.args.others.now c.if-values-others.true)
-
 pub are_same_items-is_same-requires : goal.are_same_items-is_same-requires
 are_same_items-is_same-requires t c =
-    let inside : weight (datum (get_or c.args.values.now c.loop-at.at c.index-values-at.result)) < items_weight (items c.args.values.now) = item_lighter c.args.values.now c.loop-at.at c.index-values-at.result c.loop-at-test.true in
-    let lighter : weight (datum_of_view c.view.result) < items_weight (items c.args.values.now) = rw c.view.ensures (subst (λ v. weight (datum v) < items_weight (items c.args.values.now)) (sym c.index-values-at.is) inside) in
+    let inside : weight (datum (get_or c.args.values.now c.loop-value.value-index c.value-item.result)) < items_weight (items c.args.values.now) = item_lighter c.args.values.now c.loop-value.value-index c.value-item.result c.loop-value-test.true in
+    let lighter : weight (datum_of_view c.view.result) < items_weight (items c.args.values.now) = rw c.view.ensures (subst (λ v. weight (datum v) < items_weight (items c.args.values.now)) (sym c.value-item.is) inside) in
     (subst (λ n. weight (datum_of_view c.view.result) < n) c.decreases lighter, tt)
 
 pub are_same_members-returns-in_default : goal.are_same_members-returns-in_default

@@ -1,4 +1,5 @@
 use Rattle.std.proofs.Common.{◌≡◌, List, ◌++◌, drop}
+use Rattle.std.specs.Slice.Iter.{iter_rest}
 use Rattle.perm_value.specs.Equality.{items_eq, members_eq}
 use Rattle.perm_value.specs.Seen.{datum_of_view, items, members}
 use Rattle.perm_value.proofs.MemberLemmas.{Named, listed}
@@ -14,9 +15,9 @@ decreases-are_same_items l = items_weight (items l.values.now)
 abbrev pub decreases-are_same_members : goal.decreases-are_same_members
 decreases-are_same_members l = members_weight (members l.object.now.entries)
 
-abbrev pub invariant-are_same_items-loop-at : goal.invariant-are_same_items-loop-at
-invariant-are_same_items-loop-at l =
-    items_eq (items l.fn.values) (items l.fn.others) ≡ items_eq (items (drop l.at l.fn.values)) (items (drop l.at l.fn.others))
+abbrev pub invariant-are_same_items-loop-value : goal.invariant-are_same_items-loop-value
+invariant-are_same_items-loop-value l =
+    items_eq (items l.fn.values) (items l.fn.others) ≡ items_eq (items (drop l.value-index l.fn.values)) (items (iter_rest l.others))
 
 abbrev pub invariant-are_same_members-loop-name : goal.invariant-are_same_members-loop-name
 invariant-are_same_members-loop-name l =

@@ -7,7 +7,8 @@ use Rattle.serde_json.specs.View.{view, items_view}
 use Rattle.serde_json.proofs.Views.{Entry}
 use Rattle.perm_value.specs.Json.{datum_of, items_of_json}
 use Rattle.perm_value.specs.Seen.{datum, items}
-use Rattle.perm_value.proofs.ValueLemmas.{Made, made_end, made_items, one_item_not_whole, MembersMade, made_members, made_last, one_member_not_whole}
+use Rattle.perm_value.proofs.MadeLemmas.{Made, made_end, MembersMade, made_last}
+use Rattle.perm_value.proofs.ValueLemmas.{IsOfJson, made_items, one_item_not_whole, made_members, one_member_not_whole}
 use Rattle.perm_value.proofs.json.+values.Goals as goal
 
 pub values_of-returns-in_default : goal.values_of-returns-in_default
@@ -22,15 +23,15 @@ pub values_of-loop-item-preserved : goal.values_of-loop-item-preserved
 values_of-loop-item-preserved t c =
     let found = c.deref-item-items.result.now in
     let made : datum_of (view c.item-item.result) ≡ Some (datum c.in-Some.value) = c.in_ok-value.ensures ∙ ap (option_map datum) c.in-Some.is in
-    let longer : Made (take c.loop-item.item-index found ++ c.item-item.result ∷ []) (c.loop-item.values.items ++ c.in-Some.value ∷ []) = made_end _ _ _ _ c.loop-item.invariant made in
+    let longer : Made IsOfJson (take c.loop-item.item-index found ++ c.item-item.result ∷ []) (c.loop-item.values.items ++ c.in-Some.value ∷ []) = made_end IsOfJson _ _ _ _ c.loop-item.invariant made in
     let shown : take (c.loop-item.item-index + 1) found ≡ take c.loop-item.item-index found ++ c.item-item.result ∷ [] =
     take_more found c.loop-item.item-index c.item-item.result c.loop-item-test.true ∙ ap (λ j. take c.loop-item.item-index found ++ j ∷ []) (sym c.item-item.is) in
-    subst (λ js. Made js c.push.new.self.items) (sym shown) (subst (λ vs. Made (take c.loop-item.item-index found ++ c.item-item.result ∷ []) vs) (sym c.in_ok-push.ensures.items) longer)
+    subst (λ js. Made IsOfJson js c.push.new.self.items) (sym shown) (subst (λ vs. Made IsOfJson (take c.loop-item.item-index found ++ c.item-item.result ∷ []) vs) (sym c.in_ok-push.ensures.items) longer)
 
 pub values_of-returns : goal.values_of-returns
 values_of-returns t c =
     let found = c.deref-item-items.result.now in
-    let all : Made found c.loop-item.values.items = subst (λ js. Made js c.loop-item.values.items) (take_all c.loop-item.item-index found c.loop-item-test.false) c.loop-item.invariant in
+    let all : Made IsOfJson found c.loop-item.values.items = subst (λ js. Made IsOfJson js c.loop-item.values.items) (take_all c.loop-item.item-index found c.loop-item-test.false) c.loop-item.invariant in
     subst (λ js. items_of_json (items_view js) ≡ Some (items c.loop-item.values.items)) c.deref-item-items.ensures.value (made_items found c.loop-item.values.items all)
 
 pub members_of-returns-in_default : goal.members_of-returns-in_default
@@ -52,7 +53,7 @@ members_of-loop-key-preserved t c =
     let made : datum_of (view e.1) ≡ Some (datum c.in-Some-2.value) = c.in_ok-value.ensures ∙ ap (option_map datum) c.in-Some-2.is in (
       done ++ e ∷ [],
       all ∙ sym (append_assoc done (e ∷ []) left),
-      subst (MembersMade (done ++ e ∷ [])) (sym c.in_ok-insert.ensures.entries) (made_last done c.loop-key.copies.entries e left c.in_ok-name.name c.in-Some-2.value c.loop-key.invariant.2 named made sorted),
+      subst (MembersMade IsOfJson (done ++ e ∷ [])) (sym c.in_ok-insert.ensures.entries) (made_last IsOfJson done c.loop-key.copies.entries e left c.in_ok-name.name c.in-Some-2.value c.loop-key.invariant.2 named made sorted),
     )
 
 pub members_of-returns : goal.members_of-returns

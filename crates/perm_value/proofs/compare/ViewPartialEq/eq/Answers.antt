@@ -1,4 +1,4 @@
-use Rattle.perm_value.specs.EqualityLaws.{equal_views}
+use Rattle.perm_value.specs.Helps.EqualityLaws.{equal_views}
 use Rattle.perm_value.proofs.compare.ViewPartialEq.eq.Goals as goal
 
 pub returns-clause-decides : goal.returns-clause-decides

@@ -1,0 +1,2 @@
+-- What proofs need, and no public clause cites.
+pub mod EqualityLaws
