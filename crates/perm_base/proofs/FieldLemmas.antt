@@ -2,39 +2,21 @@
 use Rattle.std.proofs.Common.{◌≡◌, ℕ, suc, ◌+◌, ◌<◌, ◌||◌, ◌&&◌, not, Bool, true, false, List, [], ◌∷◌, ◌++◌, length, take, get_or, eqb, Option, Some, None, All, IsTrue, refl, sym, ap, ◌∙◌, subst, arith, rules, tests}
 use Rattle.std.proofs.lemmas.Bool.{eqb-false}
 use Rattle.std.proofs.lemmas.List.{append_assoc, append-nil, length-take, take_more}
+use Rattle.std.proofs.lemmas.Bool.{and_parts, or_parts}
 use Rattle.std.specs.List.{flat_map, list_any}
 use Rattle.std.specs.Prelude.{slice_get, position, option_map}
-use Rattle.std.proofs.lemmas.Option.{get_or_from_slice_get}
+use Rattle.std.proofs.lemmas.Option.{get_or_from_slice_get, slice_get-get_or}
 use Rattle.std.proofs.lemmas.List.Folds.{list_any_none, list_any_at}
 use Rattle.std.proofs.lemmas.List.Quantifiers.{position-Some}
 use Rattle.std.proofs.lemmas.List.Concat.{flat_map-append}
 use Rattle.std.proofs.lemmas.List.Elements.{All-from_recursion, recursion_from_All}
-use Rattle.perm_base.specs.Lines.{has_byte}
+use Rattle.text_parts.specs.Lines.{has_byte}
+use Rattle.text_parts.proofs.CallerLemmas.{cut_once, has_byte-here}
 use Rattle.perm_base.specs.Rule.{IsFirstLineEnd}
 use Rattle.perm_base.specs.declared.rule.RuleFault.{RuleFault}
 use Rattle.perm_base.specs.declared.rule.RuleFault.TheVariants.{LineEnd}
 use Rattle.perm_base.specs.LineEnds.{is_line_end, has_line_end}
 use Rattle.perm_base.specs.Fields.{joined, IsJoined, IsPlainField, IsPlainLine, is_special, has_special, has_plain_ends}
-
-neither : (first second : Bool) → (first || second) ≡ false → (first ≡ false) × (second ≡ false)
-neither true second e = absurd cc
-neither false second e = (refl, e)
-
--- a byte stands where it is put
-has_byte-here : (byte : ℕ) (front back : List ℕ) → has_byte byte (front ++ byte ∷ back) ≡ true
-has_byte-here byte [] back = search (rules, tests)
-has_byte-here byte (b ∷ front) back = rw (has_byte-here byte front back) (search (rules, tests))
-
--- a text is cut at its first such byte in one way
-cut_once : (byte : ℕ) (front other back rest : List ℕ) → has_byte byte front ≡ false → has_byte byte other ≡ false → front ++ byte ∷ back ≡ other ++ byte ∷ rest → (front ≡ other) × (back ≡ rest)
-cut_once byte [] [] back rest none nor e = (refl, cc)
-cut_once byte [] (o ∷ other) back rest none nor e = absurd (eqb-false o byte (neither _ _ nor).0 cc)
-cut_once byte (f ∷ front) [] back rest none nor e = absurd (eqb-false f byte (neither _ _ none).0 cc)
-cut_once byte (f ∷ front) (o ∷ other) back rest none nor e =
-    let heads : f ≡ o = cc in
-    let tails : front ++ byte ∷ back ≡ other ++ byte ∷ rest = cc in
-    let cut : (front ≡ other) × (back ≡ rest) = cut_once byte front other back rest (neither _ _ none).1 (neither _ _ nor).1 tails in
-    (ap (λ (h : ℕ). h ∷ front) heads ∙ ap (λ (t : List ℕ). o ∷ t) cut.0, cut.1)
 
 -- what stands behind the first comma of a joined line
 first_cut : (text after : List ℕ) (all : List (List ℕ)) → has_byte 44 text ≡ false → IsJoined (text ++ 44 ∷ after) all → (behind : List ℕ) × (tail : List (List ℕ)) × (all ≡ text ∷ tail) × (after ≡ 32 ∷ behind) × IsJoined behind tail
@@ -141,6 +123,12 @@ joined-more (t ∷ texts) text some =
 next_text : (rule : List (List ℕ)) (at : ℕ) (field : List ℕ) → at < length rule → slice_get rule at ≡ Some field → take (at + 1) rule ≡ take at rule ++ field ∷ []
 next_text rule at field within here = take_more rule at field within ∙ ap (λ (f : List ℕ). take at rule ++ f ∷ []) (get_or_from_slice_get rule at field field here)
 
+-- the text that a loop over the rule's texts has
+pub text_at : (rule items : List (List ℕ)) (at : ℕ) (item field : List ℕ) → items ≡ rule → at < length rule → item ≡ get_or items at item → field ≡ item → slice_get rule at ≡ Some field
+text_at rule items at item field all within is same =
+    let there : item ≡ get_or rule at item = is ∙ ap (λ (list : List (List ℕ)). get_or list at item) all in
+    slice_get-get_or rule at item within ∙ ap Some (sym there ∙ sym same)
+
 pub pushed_first : (rule : List (List ℕ)) (at : ℕ) (old now new field : List ℕ) → at < length rule → slice_get rule at ≡ Some field → at ≡ 0 → now ≡ old ++ joined (take at rule) → new ≡ now ++ field → new ≡ old ++ joined (take (at + 1) rule)
 pushed_first rule at old now new field within here first was is =
     let next = ap joined (next_text rule at field within here) ∙ joined-first (take at rule) field (omega (arith, length-take at rule)) in
@@ -156,28 +144,24 @@ pushed_more rule at old now between new field within here more was comma is =
 -- plain fields hold no comma and no line end
 plain_byte : (byte : ℕ) → is_special byte ≡ false → (eqb byte 44 ≡ false) × (is_line_end byte ≡ false)
 plain_byte byte none =
-    let feed = neither _ _ none in
-    let carriage = neither _ _ feed.0 in
-    ((neither _ _ carriage.0).0, rw (carriage.1) (feed.1))
+    let feed = or_parts _ _ none in
+    let carriage = or_parts _ _ feed.0 in
+    ((or_parts _ _ carriage.0).0, rw (carriage.1) (feed.1))
 
 plain_bytes : (text : List ℕ) → has_special text ≡ false → (has_byte 44 text ≡ false) × (has_line_end text ≡ false)
 plain_bytes [] none = (refl, refl)
 plain_bytes (byte ∷ text) none =
-    let here = neither _ _ none in
+    let here = or_parts _ _ none in
     let first = plain_byte byte here.0 in
     let rest = plain_bytes text here.1 in
     (rw (first.0) (rest.0), rw (first.1) (rest.1))
-
-both_true : (first second : Bool) → IsTrue (first && second) → IsTrue first × IsTrue second
-both_true true second e = (refl, e)
-both_true false second e = absurd cc
 
 not_true : (b : Bool) → IsTrue (not b) → b ≡ false
 not_true true e = absurd cc
 not_true false e = refl
 
 IsPlainField-bytes : (field : List ℕ) → IsPlainField field → has_special field ≡ false
-IsPlainField-bytes field is = not_true (has_special field) (both_true _ (not (has_special field)) (both_true _ (has_plain_ends field) is.plain).0).1
+IsPlainField-bytes field is = not_true (has_special field) (and_parts _ (not (has_special field)) (and_parts _ (has_plain_ends field) is.plain).0).1
 
 -- a plain line is joined
 pub IsJoined-from_plain : (columns : ℕ) (line : List ℕ) (fields : List (List ℕ)) → IsPlainLine columns line fields → IsJoined line fields

@@ -1,5 +1,3 @@
-pub mod Tests
-pub mod LineLemmas
 pub mod FieldLemmas
 pub mod QuotedLemmas
 pub mod PrintLemmas

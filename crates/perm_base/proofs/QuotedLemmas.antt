@@ -1,67 +1,23 @@
 -- Fields in double quotes.
 use Rattle.std.proofs.Common.{◌≡◌, ◌≢◌, ℕ, suc, ◌+◌, ◌-◌, ◌<◌, ◌≤◌, ◌||◌, Bool, true, false, List, [], ◌∷◌, ◌++◌, length, get_or, eqb, Option, Some, None, Result, Ok, Err, Bor, refl, sym, ap, ◌∙◌, arith, reverse, add-one}
+use Rattle.std.proofs.lemmas.Bool.{ne_eqb, or_parts}
 use Rattle.std.specs.Prelude.{position, MatchOption, IfSome, IfNone}
 use Rattle.std.proofs.lemmas.Bool.Decides.{nat_tests}
 use Rattle.std.proofs.lemmas.List.{append_assoc, append-nil, reverse-append, reverse-reverse}
-use Rattle.perm_base.specs.Lines.{has_byte}
-use Rattle.perm_base.specs.Fields.{is_blank}
+use Rattle.text_parts.specs.Lines.{has_byte}
+use Rattle.text_parts.specs.Blanks.{before_blanks, behind_blanks}
 use Rattle.perm_base.specs.declared.quoted.FieldFault.{FieldFault}
 use Rattle.perm_base.specs.declared.quoted.FieldFault.TheVariants.{Quote, TooMany, NoMemory}
 use Rattle.perm_base.specs.LineEnds.{is_line_end, has_line_end}
 use Rattle.perm_base.specs.FieldLine.{doubled, in_quotes, needs_quotes, printed_field}
-use Rattle.perm_base.specs.FieldSteps.{IsCutAt, Read, Fails, without_front_blanks, without_back_blanks, before_comma, behind_comma, quoted_text, more_quoted, more_fields, with_next, fields_within, first_field, full_field, plain_field, quoted_field, closed_field, column_of, line_end_column, place_column, quoted_part, fields_of}
-
-pub neither : (first second : Bool) → (first || second) ≡ false → (first ≡ false) × (second ≡ false)
-neither true second e = absurd cc
-neither false second e = (refl, e)
-
-other_byte : (byte other : ℕ) (test : Bool) → eqb byte other ≡ test → byte ≢ other → test ≡ false
-other_byte byte other true e differ = absurd (differ (grind (arith, nat_tests)))
-other_byte byte other false e differ = refl
-
--- a text that lacks the byte at each place
-lacks_byte : (byte : ℕ) (text : List ℕ) → ((i : ℕ) → i < length text → get_or text i 0 ≢ byte) → has_byte byte text ≡ false
-lacks_byte byte [] lacks = refl
-lacks_byte byte (b ∷ text) lacks =
-    let here : eqb b byte ≡ false = other_byte b byte (eqb b byte) refl (lacks 0 (omega arith)) in
-    rw here (lacks_byte byte text (λ i within. lacks (suc i) (omega arith)))
-
--- what `split_once` gives at an ASCII byte
-pub IsCutAt-from_parts : (byte : ℕ) (text : List ℕ) (found : Option (Bor (List ℕ) × Bor (List ℕ))) → MatchOption found ((i : ℕ) → i < length text → get_or text i 0 ≢ byte) (λ x. (text ≡ x.0.now ++ (byte ∷ x.1.now)) × ((i : ℕ) → i < length x.0.now → get_or x.0.now i 0 ≢ byte)) → MatchOption found (has_byte byte text ≡ false) (λ cut. IsCutAt byte text cut.0.now cut.1.now)
-IsCutAt-from_parts byte text None lacks = lacks_byte byte text lacks
-IsCutAt-from_parts byte text (Some x) cut = record { parts = cut.0; first = lacks_byte byte x.0.now cut.1 }
-
--- blanks at the front
-pub front_blank : (byte : ℕ) (text behind : List ℕ) → is_blank byte ≡ true → text ≡ byte ∷ behind → without_front_blanks text ≡ without_front_blanks behind
-unfolding without_front_blanks
-front_blank byte text behind blank e = ap without_front_blanks e ∙ rw blank refl
-
-pub no_front_blank : (text : List ℕ) → ((behind : List ℕ) → text ≢ 32 ∷ behind) → ((behind : List ℕ) → text ≢ 9 ∷ behind) → without_front_blanks text ≡ text
-unfolding without_front_blanks
-no_front_blank [] space tab = refl
-no_front_blank (byte ∷ text) space tab =
-    let one : eqb byte 32 ≡ false = other_byte byte 32 (eqb byte 32) refl (λ e. space text (ap (λ (b : ℕ). b ∷ text) e)) in
-    let two : eqb byte 9 ≡ false = other_byte byte 9 (eqb byte 9) refl (λ e. tab text (ap (λ (b : ℕ). b ∷ text) e)) in
-    rw (one, two) refl
-
--- blanks at the back
-pub back_blank : (byte : ℕ) (text before : List ℕ) → is_blank byte ≡ true → text ≡ before ++ byte ∷ [] → without_back_blanks text ≡ without_back_blanks before
-unfolding without_back_blanks
-back_blank byte text before blank e =
-    ap (λ (t : List ℕ). reverse (without_front_blanks t)) (ap reverse e ∙ reverse-append before (byte ∷ [])) ∙ ap reverse (front_blank byte (byte ∷ reverse before) (reverse before) blank refl)
-
-pub no_back_blank : (text : List ℕ) → ((before : List ℕ) → text ≢ before ++ 32 ∷ []) → ((before : List ℕ) → text ≢ before ++ 9 ∷ []) → without_back_blanks text ≡ text
-unfolding without_back_blanks
-no_back_blank text space tab =
-    let back : (byte : ℕ) (rest : List ℕ) → reverse text ≡ byte ∷ rest → text ≡ reverse rest ++ byte ∷ [] = λ byte rest e. sym (reverse-reverse text) ∙ ap reverse e ∙ reverse-append (byte ∷ []) rest in
-    ap reverse (no_front_blank (reverse text) (λ rest e. space (reverse rest) (back 32 rest e)) (λ rest e. tab (reverse rest) (back 9 rest e))) ∙ reverse-reverse text
+use Rattle.perm_base.specs.Helps.FieldSteps.{IsCutAt, Read, Fails, before_comma, behind_comma, quoted_text, more_quoted, more_fields, with_next, fields_within, first_field, full_field, plain_field, quoted_field, closed_field, column_of, line_end_column, place_column, quoted_part, fields_of}
 
 -- commas
 pub at_comma : (before behind : List ℕ) → has_byte 44 before ≡ false → (before_comma (before ++ 44 ∷ behind) ≡ before) × (behind_comma (before ++ 44 ∷ behind) ≡ Some behind)
 unfolding before_comma behind_comma
 at_comma [] behind none = (refl, refl)
 at_comma (byte ∷ before) behind none =
-    let here = neither (eqb byte 44) (has_byte 44 before) none in
+    let here = or_parts (eqb byte 44) (has_byte 44 before) none in
     let rest = at_comma before behind here.1 in
     (rw (here.0) (ap (λ (t : List ℕ). byte ∷ t) rest.0), rw (here.0) (rest.1))
 
@@ -74,7 +30,7 @@ pub before_comma-none : (text : List ℕ) → has_byte 44 text ≡ false → (be
 unfolding before_comma behind_comma
 before_comma-none [] none = (refl, refl)
 before_comma-none (byte ∷ text) none =
-    let here = neither (eqb byte 44) (has_byte 44 text) none in
+    let here = or_parts (eqb byte 44) (has_byte 44 text) none in
     let rest = before_comma-none text here.1 in
     (rw (here.0) (ap (λ (t : List ℕ). byte ∷ t) rest.0), rw (here.0) (rest.1))
 
@@ -99,7 +55,7 @@ more_more front next (Some cut) = ap (λ (t : List ℕ). Some (t, cut.1)) (sym (
 before_quote : (before rest : List ℕ) → has_byte 34 before ≡ false → quoted_text (before ++ rest) ≡ more_quoted before (quoted_text rest)
 before_quote [] rest none = sym (more_none (quoted_text rest))
 before_quote (byte ∷ before) rest none =
-    let here = neither (eqb byte 34) (has_byte 34 before) none in
+    let here = or_parts (eqb byte 34) (has_byte 34 before) none in
     more_byte byte (before ++ rest) here.0 ∙ ap (more_quoted (byte ∷ [])) (before_quote before rest here.1) ∙ more_twice byte before (quoted_text rest)
 
 pub never_closed : (text : List ℕ) → has_byte 34 text ≡ false → quoted_text text ≡ None
@@ -110,7 +66,7 @@ pub closing : (after : List ℕ) → ((behind : List ℕ) → after ≢ 34 ∷ b
 unfolding quoted_text
 closing [] other = refl
 closing (next ∷ after) other =
-    let here : eqb next 34 ≡ false = other_byte next 34 (eqb next 34) refl (λ e. other after (ap (λ (b : ℕ). b ∷ after) e)) in
+    let here : eqb next 34 ≡ false = ne_eqb next 34 (λ e. other after (ap (λ (b : ℕ). b ∷ after) e)) in
     rw here refl
 
 pub twice : (rest : List ℕ) → quoted_text (34 ∷ 34 ∷ rest) ≡ more_quoted (34 ∷ []) (quoted_text rest)
@@ -141,7 +97,7 @@ at_quote : (before after : List ℕ) → has_byte 34 before ≡ false → double
 unfolding doubled
 at_quote [] after none = refl
 at_quote (byte ∷ before) after none =
-    let here = neither (eqb byte 34) (has_byte 34 before) none in
+    let here = or_parts (eqb byte 34) (has_byte 34 before) none in
     rw (here.0) (ap (λ (t : List ℕ). byte ∷ t) (at_quote before after here.1))
 
 pub doubled-at : (text before after : List ℕ) → IsCutAt 34 text before after → doubled text ≡ before ++ 34 ∷ 34 ∷ doubled after
@@ -151,25 +107,8 @@ pub doubled-none : (text : List ℕ) → has_byte 34 text ≡ false → doubled 
 unfolding doubled
 doubled-none [] none = refl
 doubled-none (byte ∷ text) none =
-    let here = neither (eqb byte 34) (has_byte 34 text) none in
+    let here = or_parts (eqb byte 34) (has_byte 34 text) none in
     rw (here.0) (ap (λ (t : List ℕ). byte ∷ t) (doubled-none text here.1))
-
--- what a strip of a tab gives
-pub front_blank-some : (text : List ℕ) (found : Option (Bor (List ℕ))) → MatchOption found ((behind : List ℕ) → text ≢ 9 ∷ behind) (λ x. text ≡ 9 ∷ x.now) → IfSome found (λ x. without_front_blanks text ≡ without_front_blanks x.now)
-front_blank-some text None tab = tt
-front_blank-some text (Some x) tab = front_blank 9 text x.now refl tab
-
-pub front_blank-none : (text : List ℕ) (found : Option (Bor (List ℕ))) → ((behind : List ℕ) → text ≢ 32 ∷ behind) → MatchOption found ((behind : List ℕ) → text ≢ 9 ∷ behind) (λ x. text ≡ 9 ∷ x.now) → IfNone found (without_front_blanks text ≡ text)
-front_blank-none text None space tab = no_front_blank text space tab
-front_blank-none text (Some x) space tab = tt
-
-pub back_blank-some : (text : List ℕ) (found : Option (Bor (List ℕ))) → MatchOption found ((before : List ℕ) → text ≢ before ++ (9 ∷ [])) (λ x. text ≡ x.now ++ (9 ∷ [])) → IfSome found (λ x. without_back_blanks text ≡ without_back_blanks x.now)
-back_blank-some text None tab = tt
-back_blank-some text (Some x) tab = back_blank 9 text x.now refl tab
-
-pub back_blank-none : (text : List ℕ) (found : Option (Bor (List ℕ))) → ((before : List ℕ) → text ≢ before ++ (32 ∷ [])) → MatchOption found ((before : List ℕ) → text ≢ before ++ (9 ∷ [])) (λ x. text ≡ x.now ++ (9 ∷ [])) → IfNone found (without_back_blanks text ≡ text)
-back_blank-none text None space tab = no_back_blank text space tab
-back_blank-none text (Some x) space tab = tt
 
 -- the parts of a field
 pub closed_end : (size : ℕ) (text after : List ℕ) → length after ≡ 0 → closed_field size text after ≡ Ok (text, None)
@@ -185,7 +124,7 @@ pub closed_other : (size : ℕ) (text after : List ℕ) → 0 < length after →
 unfolding closed_field
 closed_other size text [] some other = absurd (omega arith)
 closed_other size text (byte ∷ after) some other =
-    let here : eqb byte 44 ≡ false = other_byte byte 44 (eqb byte 44) refl (λ e. other after (ap (λ (b : ℕ). b ∷ after) e)) in
+    let here : eqb byte 44 ≡ false = ne_eqb byte 44 (λ e. other after (ap (λ (b : ℕ). b ∷ after) e)) in
     rw here refl
 
 pub line_end_column-at : (size at : ℕ) (bytes : List ℕ) → position is_line_end bytes ≡ Some at → line_end_column size bytes ≡ column_of size (length bytes - at)
@@ -202,7 +141,7 @@ plain_fault size column bytes before e holds at =
     let here : has_line_end (before_comma bytes) ≡ true = ap has_line_end (sym e) ∙ holds in
     rw (here, at) refl
 
-pub plain_read : (size : ℕ) (bytes before text : List ℕ) (behind : Option (List ℕ)) → before ≡ before_comma bytes → has_line_end before ≡ false → text ≡ without_back_blanks before → behind ≡ behind_comma bytes → plain_field size bytes ≡ Ok (text, behind)
+pub plain_read : (size : ℕ) (bytes before text : List ℕ) (behind : Option (List ℕ)) → before ≡ before_comma bytes → has_line_end before ≡ false → text ≡ before_blanks before → behind ≡ behind_comma bytes → plain_field size bytes ≡ Ok (text, behind)
 unfolding plain_field
 plain_read size bytes before text behind e none is more =
     let here : has_line_end (before_comma bytes) ≡ false = ap has_line_end (sym e) ∙ none in
@@ -216,11 +155,11 @@ pub quoted_fault : (size column : ℕ) (bytes text after : List ℕ) → quoted_
 unfolding quoted_field
 quoted_fault size column bytes text after e holds at = ap (quoted_part size bytes) e ∙ rw (holds, at) refl
 
-pub quoted_closed : (size : ℕ) (bytes text after : List ℕ) → quoted_text bytes ≡ Some (text, after) → has_line_end text ≡ false → quoted_field size bytes ≡ closed_field size text (without_front_blanks after)
+pub quoted_closed : (size : ℕ) (bytes text after : List ℕ) → quoted_text bytes ≡ Some (text, after) → has_line_end text ≡ false → quoted_field size bytes ≡ closed_field size text (behind_blanks after)
 unfolding quoted_field
 quoted_closed size bytes text after e none = ap (quoted_part size bytes) e ∙ rw none refl
 
-pub first_quoted : (size : ℕ) (rest field inside : List ℕ) → field ≡ without_front_blanks rest → field ≡ 34 ∷ inside → first_field size rest ≡ quoted_field size inside
+pub first_quoted : (size : ℕ) (rest field inside : List ℕ) → field ≡ behind_blanks rest → field ≡ 34 ∷ inside → first_field size rest ≡ quoted_field size inside
 unfolding first_field full_field
 first_quoted size rest field inside e begins = ap (full_field size) (sym e ∙ begins)
 
@@ -228,10 +167,10 @@ full_plain : (size : ℕ) (field : List ℕ) → ((inside : List ℕ) → field 
 unfolding full_field
 full_plain size [] other = refl
 full_plain size (byte ∷ field) other =
-    let here : eqb byte 34 ≡ false = other_byte byte 34 (eqb byte 34) refl (λ e. other field (ap (λ (b : ℕ). b ∷ field) e)) in
+    let here : eqb byte 34 ≡ false = ne_eqb byte 34 (λ e. other field (ap (λ (b : ℕ). b ∷ field) e)) in
     rw here refl
 
-pub first_plain : (size : ℕ) (rest field : List ℕ) → field ≡ without_front_blanks rest → ((inside : List ℕ) → field ≢ 34 ∷ inside) → first_field size rest ≡ plain_field size field
+pub first_plain : (size : ℕ) (rest field : List ℕ) → field ≡ behind_blanks rest → ((inside : List ℕ) → field ≢ 34 ∷ inside) → first_field size rest ≡ plain_field size field
 unfolding first_field
 first_plain size rest field e other = ap (full_field size) (sym e) ∙ full_plain size field other
 

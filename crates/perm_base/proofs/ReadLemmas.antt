@@ -1,17 +1,17 @@
 -- A field that is read is spelled at the front of the text, and a fault that is met stands there.
 use Rattle.std.proofs.Common.{◌≡◌, ℕ, ◌-◌, Bool, true, false, cond, List, [], ◌∷◌, ◌++◌, length, eqb, Option, Some, None, Result, Ok, Err, refl, sym, ap, ◌∙◌, arith}
+use Rattle.std.proofs.lemmas.Bool.{or_parts}
 use Rattle.std.proofs.lemmas.List.{append_assoc, length-append}
-use Rattle.perm_base.specs.Fields.{is_blank}
+use Rattle.text_parts.specs.Blanks.{AreBlanks, before_blanks, behind_blanks, is_blank}
 use Rattle.perm_base.specs.LineEnds.{has_line_end, is_line_end}
-use Rattle.perm_base.specs.Lines.{has_byte}
+use Rattle.text_parts.specs.Lines.{has_byte}
 use Rattle.perm_base.specs.declared.quoted.FieldFault.{FieldFault}
 use Rattle.perm_base.specs.declared.quoted.FieldFault.TheVariants.{Quote, TooMany, NoMemory}
-use Rattle.perm_base.specs.FieldLine.{AreBlanks, IsSpelled, begins_with, doubled, in_quotes, is_comma, is_quote}
+use Rattle.perm_base.specs.FieldLine.{IsSpelled, begins_with, doubled, in_quotes, is_comma, is_quote}
 use Rattle.perm_base.specs.FieldLine.IsWritten.{bare, quoted}
 use Rattle.perm_base.specs.FieldFaults.{IsBad}
 use Rattle.perm_base.specs.FieldFaults.IsBad.{never_closed, not_ended, bare_line_end, quoted_line_end}
-use Rattle.perm_base.specs.FieldSteps.{Read, before_comma, behind_comma, closed_field, column_of, first_field, full_field, line_end_column, more_quoted, plain_field, quoted_field, quoted_part, quoted_text, without_back_blanks, without_front_blanks}
-use Rattle.perm_base.proofs.QuotedLemmas.{neither}
+use Rattle.perm_base.specs.Helps.FieldSteps.{Read, before_comma, behind_comma, closed_field, column_of, first_field, full_field, line_end_column, more_quoted, plain_field, quoted_field, quoted_part, quoted_text}
 use Rattle.perm_base.proofs.SpellingLemmas.{HasBack, HasComma, HasFront, HasLineEnd, back_split, begins_front, column_first, comma_is, comma_split, front_split, lacks_front, line_end_no_quote, line_end_split, quote_is, tail_of}
 
 -- the text begins with a spelling of the field, and with what stands behind it
@@ -51,7 +51,7 @@ pub doubled_whole : (text : List ℕ) → has_line_end text ≡ false → has_li
 unfolding doubled
 doubled_whole [] none = refl
 doubled_whole (byte ∷ text) none =
-    let here = neither (is_line_end byte) (has_line_end text) none in
+    let here = or_parts (is_line_end byte) (has_line_end text) none in
     one (is_quote byte) here.0 (doubled_whole text here.1)
   where
     one : (test : Bool) → is_line_end byte ≡ false → has_line_end (doubled text) ≡ false → has_line_end (cond test (34 ∷ 34 ∷ doubled text) (byte ∷ doubled text)) ≡ false
@@ -118,10 +118,10 @@ module _ (size : ℕ) (text blanks bytes : List ℕ) (blank : AreBlanks blanks) 
         there = here ∙ ap (column_of size) (omega (arith, ap length parts, length-append blanks bytes, length-append blanks ends.before));
       }
 
-  plain_read : HasComma bytes (before_comma bytes) (behind_comma bytes) → has_line_end (before_comma bytes) ≡ false → HasBack (before_comma bytes) (without_back_blanks (before_comma bytes)) → IsRead text (without_back_blanks (before_comma bytes)) (behind_comma bytes)
+  plain_read : HasComma bytes (before_comma bytes) (behind_comma bytes) → has_line_end (before_comma bytes) ≡ false → HasBack (before_comma bytes) (before_blanks (before_comma bytes)) → IsRead text (before_blanks (before_comma bytes)) (behind_comma bytes)
   plain_read cut none back =
       let before = before_comma bytes in
-      let field = without_back_blanks before in
+      let field = before_blanks before in
       let tail = tail_of (behind_comma bytes) in
       let begins : (test : ℕ → Bool) → begins_with test bytes ≡ false → begins_with test field ≡ false = λ test e. begins_front test field back.blanks (ap (begins_with test) (sym back.parts) ∙ begins_front test before tail (ap (begins_with test) (sym cut.parts) ∙ e)) in
       record {
@@ -144,7 +144,7 @@ module _ (size : ℕ) (text blanks bytes : List ℕ) (blank : AreBlanks blanks) 
         parts = parts ∙ ap (λ (t : List ℕ). blanks ++ t) (cut.parts ∙ ap (λ (t : List ℕ). t ++ tail) back.parts) ∙ simp append_assoc;
       }
 
-  plain_by : (test : Bool) → has_line_end (before_comma bytes) ≡ test → Meets size text (cond test (Err (Quote (line_end_column size bytes))) (Ok (without_back_blanks (before_comma bytes), behind_comma bytes)))
+  plain_by : (test : Bool) → has_line_end (before_comma bytes) ≡ test → Meets size text (cond test (Err (Quote (line_end_column size bytes))) (Ok (before_blanks (before_comma bytes), behind_comma bytes)))
   plain_by true holds = plain_fault (comma_split bytes) (line_end_split (before_comma bytes) holds)
   plain_by false none = plain_read (comma_split bytes) none (back_split (before_comma bytes))
 
@@ -227,9 +227,9 @@ module _ (size : ℕ) (text blanks inside : List ℕ) (blank : AreBlanks blanks)
         there = here ∙ ap (column_of size) (omega (arith, ap length parts, length-append blanks (34 ∷ inside), length-append blanks (34 ∷ doubled ends.before)));
       }
 
-  quoted_by : (test : Bool) (field after : List ℕ) → has_line_end field ≡ test → inside ≡ doubled field ++ 34 ∷ after → begins_with is_quote after ≡ false → Meets size text (cond test (Err (Quote (line_end_column size inside))) (closed_field size field (without_front_blanks after)))
+  quoted_by : (test : Bool) (field after : List ℕ) → has_line_end field ≡ test → inside ≡ doubled field ++ 34 ∷ after → begins_with is_quote after ≡ false → Meets size text (cond test (Err (Quote (line_end_column size inside))) (closed_field size field (behind_blanks after)))
   quoted_by true field after holds cut closed = quoted_fault field after cut closed (line_end_split field holds)
-  quoted_by false field after none cut closed = closed_meets size text blanks field after blank (parts ∙ ap (λ (t : List ℕ). blanks ++ 34 ∷ t) cut ∙ simp append_assoc) none closed (without_front_blanks after) (front_split after)
+  quoted_by false field after none cut closed = closed_meets size text blanks field after blank (parts ∙ ap (λ (t : List ℕ). blanks ++ 34 ∷ t) cut ∙ simp append_assoc) none closed (behind_blanks after) (front_split after)
 
   part_meets : (found : Option (List ℕ × List ℕ)) → IsCut inside found → Meets size text (quoted_part size inside found)
   part_meets None cut = record {
@@ -260,4 +260,4 @@ full_meets size text (byte ∷ bytes) front = full_by (is_quote byte) size text 
 
 pub first_meets : (size : ℕ) (text : List ℕ) → Meets size text (first_field size text)
 unfolding first_field
-first_meets size text = full_meets size text (without_front_blanks text) (front_split text)
+first_meets size text = full_meets size text (behind_blanks text) (front_split text)

@@ -1,20 +1,18 @@
 -- Texts in the parts that the fields of a line are spelled in: blanks, commas, line ends.
 use Rattle.std.proofs.Common.{◌≡◌, ℕ, ◌-◌, ◌<◌, ◌||◌, ◌&&◌, not, Bool, true, false, cond, List, [], ◌∷◌, ◌++◌, length, eqb, reverse, Option, Some, None, refl, sym, ap, ◌∙◌, arith, rules, tests}
+use Rattle.std.proofs.lemmas.Bool.{and_parts, or_parts}
 use Rattle.std.specs.List.{list_all, list_any, prefix_len}
 use Rattle.std.specs.Prelude.{position}
 use Rattle.std.proofs.lemmas.Bool.Decides.{nat_tests}
 use Rattle.std.proofs.lemmas.List.{length-append, reverse-append, reverse-reverse}
 use Rattle.std.proofs.lemmas.List.Folds.{list_all-append, list_any-append}
-use Rattle.perm_base.specs.Fields.{is_blank}
+use Rattle.text_parts.proofs.BlankLemmas.{before_blanks-reverse}
+use Rattle.text_parts.specs.Blanks.{AreBlanks, before_blanks, behind_blanks, is_blank}
 use Rattle.perm_base.specs.LineEnds.{has_line_end, is_line_end}
-use Rattle.perm_base.specs.Lines.{has_byte}
-use Rattle.perm_base.specs.FieldLine.{AreBlanks, begins_with, ends_with, is_comma, is_quote}
-use Rattle.perm_base.specs.FieldSteps.{before_comma, behind_comma, column_of, line_end_column, without_back_blanks, without_front_blanks}
-use Rattle.perm_base.proofs.QuotedLemmas.{neither, line_end_column-at}
-
-pub both : (first second : Bool) → (first && second) ≡ true → (first ≡ true) × (second ≡ true)
-both true second e = (refl, e)
-both false second e = absurd cc
+use Rattle.text_parts.specs.Lines.{has_byte}
+use Rattle.perm_base.specs.FieldLine.{begins_with, ends_with, is_comma, is_quote}
+use Rattle.perm_base.specs.Helps.FieldSteps.{before_comma, behind_comma, column_of, line_end_column}
+use Rattle.perm_base.proofs.QuotedLemmas.{line_end_column-at}
 
 -- what a text begins with
 pub begins_front : (test : ℕ → Bool) (front back : List ℕ) → begins_with test (front ++ back) ≡ false → begins_with test front ≡ false
@@ -65,11 +63,11 @@ line_end_no_blank byte ends = line_end_by_blank byte (is_blank byte) refl ends
 
 pub blanks_no_quote : (blanks : List ℕ) → AreBlanks blanks → begins_with is_quote blanks ≡ false
 blanks_no_quote [] all = refl
-blanks_no_quote (byte ∷ blanks) all = blank_by byte (is_quote byte) refl (both (is_blank byte) (list_all is_blank blanks) all).0
+blanks_no_quote (byte ∷ blanks) all = blank_by byte (is_quote byte) refl (and_parts (is_blank byte) (list_all is_blank blanks) all).0
 
 -- a text that holds no such byte, in its parts
 pub lacks_front : (test : ℕ → Bool) (front back : List ℕ) → list_any test (front ++ back) ≡ false → list_any test front ≡ false
-lacks_front test front back e = (neither (list_any test front) (list_any test back) (sym (list_any-append test front back) ∙ e)).0
+lacks_front test front back e = (or_parts (list_any test front) (list_any test back) (sym (list_any-append test front back) ∙ e)).0
 
 -- a text without the blanks at its front
 pub record HasFront (text rest : List ℕ) : Type 0 where
@@ -92,20 +90,19 @@ front_more false byte text rest e front = record {
   parts = refl;
 }
 
-pub front_split : (text : List ℕ) → HasFront text (without_front_blanks text)
-unfolding without_front_blanks
+pub front_split : (text : List ℕ) → HasFront text (behind_blanks text)
 front_split [] = record {
   blanks = [];
   blank = refl;
   full = refl;
   parts = refl;
 }
-front_split (byte ∷ text) = front_more (is_blank byte) byte text (without_front_blanks text) refl (front_split text)
+front_split (byte ∷ text) = front_more (is_blank byte) byte text (behind_blanks text) refl (front_split text)
 
 pub blank_reverse : (blanks : List ℕ) → AreBlanks blanks → AreBlanks (reverse blanks)
 blank_reverse [] all = refl
 blank_reverse (byte ∷ blanks) all =
-    let here = both (is_blank byte) (list_all is_blank blanks) all in
+    let here = and_parts (is_blank byte) (list_all is_blank blanks) all in
     ap (list_all is_blank) (reverse-append (byte ∷ []) blanks) ∙ list_all-append is_blank (reverse blanks) (byte ∷ []) ∙ rw (blank_reverse blanks here.1, here.0) refl
 
 -- a text without the blanks at its back
@@ -115,15 +112,15 @@ pub record HasBack (text rest : List ℕ) : Type 0 where
   pub full : ends_with is_blank rest ≡ false
   pub parts : text ≡ rest ++ blanks
 
-pub back_split : (text : List ℕ) → HasBack text (without_back_blanks text)
-unfolding without_back_blanks
+pub back_split : (text : List ℕ) → HasBack text (before_blanks text)
 back_split text =
     let front = front_split (reverse text) in
+    let rest : before_blanks text ≡ reverse (behind_blanks (reverse text)) = before_blanks-reverse text in
     record {
       blanks = reverse front.blanks;
       blank = blank_reverse front.blanks front.blank;
-      full = ap (begins_with is_blank) (reverse-reverse (without_front_blanks (reverse text))) ∙ front.full;
-      parts = sym (reverse-reverse text) ∙ ap reverse front.parts ∙ reverse-append front.blanks (without_front_blanks (reverse text));
+      full = ap (λ (t : List ℕ). begins_with is_blank (reverse t)) rest ∙ ap (begins_with is_blank) (reverse-reverse (behind_blanks (reverse text))) ∙ front.full;
+      parts = sym (reverse-reverse text) ∙ ap reverse front.parts ∙ reverse-append front.blanks (behind_blanks (reverse text)) ∙ ap (λ (t : List ℕ). t ++ reverse front.blanks) (sym rest);
     }
 
 -- what stands behind a field: nothing, or a comma and more
@@ -181,7 +178,7 @@ line_end_split (byte ∷ text) holds = line_end_more (is_line_end byte) byte tex
 first_place : (before after : List ℕ) (byte : ℕ) → has_line_end before ≡ false → is_line_end byte ≡ true → prefix_len (λ (b : ℕ). not (is_line_end b)) (before ++ byte ∷ after) ≡ length before
 first_place [] after byte none here = rw here refl
 first_place (b ∷ before) after byte none here =
-    let rest = neither (is_line_end b) (has_line_end before) none in
+    let rest = or_parts (is_line_end b) (has_line_end before) none in
     let next = first_place before after byte rest.1 here in
     rw (rest.0, next) (omega arith)
 

@@ -1,38 +1,31 @@
 -- A field that is spelled at the front of a text is read, and a field that is bad is met as a fault.
 use Rattle.std.proofs.Common.{◌≡◌, ◌≢◌, ℕ, ◌-◌, ◌≤◌, Bool, true, false, List, [], ◌∷◌, ◌++◌, length, eqb, reverse, Option, Some, None, Result, Ok, Err, refl, sym, ap, ◌∙◌, arith, rules, tests}
+use Rattle.std.proofs.lemmas.Bool.{and_parts, or_parts}
 use Rattle.std.specs.List.{list_all, list_any}
 use Rattle.std.proofs.lemmas.List.{append_assoc, append-nil, length-append, reverse-append, reverse-reverse}
 use Rattle.std.proofs.lemmas.List.Folds.{list_any-append}
-use Rattle.perm_base.specs.Fields.{is_blank}
+use Rattle.text_parts.proofs.BlankLemmas.{before_blanks-blanks, before_blanks-reverse, behind_blanks-blanks}
+use Rattle.text_parts.specs.Blanks.{AreBlanks, before_blanks, behind_blanks, is_blank}
 use Rattle.perm_base.specs.LineEnds.{has_line_end, is_line_end}
-use Rattle.perm_base.specs.Lines.{has_byte}
+use Rattle.text_parts.specs.Lines.{has_byte}
 use Rattle.perm_base.specs.declared.quoted.FieldFault.{FieldFault}
 use Rattle.perm_base.specs.declared.quoted.FieldFault.TheVariants.{Quote}
-use Rattle.perm_base.specs.FieldLine.{AreBlanks, IsBare, IsSpelled, IsWritten, begins_with, doubled, ends_with, in_quotes, is_comma, is_quote}
+use Rattle.perm_base.specs.FieldLine.{IsBare, IsSpelled, IsWritten, begins_with, doubled, ends_with, in_quotes, is_comma, is_quote}
 use Rattle.perm_base.specs.FieldLine.IsWritten.{bare, quoted}
 use Rattle.perm_base.specs.FieldFaults.{IsBad, IsBareLineEnd, IsNeverClosed, IsNotEnded, IsQuotedLineEnd}
 use Rattle.perm_base.specs.FieldFaults.IsBad.{never_closed, not_ended, bare_line_end, quoted_line_end}
-use Rattle.perm_base.specs.FieldSteps.{Read, before_comma, behind_comma, closed_field, column_of, first_field, full_field, line_end_column, more_quoted, plain_field, quoted_field, quoted_text, without_back_blanks, without_front_blanks}
-use Rattle.perm_base.proofs.QuotedLemmas.{at_comma, before_comma-none, closed_other, closing, first_plain, first_quoted, more_byte, neither, plain_fault, plain_read, quoted_closed, quoted_fault, quoted_open, twice}
-use Rattle.perm_base.proofs.SpellingLemmas.{begins_both, blank_reverse, blanks_no_quote, both, column_first, line_end_no_blank, line_end_no_comma, line_end_no_quote, quote_is, tail_of}
+use Rattle.perm_base.specs.Helps.FieldSteps.{Read, before_comma, behind_comma, closed_field, column_of, first_field, full_field, line_end_column, more_quoted, plain_field, quoted_field, quoted_text}
+use Rattle.perm_base.proofs.QuotedLemmas.{at_comma, before_comma-none, closed_other, closing, first_plain, first_quoted, more_byte, plain_fault, plain_read, quoted_closed, quoted_fault, quoted_open, twice}
+use Rattle.perm_base.proofs.SpellingLemmas.{begins_both, blank_reverse, blanks_no_quote, column_first, line_end_no_blank, line_end_no_comma, line_end_no_quote, quote_is, tail_of}
 use Rattle.perm_base.proofs.ReadLemmas.{doubled_append, doubled_other, doubled_whole}
 
--- blanks that are dropped, and a text that has none
-blanks_dropped : (blanks text : List ℕ) → AreBlanks blanks → without_front_blanks (blanks ++ text) ≡ without_front_blanks text
-unfolding without_front_blanks
-blanks_dropped [] text all = refl
-blanks_dropped (byte ∷ blanks) text all =
-    let here = both (is_blank byte) (list_all is_blank blanks) all in
-    rw here.0 (blanks_dropped blanks text here.1)
-
-full_stays : (text : List ℕ) → begins_with is_blank text ≡ false → without_front_blanks text ≡ text
-unfolding without_front_blanks
+-- a text that has no blanks at an end
+full_stays : (text : List ℕ) → begins_with is_blank text ≡ false → behind_blanks text ≡ text
 full_stays [] full = refl
 full_stays (byte ∷ text) full = rw full refl
 
-back_dropped : (text blanks : List ℕ) → AreBlanks blanks → ends_with is_blank text ≡ false → without_back_blanks (text ++ blanks) ≡ text
-unfolding without_back_blanks
-back_dropped text blanks all full = ap (λ (t : List ℕ). reverse (without_front_blanks t)) (reverse-append text blanks) ∙ ap reverse (blanks_dropped (reverse blanks) (reverse text) (blank_reverse blanks all) ∙ full_stays (reverse text) full) ∙ reverse-reverse text
+back_dropped : (text blanks : List ℕ) → AreBlanks blanks → ends_with is_blank text ≡ false → before_blanks (text ++ blanks) ≡ text
+back_dropped text blanks all full = before_blanks-blanks text blanks all ∙ before_blanks-reverse text ∙ ap reverse (full_stays (reverse text) full) ∙ reverse-reverse text
 
 no_such : (test : ℕ → Bool) (byte : ℕ) (text behind : List ℕ) → test byte ≡ true → begins_with test text ≡ false → text ≢ byte ∷ behind
 no_such test byte text behind is none e =
@@ -41,7 +34,7 @@ no_such test byte text behind is none e =
 
 pub drops : (size : ℕ) (blanks text : List ℕ) → AreBlanks blanks → first_field size (blanks ++ text) ≡ first_field size text
 unfolding first_field
-drops size blanks text all = ap (full_field size) (blanks_dropped blanks text all)
+drops size blanks text all = ap (full_field size) (behind_blanks-blanks blanks text all)
 
 -- tests of bytes in two parts
 lacks_both : (test : ℕ → Bool) (front back : List ℕ) → list_any test front ≡ false → list_any test back ≡ false → list_any test (front ++ back) ≡ false
@@ -56,7 +49,7 @@ blank_whole byte false e blank = refl
 blanks_whole : (blanks : List ℕ) → AreBlanks blanks → has_line_end blanks ≡ false
 blanks_whole [] all = refl
 blanks_whole (byte ∷ blanks) all =
-    let here = both (is_blank byte) (list_all is_blank blanks) all in
+    let here = and_parts (is_blank byte) (list_all is_blank blanks) all in
     rw (blank_whole byte (is_line_end byte) refl here.0) (blanks_whole blanks here.1)
 
 blank_comma : (byte : ℕ) (test : Bool) → eqb byte 44 ≡ test → is_blank byte ≡ true → test ≡ false
@@ -66,12 +59,12 @@ blank_comma byte false e blank = refl
 blanks_no_comma : (blanks : List ℕ) → AreBlanks blanks → has_byte 44 blanks ≡ false
 blanks_no_comma [] all = refl
 blanks_no_comma (byte ∷ blanks) all =
-    let here = both (is_blank byte) (list_all is_blank blanks) all in
+    let here = and_parts (is_blank byte) (list_all is_blank blanks) all in
     rw (blank_comma byte (eqb byte 44) refl here.0) (blanks_no_comma blanks here.1)
 
 -- a field as it is
 empty_read : (size : ℕ) (behind : Option (List ℕ)) → first_field size (tail_of behind) ≡ Ok ([], behind)
-unfolding first_field full_field plain_field before_comma behind_comma without_front_blanks without_back_blanks
+unfolding first_field full_field plain_field before_comma behind_comma
 empty_read size None = refl
 empty_read size (Some behind) = refl
 
@@ -117,8 +110,8 @@ begins_quoted : (size : ℕ) (inside : List ℕ) → first_field size (34 ∷ in
 begins_quoted size inside = first_quoted size (34 ∷ inside) (34 ∷ inside) inside (sym (full_stays (34 ∷ inside) refl)) refl
 
 -- behind a field in quotes
-closed_back : (size : ℕ) (text : List ℕ) (behind : Option (List ℕ)) → closed_field size text (without_front_blanks (tail_of behind)) ≡ Ok (text, behind)
-unfolding closed_field without_front_blanks
+closed_back : (size : ℕ) (text : List ℕ) (behind : Option (List ℕ)) → closed_field size text (behind_blanks (tail_of behind)) ≡ Ok (text, behind)
+unfolding closed_field
 closed_back size text None = refl
 closed_back size text (Some behind) = refl
 
@@ -126,7 +119,7 @@ tail_no_quote : (behind : Option (List ℕ)) → begins_with is_quote (tail_of b
 tail_no_quote None = refl
 tail_no_quote (Some behind) = refl
 
-closed_to : (size : ℕ) (field after : List ℕ) → has_line_end field ≡ false → begins_with is_quote after ≡ false → first_field size (in_quotes field ++ after) ≡ closed_field size field (without_front_blanks after)
+closed_to : (size : ℕ) (field after : List ℕ) → has_line_end field ≡ false → begins_with is_quote after ≡ false → first_field size (in_quotes field ++ after) ≡ closed_field size field (behind_blanks after)
 closed_to size field after none other =
     let inside = doubled field ++ 34 ∷ after in
     let parts : in_quotes field ++ after ≡ 34 ∷ inside = simp append_assoc in
@@ -135,7 +128,7 @@ closed_to size field after none other =
 quoted_read : (size : ℕ) (field back : List ℕ) (behind : Option (List ℕ)) → has_line_end field ≡ false → AreBlanks back → first_field size (in_quotes field ++ back ++ tail_of behind) ≡ Ok (field, behind)
 quoted_read size field back behind none blank =
     let tail = tail_of behind in
-    ap (first_field size) (append_assoc (in_quotes field) back tail) ∙ closed_to size field (back ++ tail) none (begins_both is_quote back tail (blanks_no_quote back blank) (tail_no_quote behind)) ∙ ap (closed_field size field) (blanks_dropped back tail blank) ∙ closed_back size field behind
+    ap (first_field size) (append_assoc (in_quotes field) back tail) ∙ closed_to size field (back ++ tail) none (begins_both is_quote back tail (blanks_no_quote back blank) (tail_no_quote behind)) ∙ ap (closed_field size field) (behind_blanks-blanks back tail blank) ∙ closed_back size field behind
 
 written_read : (size : ℕ) (text field back : List ℕ) (behind : Option (List ℕ)) → IsWritten text field → AreBlanks back → first_field size (text ++ back ++ tail_of behind) ≡ Ok (field, behind)
 written_read size text field back behind (bare is e) blank = ap (λ (t : List ℕ). first_field size (t ++ back ++ tail_of behind)) e ∙ bare_read size field back behind is blank
@@ -172,7 +165,7 @@ not_ended_met size text at is =
     let front = is.front ++ in_quotes is.field ++ is.back in
     let parts : text ≡ is.front ++ (in_quotes is.field ++ (is.back ++ rest)) = is.parts ∙ simp append_assoc in
     record {
-      met = ap (first_field size) parts ∙ drops size is.front (in_quotes is.field ++ (is.back ++ rest)) is.blank_front ∙ closed_to size is.field (is.back ++ rest) is.no_line_end is.closed ∙ ap (closed_field size is.field) (blanks_dropped is.back rest is.blank_back ∙ full_stays rest is.no_blank) ∙ closed_other size is.field rest (omega arith) (λ behind. no_such is_comma 44 rest behind refl is.no_comma) ∙ ap (quote_at size) (omega (arith, is.place, ap length is.parts, length-append front rest));
+      met = ap (first_field size) parts ∙ drops size is.front (in_quotes is.field ++ (is.back ++ rest)) is.blank_front ∙ closed_to size is.field (is.back ++ rest) is.no_line_end is.closed ∙ ap (closed_field size is.field) (behind_blanks-blanks is.back rest is.blank_back ∙ full_stays rest is.no_blank) ∙ closed_other size is.field rest (omega arith) (λ behind. no_such is_comma 44 rest behind refl is.no_comma) ∙ ap (quote_at size) (omega (arith, is.place, ap length is.parts, length-append front rest));
       within = omega (arith, is.place, ap length is.parts, length-append front rest);
     }
 
@@ -185,7 +178,7 @@ comma_past : (before behind : List ℕ) (byte : ℕ) → has_byte 44 before ≡ 
 unfolding before_comma
 comma_past [] behind byte none other = rw other refl
 comma_past (b ∷ before) behind byte none other =
-    let here = neither (eqb b 44) (has_byte 44 before) none in
+    let here = or_parts (eqb b 44) (has_byte 44 before) none in
     rw here.0 (ap (λ (t : List ℕ). b ∷ t) (comma_past before behind byte here.1 other))
 
 bare_met : (size : ℕ) (text : List ℕ) (at : ℕ) → IsBareLineEnd text at → FaultIs size text at

@@ -1,10 +1,10 @@
 -- Where a line is at fault that should be fields. Places count the bytes in front; a column is a place counted from 1.
 use Rattle.std.specs.Prelude.{◌≡◌, ℕ, ◌+◌, ◌<◌, true, false, List, [], ◌∷◌, ◌++◌, length, min, flat_map}
 use Rattle.std.specs.List.{AllZip}
-use Rattle.perm_base.specs.FieldLine.{AreBlanks, IsSpelled, begins_with, doubled, in_quotes, is_comma, is_quote, most_fields}
-use Rattle.perm_base.specs.Fields.{is_blank}
+use Rattle.perm_base.specs.FieldLine.{IsSpelled, begins_with, doubled, in_quotes, is_comma, is_quote, most_fields}
+use Rattle.text_parts.specs.Blanks.{AreBlanks, is_blank}
 use Rattle.perm_base.specs.LineEnds.{has_line_end, is_line_end}
-use Rattle.perm_base.specs.Lines.{has_byte}
+use Rattle.text_parts.specs.Lines.{has_byte}
 use Rattle.perm_base.specs.declared.quoted.FieldFault.{FieldFault}
 use Rattle.perm_base.specs.declared.quoted.FieldFault.TheVariants.{Quote, TooMany, NoMemory}
 

@@ -1,9 +1,10 @@
 -- Lines of fields that may stand in double quotes: how a field is spelled, which fields a line is, and how fields are printed.
-use Rattle.std.specs.Prelude.{◌≡◌, ℕ, ◌<◌, ◌≤◌, ◌==◌, ◌||◌, Bool, true, false, if◌then◌else◌, List, [], ◌∷◌, ◌++◌, length, map, reverse}
-use Rattle.std.specs.List.{AllZip, join_by, list_all}
-use Rattle.perm_base.specs.Fields.{is_blank, joined}
+use Rattle.std.specs.Prelude.{◌≡◌, ℕ, ◌<◌, ◌≤◌, ◌==◌, ◌||◌, Bool, false, if◌then◌else◌, List, [], ◌∷◌, ◌++◌, length, map, reverse}
+use Rattle.std.specs.List.{AllZip, join_by}
+use Rattle.text_parts.specs.Blanks.{AreBlanks, is_blank}
+use Rattle.perm_base.specs.Fields.{joined}
 use Rattle.perm_base.specs.LineEnds.{has_line_end}
-use Rattle.perm_base.specs.Lines.{has_byte}
+use Rattle.text_parts.specs.Lines.{has_byte}
 
 -- a double quote
 abbrev pub is_quote : ℕ → Bool
@@ -21,10 +22,6 @@ begins_with test (byte ∷ bytes) = test byte
 -- the text ends with such a byte; an empty text does not
 abbrev pub ends_with : (ℕ → Bool) → List ℕ → Bool
 ends_with test text = begins_with test (reverse text)
-
--- spaces and tabs alone, or nothing
-abbrev pub AreBlanks : List ℕ → Type 0
-AreBlanks text = list_all is_blank text ≡ true
 
 -- each double quote stands twice
 unfoldable pub doubled : List ℕ → List ℕ

@@ -1,7 +1,8 @@
 -- Plain fields of a line, joined by a comma and a blank. A plain field needs no quotes.
 use Rattle.std.specs.Prelude.{◌≡◌, ℕ, ◌-◌, ◌<◌, Bool, false, ◌==◌, ◌||◌, ◌&&◌, not, nat_le, nat_lt, List, [], ◌∷◌, length, IsTrue, All, IsUtf8, slice_index}
 use Rattle.std.specs.List.{list_any, join_by}
-use Rattle.perm_base.specs.Lines.{has_byte}
+pub use Rattle.text_parts.specs.Blanks.{is_blank}
+use Rattle.text_parts.specs.Lines.{has_byte}
 use Rattle.perm_base.specs.declared.fields.JoinFault.{JoinFault}
 use Rattle.perm_base.specs.declared.fields.JoinFault.TheVariants as join
 use Rattle.perm_base.specs.declared.fields.PlainFault.{PlainFault}
@@ -16,10 +17,6 @@ pub record IsJoined (line : List ℕ) (texts : List (List ℕ)) : Type 0 where
   pub some : 0 < length texts
   pub whole : All (λ (text : List ℕ). has_byte 44 text ≡ false) texts
   pub spelled : line ≡ joined texts
-
--- space or tab
-abbrev pub is_blank : ℕ → Bool
-is_blank byte = byte == 32 || byte == 9
 
 -- a byte that no plain field holds: a comma, a double quote, CR or LF
 abbrev pub is_special : ℕ → Bool

@@ -3,7 +3,7 @@ pub mod Fields
 pub mod LineEnds
 pub mod FieldLine
 pub mod FieldFaults
-pub mod FieldSteps
+pub mod Helps
 pub mod Rule
 pub mod RoleShapes
 pub mod Shapes

@@ -1,7 +1,7 @@
 -- Which texts are patterns of a function (Casbin, functions in matchers).
 use Rattle.std.specs.Prelude.{ℕ, Bool, List, codes}
 use Rattle.std.specs.List.{list_any}
-use Rattle.perm_base.specs.Lines.{has_byte}
+use Rattle.text_parts.specs.Lines.{has_byte}
 use Rattle.perm_base.specs.declared.shapes.Fit.{Fit}
 use Rattle.perm_base.specs.declared.shapes.Fit.TheVariants.{Exact, KeyMatch, KeyMatch2, KeyMatch3, Glob}
 

@@ -1,12 +1,13 @@
-ghost use Rattle.std.specs.Prelude.{◌≡◌, ◌<◌, ◌≤◌, ◌⊎◌, ℕ, List, ◌∷◌, false, IfOk, IfSome, IfNone, IsErrOf, MatchOption, MatchResult, length, option_map, position};
+ghost use Rattle.std.specs.Prelude.{◌≡◌, ◌<◌, ◌≤◌, ◌⊎◌, ℕ, List, ◌∷◌, IfOk, IsErrOf, MatchOption, MatchResult, length, option_map};
 ghost use Rattle.perm_base.specs.FieldFaults.{HasTooMany, IsBadAt, IsFault, IsQuoteFault};
 ghost use Rattle.perm_base.specs.FieldLine.{IsFields};
-ghost use Rattle.perm_base.specs.Lines.{has_byte};
-ghost use Rattle.perm_base.specs.LineEnds.{AreFields, is_line_end, has_line_end};
-ghost use Rattle.perm_base.specs.FieldSteps.{Gives, IsCutAt, before_comma, behind_comma, column_of, closed_field, fields_of, first_field, line_end_column, plain_field, quoted_field, quoted_text, without_back_blanks, without_front_blanks};
+ghost use Rattle.perm_base.specs.LineEnds.{AreFields};
+ghost use Rattle.perm_base.specs.Helps.FieldSteps.{Gives, before_comma, behind_comma, column_of, closed_field, fields_of, first_field, line_end_column, plain_field, quoted_field, quoted_text, seen};
 
+use crate::line_ends::{first_line_end, has_line_end};
 use outside::{NoMemory, Text};
 use std::alloc::Global;
+use text_parts::{before_blanks, behind, behind_blanks, cut_at};
 
 // The greatest number of fields of a line.
 const MOST_FIELDS: usize = 34;
@@ -42,9 +43,11 @@ impl From<NoMemory> for FieldFault {
 pub fn read_fields(alloc: Global, line: &str) -> Result<Vec<Text>, FieldFault>
     ensures found { IfOk result (λ fields. IsFields line.now fields.items) }
     ensures only { (fields : List (List ℕ)) → IsFields line.now fields
-        → MatchResult result (λ found. found.items ≡ fields) (λ fault. fault ≡ FieldFault.NoMemory) }
+        → MatchResult result (λ found. found.items ≡ fields)
+        (λ fault. fault ≡ FieldFault.NoMemory) }
 
-    ensures quote { (column : ℕ) → IsErrOf result (FieldFault.Quote column) → IsQuoteFault line.now column }
+    ensures quote { (column : ℕ) → IsErrOf result (FieldFault.Quote column)
+        → IsQuoteFault line.now column }
     ensures too_many { IsErrOf result FieldFault.TooMany → HasTooMany line.now }
 
     ensures rule { IfOk result (λ fields. AreFields fields.items) }
@@ -56,16 +59,16 @@ pub fn read_fields(alloc: Global, line: &str) -> Result<Vec<Text>, FieldFault>
 
 /// The law that a line is fields in at most one way.
 pub fn fields_of_a_line_are_unique()
-    ensures { (line : List ℕ) (first second : List (List ℕ)) → IsFields line first → IsFields line second
-        → first ≡ second }
+    ensures { (line : List ℕ) (first second : List (List ℕ))
+        → IsFields line first → IsFields line second → first ≡ second }
 {}
 
 /// The law that a line has at most one fault, and is bad at one byte at most.
 pub fn fault_of_a_line_is_unique()
-    ensures fault { (line : List ℕ) (first second : FieldFault) → IsFault line first → IsFault line second
-        → first ≡ second }
-    ensures place { (line : List ℕ) (first second : ℕ) → IsBadAt line first → IsBadAt line second
-        → first ≡ second }
+    ensures fault { (line : List ℕ) (first second : FieldFault)
+        → IsFault line first → IsFault line second → first ≡ second }
+    ensures place { (line : List ℕ) (first second : ℕ)
+        → IsBadAt line first → IsBadAt line second → first ≡ second }
 {}
 
 /// The law that a line with a fault is no fields.
@@ -99,10 +102,10 @@ fn fields_of(alloc: Global, line: &str) -> Result<Vec<Text>, FieldFault>
 
 // The field at the front of the last bytes of a line of this size, and what stands behind its comma.
 fn first_field(alloc: Global, size: usize, rest: &str) -> Result<(Text, Option<&str>), FieldFault>
-    ensures { Gives (λ read. (read.0, option_map (λ behind. behind.now) read.1)) result (first_field size rest.now) }
+    ensures { Gives seen result (first_field size rest.now) }
 {
-    let field = without_front_blanks(rest);
-    match behind_quote(field) {
+    let field = behind_blanks(rest);
+    match behind(field, b'"') {
         Some(inside) => quoted_field(alloc, size, inside),
         None => plain_field(alloc, size, field),
     }
@@ -110,14 +113,14 @@ fn first_field(alloc: Global, size: usize, rest: &str) -> Result<(Text, Option<&
 
 // A field that does not begin with a quote.
 fn plain_field(alloc: Global, size: usize, field: &str) -> Result<(Text, Option<&str>), FieldFault>
-    ensures { Gives (λ read. (read.0, option_map (λ behind. behind.now) read.1)) result (plain_field size field.now) }
+    ensures { Gives seen result (plain_field size field.now) }
 {
     let (text, behind) = comma_parts(field);
     if has_line_end(text) {
         let column = line_end_column(size, field);
         return Err(FieldFault::Quote { column });
     }
-    let text = Text::from_str(alloc, without_back_blanks(text))?;
+    let text = Text::from_str(alloc, before_blanks(text))?;
     Ok((text, behind))
 }
 
@@ -127,7 +130,7 @@ fn quoted_field(
     size: usize,
     inside: &str,
 ) -> Result<(Text, Option<&str>), FieldFault>
-    ensures { Gives (λ read. (read.0, option_map (λ behind. behind.now) read.1)) result (quoted_field size inside.now) }
+    ensures { Gives seen result (quoted_field size inside.now) }
 {
     let Some((text, after)) = quoted_text(alloc, inside)? else {
         let column = column_of(size, inside.len() + 1);
@@ -137,18 +140,18 @@ fn quoted_field(
         let column = line_end_column(size, inside);
         return Err(FieldFault::Quote { column });
     }
-    closed_field(size, text, without_front_blanks(after))
+    closed_field(size, text, behind_blanks(after))
 }
 
 // A field behind whose closing quote, and the blanks there, this stands.
 fn closed_field(size: usize, text: Text, after: &str) -> Result<(Text, Option<&str>), FieldFault>
-    ensures { Gives (λ read. (read.0, option_map (λ behind. behind.now) read.1)) result (closed_field size text after.now) }
+    ensures { Gives seen result (closed_field size text after.now) }
 {
     if after.is_empty() {
         return Ok((text, None));
     }
-    match behind_comma(after) {
-        Some(behind) => Ok((text, Some(behind))),
+    match behind(after, b',') {
+        Some(rest) => Ok((text, Some(rest))),
         None => Err(FieldFault::Quote {
             column: column_of(size, after.len()),
         }),
@@ -157,13 +160,14 @@ fn closed_field(size: usize, text: Text, after: &str) -> Result<(Text, Option<&s
 
 // Behind an opening quote: the text up to the next quote that is not doubled, and what stands behind that quote.
 fn quoted_text(alloc: Global, inside: &str) -> Result<Option<(Text, &str)>, NoMemory>
-    ensures { IfOk result (λ found. option_map (λ cut. (cut.0, cut.1.now)) found ≡ quoted_text inside.now) }
+    ensures { IfOk result
+        (λ found. option_map (λ cut. (cut.0, cut.1.now)) found ≡ quoted_text inside.now) }
 {
     let mut text = String::new(alloc);
     let mut rest = inside;
-    while let Some((before, after)) = cut_at_quote(rest) {
+    while let Some((before, after)) = cut_at(rest, b'"') {
         text.push_str(before)?;
-        let Some(next) = behind_quote(after) else {
+        let Some(next) = behind(after, b'"') else {
             return Ok(Some((Text::from_str(alloc, text.as_str())?, after)));
         };
         text.push_str("\"")?;
@@ -172,96 +176,15 @@ fn quoted_text(alloc: Global, inside: &str) -> Result<Option<(Text, &str)>, NoMe
     Ok(None)
 }
 
-// What stands before the first quote, and what stands behind it.
-pub(crate) fn cut_at_quote(text: &str) -> Option<(&str, &str)>
-    ensures { MatchOption result (has_byte 34 text.now ≡ false) (λ cut. IsCutAt 34 text.now cut.0.now cut.1.now) }
-{
-    text.split_once('"')
-}
-
-// What stands before the first comma, and what stands behind it.
-fn cut_at_comma(text: &str) -> Option<(&str, &str)>
-    ensures { MatchOption result (has_byte 44 text.now ≡ false) (λ cut. IsCutAt 44 text.now cut.0.now cut.1.now) }
-{
-    text.split_once(',')
-}
-
 // What stands before the first comma, or all, and what stands behind that comma.
 fn comma_parts(text: &str) -> (&str, Option<&str>)
     ensures before { result.0.now ≡ before_comma text.now }
     ensures behind { option_map (λ behind. behind.now) result.1 ≡ behind_comma text.now }
 {
-    match cut_at_comma(text) {
+    match cut_at(text, b',') {
         Some((before, behind)) => (before, Some(behind)),
         None => (text, None),
     }
-}
-
-// What stands behind the quote that the text begins with.
-fn behind_quote(text: &str) -> Option<&str>
-    ensures { MatchOption result ((behind : List ℕ) → ¬ (text.now ≡ 34 ∷ behind)) (λ behind. text.now ≡ 34 ∷ behind.now) }
-{
-    text.strip_prefix('"')
-}
-
-// What stands behind the comma that the text begins with.
-fn behind_comma(text: &str) -> Option<&str>
-    ensures { MatchOption result ((behind : List ℕ) → ¬ (text.now ≡ 44 ∷ behind)) (λ behind. text.now ≡ 44 ∷ behind.now) }
-{
-    text.strip_prefix(',')
-}
-
-// The text without the blanks at its front.
-fn without_front_blanks(text: &str) -> &str
-    ensures { result.now ≡ without_front_blanks text.now }
-{
-    let mut rest = text;
-    while let Some(behind) = behind_blank(rest) {
-        rest = behind;
-    }
-    rest
-}
-
-// What stands behind the blank that the text begins with.
-fn behind_blank(text: &str) -> Option<&str>
-    ensures none { IfNone result (without_front_blanks text.now ≡ text.now) }
-    ensures same { IfSome result (λ behind. without_front_blanks text.now ≡ without_front_blanks behind.now) }
-    ensures shorter { IfSome result (λ behind. length behind.now < length text.now) }
-{
-    match text.strip_prefix(' ') {
-        Some(behind) => Some(behind),
-        None => text.strip_prefix('\t'),
-    }
-}
-
-// The text without the blanks at its back.
-fn without_back_blanks(text: &str) -> &str
-    ensures { result.now ≡ without_back_blanks text.now }
-{
-    let mut rest = text;
-    while let Some(before) = before_blank(rest) {
-        rest = before;
-    }
-    rest
-}
-
-// What stands before the blank that the text ends with.
-fn before_blank(text: &str) -> Option<&str>
-    ensures none { IfNone result (without_back_blanks text.now ≡ text.now) }
-    ensures same { IfSome result (λ before. without_back_blanks text.now ≡ without_back_blanks before.now) }
-    ensures shorter { IfSome result (λ before. length before.now < length text.now) }
-{
-    match text.strip_suffix(' ') {
-        Some(before) => Some(before),
-        None => text.strip_suffix('\t'),
-    }
-}
-
-// The text holds CR or LF.
-fn has_line_end(text: &str) -> bool
-    ensures { result ≡ has_line_end text.now }
-{
-    text.as_bytes().iter().any(|byte| is_line_end(*byte))
 }
 
 // The column of the first CR or LF of the last bytes of a line of this size.
@@ -274,20 +197,7 @@ fn line_end_column(size: usize, bytes: &str) -> u32
     }
 }
 
-// The place of the first CR or LF.
-fn first_line_end(text: &str) -> Option<usize>
-    ensures { result ≡ position is_line_end text.now }
-{
-    text.as_bytes().iter().position(|byte| is_line_end(*byte))
-}
-
-fn is_line_end(byte: u8) -> bool
-    ensures { result ≡ is_line_end byte }
-{
-    byte == b'\r' || byte == b'\n'
-}
-
-#[tactic(auto, unfolding(crate::specs::FieldSteps::column_of))]
+#[tactic(auto, unfolding(crate::specs::Helps::FieldSteps::column_of))]
 // The column, from 1, of the byte with which the last so many bytes of a line of this size begin.
 fn column_of(size: usize, left: usize) -> u32
     ensures { result ≡ column_of size left }

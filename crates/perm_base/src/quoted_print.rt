@@ -1,13 +1,13 @@
 ghost use Rattle.std.specs.Prelude.{◌≡◌, ◌<◌, ◌≤◌, ◌++◌, ℕ, List, IfOk, IsUtf8, Ok, OnOk, length, string_bytes};
 ghost use Rattle.perm_base.specs.Fields.{is_blank};
-ghost use Rattle.perm_base.specs.Lines.{has_byte};
+ghost use Rattle.text_parts.specs.Lines.{has_byte};
 ghost use Rattle.perm_base.specs.LineEnds.{AreFields};
 ghost use Rattle.perm_base.specs.FieldLine.{IsFields, doubled, has_odd_ends, needs_quotes, printed, printed_field};
 
-use crate::quoted::cut_at_quote;
 use crate::rule::Rule;
 use outside::{NoMemory, Text};
 use std::alloc::Global;
+use text_parts::{cut_at, has_byte, is_blank};
 
 /// Prints the fields of a rule, joined by a comma and a blank. A field that is empty, begins or ends with a space or
 /// a tab, begins with `#`, or holds a comma or a double quote is quoted, and a quote in it is doubled.
@@ -15,13 +15,21 @@ pub fn print_fields(alloc: Global, rule: &Rule) -> Result<Text, NoMemory>
     ensures { IfOk result (λ text. text ≡ printed rule.now) }
 {
     let mut text = String::new(alloc);
-    for at in 0..rule.len() {
+    push_fields(&mut text, rule)?;
+    Text::from_str(alloc, text.as_str())
+}
+
+/// Appends the fields of a rule as `print_fields` prints them.
+pub fn push_fields(text: &mut String, rule: &Rule) -> Result<(), NoMemory>
+    ensures { OnOk result (string_bytes text.new ≡ string_bytes text.old ++ printed rule.now) }
+{
+    for (at, field) in rule.fields().iter().enumerate() {
         if at > 0 {
             text.push_str(", ")?;
         }
-        push_field(&mut text, rule.field(at))?;
+        push_field(text, field.as_str())?;
     }
-    Text::from_str(alloc, text.as_str())
+    Ok(())
 }
 
 /// The law that what is printed of a rule of 1 to 34 fields is these fields, so that `read_fields` gives them back.
@@ -31,15 +39,11 @@ pub fn printed_fields_are_read()
 {}
 
 // Appends a field as it is printed.
-fn push_field(text: &mut String, field: &[u8]) -> Result<(), NoMemory>
-    requires { IsUtf8 field.now }
-    ensures { OnOk result (string_bytes text.new ≡ string_bytes text.old ++ printed_field field.now) }
+fn push_field(text: &mut String, field: &str) -> Result<(), NoMemory>
+    ensures { OnOk result
+        (string_bytes text.new ≡ string_bytes text.old ++ printed_field field.now) }
 {
-    let quoted = needs_quotes(field);
-    let Ok(field) = str::from_utf8(field) else {
-        unreachable!()
-    };
-    if !quoted {
+    if !needs_quotes(field) {
         text.push_str(field)?;
         return Ok(());
     }
@@ -54,7 +58,7 @@ fn push_doubled(text: &mut String, field: &str) -> Result<(), NoMemory>
     ensures { OnOk result (string_bytes text.new ≡ string_bytes text.old ++ doubled field.now) }
 {
     let mut rest = field;
-    while let Some((before, after)) = cut_at_quote(rest) {
+    while let Some((before, after)) = cut_at(rest, b'"') {
         text.push_str(before)?;
         text.push_str("\"\"")?;
         rest = after;
@@ -64,28 +68,17 @@ fn push_doubled(text: &mut String, field: &str) -> Result<(), NoMemory>
 }
 
 // The field is quoted when it is printed.
-fn needs_quotes(field: &[u8]) -> bool
+fn needs_quotes(field: &str) -> bool
     ensures { result ≡ needs_quotes field.now }
 {
     field.is_empty() || has_odd_ends(field) || has_byte(field, b',') || has_byte(field, b'"')
 }
 
 // The field begins or ends with a blank, or begins with `#`.
-fn has_odd_ends(field: &[u8]) -> bool
+fn has_odd_ends(field: &str) -> bool
     requires { 0 < length field.now }
     ensures { result ≡ has_odd_ends field.now }
 {
-    field[0] == b'#' || is_blank(field[0]) || is_blank(field[field.len() - 1])
-}
-
-fn has_byte(field: &[u8], byte: u8) -> bool
-    ensures { result ≡ has_byte byte field.now }
-{
-    field.iter().any(|b| *b == byte)
-}
-
-fn is_blank(byte: u8) -> bool
-    ensures { result ≡ is_blank byte }
-{
-    byte == b' ' || byte == b'\t'
+    let bytes = field.as_bytes();
+    bytes[0] == b'#' || is_blank(bytes[0]) || is_blank(bytes[bytes.len() - 1])
 }

@@ -40,6 +40,14 @@ impl RoleShapes {
         &self.shapes
     }
 
+    /// The relations as a `Vec`. It takes no memory.
+    pub fn into_vec(self) -> Vec<RoleShape>
+        ensures value { result.items ≡ self }
+        ensures roles { AreRoles result.items }
+    {
+        self.shapes
+    }
+
     /// The relation of a number, if there is one.
     pub fn find(&self, number: u8) -> Option<RoleShape>
         ensures { result ≡ shape_of self.now number }

@@ -5,9 +5,10 @@ ghost use Rattle.std.specs.Hash as fed;
 ghost use Rattle.std.specs.Str.{bytes_eq};
 ghost use Rattle.std.proofs.lemmas.Cmp.{lists_equiv};
 ghost use Rattle.std.proofs.lemmas.Slice.Eq.{bytes_eq-Decides};
-ghost use Rattle.perm_base.specs.LineEnds.{has_line_end};
+ghost use Rattle.perm_base.specs.LineEnds.{AreFields, has_line_end};
 ghost use Rattle.perm_base.specs.Rule.{line_end_of, IsFirstLineEnd};
 
+use crate::line_ends::has_line_end;
 use outside::{NoMemory, Text};
 use std::alloc::Global;
 use std::hash::{Hash, Hasher};
@@ -70,6 +71,31 @@ impl Rule {
         self.fields[at as usize].bytes()
     }
 
+    /// The text at a place, counted from 0, as a text.
+    pub fn text(&self, at: u32) -> &str
+        requires { at < length self.now }
+        ensures value { slice_get self.now at ≡ Some result.now }
+        ensures whole_line { has_line_end result.now ≡ false }
+    {
+        self.fields[at as usize].as_str()
+    }
+
+    /// Its texts.
+    pub fn fields(&self) -> &[Text]
+        ensures value { result.now ≡ self.now }
+        ensures fields { AreFields result.now }
+    {
+        &self.fields
+    }
+
+    /// Its texts as a `Vec`. It takes no memory.
+    pub fn into_fields(self) -> Vec<Text>
+        ensures value { result.items ≡ self }
+        ensures fields { AreFields result.items }
+    {
+        self.fields
+    }
+
     /// The place of the first text that is this name, counted from 0: where a list of columns has that column.
     pub fn place_of(&self, name: &[u8]) -> Option<u32>
         ensures { result ≡ position (bytes_eq name.now) self.now }
@@ -118,11 +144,5 @@ impl Hash for Rule {
 fn first_line_end(fields: &[Text]) -> Option<usize>
     ensures { result ≡ position has_line_end fields.now }
 {
-    fields.iter().position(|field| has_line_end(field.bytes()))
-}
-
-fn has_line_end(text: &[u8]) -> bool
-    ensures { result ≡ has_line_end text.now }
-{
-    text.iter().any(|byte| *byte == b'\r' || *byte == b'\n')
+    fields.iter().position(|field| has_line_end(field.as_str()))
 }

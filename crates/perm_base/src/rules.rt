@@ -28,6 +28,14 @@ impl Rules {
         Rules { rules }
     }
 
+    /// The rules in their order.
+    pub fn as_slice(&self) -> &[Rule]
+        ensures value { result.now ≡ self.now }
+        ensures few { length result.now < 2 ^ 32 }
+    {
+        &self.rules
+    }
+
     /// The rules as a `Vec`. It takes no memory.
     pub fn into_vec(self) -> Vec<Rule>
         ensures { result.items ≡ self }

@@ -3,7 +3,7 @@ use Rattle.std.proofs.Common.{◌≡◌, ◌≤◌, ℕ, false, cond, List, [], 
 use Rattle.std.specs.Prelude.{All}
 use Rattle.std.proofs.lemmas.List.{append_assoc, append-nil, length-append, map-append}
 use Rattle.std.proofs.lemmas.List.Elements.{All-head, All-nil, All-push, All-tail, All-weaker}
-use Rattle.perm_base.specs.Lines.{full_lines}
+use Rattle.policy_csv.specs.Lines.{full_lines}
 use Rattle.perm_base.specs.Fields.{IsPlainLine, joined}
 use Rattle.policy_csv.specs.FirstPlaces.{first_places, stands}
 use Rattle.policy_csv.specs.Policy.{IsPlainRule, IsPolicy, policy_line}

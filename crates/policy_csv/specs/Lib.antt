@@ -1,2 +1,3 @@
 pub mod FirstPlaces
+pub mod Lines
 pub mod Policy

@@ -1,6 +1,6 @@
 -- The text of a policy: a line for each rule (Casbin, policy: `p` and the fields of the rule).
 use Rattle.std.specs.Prelude.{◌≡◌, ◌≤◌, ℕ, List, ◌++◌, length, map, All, codes}
-use Rattle.perm_base.specs.Lines.{full_lines}
+use Rattle.policy_csv.specs.Lines.{full_lines}
 use Rattle.perm_base.specs.Fields.{joined, IsPlainLine}
 use Rattle.perm_base.specs.declared.fields.PlainFault.{PlainFault}
 use Rattle.perm_base.specs.declared.fields.PlainFault.TheVariants as plain

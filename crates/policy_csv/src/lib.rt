@@ -1,6 +1,7 @@
 //! The reader of policies: a text with a line for each rule.
 #![tactic(auto)]
 
+mod lines;
 mod places;
 mod policy;
 #[cfg(test)]

@@ -2,11 +2,10 @@ ghost use Rattle.std.specs.Prelude.{◌≡◌, ◌++◌, ◌∷◌, ℕ, List, A
 ghost use Rattle.perm_base.specs.Fields.{joined};
 ghost use Rattle.policy_csv.specs.Policy.{IsPlainRule, IsPolicy, policy_line};
 
+use crate::lines::next_full_line;
 use crate::places::{keep, listed};
 use indexmap::IndexSet;
-use perm_base::{
-    NoMemory, PlainFault, Rule, Rules, next_full_line, plain_fields_are_unique, read_plain_fields,
-};
+use perm_base::{NoMemory, PlainFault, Rule, Rules, plain_fields_are_unique, read_plain_fields};
 use std::alloc::Global;
 
 /// Why a text is not read as a policy.
@@ -54,8 +53,11 @@ pub fn read_policy(alloc: Global, bytes: &[u8], columns: u32) -> Result<Rules, P
         → ¬ (IsPolicy columns bytes.now rules) }
     ensures columns { IfOk result (λ rules. All (λ rule. length rule ≡ columns) rules) }
 {
+    let Ok(text) = str::from_utf8(bytes) else {
+        return Err(PolicyFault::NotYet);
+    };
     let mut rules = IndexSet::new(alloc);
-    let mut rest = bytes;
+    let mut rest = text;
     while let Some((line, after)) = next_full_line(rest) {
         let rule = read_line(alloc, line, columns)?;
         keep(&mut rules, rule)?;
@@ -73,7 +75,7 @@ pub fn policies_are_unique()
 }
 
 // Reads the line of a rule.
-fn read_line(alloc: Global, line: &[u8], columns: u32) -> Result<Rule, PolicyFault>
+fn read_line(alloc: Global, line: &str, columns: u32) -> Result<Rule, PolicyFault>
     ensures spelled { IfOk result (λ rule. line.now ≡ policy_line rule) }
     ensures plain { IfOk result (IsPlainRule columns) }
     ensures only { (rule : List (List ℕ)) → IsPlainRule columns rule → line.now ≡ policy_line rule
@@ -86,9 +88,9 @@ fn read_line(alloc: Global, line: &[u8], columns: u32) -> Result<Rule, PolicyFau
 }
 
 // What stands behind the mark of a rule's line.
-fn behind_mark(line: &[u8]) -> Option<&[u8]>
+fn behind_mark(line: &str) -> Option<&str>
     ensures found { IfSome result (λ fields. line.now ≡ codes "p, " ++ fields.now) }
     ensures none { IfNone result ((fields : List ℕ) → ¬ (line.now ≡ codes "p, " ++ fields)) }
 {
-    line.strip_prefix(b"p, ")
+    line.strip_prefix("p, ")
 }

@@ -1,11 +1,11 @@
 -- What proofs here and in the crates above cite of blanks.
-use Rattle.std.proofs.Common.{◌≡◌, ◌≢◌, ℕ, suc, ◌+◌, ◌-◌, ◌<◌, ◌≤◌, ◌&&◌, Bool, true, false, cond, List, [], ◌∷◌, ◌++◌, length, take, drop, drop-cons, get_or, add-one, IsUtf8, refl, sym, ap, ◌∙◌, arith}
+use Rattle.std.proofs.Common.{◌≡◌, ◌≢◌, ℕ, suc, ◌+◌, ◌-◌, ◌<◌, ◌≤◌, ◌&&◌, Bool, true, false, cond, List, [], ◌∷◌, ◌++◌, length, take, drop, drop-cons, get_or, add-one, reverse, IsUtf8, refl, sym, ap, ◌∙◌, arith}
 use Rattle.std.specs.List.{list_all, prefix_len}
 use Rattle.std.proofs.lemmas.Bool.{and_parts, cond-true}
 use Rattle.std.proofs.lemmas.Bool.Decides.{nat_tests}
 use Rattle.std.proofs.lemmas.Str.{IsCharBoundary-after_ascii, IsCharBoundary-before_ascii}
 use Rattle.std.specs.Str.{IsCharBoundary}
-use Rattle.std.proofs.lemmas.List.{append_assoc, append-nil, take_more}
+use Rattle.std.proofs.lemmas.List.{append_assoc, append-nil, reverse-append, reverse-reverse, take_more}
 use Rattle.text_parts.specs.Blanks.{AreBlanks, is_blank, behind_blanks, before_blanks}
 
 -- blanks are ASCII
@@ -64,6 +64,18 @@ before_blanks-blanks bytes [] blank = ap before_blanks (append-nil bytes)
 before_blanks-blanks bytes (b ∷ blanks) blank =
     let parts = and_parts (is_blank b) (list_all is_blank blanks) blank in
     ap before_blanks (sym (append_assoc bytes (b ∷ []) blanks)) ∙ before_blanks-blanks (bytes ++ b ∷ []) blanks parts.1 ∙ before_blanks-push bytes b parts.0
+
+reversed_at : (blank : Bool) (byte : ℕ) (text : List ℕ) → is_blank byte ≡ blank → before_blanks (reverse text) ≡ reverse (behind_blanks text) → before_blanks (reverse (byte ∷ text)) ≡ reverse (cond blank (behind_blanks text) (byte ∷ text))
+reversed_at true byte text e rest = ap before_blanks (reverse-append (byte ∷ []) text) ∙ before_blanks-push (reverse text) byte e ∙ rest
+reversed_at false byte text e rest = ap before_blanks (reverse-append (byte ∷ []) text) ∙ before_blanks-other (reverse text) byte e ∙ sym (reverse-append (byte ∷ []) text)
+
+reversed : (text : List ℕ) → before_blanks (reverse text) ≡ reverse (behind_blanks text)
+reversed [] = refl
+reversed (byte ∷ text) = reversed_at (is_blank byte) byte text refl (reversed text)
+
+-- the end of a text is the front of what it is backwards
+pub before_blanks-reverse : (text : List ℕ) → before_blanks text ≡ reverse (behind_blanks (reverse text))
+before_blanks-reverse text = ap before_blanks (sym (reverse-reverse text)) ∙ reversed (reverse text)
 
 -- what was dropped at the end
 pub record Back (text : List ℕ) : Type 0 where

@@ -1,16 +1,17 @@
 -- What proofs here and in the crates above cite of bytes, lines, lines that are passed over, and identifiers.
-use Rattle.std.proofs.Common.{◌≡◌, ◌≢◌, ℕ, zero, suc, ◌+◌, ◌-◌, ◌<◌, ◌≤◌, ◌||◌, ◌&&◌, Bool, true, false, cond, not, List, [], ◌∷◌, ◌++◌, length, take, drop, get_or, eqb, ltb, Option, Some, None, IsUtf8, refl, sym, ap, ◌∙◌, subst, arith, rules, tests}
+use Rattle.std.proofs.Common.{◌≡◌, ◌≢◌, ℕ, zero, suc, ◌+◌, ◌-◌, ◌<◌, ◌≤◌, ◌||◌, ◌&&◌, Bool, true, false, cond, not, List, [], ◌∷◌, ◌++◌, length, take, drop, get_or, eqb, Option, Some, None, IsUtf8, refl, sym, ap, ◌∙◌, subst, arith, rules, tests}
 use Rattle.std.specs.Prelude.{position}
 use Rattle.std.specs.Char.{is_ascii_digit}
-use Rattle.std.specs.List.{onto_first, list_any, list_all, position_or_len, prefix_len, AllByRecursion}
+use Rattle.std.specs.List.{onto_first, list_any, list_all, position_from, prefix_len, AllByRecursion}
 use Rattle.std.specs.Str.{IsCharBoundary}
-use Rattle.std.proofs.lemmas.Bool.{and_parts, cond-true, eqb-true, eqb-false, ltb-false, ne_eqb, or_parts}
+use Rattle.std.proofs.lemmas.Bool.{and_parts, cond-true, eqb-true, eqb-false, ne_eqb, or_parts}
 use Rattle.std.proofs.lemmas.Bool.Decides.{nat_tests}
-use Rattle.std.proofs.lemmas.List.{append_assoc, get_or-take, length-take, take_all}
-use Rattle.std.proofs.lemmas.List.Folds.{list_any_none}
+use Rattle.std.proofs.lemmas.List.{append-nil, append_assoc, get_or-take, length-take, take_all}
+use Rattle.std.proofs.lemmas.Iterator.Adapters.{position_from-zero}
+use Rattle.std.proofs.lemmas.List.Folds.{list_any-append, list_any_none}
 use Rattle.std.proofs.lemmas.List.Quantifiers.{position-Some}
 use Rattle.std.proofs.lemmas.List.Sums.{list_all-from_AllPass, prefix_len-le-length, prefix_len_passes}
-use Rattle.std.proofs.lemmas.Str.{IsCharBoundary-start, IsCharBoundary-after_ascii}
+use Rattle.std.proofs.lemmas.Str.{IsCharBoundary-start, IsCharBoundary-after_ascii, IsUtf8-append, IsUtf8-from_ascii, IsUtf8-nil}
 use Rattle.text_parts.specs.Blanks.{is_blank, behind_blanks}
 use Rattle.text_parts.specs.Lines.{has_byte, lines_of, with_ends, without_cr}
 use Rattle.text_parts.specs.Names.{is_identifier, is_letter, is_word}
@@ -18,21 +19,17 @@ use Rattle.text_parts.specs.Passed.{is_passed_by}
 
 -- ---- the first place that passes a test
 
-none_at : {X : Type 0} (p : X → Bool) (b : Bool) (xs : List X) → (position_or_len p xs ≡ length xs → list_any p xs ≡ false) → cond (not b) (1 + position_or_len p xs) 0 ≡ suc (length xs) → (b || list_any p xs) ≡ false
-none_at p true xs rest e = absurd (omega arith)
-none_at p false xs rest e = rest (omega arith)
-
-none_before_the_end : {X : Type 0} (p : X → Bool) (xs : List X) → position_or_len p xs ≡ length xs → list_any p xs ≡ false
-none_before_the_end p [] e = refl
-none_before_the_end p (x ∷ xs) e = none_at p (p x) xs (none_before_the_end p xs) e
-
-none_within : {X : Type 0} (p : X → Bool) (xs : List X) (b : Bool) → ltb (position_or_len p xs) (length xs) ≡ b → cond b (Some (position_or_len p xs)) None ≡ None → list_any p xs ≡ false
-none_within p xs true within e = absurd cc
-none_within p xs false within e = none_before_the_end p xs (let past = ltb-false _ _ within in omega (arith, prefix_len-le-length (λ x. not (p x)) xs))
+none_from : {X : Type 0} (p : X → Bool) (xs : List X) (at : ℕ) → position_from p at xs ≡ None → list_any p xs ≡ false
+none_from p [] at e = refl
+none_from p (x ∷ xs) at e = past (p x) e (none_from p xs (at + 1))
+  where
+    past : (b : Bool) → cond b (Some at) (position_from p (at + 1) xs) ≡ None → (position_from p (at + 1) xs ≡ None → list_any p xs ≡ false) → (b || list_any p xs) ≡ false
+    past true here rest = absurd cc
+    past false none rest = rest none
 
 -- where no place passes, no element does
 pub position-None : {X : Type 0} (p : X → Bool) (xs : List X) → position p xs ≡ None → list_any p xs ≡ false
-position-None p xs e = none_within p xs (ltb (position_or_len p xs) (length xs)) refl e
+position-None p xs e = none_from p xs 0 (sym (position_from-zero p xs) ∙ e)
 
 -- before the first element that passes none does
 pub position-none_before : {X : Type 0} (p : X → Bool) (xs : List X) (at : ℕ) → position p xs ≡ Some at → list_any p (take at xs) ≡ false
@@ -127,6 +124,29 @@ pub lines_of-with_ends : (texts : List (List ℕ)) (rest : List ℕ) → AllByRe
 lines_of-with_ends [] rest lines = refl
 lines_of-with_ends (text ∷ texts) rest lines =
     simp append_assoc (lines_of-cut text (with_ends texts ++ rest) lines.0 ∙ ap (λ (back : List (List ℕ)). text ∷ back) (lines_of-with_ends texts rest lines.1))
+
+-- a text whose lines are UTF-8 is UTF-8
+utf8_at : (front bytes : List ℕ) (byte : ℕ) (feed : Bool) → eqb byte 10 ≡ feed → has_byte 10 front ≡ false → AllByRecursion IsUtf8 (lines_of (front ++ byte ∷ bytes))
+    → (AllByRecursion IsUtf8 (lines_of bytes) → IsUtf8 bytes) → (has_byte 10 (front ++ byte ∷ []) ≡ false → AllByRecursion IsUtf8 (lines_of ((front ++ byte ∷ []) ++ bytes)) → IsUtf8 ((front ++ byte ∷ []) ++ bytes)) → IsUtf8 (front ++ byte ∷ bytes)
+utf8_at front bytes byte true e none all rest more =
+    let same : byte ≡ 10 = eqb-true byte 10 e in
+    let parts = subst (AllByRecursion IsUtf8) (ap (λ (b : ℕ). lines_of (front ++ b ∷ bytes)) same ∙ lines_of-cut front bytes none) all in
+    let ended : IsUtf8 (10 ∷ bytes) = IsUtf8-append (10 ∷ []) bytes (IsUtf8-from_ascii (10 ∷ []) (search (rules, tests))) (rest parts.1) in
+    subst (λ (b : ℕ). IsUtf8 (front ++ b ∷ bytes)) (sym same) (IsUtf8-append front (10 ∷ bytes) parts.0 ended)
+utf8_at front bytes byte false e none all rest more =
+    let whole : (front ++ byte ∷ []) ++ bytes ≡ front ++ byte ∷ bytes = append_assoc front (byte ∷ []) bytes in
+    let still : has_byte 10 (front ++ byte ∷ []) ≡ false = list_any-append (λ b. eqb b 10) front (byte ∷ []) ∙ rw (none, e) refl in
+    subst IsUtf8 whole (more still (subst (λ (t : List ℕ). AllByRecursion IsUtf8 (lines_of t)) (sym whole) all))
+
+utf8_from : (front bytes : List ℕ) → has_byte 10 front ≡ false → AllByRecursion IsUtf8 (lines_of (front ++ bytes)) → IsUtf8 (front ++ bytes)
+utf8_from [] [] none all = IsUtf8-nil
+utf8_from (first ∷ front) [] none all =
+    let whole : (first ∷ front) ++ [] ≡ first ∷ front = append-nil (first ∷ front) in
+    subst IsUtf8 (sym whole) (subst (AllByRecursion IsUtf8) (ap lines_of whole ∙ lines_of-last (first ∷ front) (omega arith) none) all).0
+utf8_from front (byte ∷ bytes) none all = utf8_at front bytes byte (eqb byte 10) refl none all (utf8_from [] bytes refl) (utf8_from (front ++ byte ∷ []) bytes)
+
+pub IsUtf8-from_lines : (text : List ℕ) → AllByRecursion IsUtf8 (lines_of text) → IsUtf8 text
+IsUtf8-from_lines text all = utf8_from [] text refl all
 
 -- the CR at the end of a line
 pub without_cr-cr : (front : List ℕ) → without_cr (front ++ 13 ∷ []) ≡ front

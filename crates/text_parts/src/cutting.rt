@@ -1,4 +1,4 @@
-ghost use Rattle.std.specs.Prelude.{◌≡◌, ◌<◌, ◌∷◌, ◌++◌, false, IfNone, IfSome};
+ghost use Rattle.std.specs.Prelude.{◌≡◌, ◌<◌, ◌∷◌, ◌++◌, ℕ, List, false, IfNone, IfSome, MatchOption};
 ghost use Rattle.text_parts.specs.Lines.{has_byte};
 
 /// What stands before the first such byte of ASCII in a text, and what stands behind it.
@@ -10,6 +10,15 @@ pub fn cut_at(text: &str, byte: u8) -> Option<(&str, &str)>
 {
     let at = text.as_bytes().iter().position(|b| *b == byte)?;
     Some((&text[..at], &text[at + 1..]))
+}
+
+/// What stands behind this byte of ASCII, if the text begins with it.
+pub fn behind(text: &str, byte: u8) -> Option<&str>
+    requires { byte < 128 }
+    ensures { MatchOption result ((rest : List ℕ) → ¬ (text.now ≡ byte ∷ rest))
+        (λ rest. text.now ≡ byte ∷ rest.now) }
+{
+    text.strip_prefix(char::from(byte))
 }
 
 /// The text holds the byte.

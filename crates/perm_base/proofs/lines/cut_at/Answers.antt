@@ -1,8 +1,7 @@
 use Rattle.std.proofs.Common.{eqb, sym, ◌∙◌, rules, tests}
 use Rattle.std.proofs.lemmas.Iterator.{YieldsList-from_slice}
 use Rattle.std.proofs.lemmas.Iterator.Search.{position_from_yields_List}
-use Rattle.perm_base.proofs.LineLemmas.{none_before}
-use Rattle.perm_base.proofs.Tests.{position-None}
+use Rattle.text_parts.proofs.CallerLemmas.{position-None, position-none_before}
 use Rattle.perm_base.proofs.lines.cut_at.Goals as goal
 
 pub returns-in_err-at-clause-none : goal.returns-in_err-at-clause-none
@@ -13,4 +12,4 @@ returns-in_err-at-clause-none c =
 pub returns-clause-first : goal.returns-clause-first
 returns-clause-first c =
     let place = position_from_yields_List (λ b. eqb b c.args.byte) _ _ c.position.result c.position.ensures.ran (YieldsList-from_slice c.args.text.now c.iter.ensures.rest) (λ x b q k. search (rules, tests)) in
-    none_before c.args.byte c.args.text.now c.in_ok-at.at (sym place ∙ c.in_ok-at.was)
+    position-none_before (λ b. eqb b c.args.byte) c.args.text.now c.in_ok-at.at (sym place ∙ c.in_ok-at.was)

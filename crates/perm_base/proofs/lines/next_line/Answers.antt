@@ -1,7 +1,7 @@
 use Rattle.std.proofs.Common.{◌≡◌, ◌<◌, [], length, refl, ap, ◌∙◌, rules, tests}
 use Rattle.std.proofs.lemmas.List.{nil_from_length}
-use Rattle.perm_base.specs.Lines.{lines_of}
-use Rattle.perm_base.proofs.LineLemmas.{lines_of-cut, lines_of-last}
+use Rattle.text_parts.specs.Lines.{lines_of}
+use Rattle.text_parts.proofs.CallerLemmas.{lines_of-cut, lines_of-last}
 use Rattle.perm_base.proofs.lines.next_line.Goals as goal
 
 pub returns-then-is_empty-clause-none : goal.returns-then-is_empty-clause-none

@@ -1,7 +1,7 @@
 use Rattle.std.proofs.Common.{◌≡◌, ◌<◌, length, Err, arith}
 use Rattle.std.proofs.lemmas.Bool.Decides.{nat_tests}
 use Rattle.perm_base.specs.declared.quoted.FieldFault.TheVariants.{Quote}
-use Rattle.perm_base.specs.FieldSteps.{closed_field, column_of}
+use Rattle.perm_base.specs.Helps.FieldSteps.{closed_field, column_of}
 use Rattle.perm_base.proofs.QuotedLemmas.{closed_end, closed_comma, closed_other}
 use Rattle.perm_base.proofs.quoted.closed_field.Goals as goal
 
@@ -11,7 +11,7 @@ returns-then-is_empty c =
     closed_end c.args.size c.args.text c.args.after.now none
 
 pub returns-in-Some : goal.returns-in-Some
-returns-in-Some c = closed_comma c.args.size c.args.text c.args.after.now c.in-Some.behind.now c.in-Some.ensures
+returns-in-Some c = closed_comma c.args.size c.args.text c.args.after.now c.in-Some.rest.now c.in-Some.ensures
 
 pub returns-in-None : goal.returns-in-None
 returns-in-None c =

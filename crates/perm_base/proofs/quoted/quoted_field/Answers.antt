@@ -1,7 +1,7 @@
 use Rattle.std.proofs.Common.{◌≡◌, ◌+◌, Some, None, Err, true, false, length, ap, sym, ◌∙◌}
 use Rattle.perm_base.specs.LineEnds.{has_line_end}
 use Rattle.perm_base.specs.declared.quoted.FieldFault.TheVariants.{Quote}
-use Rattle.perm_base.specs.FieldSteps.{closed_field, column_of, quoted_field, quoted_text}
+use Rattle.perm_base.specs.Helps.FieldSteps.{closed_field, column_of, quoted_field, quoted_text}
 use Rattle.perm_base.proofs.QuotedLemmas.{quoted_open, quoted_fault, quoted_closed}
 use Rattle.perm_base.proofs.quoted.quoted_field.Goals as goal
 
@@ -21,5 +21,5 @@ pub returns : goal.returns
 returns c =
     let found : quoted_text c.args.inside.now ≡ Some (c.in-Some.text, c.in-Some.after.now) = sym (rw c.in-Some.is at c.in_ok-text.ensures) in
     let none : has_line_end c.in-Some.text ≡ false = cc in
-    let e : quoted_field c.args.size c.args.inside.now ≡ closed_field c.args.size c.in-Some.text c.without_front_blanks.result.now = quoted_closed c.args.size c.args.inside.now c.in-Some.text c.in-Some.after.now found none ∙ ap (closed_field c.args.size c.in-Some.text) (sym c.without_front_blanks.ensures) in
+    let e : quoted_field c.args.size c.args.inside.now ≡ closed_field c.args.size c.in-Some.text c.behind_blanks.result.now = quoted_closed c.args.size c.args.inside.now c.in-Some.text c.in-Some.after.now found none ∙ ap (closed_field c.args.size c.in-Some.text) (sym c.behind_blanks.ensures) in
     rw e c.closed_field.ensures

@@ -4,9 +4,9 @@ use Rattle.perm_base.proofs.quoted_print.push_doubled.Goals as goal
 
 pub loop-before-preserved : goal.loop-before-preserved
 loop-before-preserved c = record {
-  same = doubled_step _ _ _ c.loop-before.rest.now c.in-Some.before.now c.in-Some.after.now _ c.loop-before.invariant.same c.in-Some.ensures c.in_ok-push_str.ensures.bytes c.in_ok-push_str-2.ensures.bytes;
+  same = doubled_step _ _ _ c.loop-before.rest.now c.in-Some.before.now c.in-Some.after.now _ c.loop-before.invariant.same (record { parts = c.in-Some.ensures.parts; first = c.in-Some.ensures.first }) c.in_ok-push_str.ensures.bytes c.in_ok-push_str-2.ensures.bytes;
   utf8 = search rules;
 }
 
 pub returns : goal.returns
-returns c = doubled_last _ _ c.loop-before.rest.now _ c.loop-before.invariant.same c.in_default.ensures c.in_ok-push_str-3.ensures.bytes
+returns c = doubled_last _ _ c.loop-before.rest.now _ c.loop-before.invariant.same c.in_default.ensures.none c.in_ok-push_str-3.ensures.bytes

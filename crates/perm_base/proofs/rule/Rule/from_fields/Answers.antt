@@ -1,6 +1,6 @@
 use Rattle.std.proofs.Common.{arith, sym}
 use Rattle.perm_base.specs.LineEnds.{has_line_end}
-use Rattle.perm_base.proofs.Tests.{position-None}
+use Rattle.text_parts.proofs.CallerLemmas.{position-None}
 use Rattle.perm_base.proofs.rule.Rule.from_fields.Goals as goal
 
 pub invariant_of-result : goal.invariant_of-result

@@ -1,9 +1,0 @@
-use Rattle.std.proofs.Common.{rules, tests, ap, ◌∙◌}
-use Rattle.std.specs.Prelude.{position}
-use Rattle.std.proofs.lemmas.Iterator.{YieldsList-from_slice}
-use Rattle.std.proofs.lemmas.Iterator.Search.{position_from_yields_List}
-use Rattle.perm_base.specs.LineEnds.{is_line_end}
-use Rattle.perm_base.proofs.quoted.first_line_end.Goals as goal
-
-pub returns : goal.returns
-returns c = position_from_yields_List is_line_end _ _ _ c.position.ensures.ran (YieldsList-from_slice _ c.iter.ensures.rest) (λ x b q k. search (rules, tests)) ∙ ap (position is_line_end) c.as_bytes.ensures.value

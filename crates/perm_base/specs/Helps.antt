@@ -1,0 +1,2 @@
+-- Helps for proofs, which no public clause cites.
+pub mod FieldSteps
