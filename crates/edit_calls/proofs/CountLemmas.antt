@@ -15,7 +15,7 @@ use Rattle.policy_table.specs.Changes.{applies, changed, changed_rules, edited, 
 use Rattle.policy_table.specs.Tables.{Lists, most_tables, place, rows, same}
 use Rattle.policy_table.specs.declared.change.Change.{Change}
 use Rattle.policy_table.specs.declared.change.Change.TheVariants.{Insert, Remove, Replace}
-use Rattle.edit_calls.specs.Counts.{inserts, is_table, removes}
+use Rattle.edit_calls.specs.Helps.Counts.{inserts, is_table, removes}
 use Rattle.edit_calls.proofs.RowLemmas.{distinct_changed, is_insert, is_remove, length_changed}
 use Rattle.edit_calls.proofs.PlaceLemmas.{left_of, one_table, place_few, right_of}
 

@@ -10,7 +10,7 @@ use Rattle.std.proofs.lemmas.List.{append-nil, map_push, take_more, take-append-
 use Rattle.std.proofs.lemmas.List.Elements.{All-contains, filter-append}
 use Rattle.std.proofs.lemmas.List.Folds.{list_any-append}
 use Rattle.std.proofs.lemmas.Map.Views.{Contains-from_any, any-filter_same}
-use Rattle.std.proofs.lemmas.Option.{same_Some, get_or_from_slice_get, slice_get_within}
+use Rattle.std.proofs.lemmas.Option.{get_or_from_slice_get, slice_get_within}
 use Rattle.std.specs.List.{list_any}
 use Rattle.policy_table.specs.Tables.{Fields, same, stands}
 use Rattle.policy_table.specs.declared.change.Change.{Change}
@@ -139,20 +139,6 @@ module _ (rules seen : List Fields) (at : ℕ) (rule : Fields) (added : Bool)
   -- and none of those is named twice
   pub once_next : added ≡ true → has_repeat (take at rules) ≡ false → has_repeat (take (at + 1) rules) ≡ false
   once_next new once = ap has_repeat (taken rules at rule here) ∙ repeat_none (take at rules) rule once (stood true new)
-
--- the old rules of pairs, and the new ones
-abbrev olds : List (Fields × Fields) → List Fields
-olds pairs = map (λ (pair : Fields × Fields). pair.0) pairs
-
-abbrev news : List (Fields × Fields) → List Fields
-news pairs = map (λ (pair : Fields × Fields). pair.1) pairs
-
--- the pair at a place has the old rule and the new one there
-pub pair_here : (pairs : List (Fields × Fields)) (at : ℕ) (old new : Fields) → slice_get (olds pairs) at ≡ Some old → slice_get (news pairs) at ≡ Some new
-    → slice_get pairs at ≡ Some (old, new)
-pair_here [] at old new first second = absurd cc
-pair_here (pair ∷ pairs) zero old new first second = λ j. Some (same_Some pair.0 old first j, same_Some pair.1 new second j)
-pair_here (pair ∷ pairs) (suc at) old new first second = pair_here pairs at old new first second
 
 -- one more than a number is not zero
 not_zero : (n : ℕ) → eqb (suc n) 0 ≡ false

@@ -9,7 +9,7 @@ use Rattle.perm_base.specs.declared.shapes.TableId.TheVariants.{P, G}
 use Rattle.policy_table.specs.Changes.{applies, changed, edited, table_of}
 use Rattle.policy_table.specs.Tables.{Lists, most_tables, rows}
 use Rattle.policy_table.specs.declared.change.Change.{Change}
-use Rattle.edit_calls.specs.Counts.{domain_limit, is_of_roles, is_table}
+use Rattle.edit_calls.specs.Helps.Counts.{domain_limit, is_of_roles, is_table}
 use Rattle.edit_calls.specs.Limits.{different, domain_pairs, domains_of, passed, pattern_rows, role_rows, with_domains}
 use Rattle.edit_calls.specs.declared.limit.Limit.{Limit}
 use Rattle.edit_calls.specs.declared.limit.Limit.TheVariants.{PolicyRows, RoleRows, PatternRows, Domains}

@@ -87,47 +87,33 @@ module _ (columns : ℕ) where
       pub rule-passes : other_length columns (rule ∷ []) ≡ None → other_length columns (drop (at + 1) rules) ≡ whole
       rule-passes is = rule_there None is
 
--- what stands at a place of a mapped list is made of what stands there
-at_mapped : {X Y : Type 0} (f : X → Y) (xs : List X) (at : ℕ) (d : X) (y : Y) → slice_get (map f xs) at ≡ Some y → (at < length xs) × (f (get_or xs at d) ≡ y)
-at_mapped f xs at d y there =
-    let within : at < length xs = omega (arith, slice_get_within (map f xs) at y there, length-map xs f) in
-    (within, sym (get_or-map f xs at d y within) ∙ get_or_from_slice_get (map f xs) at y y there)
-
-module _ (columns : ℕ) (pairs : List (Fields × Fields)) (at : ℕ) (old : Fields) (there : slice_get (map (λ (pair : Fields × Fields). pair.0) pairs) at ≡ Some old) where
+module _ (columns : ℕ) (pairs : List (Fields × Fields)) (at : ℕ) (pair : Fields × Fields) (there : slice_get pairs at ≡ Some pair) where
   -- the rules behind the pair here
   abbrev behind : List Fields
   behind = both_rules (drop (at + 1) pairs)
 
-  -- the new rule here
-  abbrev beside : Fields
-  beside = (get_or pairs at ([], [])).1
-
   -- the rules from this pair on begin with its two
-  both_there : both_rules (drop at pairs) ≡ old ∷ beside ∷ behind
-  both_there =
-      let here = at_mapped (λ (pair : Fields × Fields). pair.0) pairs at ([], []) old there in
-      ap both_rules (drop_more pairs at ([], []) here.0) ∙ ap (λ (rule : Fields). rule ∷ beside ∷ behind) here.1
+  both_there : both_rules (drop at pairs) ≡ pair.0 ∷ pair.1 ∷ behind
+  both_there = ap both_rules (drop_there pairs at pair there)
 
   module _ (whole : Option CallRefused) (left : other_length columns (both_rules (drop at pairs)) ≡ whole) where
     -- the refusal from this pair on
-    old_there : (first : Option CallRefused) → other_length columns (old ∷ []) ≡ first → option_or first (other_length columns (beside ∷ behind)) ≡ whole
-    old_there first is = sym (ap (other_length columns) both_there ∙ by_first columns old (beside ∷ behind) first is) ∙ left
+    old_there : (first : Option CallRefused) → other_length columns (pair.0 ∷ []) ≡ first → option_or first (other_length columns (pair.1 ∷ behind)) ≡ whole
+    old_there first is = sym (ap (other_length columns) both_there ∙ by_first columns pair.0 (pair.1 ∷ behind) first is) ∙ left
 
     -- the old rule here is refused
-    pub old-refused : (refused : CallRefused) → other_length columns (old ∷ []) ≡ Some refused → Some refused ≡ whole
+    pub old-refused : (refused : CallRefused) → other_length columns (pair.0 ∷ []) ≡ Some refused → Some refused ≡ whole
     old-refused refused is = old_there (Some refused) is
 
-    module _ (new : Fields) (next : slice_get (map (λ (pair : Fields × Fields). pair.1) pairs) at ≡ Some new) (passes : other_length columns (old ∷ []) ≡ None) where
+    module _ (passes : other_length columns (pair.0 ∷ []) ≡ None) where
       -- the refusal behind an old rule that is not refused
-      new_there : (first : Option CallRefused) → other_length columns (new ∷ []) ≡ first → option_or first (other_length columns behind) ≡ whole
-      new_there first is =
-          let same : beside ≡ new = (at_mapped (λ (pair : Fields × Fields). pair.1) pairs at ([], []) new next).1 in
-          sym (ap (λ (rule : Fields). other_length columns (rule ∷ behind)) same ∙ by_first columns new behind first is) ∙ old_there None passes
+      new_there : (first : Option CallRefused) → other_length columns (pair.1 ∷ []) ≡ first → option_or first (other_length columns behind) ≡ whole
+      new_there first is = sym (by_first columns pair.1 behind first is) ∙ old_there None passes
 
       -- the new rule here is refused
-      pub new-refused : (refused : CallRefused) → other_length columns (new ∷ []) ≡ Some refused → Some refused ≡ whole
+      pub new-refused : (refused : CallRefused) → other_length columns (pair.1 ∷ []) ≡ Some refused → Some refused ≡ whole
       new-refused refused is = new_there (Some refused) is
 
       -- neither is refused
-      pub pair-passes : other_length columns (new ∷ []) ≡ None → other_length columns behind ≡ whole
+      pub pair-passes : other_length columns (pair.1 ∷ []) ≡ None → other_length columns behind ≡ whole
       pair-passes is = new_there None is

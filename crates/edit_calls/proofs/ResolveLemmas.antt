@@ -16,7 +16,7 @@ use Rattle.policy_table.specs.Changes.{applies}
 use Rattle.policy_table.specs.Tables.{Fields, Lists, most_tables, place, rows, same}
 use Rattle.policy_table.specs.declared.change.Change.{Change}
 use Rattle.edit_calls.specs.Edits.{edit_by}
-use Rattle.edit_calls.specs.Kept.{AreFitted}
+use Rattle.edit_calls.specs.Helps.Kept.{AreFitted}
 use Rattle.edit_calls.specs.Limits.{HaveShapes, columns_of, role_columns}
 use Rattle.edit_calls.specs.Refusals.{added_rules, bad_filter, filter_fault, has_long_field, named_rules, other_length, refusal, table_of}
 use Rattle.edit_calls.specs.declared.call.Call.{Call}

@@ -84,14 +84,28 @@ impl Pairs {
         Pairs { pairs }
     }
 
-    // How many pairs there are.
+    /// The pairs in their order.
+    pub fn as_slice(&self) -> &[(Rule, Rule)]
+        ensures { result.now ≡ self.now }
+    {
+        &self.pairs
+    }
+
+    /// The pairs as a `Vec`. It takes no memory.
+    pub fn into_vec(self) -> Vec<(Rule, Rule)>
+        ensures { result.items ≡ self }
+    {
+        self.pairs
+    }
+
+    /// How many pairs there are.
     pub(crate) fn len(&self) -> u32
         ensures { result ≡ length self.now }
     {
         self.pairs.len() as u32
     }
 
-    // The old rule of a pair.
+    /// The old rule of a pair.
     pub(crate) fn old(&self, at: u32) -> &Rule
         requires { at < length self.now }
         ensures { slice_get (map (λ pair. pair.0) self.now) at ≡ Some result.now }
@@ -99,7 +113,7 @@ impl Pairs {
         &self.pairs[at as usize].0
     }
 
-    // The new rule of a pair.
+    /// The new rule of a pair.
     pub(crate) fn new(&self, at: u32) -> &Rule
         requires { at < length self.now }
         ensures { slice_get (map (λ pair. pair.1) self.now) at ≡ Some result.now }

@@ -3,13 +3,12 @@ ghost use Rattle.edit_calls.specs.Edits.{fitting, inserts, removes, rows_with};
 ghost use Rattle.policy_table.specs.Tables.{rows, stands};
 ghost use Rattle.policy_table.specs.declared.change.Change.TheVariants as change;
 
-use crate::call::Pairs;
 use crate::listed::RuleList;
 use perm_base::{NoMemory, Rule, TableId};
 use policy_table::{Change, Tables, fits_filter};
 use std::alloc::Global;
 
-// The changes that put rules into a table.
+/// The changes that put rules into a table.
 pub(crate) fn inserts<L: RuleList>(
     alloc: Global,
     table: TableId,
@@ -22,14 +21,15 @@ pub(crate) fn inserts<L: RuleList>(
     Ok(changes)
 }
 
-// Puts behind changes those that put rules into a table.
+/// Puts behind changes those that put rules into a table.
 pub(crate) fn push_inserts<L: RuleList>(
     alloc: Global,
     changes: &mut Vec<Change>,
     table: TableId,
     rules: &L,
 ) -> Result<(), NoMemory>
-    ensures { OnOk result (changes.new.items ≡ changes.old.items ++ inserts table (L.rules rules.now)) }
+    ensures { OnOk result (changes.new.items
+        ≡ changes.old.items ++ inserts table (L.rules rules.now)) }
 {
     for at in 0..rules.len() {
         let rule = rules.at(at).copy(alloc)?;
@@ -38,14 +38,15 @@ pub(crate) fn push_inserts<L: RuleList>(
     Ok(())
 }
 
-// The changes that put the absent ones of rules into a table.
+/// The changes that put the absent ones of rules into a table.
 pub(crate) fn inserts_absent<L: RuleList>(
     alloc: Global,
     tables: &Tables,
     table: TableId,
     rules: &L,
 ) -> Result<Vec<Change>, NoMemory>
-    ensures { IfOk result (λ changes. changes.items ≡ inserts table (filter (λ rule. not (stands rule (rows tables.now.lists table))) (L.rules rules.now))) }
+    ensures { IfOk result (λ changes. changes.items ≡ inserts table
+        (filter (λ rule. not (stands rule (rows tables.now.lists table))) (L.rules rules.now))) }
 {
     let mut changes = Vec::new(alloc);
     for at in 0..rules.len() {
@@ -58,7 +59,7 @@ pub(crate) fn inserts_absent<L: RuleList>(
     Ok(changes)
 }
 
-// The changes that take rules out of a table.
+/// The changes that take rules out of a table.
 pub(crate) fn removes<L: RuleList>(
     alloc: Global,
     table: TableId,
@@ -74,24 +75,25 @@ pub(crate) fn removes<L: RuleList>(
     Ok(changes)
 }
 
-// The changes that put new rules into the places of old ones.
+/// The changes that put new rules into the places of old ones.
 pub(crate) fn replaces(
     alloc: Global,
     table: TableId,
-    pairs: &Pairs,
+    pairs: &[(Rule, Rule)],
 ) -> Result<Vec<Change>, NoMemory>
-    ensures { IfOk result (λ changes. changes.items ≡ map (λ pair. change.Replace table pair.0 pair.1) pairs.now) }
+    ensures { IfOk result (λ changes. changes.items
+        ≡ map (λ pair. change.Replace table pair.0 pair.1) pairs.now) }
 {
     let mut changes = Vec::new(alloc);
-    for at in 0..pairs.len() {
-        let old = pairs.old(at).copy(alloc)?;
-        let new = pairs.new(at).copy(alloc)?;
+    for pair in pairs {
+        let old = pair.0.copy(alloc)?;
+        let new = pair.1.copy(alloc)?;
         changes.push(Change::Replace { table, old, new })?;
     }
     Ok(changes)
 }
 
-// The changes that take the rules out of a table that fit a filter.
+/// The changes that take the rules out of a table that fit a filter.
 pub(crate) fn removes_fitting(
     alloc: Global,
     table: TableId,
@@ -100,7 +102,8 @@ pub(crate) fn removes_fitting(
     values: &Rule,
 ) -> Result<Vec<Change>, NoMemory>
     requires { All (λ rule. at + length values.now ≤ length rule) rows.now }
-    ensures { IfOk result (λ changes. changes.items ≡ removes table (fitting at values.now rows.now)) }
+    ensures { IfOk result (λ changes. changes.items
+        ≡ removes table (fitting at values.now rows.now)) }
 {
     let mut changes = Vec::new(alloc);
     for row in rows {
@@ -112,7 +115,7 @@ pub(crate) fn removes_fitting(
     Ok(changes)
 }
 
-// Puts behind changes those that take the rules out of a table that have a name in a column.
+/// Puts behind changes those that take the rules out of a table that have a name in a column.
 pub(crate) fn push_removes_with(
     alloc: Global,
     changes: &mut Vec<Change>,
@@ -122,7 +125,8 @@ pub(crate) fn push_removes_with(
     name: &[u8],
 ) -> Result<(), NoMemory>
     requires { All (λ rule. column < length rule) rows.now }
-    ensures { OnOk result (changes.new.items ≡ changes.old.items ++ removes table (rows_with column name.now rows.now)) }
+    ensures { OnOk result (changes.new.items
+        ≡ changes.old.items ++ removes table (rows_with column name.now rows.now)) }
 {
     for row in rows {
         if name == row.field(column) {

@@ -1,5 +1,5 @@
 ghost use Rattle.std.specs.Prelude.{◌≡◌, ◌<◌, ◌≤◌, ◌^◌, [], IfOk, IsUtf8, filter, get_or, length};
-ghost use Rattle.edit_calls.specs.Counts.{pairs_of, patterns_of};
+ghost use Rattle.edit_calls.specs.Helps.Counts.{pairs_of, patterns_of};
 ghost use Rattle.edit_calls.specs.Limits.{different, domain_pairs, domains_of, pattern_rows};
 ghost use Rattle.perm_base.specs.Patterns.{is_pattern};
 
@@ -8,7 +8,7 @@ use perm_base::{Fit, NoMemory, RoleShape, Rule, Shapes, TableId, Text, is_patter
 use policy_table::Tables;
 use std::alloc::Global;
 
-// How many rules of relations have a domain that is a pattern.
+/// How many rules of relations have a domain that is a pattern.
 pub(crate) fn pattern_rows(tables: &Tables, shapes: &Shapes) -> u64
     ensures { result ≡ pattern_rows shapes.now tables.now.lists }
 {
@@ -19,7 +19,7 @@ pub(crate) fn pattern_rows(tables: &Tables, shapes: &Shapes) -> u64
     count
 }
 
-// How many different pairs of a relation and a domain there are.
+/// How many different pairs of a relation and a domain there are.
 pub(crate) fn domain_pairs(alloc: Global, tables: &Tables, shapes: &Shapes) -> Result<u64, NoMemory>
     ensures { IfOk result (λ count. count ≡ domain_pairs shapes.now tables.now.lists) }
 {

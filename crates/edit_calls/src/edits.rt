@@ -1,6 +1,6 @@
 ghost use Rattle.std.specs.Prelude.{◌≡◌, ◌+◌, ◌<◌, ◌≤◌, ◌++◌, ◌∷◌, [], ◌||◌, All, IfOk, Some, filter, length, map, not};
 ghost use Rattle.edit_calls.specs.Edits.{edit_by, fitting, has_repeat, inserts, is_empty, one_is_absent, one_stands, one_stays, removes, unless, without_name};
-ghost use Rattle.edit_calls.specs.Kept.{AreFitted};
+ghost use Rattle.edit_calls.specs.Helps.Kept.{AreFitted};
 ghost use Rattle.perm_base.specs.declared.shapes.TableId.TheVariants as tables_of;
 ghost use Rattle.policy_table.specs.Tables.{rows, stands};
 ghost use Rattle.policy_table.specs.declared.change.Change.TheVariants as change;
@@ -15,7 +15,7 @@ use perm_base::{NoMemory, Rule, Rules, Shapes, TableId, Text};
 use policy_table::{Change, Edit, Tables};
 use std::alloc::Global;
 
-// What a call changes, by the table's rules; none where it changes nothing.
+/// What a call changes, by the table's rules; none where it changes nothing.
 pub(crate) fn edit_by(
     alloc: Global,
     call: &Call,
@@ -52,7 +52,8 @@ fn add(
     table: TableId,
     rule: &Rule,
 ) -> Result<Option<Edit>, NoMemory>
-    ensures { IfOk result (λ edit. edit ≡ unless (stands rule.now (rows tables.now.lists table)) (inserts table (rule.now ∷ []))) }
+    ensures { IfOk result (λ edit. edit ≡ unless
+        (stands rule.now (rows tables.now.lists table)) (inserts table (rule.now ∷ []))) }
 {
     if tables.has(table, rule) {
         return Ok(None);
@@ -67,7 +68,10 @@ fn add_all(
     table: TableId,
     rules: &Rules,
 ) -> Result<Option<Edit>, NoMemory>
-    ensures { IfOk result (λ edit. edit ≡ unless (is_empty rules.now || has_repeat rules.now || one_stands rules.now (rows tables.now.lists table)) (inserts table rules.now)) }
+    ensures { IfOk result (λ edit. edit ≡ unless
+        (is_empty rules.now || has_repeat rules.now
+        || one_stands rules.now (rows tables.now.lists table))
+        (inserts table rules.now)) }
 {
     if rules.len() == 0 || has_repeat(alloc, rules)? || one_stands(tables, table, rules) {
         return Ok(None);
@@ -81,8 +85,10 @@ fn add_absent(
     table: TableId,
     rules: &Rules,
 ) -> Result<Option<Edit>, NoMemory>
-    ensures { IfOk result (λ edit. edit ≡ unless (has_repeat rules.now || not (one_is_absent rules.now (rows tables.now.lists table)))
-        (inserts table (filter (λ rule. not (stands rule (rows tables.now.lists table))) rules.now))) }
+    ensures { IfOk result (λ edit. edit ≡ unless
+        (has_repeat rules.now || not (one_is_absent rules.now (rows tables.now.lists table)))
+        (inserts table
+        (filter (λ rule. not (stands rule (rows tables.now.lists table))) rules.now))) }
 {
     if has_repeat(alloc, rules)? {
         return Ok(None);
@@ -96,7 +102,8 @@ fn remove(
     table: TableId,
     rule: &Rule,
 ) -> Result<Option<Edit>, NoMemory>
-    ensures { IfOk result (λ edit. edit ≡ unless (not (stands rule.now (rows tables.now.lists table))) (removes table (rule.now ∷ []))) }
+    ensures { IfOk result (λ edit. edit ≡ unless
+        (not (stands rule.now (rows tables.now.lists table))) (removes table (rule.now ∷ []))) }
 {
     if !tables.has(table, rule) {
         return Ok(None);
@@ -111,7 +118,10 @@ fn remove_all(
     table: TableId,
     rules: &Rules,
 ) -> Result<Option<Edit>, NoMemory>
-    ensures { IfOk result (λ edit. edit ≡ unless (is_empty rules.now || has_repeat rules.now || one_is_absent rules.now (rows tables.now.lists table)) (removes table rules.now)) }
+    ensures { IfOk result (λ edit. edit ≡ unless
+        (is_empty rules.now || has_repeat rules.now
+        || one_is_absent rules.now (rows tables.now.lists table))
+        (removes table rules.now)) }
 {
     if rules.len() == 0 || has_repeat(alloc, rules)? || one_is_absent(tables, table, rules) {
         return Ok(None);
@@ -126,8 +136,11 @@ fn update(
     pairs: &Pairs,
 ) -> Result<Option<Edit>, NoMemory>
     ensures { IfOk result (λ edit. edit ≡ unless
-        (is_empty pairs.now || one_is_absent (map (λ pair. pair.0) pairs.now) (rows tables.now.lists table) || one_stands (map (λ pair. pair.1) pairs.now) (rows tables.now.lists table)
-        || has_repeat (map (λ pair. pair.0) pairs.now) || has_repeat (map (λ pair. pair.1) pairs.now))
+        (is_empty pairs.now
+        || one_is_absent (map (λ pair. pair.0) pairs.now) (rows tables.now.lists table)
+        || one_stands (map (λ pair. pair.1) pairs.now) (rows tables.now.lists table)
+        || has_repeat (map (λ pair. pair.0) pairs.now)
+        || has_repeat (map (λ pair. pair.1) pairs.now))
         (map (λ pair. change.Replace table pair.0 pair.1) pairs.now)) }
 {
     let olds = Olds(pairs);
@@ -140,7 +153,7 @@ fn update(
     {
         return Ok(None);
     }
-    Ok(Some(Edit::from_vec(replaces(alloc, table, pairs)?)))
+    Ok(Some(Edit::from_vec(replaces(alloc, table, pairs.as_slice())?)))
 }
 
 fn remove_filtered(
@@ -151,7 +164,9 @@ fn remove_filtered(
     values: &Rule,
 ) -> Result<Option<Edit>, NoMemory>
     requires { All (λ rule. at + length values.now ≤ length rule) (rows tables.now.lists table) }
-    ensures { IfOk result (λ edit. edit ≡ unless (is_empty (fitting at values.now (rows tables.now.lists table))) (removes table (fitting at values.now (rows tables.now.lists table)))) }
+    ensures { IfOk result (λ edit. edit ≡ unless
+        (is_empty (fitting at values.now (rows tables.now.lists table)))
+        (removes table (fitting at values.now (rows tables.now.lists table)))) }
 {
     let changes = removes_fitting(alloc, table, tables.rows(table), at, values)?;
     Ok(unless_empty(changes))
@@ -167,8 +182,10 @@ fn update_filtered(
 ) -> Result<Option<Edit>, NoMemory>
     requires { All (λ rule. at + length values.now ≤ length rule) (rows tables.now.lists table) }
     ensures { IfOk result (λ edit. edit ≡ unless
-        (is_empty (fitting at values.now (rows tables.now.lists table)) || has_repeat rules.now || one_stays at values.now rules.now (rows tables.now.lists table))
-        (removes table (fitting at values.now (rows tables.now.lists table)) ++ inserts table rules.now)) }
+        (is_empty (fitting at values.now (rows tables.now.lists table)) || has_repeat rules.now
+        || one_stays at values.now rules.now (rows tables.now.lists table))
+        (removes table (fitting at values.now (rows tables.now.lists table))
+        ++ inserts table rules.now)) }
 {
     let mut changes = removes_fitting(alloc, table, tables.rows(table), at, values)?;
     if changes.is_empty()
@@ -190,8 +207,11 @@ fn delete_name(
     name: &Text,
 ) -> Result<Option<Edit>, NoMemory>
     requires g { All (λ rule. column < length rule) (rows tables.now.lists (tables_of.G 1)) }
-    requires p { All (λ rule. shapes.now.subject_column < length rule) (rows tables.now.lists tables_of.P) }
-    ensures { IfOk result (λ edit. edit ≡ unless (is_empty (without_name column shapes.now tables.now.lists name.now)) (without_name column shapes.now tables.now.lists name.now)) }
+    requires p { All (λ rule. shapes.now.subject_column < length rule)
+        (rows tables.now.lists tables_of.P) }
+    ensures { IfOk result (λ edit. edit ≡ unless
+        (is_empty (without_name column shapes.now tables.now.lists name.now))
+        (without_name column shapes.now tables.now.lists name.now)) }
 {
     let mut changes = Vec::new(alloc);
     let name = name.bytes();

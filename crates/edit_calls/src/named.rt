@@ -8,7 +8,7 @@ use perm_base::{NoMemory, Rule, Rules, TableId};
 use policy_table::{Tables, fits_filter};
 use std::alloc::Global;
 
-// Whether a rule is named twice.
+/// Whether a rule is named twice.
 pub(crate) fn has_repeat<L: RuleList>(alloc: Global, rules: &L) -> Result<bool, NoMemory>
     ensures { IfOk result (λ repeat. repeat ≡ has_repeat (L.rules rules.now)) }
 {
@@ -21,7 +21,7 @@ pub(crate) fn has_repeat<L: RuleList>(alloc: Global, rules: &L) -> Result<bool, 
     Ok(false)
 }
 
-// Whether one of the rules stands in a table.
+/// Whether one of the rules stands in a table.
 pub(crate) fn one_stands<L: RuleList>(tables: &Tables, table: TableId, rules: &L) -> bool
     ensures { result ≡ one_stands (L.rules rules.now) (rows tables.now.lists table) }
 {
@@ -33,7 +33,7 @@ pub(crate) fn one_stands<L: RuleList>(tables: &Tables, table: TableId, rules: &L
     false
 }
 
-// Whether one of the rules is absent from a table.
+/// Whether one of the rules is absent from a table.
 pub(crate) fn one_is_absent<L: RuleList>(tables: &Tables, table: TableId, rules: &L) -> bool
     ensures { result ≡ one_is_absent (L.rules rules.now) (rows tables.now.lists table) }
 {
@@ -45,7 +45,7 @@ pub(crate) fn one_is_absent<L: RuleList>(tables: &Tables, table: TableId, rules:
     false
 }
 
-// Whether one of the rules stands in a table and does not fit a filter.
+/// Whether one of the rules stands in a table and does not fit a filter.
 pub(crate) fn one_stays(
     tables: &Tables,
     table: TableId,

@@ -1,6 +1,6 @@
 ghost use Rattle.std.specs.Prelude.{◌≡◌, IfOk, None, nat_lt, true};
 ghost use Rattle.std.specs.List.{list_any};
-ghost use Rattle.edit_calls.specs.Counts.{domain_limit, is_of_roles};
+ghost use Rattle.edit_calls.specs.Helps.Counts.{domain_limit, is_of_roles};
 ghost use Rattle.edit_calls.specs.Limits.{HaveShapes, passed, role_rows};
 ghost use Rattle.policy_table.specs.Changes.{applies, edited};
 ghost use Rattle.policy_table.specs.Tables.{AreLists};
@@ -20,7 +20,7 @@ const MOST_PATTERN_ROWS: u64 = 64;
 
 const MOST_DOMAINS: u64 = 16_384;
 
-// The first limit that the tables pass after an edit.
+/// The first limit that the tables pass after an edit.
 pub(crate) fn passed_after(
     alloc: Global,
     edit: &Edit,
@@ -49,7 +49,8 @@ pub(crate) fn passed_after(
 // Whether the relations have more rules together than the limit after an edit.
 fn has_many_role_rows(edit: &Edit, tables: &Tables, shapes: &Shapes) -> bool
     requires { applies edit.now tables.now.lists ≡ true }
-    ensures { result ≡ nat_lt MOST_ROLE_ROWS (role_rows shapes.now (edited edit.now tables.now.lists)) }
+    ensures { result
+        ≡ nat_lt MOST_ROLE_ROWS (role_rows shapes.now (edited edit.now tables.now.lists)) }
 {
     let mut count = 0;
     for shape in shapes.roles.as_slice() {

@@ -3,7 +3,7 @@ ghost use Rattle.std.specs.List.{flat_map, list_all, list_any};
 ghost use Rattle.edit_calls.specs.Limits.{columns_of};
 ghost use Rattle.edit_calls.specs.Refusals.{bad_filter, filter_fault, has_long_field, named_rules, other_length, refusal, added_rules, table_of};
 
-use crate::call::{Call, Pairs};
+use crate::call::Call;
 use crate::listed::{News, RuleList};
 use crate::refused::CallRefused;
 use perm_base::{Rule, Rules, Shapes, TableId};
@@ -11,7 +11,7 @@ use perm_base::{Rule, Rules, Shapes, TableId};
 // The greatest number of bytes of a field that is added.
 const LONGEST: usize = 4096;
 
-// Why a call is refused, whatever stands in the tables.
+/// Why a call is refused, whatever stands in the tables.
 pub(crate) fn refusal(call: &Call, shapes: &Shapes) -> Option<CallRefused>
     ensures { result ≡ refusal shapes.now call.now }
 {
@@ -32,7 +32,7 @@ pub(crate) fn refusal(call: &Call, shapes: &Shapes) -> Option<CallRefused>
     }
 }
 
-// The table of a call.
+/// The table of a call.
 pub(crate) fn table_of(call: &Call) -> TableId
     ensures { result ≡ table_of call.now }
 {
@@ -50,7 +50,7 @@ pub(crate) fn table_of(call: &Call) -> TableId
 }
 
 // The columns of a table, where the shapes have it.
-pub(crate) fn columns_of(shapes: &Shapes, table: TableId) -> Option<u32>
+fn columns_of(shapes: &Shapes, table: TableId) -> Option<u32>
     ensures { result ≡ columns_of shapes.now table }
 {
     match table {
@@ -72,7 +72,7 @@ fn other_length(columns: u32, call: &Call) -> Option<CallRefused>
         | Call::AddEx { rules, .. }
         | Call::RemoveAll { rules, .. }
         | Call::UpdateFiltered { rules, .. } => first_other(columns, rules),
-        Call::Update { pairs, .. } => first_other_of_pairs(columns, pairs),
+        Call::Update { pairs, .. } => first_other_of_pairs(columns, pairs.as_slice()),
         Call::RemoveFiltered { .. } | Call::DeleteUser { .. } | Call::DeleteRole { .. } => None,
     }
 }
@@ -99,14 +99,14 @@ fn first_other(columns: u32, rules: &Rules) -> Option<CallRefused>
     None
 }
 
-fn first_other_of_pairs(columns: u32, pairs: &Pairs) -> Option<CallRefused>
+fn first_other_of_pairs(columns: u32, pairs: &[(Rule, Rule)]) -> Option<CallRefused>
     ensures { result ≡ other_length columns (flat_map (λ pair. pair.0 ∷ pair.1 ∷ []) pairs.now) }
 {
-    for at in 0..pairs.len() {
-        if let Some(refused) = other_rule(columns, pairs.old(at)) {
+    for pair in pairs {
+        if let Some(refused) = other_rule(columns, &pair.0) {
             return Some(refused);
         }
-        if let Some(refused) = other_rule(columns, pairs.new(at)) {
+        if let Some(refused) = other_rule(columns, &pair.1) {
             return Some(refused);
         }
     }

@@ -26,11 +26,15 @@ pub fn resolve(
     requires valid { AreValid shapes.now }
     requires shaped { HaveShapes shapes.now tables.now.lists }
     requires within { passed shapes.now tables.now.lists ≡ None }
-    ensures answered { MatchResult result (λ edit. answer shapes.now tables.now.lists call.now ≡ Ok edit)
+    ensures answered { MatchResult result
+        (λ edit. answer shapes.now tables.now.lists call.now ≡ Ok edit)
         (IsTold (answer shapes.now tables.now.lists call.now)) }
-    ensures applies { IfOk result (λ found. IfSome found (λ edit. applies edit tables.now.lists ≡ true)) }
-    ensures shaped { IfOk result (λ found. IfSome found (λ edit. HaveShapes shapes.now (edited edit tables.now.lists))) }
-    ensures within { IfOk result (λ found. IfSome found (λ edit. passed shapes.now (edited edit tables.now.lists) ≡ None)) }
+    ensures applies { IfOk result (λ found. IfSome found (λ edit.
+        applies edit tables.now.lists ≡ true)) }
+    ensures shaped { IfOk result (λ found. IfSome found (λ edit.
+        HaveShapes shapes.now (edited edit tables.now.lists))) }
+    ensures within { IfOk result (λ found. IfSome found (λ edit.
+        passed shapes.now (edited edit tables.now.lists) ≡ None)) }
 {
     edits_keep_shapes();
     if let Some(refused) = refusal(call, shapes) {

@@ -1,13 +1,13 @@
 ghost use Rattle.std.specs.Prelude.{◌≡◌, ◌≤◌, length, true};
 ghost use Rattle.std.specs.List.{count_by};
-ghost use Rattle.edit_calls.specs.Counts.{inserts, is_table, removes};
+ghost use Rattle.edit_calls.specs.Helps.Counts.{inserts, is_table, removes};
 ghost use Rattle.policy_table.specs.Changes.{applies, edited};
 ghost use Rattle.policy_table.specs.Tables.{most_tables, rows};
 
 use perm_base::TableId;
 use policy_table::{Change, Edit, Tables};
 
-// How many rules a table has after an edit that applies.
+/// How many rules a table has after an edit that applies.
 pub(crate) fn rows_after(edit: &Edit, tables: &Tables, table: TableId) -> u64
     requires { applies edit.now tables.now.lists ≡ true }
     ensures value { result ≡ length (rows (edited edit.now tables.now.lists) table) }

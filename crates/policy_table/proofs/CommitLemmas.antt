@@ -2,7 +2,7 @@
 use Rattle.std.proofs.Common.{◌≡◌, ℕ, ◌+◌, ◌≤◌, Bool, true, false, ◌&&◌, cond, List, [], ◌∷◌, ◌++◌, length, filter, get_or, refl, sym, ap, subst, ◌∙◌, arith, true≢false}
 use Rattle.policy_table.specs.Changes.{applies, changed, edited, is_possible}
 use Rattle.policy_table.specs.Held.{HasRoom, Held, IsPreparedFor, Rows, needed, puts_at}
-use Rattle.policy_table.specs.Steps.{all_changes, changes_of, lists_of, spare_of}
+use Rattle.policy_table.specs.Helps.Steps.{all_changes, changes_of, lists_of, spare_of}
 use Rattle.policy_table.specs.Tables.{Lists}
 use Rattle.policy_table.specs.declared.change.Change.{Change}
 use Rattle.policy_table.specs.declared.prepared.Step.{Step}

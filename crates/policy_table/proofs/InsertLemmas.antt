@@ -9,7 +9,7 @@ use Rattle.outside.specs.declared.fault.NoMemory.{NoMemory}
 use Rattle.perm_base.specs.declared.shapes.TableId.{TableId}
 use Rattle.policy_table.specs.Changes.{changed}
 use Rattle.policy_table.specs.Held.{Held, Rows}
-use Rattle.policy_table.specs.Steps.{lists_of, spare_of}
+use Rattle.policy_table.specs.Helps.Steps.{lists_of, spare_of}
 use Rattle.policy_table.specs.Tables.{AreLists, Fields, place, rows, stands}
 use Rattle.policy_table.specs.declared.change.Change.TheVariants as change
 

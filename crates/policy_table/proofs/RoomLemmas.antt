@@ -5,7 +5,7 @@ use Rattle.std.proofs.lemmas.Bool.{eqb-true, eqb-false}
 use Rattle.std.proofs.lemmas.List.{get_or-map, get_or-set_other, get_or-set_same, get_or_default, length-map, length-set, map-set}
 use Rattle.std.proofs.lemmas.List.{same_lists as lists_by_places}
 use Rattle.policy_table.specs.Held.{Rows, needed}
-use Rattle.policy_table.specs.Steps.{lists_of, spare_of}
+use Rattle.policy_table.specs.Helps.Steps.{lists_of, spare_of}
 use Rattle.policy_table.specs.Tables.{AreLists, Fields, Lists, most_tables}
 use Rattle.policy_table.specs.declared.change.Change.{Change}
 use Rattle.policy_table.proofs.InsertLemmas.{lists_kept, same_lists}

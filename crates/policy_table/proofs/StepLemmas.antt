@@ -6,7 +6,7 @@ use Rattle.std.proofs.lemmas.List.Elements.{filter-append}
 use Rattle.perm_base.specs.declared.shapes.TableId.{TableId}
 use Rattle.policy_table.specs.Changes.{flat}
 use Rattle.policy_table.specs.Held.{needed, puts_at}
-use Rattle.policy_table.specs.Steps.{all_changes, changes_of}
+use Rattle.policy_table.specs.Helps.Steps.{all_changes, changes_of}
 use Rattle.policy_table.specs.Tables.{Fields}
 use Rattle.policy_table.specs.declared.change.Change.{Change}
 use Rattle.policy_table.specs.declared.change.Change.TheVariants.{Remove}

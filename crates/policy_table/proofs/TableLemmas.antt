@@ -13,7 +13,7 @@ use Rattle.perm_base.specs.declared.shapes.TableId.TheVariants.{P, G}
 use Rattle.std.specs.Option.{option_map_or}
 use Rattle.policy_table.specs.Changes.{applies, changed, edited, is_possible, suits, table_of}
 use Rattle.policy_table.specs.Held.{HasRoom, Rows, needed}
-use Rattle.policy_table.specs.Steps.{acted, changes_by, lists_of, may_act, puts, spare_of}
+use Rattle.policy_table.specs.Helps.Steps.{acted, changes_by, lists_of, may_act, puts, spare_of}
 use Rattle.policy_table.specs.Tables.{AreLists, Fields, Lists, most_tables, place, rows, same, stands}
 use Rattle.policy_table.specs.declared.change.Change.{Change}
 use Rattle.policy_table.specs.declared.change.Change.TheVariants as change

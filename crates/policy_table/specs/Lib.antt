@@ -2,4 +2,4 @@ pub mod Tables
 pub mod Changes
 pub mod Held
 pub mod Filters
-pub mod Steps
+pub mod Helps

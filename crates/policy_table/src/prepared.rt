@@ -1,7 +1,7 @@
 ghost use Rattle.std.specs.Prelude.{◌≡◌, ℕ, ◌+◌, ◌<◌, ◌≤◌, ◌++◌, ◌∷◌, IfOk, OnOk, if◌then◌else◌, length, map, take};
 ghost use Rattle.policy_table.specs.Changes.{flat};
 ghost use Rattle.policy_table.specs.Held.{needed};
-ghost use Rattle.policy_table.specs.Steps.{all_changes, changes_of};
+ghost use Rattle.policy_table.specs.Helps.Steps.{all_changes, changes_of};
 
 use crate::change::{Change, Edit};
 use crate::table::Table;
@@ -18,7 +18,7 @@ pub struct Prepared {
 
 impl Model for Prepared {
     ghost use Rattle.std.specs.Prelude.{List};
-    ghost use Rattle.policy_table.specs.Steps.{all_changes};
+    ghost use Rattle.policy_table.specs.Helps.Steps.{all_changes};
     ghost use Rattle.policy_table.specs.declared.change.Change.{Change};
 
     ghost Value = { List Change };
@@ -29,8 +29,8 @@ impl Model for Prepared {
 /// What is done to one table.
 #[derive(Drop)]
 pub(crate) struct Step {
-    pub table: TableId,
-    pub action: Action,
+    pub(crate) table: TableId,
+    pub(crate) action: Action,
 }
 
 /// A change of a table's rules, or several rules that are taken out at once.
@@ -42,7 +42,7 @@ pub(crate) enum Action {
 }
 
 impl Prepared {
-    // The edits as steps.
+    /// The edits as steps.
     pub(crate) fn of_edits(alloc: Global, edits: &[Edit]) -> Result<Prepared, NoMemory>
         ensures { IfOk result (λ prepared. prepared ≡ flat edits.now) }
     {
@@ -53,7 +53,7 @@ impl Prepared {
         Ok(Prepared { steps })
     }
 
-    // The room that the changes need in the table at a place.
+    /// The room that the changes need in the table at a place.
     pub(crate) fn needed(&self, at: usize) -> usize
         ensures { result ≡ needed at self.now }
     {
@@ -93,7 +93,8 @@ impl Step {
 
 // Adds the steps that make these changes.
 fn push_steps(alloc: Global, steps: &mut Vec<Step>, changes: &[Change]) -> Result<(), NoMemory>
-    ensures { OnOk result (all_changes steps.new.items ≡ all_changes steps.old.items ++ changes.now) }
+    ensures { OnOk result
+        (all_changes steps.new.items ≡ all_changes steps.old.items ++ changes.now) }
 {
     let mut at = 0;
     while at < changes.len() {
@@ -134,8 +135,10 @@ fn removed_rules(
     rule: &Rule,
     changes: &[Change],
 ) -> Result<Table, NoMemory>
-    ensures { IfOk result (λ gone. (n : ℕ) × (n ≤ length changes.now) × (length gone.rules ≡ n + 1)
-        × (map (λ r. Change.Remove table r) gone.rules ≡ Change.Remove table rule.now ∷ take n changes.now)) }
+    ensures { IfOk result (λ gone. (n : ℕ) × (n ≤ length changes.now)
+        × (length gone.rules ≡ n + 1)
+        × (map (λ r. Change.Remove table r) gone.rules
+        ≡ Change.Remove table rule.now ∷ take n changes.now)) }
 {
     let mut gone = Table::new(alloc);
     let _new = gone.insert(rule.copy(alloc)?)?;

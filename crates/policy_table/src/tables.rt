@@ -2,7 +2,7 @@ ghost use Rattle.std.specs.Prelude.{◌≡◌, ℕ, ◌+◌, ◌<◌, ◌≤◌,
 ghost use Rattle.std.specs.List.{IsDistinct};
 ghost use Rattle.policy_table.specs.Changes.{changed, edited, flat, is_possible, applies};
 ghost use Rattle.policy_table.specs.Held.{HasRoom, IsPreparedFor, needed};
-ghost use Rattle.policy_table.specs.Steps.{changes_of, lists_of, spare_of};
+ghost use Rattle.policy_table.specs.Helps.Steps.{changes_of, lists_of, spare_of};
 ghost use Rattle.policy_table.specs.Tables.{AreLists, place, rows, same, stands};
 
 use crate::change::{Change, Edit};
@@ -24,7 +24,7 @@ pub struct Tables {
 
 impl Model for Tables {
     ghost use Rattle.policy_table.specs.Held.{Held};
-    ghost use Rattle.policy_table.specs.Steps.{lists_of, spare_of};
+    ghost use Rattle.policy_table.specs.Helps.Steps.{lists_of, spare_of};
     ghost use Rattle.policy_table.specs.Tables.{AreLists};
 
     ghost Value = { Held };
@@ -117,8 +117,11 @@ impl Tables {
     pub fn insert(&mut self, table: TableId, rule: Rule) -> Result<bool, NoMemory>
         requires table { IsSome (place table) }
         requires few { length (rows self.old.lists table) + 1 < 2 ^ 32 }
-        ensures inserted { IfOk result (λ new. new ≡ not (stands rule (rows self.old.lists table))) }
-        ensures lists { IfOk result (λ new. self.new.lists ≡ (if new then changed (Change.Insert table rule) self.old.lists else self.old.lists)) }
+        ensures inserted { IfOk result (λ new.
+            new ≡ not (stands rule (rows self.old.lists table))) }
+        ensures lists { IfOk result (λ new. self.new.lists
+            ≡ (if new then changed (Change.Insert table rule) self.old.lists
+            else self.old.lists)) }
         ensures refused { OnErr result (self.new.lists ≡ self.old.lists) }
     {
         let Some(at) = place(table) else {
@@ -162,7 +165,7 @@ impl Tables {
     }
 }
 
-// The place of a table among the nine.
+/// The place of a table among the nine.
 pub(crate) fn place(table: TableId) -> Option<usize>
     ensures { result ≡ place table }
 {
@@ -195,7 +198,8 @@ fn make(tables: &mut [Table; TABLES], step: Step)
     requires possible { applies (changes_of step) (lists_of tables.old) ≡ true }
     requires room { HasRoom (spare_of tables.old) (changes_of step) }
     ensures made { lists_of tables.new ≡ edited (changes_of step) (lists_of tables.old) }
-    ensures room { (at : ℕ) → get_or (spare_of tables.old) at 0 ≤ get_or (spare_of tables.new) at 0 + needed at (changes_of step) }
+    ensures room { (at : ℕ) → get_or (spare_of tables.old) at 0
+        ≤ get_or (spare_of tables.new) at 0 + needed at (changes_of step) }
 {
     if let Some(at) = place(step.table) {
         tables[at].make(step.action);

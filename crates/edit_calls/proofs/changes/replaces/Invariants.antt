@@ -3,5 +3,5 @@ use Rattle.policy_table.specs.Tables.{Fields}
 use Rattle.policy_table.specs.declared.change.Change.TheVariants.{Replace}
 use Rattle.edit_calls.proofs.changes.replaces.Given as goal
 
-abbrev pub invariant-loop-at : goal.invariant-loop-at
-invariant-loop-at l = l.changes.items ≡ map (λ (pair : Fields × Fields). Replace l.table pair.0 pair.1) (take l.at l.pairs)
+abbrev pub invariant-loop-pair : goal.invariant-loop-pair
+invariant-loop-pair l = l.changes.items ≡ map (λ (pair : Fields × Fields). Replace l.table pair.0 pair.1) (take l.pair-index l.pairs)

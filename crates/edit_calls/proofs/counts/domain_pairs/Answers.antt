@@ -3,7 +3,7 @@ use Rattle.std.specs.List.{sum_by}
 use Rattle.perm_base.specs.declared.shapes.RoleShape.{RoleShape}
 use Rattle.perm_base.specs.declared.shapes.TableId.TheVariants.{G}
 use Rattle.policy_table.specs.Tables.{Lists, rows}
-use Rattle.edit_calls.specs.Counts.{pairs_of}
+use Rattle.edit_calls.specs.Helps.Counts.{pairs_of}
 use Rattle.edit_calls.specs.Limits.{different, domains_of}
 use Rattle.edit_calls.proofs.RoleLemmas.{few_roles, sum_all}
 use Rattle.edit_calls.proofs.counts.domain_pairs.Goals as goal

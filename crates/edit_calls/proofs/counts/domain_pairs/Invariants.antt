@@ -1,6 +1,6 @@
 use Rattle.std.proofs.Common.{◌≡◌, ◌≤◌, ◌*◌, take}
 use Rattle.std.specs.List.{sum_by}
-use Rattle.edit_calls.specs.Counts.{pairs_of}
+use Rattle.edit_calls.specs.Helps.Counts.{pairs_of}
 use Rattle.edit_calls.proofs.counts.domain_pairs.Given as goal
 
 abbrev pub invariant-loop-shape : goal.invariant-loop-shape

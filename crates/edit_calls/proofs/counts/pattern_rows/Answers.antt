@@ -4,7 +4,7 @@ use Rattle.perm_base.specs.Patterns.{is_pattern}
 use Rattle.perm_base.specs.declared.shapes.RoleShape.{RoleShape}
 use Rattle.perm_base.specs.declared.shapes.TableId.TheVariants.{G}
 use Rattle.policy_table.specs.Tables.{Lists, rows}
-use Rattle.edit_calls.specs.Counts.{patterns_of}
+use Rattle.edit_calls.specs.Helps.Counts.{patterns_of}
 use Rattle.edit_calls.specs.Limits.{domains_of}
 use Rattle.edit_calls.proofs.RoleLemmas.{few_roles, sum_all}
 use Rattle.edit_calls.proofs.counts.pattern_rows.Goals as goal

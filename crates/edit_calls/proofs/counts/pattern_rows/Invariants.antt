@@ -1,6 +1,6 @@
 use Rattle.std.proofs.Common.{◌≡◌, ◌≤◌, ◌*◌, take}
 use Rattle.std.specs.List.{sum_by}
-use Rattle.edit_calls.specs.Counts.{patterns_of}
+use Rattle.edit_calls.specs.Helps.Counts.{patterns_of}
 use Rattle.edit_calls.proofs.counts.pattern_rows.Given as goal
 
 abbrev pub invariant-loop-shape : goal.invariant-loop-shape

@@ -4,5 +4,5 @@ use Rattle.edit_calls.proofs.RefusalLemmas.{both_rules}
 use Rattle.edit_calls.proofs.refusals.first_other_of_pairs.Given as goal
 
 -- what is left decides
-abbrev pub invariant-loop-at : goal.invariant-loop-at
-invariant-loop-at l = other_length l.columns (both_rules (drop l.at l.pairs)) ≡ other_length l.columns (both_rules l.pairs)
+abbrev pub invariant-loop-pair : goal.invariant-loop-pair
+invariant-loop-pair l = other_length l.columns (both_rules (drop l.pair-index l.pairs)) ≡ other_length l.columns (both_rules l.pairs)

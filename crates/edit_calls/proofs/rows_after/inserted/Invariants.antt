@@ -1,6 +1,6 @@
 use Rattle.std.proofs.Common.{◌≡◌, ◌≤◌, take}
 use Rattle.std.specs.List.{count_by}
-use Rattle.edit_calls.specs.Counts.{inserts}
+use Rattle.edit_calls.specs.Helps.Counts.{inserts}
 use Rattle.edit_calls.proofs.rows_after.inserted.Given as goal
 
 abbrev pub invariant-loop-change : goal.invariant-loop-change

@@ -1,6 +1,6 @@
 use Rattle.std.proofs.Common.{List, ap, arith}
 use Rattle.std.specs.List.{count_by}
-use Rattle.edit_calls.specs.Counts.{inserts, removes}
+use Rattle.edit_calls.specs.Helps.Counts.{inserts, removes}
 use Rattle.edit_calls.proofs.CountLemmas.{counted_edited, length_edited}
 use Rattle.policy_table.specs.declared.change.Change.{Change}
 use Rattle.edit_calls.proofs.rows_after.rows_after.Goals as goal

@@ -1,5 +1,5 @@
 use Rattle.std.proofs.Common.{◌≡◌, ◌≤◌, ◌-◌, ◌++◌, length, take}
-use Rattle.policy_table.specs.Steps.{all_changes}
+use Rattle.policy_table.specs.Helps.Steps.{all_changes}
 use Rattle.policy_table.proofs.prepared.push_steps.Given as goal
 
 abbrev pub invariant-loop-at : goal.invariant-loop-at

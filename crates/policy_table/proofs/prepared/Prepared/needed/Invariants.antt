@@ -1,6 +1,6 @@
 use Rattle.std.proofs.Common.{◌≡◌, ◌≤◌, take}
 use Rattle.policy_table.specs.Held.{needed}
-use Rattle.policy_table.specs.Steps.{all_changes}
+use Rattle.policy_table.specs.Helps.Steps.{all_changes}
 use Rattle.policy_table.proofs.prepared.Prepared.needed.Given as goal
 
 abbrev pub invariant-loop-step : goal.invariant-loop-step

@@ -1,6 +1,6 @@
 use Rattle.std.proofs.Common.{◌≡◌, take}
 use Rattle.policy_table.specs.Changes.{flat}
-use Rattle.policy_table.specs.Steps.{all_changes}
+use Rattle.policy_table.specs.Helps.Steps.{all_changes}
 use Rattle.policy_table.proofs.prepared.Prepared.of_edits.Given as goal
 
 abbrev pub invariant-loop-edit : goal.invariant-loop-edit

@@ -1,6 +1,6 @@
 use Rattle.std.proofs.Common.{◌∙◌, ap}
 use Rattle.policy_table.specs.Held.{needed}
-use Rattle.policy_table.specs.Steps.{changes_by}
+use Rattle.policy_table.specs.Helps.Steps.{changes_by}
 use Rattle.policy_table.proofs.StepLemmas.{needed_removed}
 use Rattle.policy_table.proofs.prepared.Step.puts_at.Goals as goal
 

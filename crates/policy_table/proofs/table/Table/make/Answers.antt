@@ -1,5 +1,5 @@
 use Rattle.std.proofs.Common.{◌≡◌, [], ◌∷◌, sym, ap, ◌∙◌, arith}
-use Rattle.policy_table.specs.Steps.{acted}
+use Rattle.policy_table.specs.Helps.Steps.{acted}
 use Rattle.policy_table.specs.Tables.{same}
 use Rattle.policy_table.proofs.RowLemmas.{one_item, same-Decides, without-alone}
 use Rattle.policy_table.proofs.table.Table.make.Goals as goal

@@ -1,6 +1,6 @@
 use Rattle.std.proofs.Common.{rules, arith, ◌≡◌, [], ◌∷◌, List, sym, ap, ◌∙◌, subst}
 use Rattle.policy_table.specs.Changes.{edited}
-use Rattle.policy_table.specs.Steps.{all_changes, lists_of}
+use Rattle.policy_table.specs.Helps.Steps.{all_changes, lists_of}
 use Rattle.policy_table.specs.Tables.{AreLists}
 use Rattle.policy_table.specs.declared.prepared.Step.{Step}
 use Rattle.policy_table.proofs.CommitLemmas.{Lead, all_made, begins, empty_of, first_possible, first_room, step_made}

@@ -1,4 +1,4 @@
--- A help for proofs, which no public clause cites: the steps by which prepared edits are made.
+-- The steps by which prepared edits are made.
 use Rattle.std.specs.Prelude.{ℕ, Bool, true, not, ◌&&◌, List, [], ◌∷◌, ◌++◌, filter, if◌then◌else◌, map}
 use Rattle.std.specs.List.{flat_map}
 use Rattle.perm_base.specs.declared.shapes.TableId.{TableId}

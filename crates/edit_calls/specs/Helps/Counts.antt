@@ -1,4 +1,4 @@
--- A help for proofs, which no public clause cites: what is counted of one relation, and of one table's changes.
+-- What is counted of one relation, and of one table's changes.
 use Rattle.std.specs.Prelude.{ℕ, Bool, true, false, not, ◌==◌, nat_lt, length, filter, Option, Some, None, if◌then◌else◌}
 use Rattle.perm_base.specs.Patterns.{is_pattern}
 use Rattle.perm_base.specs.declared.shapes.RoleShape.{RoleShape}
