@@ -21,7 +21,7 @@ pub struct Program {
 
 impl std::marker::Model for Program {
     ghost use Rattle.std.specs.Coded.{Coded, codes};
-    ghost use Rattle.model_conf.specs.ExpressionCode.{Sign, expression_code};
+    ghost use Rattle.model_conf.specs.Helps.ExpressionCode.{Sign, expression_code};
     ghost use Rattle.model_conf.specs.ModelText.{ModelParts};
     ghost use Rattle.enforce_core.specs.Programs.{IsProgram};
 

@@ -2,22 +2,21 @@
 use Rattle.std.proofs.Common.{◌≡◌, ℕ, zero, suc, ◌+◌, ◌-◌, ◌<◌, ◌≤◌, ◌&&◌, Bool, true, false, List, [], ◌∷◌, ◌++◌, length, get_or, ltb, map, codes, refl, sym, ap, ◌∙◌, subst, arith, lit<}
 use Rattle.std.specs.Prelude.{All, IsTrue, IsUtf8}
 use Rattle.std.specs.List.{list_all, flat_map, AllByRecursion}
-use Rattle.std.proofs.lemmas.Bool.{ltb-true, lt-ltb}
+use Rattle.std.proofs.lemmas.Bool.{ltb-true, lt-ltb, and_parts}
 use Rattle.std.proofs.lemmas.List.Elements.{recursion_from_All}
 use Rattle.std.proofs.lemmas.Str.{IsUtf8-append, IsUtf8-from_ascii}
 use Rattle.effect_fold.specs.declared.effect.Effect.{Effect}
 use Rattle.effect_fold.specs.declared.effect.Effect.TheVariants as e
 use Rattle.matcher_read.specs.Calls.{relation_names}
-use Rattle.matcher_read.specs.Names.{is_identifier, is_word}
+use Rattle.text_parts.specs.Names.{is_identifier, is_word}
 use Rattle.perm_base.specs.Fields.{joined}
-use Rattle.perm_base.specs.Lines.{with_ends}
+use Rattle.text_parts.specs.Lines.{with_ends}
 use Rattle.perm_base.specs.declared.shapes.RoleShape.{RoleShape}
 use Rattle.model_conf.specs.Columns.{AreNames}
 use Rattle.model_conf.specs.Effects.{effect_text}
 use Rattle.model_conf.specs.ModelText.{ModelParts}
 use Rattle.model_conf.specs.Printed.{key_line, printed, relation_entry, role_lines}
-use Rattle.model_conf.proofs.BlankLemmas.{both}
-use Rattle.model_conf.proofs.ColumnLemmas.{is_word-ascii, words}
+use Rattle.text_parts.proofs.CallerLemmas.{word_ascii, words_of}
 use Rattle.model_conf.proofs.PrintLemmas.{parts_text, printed-parts}
 
 abbrev pub is_ascii : List ℕ → Bool
@@ -25,8 +24,8 @@ is_ascii text = list_all (λ (byte : ℕ). ltb byte 128) text
 
 low : (text : List ℕ) (at : ℕ) → is_ascii text ≡ true → get_or text at 0 < 128
 low [] at all = lit< tt
-low (byte ∷ text) zero all = ltb-true byte 128 (both (ltb byte 128) (is_ascii text) all).0
-low (byte ∷ text) (suc at) all = low text at (both (ltb byte 128) (is_ascii text) all).1
+low (byte ∷ text) zero all = ltb-true byte 128 (and_parts (ltb byte 128) (is_ascii text) all).0
+low (byte ∷ text) (suc at) all = low text at (and_parts (ltb byte 128) (is_ascii text) all).1
 
 pub IsUtf8-is_ascii : (text : List ℕ) → is_ascii text ≡ true → IsUtf8 text
 IsUtf8-is_ascii text all = IsUtf8-from_ascii text (λ at. low text at all)
@@ -34,22 +33,22 @@ IsUtf8-is_ascii text all = IsUtf8-from_ascii text (λ at. low text at all)
 pub is_ascii-append : (front back : List ℕ) → is_ascii front ≡ true → is_ascii back ≡ true → is_ascii (front ++ back) ≡ true
 is_ascii-append [] back one two = two
 is_ascii-append (byte ∷ front) back one two =
-    let parts = both (ltb byte 128) (is_ascii front) one in
+    let parts = and_parts (ltb byte 128) (is_ascii front) one in
     rw (parts.0, is_ascii-append front back parts.1 two) refl
 
-word_ascii : (text : List ℕ) → list_all is_word text ≡ true → is_ascii text ≡ true
-word_ascii [] all = refl
-word_ascii (byte ∷ text) all =
-    let parts = both (is_word byte) (list_all is_word text) all in
-    rw (lt-ltb byte 128 (is_word-ascii byte parts.0), word_ascii text parts.1) refl
+words_ascii : (text : List ℕ) → list_all is_word text ≡ true → is_ascii text ≡ true
+words_ascii [] all = refl
+words_ascii (byte ∷ text) all =
+    let parts = and_parts (is_word byte) (list_all is_word text) all in
+    rw (lt-ltb byte 128 (word_ascii byte parts.0), words_ascii text parts.1) refl
 
 others_ascii : (names : List (List ℕ)) → AllByRecursion (λ (name : List ℕ). IsTrue (is_identifier name)) names → is_ascii (flat_map (λ (name : List ℕ). (44 ∷ 32 ∷ []) ++ name) names) ≡ true
 others_ascii [] all = refl
-others_ascii (name ∷ names) all = is_ascii-append (44 ∷ 32 ∷ name) (flat_map (λ (n : List ℕ). (44 ∷ 32 ∷ []) ++ n) names) (word_ascii name (words name all.0)) (others_ascii names all.1)
+others_ascii (name ∷ names) all = is_ascii-append (44 ∷ 32 ∷ name) (flat_map (λ (n : List ℕ). (44 ∷ 32 ∷ []) ++ n) names) (words_ascii name (words_of name all.0)) (others_ascii names all.1)
 
 joined_ascii : (names : List (List ℕ)) → AllByRecursion (λ (name : List ℕ). IsTrue (is_identifier name)) names → is_ascii (joined names) ≡ true
 joined_ascii [] all = refl
-joined_ascii (name ∷ names) all = is_ascii-append name (flat_map (λ (n : List ℕ). (44 ∷ 32 ∷ []) ++ n) names) (word_ascii name (words name all.0)) (others_ascii names all.1)
+joined_ascii (name ∷ names) all = is_ascii-append name (flat_map (λ (n : List ℕ). (44 ∷ 32 ∷ []) ++ n) names) (words_ascii name (words_of name all.0)) (others_ascii names all.1)
 
 relation_ascii : (at : ℕ) → is_ascii (get_or relation_names at []) ≡ true
 relation_ascii zero = refl

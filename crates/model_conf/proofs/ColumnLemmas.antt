@@ -1,8 +1,8 @@
 -- Identifiers, and columns by their places.
 use Rattle.std.proofs.Common.{◌≡◌, ◌≢◌, ℕ, zero, suc, ◌+◌, ◌-◌, ◌<◌, ◌≤◌, ◌&&◌, Bool, true, false, Bor, List, [], ◌∷◌, ◌++◌, length, take, drop, map, get_or, eqb, Option, Some, None, Contains, IsTrue, refl, sym, ap, ◌∙◌, subst, arith}
-use Rattle.std.specs.Prelude.{slice_get, option_map, IsAscii, MatchOption, IfSome, IfNone, is_some}
-use Rattle.std.specs.List.{list_all, list_any, position, AllWithin, HoldsAt}
-use Rattle.std.proofs.lemmas.Bool.{false≢true}
+use Rattle.std.specs.Prelude.{slice_get, option_map, MatchOption, IfSome, IfNone, is_some}
+use Rattle.std.specs.List.{list_all, list_any, position, AllWithin, HoldsAt, All}
+use Rattle.std.proofs.lemmas.Bool.{and_parts, false≢true, or_parts}
 use Rattle.std.proofs.lemmas.Bool.Decides.{nat_tests}
 use Rattle.std.proofs.lemmas.Option.{slice_get-map, slice_get-get_or, slice_get_within, get_or_from_slice_get}
 use Rattle.std.proofs.lemmas.List.{append_assoc, map-append, length-map, length-take, get_or-map, get_or-take, get_or_default, take-map, take_all, take_more}
@@ -10,68 +10,36 @@ use Rattle.std.proofs.lemmas.List.Folds.{list_all-map}
 use Rattle.std.proofs.lemmas.List.Quantifiers.{all_pairs_push, position-Some}
 use Rattle.std.proofs.lemmas.List.Sums.{AllPass-from_list_all, list_all-from_AllPass}
 use Rattle.perm_base.specs.LineEnds.{has_line_end, is_line_end}
-use Rattle.perm_base.specs.Lines.{has_byte}
+use Rattle.text_parts.specs.Lines.{has_byte}
 use Rattle.perm_base.specs.Rule.{IsFirstLineEnd}
 use Rattle.perm_base.specs.declared.rule.RuleFault.{RuleFault}
 use Rattle.perm_base.specs.declared.rule.RuleFault.TheVariants.{LineEnd}
-use Rattle.matcher_read.specs.Names.{is_letter, is_word, is_identifier}
-use Rattle.std.specs.List.{All}
+use Rattle.text_parts.specs.Names.{is_word, is_identifier}
+use Rattle.text_parts.proofs.CallerLemmas.{words_of}
 use Rattle.std.proofs.lemmas.List.Splits.{slice_split_at, slice_split_none}
-use Rattle.model_conf.specs.Blanks.{trimmed}
+use Rattle.text_parts.specs.Blanks.{trimmed}
 use Rattle.model_conf.specs.Columns.{AreDistinct, AreNames, columns_in}
-use Rattle.model_conf.proofs.BytePlaces.{neither}
 
 -- ---- identifiers
-
-pub is_identifier-front : (name : List ℕ) (more : Bool) → 0 < length name → is_letter (get_or name 0 0) ≡ true → more ≡ list_all is_word (take (length name - 1) (drop 1 name)) → more ≡ is_identifier name
-is_identifier-front [] more some letter words = absurd (omega arith)
-is_identifier-front (first ∷ others) more some letter words =
-    let rest : take (length (first ∷ others) - 1) others ≡ others = take_all _ others (omega arith) in
-    words ∙ ap (λ (bytes : List ℕ). list_all is_word bytes) rest ∙ sym (ap (λ (b : Bool). b && list_all is_word others) letter)
-
-both : (first second : Bool) → (first && second) ≡ true → (first ≡ true) × (second ≡ true)
-both true second e = (refl, e)
-both false second e = absurd cc
-
--- a letter is a byte of a word
-is_word-letter : (byte : ℕ) → is_letter byte ≡ true → is_word byte ≡ true
-is_word-letter byte e = grind (arith, nat_tests)
-
-pub is_word-ascii : (byte : ℕ) → is_word byte ≡ true → byte < 128
-is_word-ascii byte e = grind (arith, nat_tests)
-
-pub words : (name : List ℕ) → IsTrue (is_identifier name) → list_all is_word name ≡ true
-words [] is = refl
-words (first ∷ others) is =
-    let parts = both (is_letter first) (list_all is_word others) is in
-    rw (is_word-letter first parts.0, parts.1) refl
-
-words-ascii : (name : List ℕ) (at : ℕ) → list_all is_word name ≡ true → get_or name at 0 < 128
-words-ascii [] at all = omega arith
-words-ascii (byte ∷ bytes) zero all = is_word-ascii byte (both _ _ all).0
-words-ascii (byte ∷ bytes) (suc at) all = words-ascii bytes at (both _ _ all).1
-
-pub IsAscii-identifier : (name : List ℕ) → IsTrue (is_identifier name) → IsAscii name
-IsAscii-identifier name is = λ at. words-ascii name at (words name is)
 
 -- an identifier holds no byte but those of words
 lacks : (p : ℕ → Bool) → ((byte : ℕ) → is_word byte ≡ true → p byte ≡ false) → (name : List ℕ) → list_all is_word name ≡ true → list_any p name ≡ false
 lacks p none [] all = refl
 lacks p none (first ∷ others) all =
-    let parts = both (is_word first) (list_all is_word others) all in
+    let parts = and_parts (is_word first) (list_all is_word others) all in
     rw (none first parts.0, lacks p none others parts.1) refl
 
 pub differs : (byte other : ℕ) → is_word byte ≡ false → is_word other ≡ true → eqb other byte ≡ false
 differs byte other outside inside = grind (arith, nat_tests)
 
 pub has_byte-identifier : (byte : ℕ) (name : List ℕ) → is_word byte ≡ false → IsTrue (is_identifier name) → has_byte byte name ≡ false
-has_byte-identifier byte name outside is = lacks (λ b. eqb b byte) (λ b. differs byte b outside) name (words name is)
+has_byte-identifier byte name outside is = lacks (λ b. eqb b byte) (λ b. differs byte b outside) name (words_of name is)
 
 no_line_end : (byte : ℕ) → is_word byte ≡ true → is_line_end byte ≡ false
 no_line_end byte inside = grind (arith, nat_tests)
 
 has_line_end-identifier : (name : List ℕ) → IsTrue (is_identifier name) → has_line_end name ≡ false
-has_line_end-identifier name is = lacks is_line_end no_line_end name (words name is)
+has_line_end-identifier name is = lacks is_line_end no_line_end name (words_of name is)
 
 at_first : (names : List (List ℕ)) (place : Option ℕ) (field : ℕ) → AreNames names → position has_line_end names ≡ place → option_map (λ (at : ℕ). at + 1) place ≡ Some field → ⊥
 at_first names None field named is e = absurd cc
@@ -110,12 +78,6 @@ pub named_by_test : (names : List (Bor (List ℕ))) (test : Bool) → test ≡ l
 named_by_test names test told =
     let is : test ≡ list_all is_identifier (texts names) = told ∙ sym (list_all-map is_identifier text_of names) in
     (λ passed. AllPass-from_list_all is_identifier (texts names) (sym is ∙ passed), λ named. is ∙ list_all-from_AllPass is_identifier (texts names) named)
-
-pub named_at : (items names : List (Bor (List ℕ))) (d : Bor (List ℕ)) (at : ℕ) → items ≡ names → AreNames (texts names) → at < length items → IsTrue (is_identifier (get_or items at d).now)
-named_at items names d at same named within =
-    let inside : at < length (texts items) = omega (arith, length-map items text_of) in
-    let is : AreNames (texts items) = rw same named in
-    rw (← get_or-map text_of items at d [] within) (is at [] inside)
 
 pub taken_more : (fields more : List (List ℕ)) (names : List (Bor (List ℕ))) (d : Bor (List ℕ)) (at : ℕ) (text : List ℕ) → fields ≡ take at (texts names) → at < length names → text ≡ (get_or names at d).now → more ≡ fields ++ text ∷ [] → more ≡ take (at + 1) (texts names)
 taken_more fields more names d at text taken within is pushed =
@@ -163,8 +125,8 @@ named_all fields items names at same named past taken =
 
 none_of : (p : ℕ → Bool) (text : List ℕ) → list_any p text ≡ false → All (λ (b : ℕ). p b ≡ false) text
 none_of p [] none at d within = absurd (omega arith)
-none_of p (first ∷ text) none zero d within = (neither _ _ none).0
-none_of p (first ∷ text) none (suc at) d within = none_of p text (neither _ _ none).1 at d (omega arith)
+none_of p (first ∷ text) none zero d within = (or_parts _ _ none).0
+none_of p (first ∷ text) none (suc at) d within = none_of p text (or_parts _ _ none).1 at d (omega arith)
 
 same_byte : (byte : ℕ) → eqb byte byte ≡ true
 same_byte byte = grind (arith, nat_tests)

@@ -2,14 +2,14 @@
 use Rattle.std.proofs.Common.{◌≡◌, ◌≢◌, ℕ, ◌+◌, ◌<◌, ◌≤◌, ◌&&◌, ◌||◌, ◌⊎◌, inl, inr, Bool, true, false, cond, List, [], ◌∷◌, ◌++◌, length, take, drop, get_or, eqb, Option, Some, None, refl, sym, ap, ◌∙◌, subst, arith, drop-cons}
 use Rattle.std.specs.Prelude.{is_none}
 use Rattle.std.specs.List.{list_any}
-use Rattle.std.proofs.lemmas.Bool.{eqb-true, eqb-false}
+use Rattle.std.proofs.lemmas.Bool.{eqb-true, eqb-false, or_parts}
 use Rattle.std.proofs.lemmas.Bool.Decides.{nat_tests}
 use Rattle.std.proofs.lemmas.List.{append_assoc, append-nil, drop_all, take_all, take_more}
 use Rattle.std.proofs.lemmas.List.Folds.{list_any-append}
 use Rattle.std.proofs.Math.Numerals.{add-one}
-use Rattle.perm_base.specs.Lines.{has_byte}
+use Rattle.text_parts.specs.Lines.{has_byte}
 use Rattle.model_conf.specs.Comments.{IsQuote, IsUncommented, ended, comment, plain, quoted, unclosed}
-use Rattle.model_conf.specs.Steps.{quote_after}
+use Rattle.model_conf.specs.Helps.Steps.{quote_after}
 
 -- what is left behind some bytes, in a quoted text or not
 abbrev pub uncommented : Option ℕ → List ℕ → List ℕ
@@ -75,10 +75,6 @@ outside_quote : (quote : ℕ) (bytes : List ℕ) → IsQuote quote → uncomment
 outside_quote quote bytes (inl is) = subst (λ (q : ℕ). uncommented None (q ∷ bytes) ≡ q ∷ uncommented (Some q) bytes) (sym is) refl
 outside_quote quote bytes (inr is) = subst (λ (q : ℕ). uncommented None (q ∷ bytes) ≡ q ∷ uncommented (Some q) bytes) (sym is) refl
 
-neither : (first second : Bool) → (first || second) ≡ false → (first ≡ false) × (second ≡ false)
-neither true second e = absurd cc
-neither false second e = (refl, e)
-
 turned : (quote byte : ℕ) → eqb byte quote ≡ false → eqb quote byte ≡ false
 turned quote byte e = grind (arith, nat_tests)
 
@@ -88,13 +84,13 @@ same quote = grind (arith, nat_tests)
 inside_closed : (quote : ℕ) (inside bytes : List ℕ) → has_byte quote inside ≡ false → uncommented (Some quote) (inside ++ quote ∷ bytes) ≡ inside ++ quote ∷ uncommented None bytes
 inside_closed quote [] bytes none = rw (same quote) refl
 inside_closed quote (byte ∷ inside) bytes none =
-    let parts = neither (eqb byte quote) (has_byte quote inside) none in
+    let parts = or_parts (eqb byte quote) (has_byte quote inside) none in
     rw (turned quote byte parts.0) (ap (λ (t : List ℕ). byte ∷ t) (inside_closed quote inside bytes parts.1))
 
 inside_unclosed : (quote : ℕ) (inside : List ℕ) → has_byte quote inside ≡ false → uncommented (Some quote) inside ≡ inside
 inside_unclosed quote [] none = refl
 inside_unclosed quote (byte ∷ inside) none =
-    let parts = neither (eqb byte quote) (has_byte quote inside) none in
+    let parts = or_parts (eqb byte quote) (has_byte quote inside) none in
     rw (turned quote byte parts.0) (ap (λ (t : List ℕ). byte ∷ t) (inside_unclosed quote inside parts.1))
 
 pub uncommented_only : {text left : List ℕ} → IsUncommented text left → left ≡ uncommented None text

@@ -6,7 +6,7 @@ use Rattle.std.specs.Option.{option_or}
 use Rattle.model_conf.specs.Faults.{IsModelFault, too_long, not_utf8, at_line, behind_lines, IsEntryFault, missing, request_columns, policy_columns, role_shape, unknown_effect, matcher, undeclared, fault_of}
 use Rattle.model_conf.specs.Later.{is_later}
 use Rattle.model_conf.specs.ModelText.{ModelParts, Values, IsText, IsModel, SayModel, HasEffect, most_bytes}
-use Rattle.model_conf.specs.Outlines.{IsSettled}
+use Rattle.model_conf.specs.Helps.Outlines.{IsSettled}
 use Rattle.model_conf.specs.Sections.{Entry, entries_of, fault_behind, first_fault, has_key, is_key_of, is_section, key_fault, said_fault, section_behind}
 use Rattle.model_conf.specs.Uses.{Use, of_request, of_policy, of_relation}
 use Rattle.model_conf.specs.Statements.{Said, header, pair, nothing, Statement, HasStatements}

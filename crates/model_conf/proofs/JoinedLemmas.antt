@@ -4,12 +4,14 @@ use Rattle.std.specs.Prelude.{IsTrue}
 use Rattle.std.specs.List.{list_all, flat_map, AllByRecursion}
 use Rattle.std.proofs.lemmas.List.{append_assoc, append-nil}
 use Rattle.std.proofs.lemmas.List.Folds.{list_all-append}
-use Rattle.matcher_read.specs.Names.{is_identifier, is_word}
-use Rattle.perm_base.specs.Fields.{is_blank, joined}
-use Rattle.model_conf.specs.Blanks.{before_blanks, behind_blanks, trimmed}
+use Rattle.text_parts.specs.Names.{is_identifier, is_word}
+use Rattle.text_parts.specs.Blanks.{is_blank, before_blanks, behind_blanks, trimmed}
+use Rattle.perm_base.specs.Fields.{joined}
 use Rattle.model_conf.specs.Columns.{columns_in}
-use Rattle.model_conf.proofs.BlankLemmas.{behind_blanks-other, both}
-use Rattle.model_conf.proofs.ColumnLemmas.{columns_in-cut, columns_in-last, differs, has_byte-identifier, words}
+use Rattle.text_parts.proofs.BlankLemmas.{behind_blanks-other}
+use Rattle.std.proofs.lemmas.Bool.{and_parts}
+use Rattle.model_conf.proofs.ColumnLemmas.{columns_in-cut, columns_in-last, differs, has_byte-identifier}
+use Rattle.text_parts.proofs.CallerLemmas.{words_of}
 use Rattle.model_conf.proofs.TameLemmas.{are_tame, tame-append, words_tame}
 
 -- ---- texts that do not end in a blank
@@ -41,23 +43,23 @@ no_blank byte word = rw (differs 32 byte refl word, differs 9 byte refl word) re
 pub words_last : (name : List ℕ) → list_all is_word name ≡ true → before_blanks name ≡ name
 words_last [] all = refl
 words_last (byte ∷ name) all =
-    let parts = both (is_word byte) (list_all is_word name) all in
+    let parts = and_parts (is_word byte) (list_all is_word name) all in
     ap (λ (b : Bool). cond (b && list_all is_blank name) [] (byte ∷ before_blanks name)) (no_blank byte parts.0) ∙ ap (λ (t : List ℕ). byte ∷ t) (words_last name parts.1)
 
 pub words_first : (name rest : List ℕ) → IsTrue (is_identifier name) → behind_blanks (name ++ rest) ≡ name ++ rest
 words_first [] rest is = absurd cc
-words_first (byte ∷ name) rest is = behind_blanks-other byte (name ++ rest) (no_blank byte (both (is_word byte) (list_all is_word name) (words (byte ∷ name) is)).0)
+words_first (byte ∷ name) rest is = behind_blanks-other byte (name ++ rest) (no_blank byte (and_parts (is_word byte) (list_all is_word name) (words_of (byte ∷ name) is)).0)
 
 pub name_full : (name : List ℕ) → IsTrue (is_identifier name) → IsFull name
 name_full [] is = absurd cc
 name_full (byte ∷ name) is = record {
-  some = ap (λ (b : Bool). b && list_all is_blank name) (no_blank byte (both (is_word byte) (list_all is_word name) (words (byte ∷ name) is)).0);
-  last = words_last (byte ∷ name) (words (byte ∷ name) is);
+  some = ap (λ (b : Bool). b && list_all is_blank name) (no_blank byte (and_parts (is_word byte) (list_all is_word name) (words_of (byte ∷ name) is)).0);
+  last = words_last (byte ∷ name) (words_of (byte ∷ name) is);
 }
 
 name_trimmed : (name : List ℕ) → IsTrue (is_identifier name) → trimmed name ≡ name
 name_trimmed name is =
-    ap before_blanks (ap behind_blanks (sym (append-nil name)) ∙ words_first name [] is ∙ append-nil name) ∙ words_last name (words name is)
+    ap before_blanks (ap behind_blanks (sym (append-nil name)) ∙ words_first name [] is ∙ append-nil name) ∙ words_last name (words_of name is)
 
 -- ---- names joined
 
@@ -95,8 +97,8 @@ joined_trimmed (name ∷ names) some all = ap before_blanks (words_first name (t
 
 tail_tame : (names : List (List ℕ)) → AreNamesToo names → are_tame (tail names) ≡ true
 tail_tame [] all = refl
-tail_tame (name ∷ names) all = tame-append (44 ∷ 32 ∷ name) (tail names) (words_tame name (words name all.0)) (tail_tame names all.1)
+tail_tame (name ∷ names) all = tame-append (44 ∷ 32 ∷ name) (tail names) (words_tame name (words_of name all.0)) (tail_tame names all.1)
 
 pub joined_tame : (names : List (List ℕ)) → AreNamesToo names → are_tame (joined names) ≡ true
 joined_tame [] all = refl
-joined_tame (name ∷ names) all = tame-append name (tail names) (words_tame name (words name all.0)) (tail_tame names all.1)
+joined_tame (name ∷ names) all = tame-append name (tail names) (words_tame name (words_of name all.0)) (tail_tame names all.1)

@@ -11,7 +11,7 @@ use Rattle.model_conf.specs.Columns.{AreColumns, columns_in}
 use Rattle.model_conf.specs.Effects.{effect_of}
 use Rattle.model_conf.specs.Faults.{IsEntryFault, missing, request_columns, policy_columns, role_shape, unknown_effect, matcher, undeclared, IsModelFault, too_long, not_utf8, at_line, behind_lines, first_missing, fault_of}
 use Rattle.model_conf.specs.ModelText.{ModelParts, parts_of, Values, IsText, HasValues, HasColumns, HasEffect, SayModel, IsModel}
-use Rattle.model_conf.specs.Outlines.{IsSettled}
+use Rattle.model_conf.specs.Helps.Outlines.{IsSettled}
 use Rattle.model_conf.specs.Relations.{value_of, relations_of, first_bad_shape}
 use Rattle.model_conf.specs.Sections.{Entry, entries_of, first_fault}
 use Rattle.model_conf.specs.Statements.{Statement}

@@ -1,11 +1,9 @@
-pub mod BytePlaces
-pub mod BlankLemmas
+pub mod OpenLemmas
 pub mod LineLemmas
 pub mod CommentLemmas
 pub mod ColumnLemmas
 pub mod SectionLemmas
 pub mod EntryLemmas
-pub mod WholeLemmas
 pub mod FaultLemmas
 pub mod TotalLemmas
 pub mod ReadLemmas

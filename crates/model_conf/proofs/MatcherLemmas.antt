@@ -10,10 +10,10 @@ use Rattle.matcher_read.specs.declared.fault.MatcherFault.TheVariants as m
 use Rattle.model_conf.specs.Columns.{AreColumns, columns_in}
 use Rattle.model_conf.specs.Faults.{IsEntryFault, missing, matcher, undeclared, fault_of, first_missing}
 use Rattle.model_conf.specs.Kept.{AreRelations, IsKept, IsPartOfLine}
-use Rattle.model_conf.specs.MatcherStops.{fault_of_matcher}
-use Rattle.model_conf.specs.Misuses.{misuse_fault, misuse_of}
+use Rattle.model_conf.specs.Helps.MatcherStops.{fault_of_matcher}
+use Rattle.model_conf.specs.Helps.Misuses.{misuse_fault, misuse_of}
 use Rattle.model_conf.specs.ModelText.{ModelParts, parts_of, Values, HasValues, HasEffect}
-use Rattle.model_conf.specs.Outlines.{HasTextOfMatcher, IsMissingIn, IsOutline, IsSettled}
+use Rattle.model_conf.specs.Helps.Outlines.{HasTextOfMatcher, IsMissingIn, IsOutline, IsSettled}
 use Rattle.model_conf.specs.Relations.{relations_of}
 use Rattle.model_conf.specs.Sections.{Entry}
 use Rattle.model_conf.specs.Uses.{Use, of_request, of_policy, of_relation, uses, first_undeclared}

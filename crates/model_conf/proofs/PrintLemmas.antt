@@ -6,7 +6,7 @@ use Rattle.std.proofs.lemmas.Bool.{false≢true}
 use Rattle.std.proofs.lemmas.Grind.{flat_map-append}
 use Rattle.std.proofs.lemmas.List.{append_assoc, append-nil, take_all}
 use Rattle.perm_base.specs.Fields.{joined}
-use Rattle.perm_base.specs.Lines.{with_ends}
+use Rattle.text_parts.specs.Lines.{with_ends}
 use Rattle.perm_base.specs.declared.shapes.RoleShape.{RoleShape}
 use Rattle.model_conf.specs.Effects.{effect_text}
 use Rattle.model_conf.specs.ModelText.{ModelParts}

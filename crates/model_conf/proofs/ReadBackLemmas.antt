@@ -4,33 +4,34 @@ use Rattle.std.specs.Prelude.{⊤, IfOk, IsTrue}
 use Rattle.std.specs.List.{filter_map, list_all, list_any, AllByRecursion}
 use Rattle.std.specs.Option.{option_or}
 use Rattle.std.specs.Str.{bytes_eq}
-use Rattle.std.proofs.lemmas.Bool.{eqb-false}
+use Rattle.std.proofs.lemmas.Bool.{eqb-false, and_parts, or_parts}
 use Rattle.std.proofs.lemmas.List.{append_assoc, append-nil}
 use Rattle.std.proofs.lemmas.List.Elements.{recursion_from_All}
 use Rattle.std.proofs.lemmas.List.Folds.{list_any-append}
 use Rattle.effect_fold.specs.declared.effect.Effect.{Effect}
 use Rattle.effect_fold.specs.declared.effect.Effect.TheVariants as e
 use Rattle.matcher_read.specs.Calls.{relation_names}
-use Rattle.matcher_read.specs.Names.{is_identifier, is_word}
+use Rattle.text_parts.specs.Names.{is_identifier, is_word}
 use Rattle.perm_base.specs.Fields.{joined}
 use Rattle.perm_base.specs.declared.shapes.RoleShape.{RoleShape}
-use Rattle.model_conf.specs.Blanks.{before_blanks}
+use Rattle.text_parts.specs.Blanks.{before_blanks}
 use Rattle.model_conf.specs.Columns.{AreColumns, columns_in}
 use Rattle.model_conf.specs.Effects.{effect_of, effect_text}
 use Rattle.model_conf.specs.Kept.{IsKept}
-use Rattle.model_conf.specs.Lines.{is_passed, numbered}
+use Rattle.text_parts.specs.Passed.{is_passed_in_model}
+use Rattle.model_conf.specs.Lines.{numbered}
 use Rattle.model_conf.specs.ModelText.{ModelParts, HasValues, IsModel, SayModel, Values, most_bytes}
 use Rattle.model_conf.specs.Printed.{printed, printed_lines, relation_entry, role_lines}
 use Rattle.model_conf.specs.Relations.{first_bad_shape, relations_of}
 use Rattle.model_conf.specs.Sections.{Entry, entry, entries_of, entry_of, first_fault, has_key, is_key_of, is_section, said_fault}
 use Rattle.model_conf.specs.Statements.{Said, header, pair, nothing, IsNoHeader, Statement, statement, AreStatements}
-use Rattle.model_conf.specs.Steps.{Standing, behind, standing}
+use Rattle.model_conf.specs.Helps.Steps.{Standing, behind, standing}
 use Rattle.model_conf.specs.declared.fault.ModelFault.{ModelFault}
 use Rattle.model_conf.specs.declared.fault.ModelFault.TheVariants as fault
 use Rattle.model_conf.proofs.AsciiLemmas.{IsUtf8-printed}
-use Rattle.model_conf.proofs.BlankLemmas.{before_blanks-push, both}
-use Rattle.model_conf.proofs.BytePlaces.{neither}
-use Rattle.model_conf.proofs.ColumnLemmas.{differs, has_byte-identifier, words}
+use Rattle.text_parts.proofs.BlankLemmas.{before_blanks-push}
+use Rattle.model_conf.proofs.ColumnLemmas.{differs, has_byte-identifier}
+use Rattle.text_parts.proofs.CallerLemmas.{words_of}
 use Rattle.model_conf.proofs.JoinedLemmas.{columns_in-joined, joined_tame, joined_trimmed, words_first, words_last}
 use Rattle.model_conf.proofs.ReadLemmas.{stands-push, stands_behind}
 use Rattle.model_conf.proofs.SlotLemmas.{AreApart, AreFresh, HasSlots, IsOther, fresh_more, no_key-append, shape_text, slot_entries, slots_fine, slots_lack, slots_of, slots_read, value_behind}
@@ -46,15 +47,15 @@ no_header byte rest other name same = eqb-false byte 91 other (first_of same)
     first_of : {a b : ℕ} {as_ bs : List ℕ} → a ∷ as_ ≡ b ∷ bs → a ≡ b
     first_of same = cc
 
-begins_line : (byte : ℕ) (rest : List ℕ) → is_word byte ≡ true → is_passed (byte ∷ rest) ≡ false
+begins_line : (byte : ℕ) (rest : List ℕ) → is_word byte ≡ true → is_passed_in_model (byte ∷ rest) ≡ false
 begins_line byte rest word = rw (differs 32 byte refl word, differs 9 byte refl word, differs 35 byte refl word, differs 59 byte refl word) refl
 
 -- an identifier is such a key
 key_text : (name : List ℕ) → IsTrue (is_identifier name) → IsKeyText name
 key_text [] is = absurd cc
 key_text (byte ∷ name) is =
-    let all = words (byte ∷ name) is in
-    let word : is_word byte ≡ true = (both (is_word byte) (list_all is_word name) all).0 in
+    let all = words_of (byte ∷ name) is in
+    let word : is_word byte ≡ true = (and_parts (is_word byte) (list_all is_word name) all).0 in
     record {
       tame = words_tame (byte ∷ name) all;
       whole = list_any-append (λ b. eqb b 61) (byte ∷ name) (32 ∷ []) ∙ ap (λ (b : Bool). b || false) (has_byte-identifier 61 (byte ∷ name) refl is);
@@ -95,20 +96,20 @@ slots_text (name ∷ names) (Some with_domain ∷ slots) all = (record { key = k
 each_by : (p : List ℕ → Bool) (names : List (List ℕ)) → list_all p names ≡ true → AllByRecursion (λ (name : List ℕ). p name ≡ true) names
 each_by p [] all = tt
 each_by p (name ∷ names) all =
-    let parts = both (p name) (list_all p names) all in
+    let parts = and_parts (p name) (list_all p names) all in
     (parts.0, each_by p names parts.1)
 
 none_by : (p : List ℕ → Bool) (names : List (List ℕ)) → list_any p names ≡ false → AllByRecursion (λ (name : List ℕ). p name ≡ false) names
 none_by p [] none = tt
 none_by p (name ∷ names) none =
-    let parts = neither (p name) (list_any p names) none in
+    let parts = or_parts (p name) (list_any p names) none in
     (parts.0, none_by p names parts.1)
 
 others_by : (name : List ℕ) (names : List (List ℕ)) → list_any (λ (other : List ℕ). bytes_eq name other || bytes_eq other name) names ≡ false → IsOther name names
 others_by name [] none = tt
 others_by name (other ∷ names) none =
-    let parts = neither (bytes_eq name other || bytes_eq other name) (list_any (λ (o : List ℕ). bytes_eq name o || bytes_eq o name) names) none in
-    (neither (bytes_eq name other) (bytes_eq other name) parts.0, others_by name names parts.1)
+    let parts = or_parts (bytes_eq name other || bytes_eq other name) (list_any (λ (o : List ℕ). bytes_eq name o || bytes_eq o name) names) none in
+    (or_parts (bytes_eq name other) (bytes_eq other name) parts.0, others_by name names parts.1)
 
 abbrev are_repeated : List (List ℕ) → Bool
 are_repeated [] = false
@@ -117,8 +118,8 @@ are_repeated (name ∷ names) = list_any (λ (other : List ℕ). bytes_eq name o
 apart_by : (names : List (List ℕ)) → list_all (λ (name : List ℕ). bytes_eq name name) names ≡ true → are_repeated names ≡ false → AreApart names
 apart_by [] same none = tt
 apart_by (name ∷ names) same none =
-    let itself = both (bytes_eq name name) (list_all (λ (n : List ℕ). bytes_eq n n) names) same in
-    let parts = neither (list_any (λ (other : List ℕ). bytes_eq name other || bytes_eq other name) names) (are_repeated names) none in
+    let itself = and_parts (bytes_eq name name) (list_all (λ (n : List ℕ). bytes_eq n n) names) same in
+    let parts = or_parts (list_any (λ (other : List ℕ). bytes_eq name other || bytes_eq other name) names) (are_repeated names) none in
     (itself.0, others_by name names parts.0, apart_by names itself.1 parts.1)
 
 relations_apart : AreApart relation_names

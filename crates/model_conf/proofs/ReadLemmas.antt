@@ -4,12 +4,14 @@ use Rattle.std.specs.List.{filter_map}
 use Rattle.std.specs.Option.{option_or}
 use Rattle.std.proofs.lemmas.List.{append_assoc, append-nil}
 use Rattle.std.proofs.lemmas.List.Elements.{filter_map-append}
-use Rattle.model_conf.specs.Lines.{Line, line, model_lines, numbered, is_passed}
+use Rattle.model_conf.specs.Lines.{Line, line, model_lines, numbered}
+use Rattle.text_parts.specs.Passed.{is_passed_in_model}
 use Rattle.model_conf.specs.Logical.{IsWhole, AreLogical, no_line, passed, begun}
 use Rattle.model_conf.specs.Sections.{Entry, entry, entry_of, entries_of, fault_behind, first_fault, name_of, said_fault, section_behind}
-use Rattle.model_conf.specs.Seen.{TakesLines}
+use Rattle.model_conf.specs.Helps.Seen.{TakesLines, ReadsEntries}
+use Rattle.model_conf.specs.declared.entries.Entries.{Entries}
 use Rattle.model_conf.specs.Statements.{Said, header, pair, nothing, Statement, statement, LineSays, AllSay, no_more, one_more, AreStatements, HasStatements}
-use Rattle.model_conf.specs.Steps.{Standing, standing, behind}
+use Rattle.model_conf.specs.Helps.Steps.{Standing, standing, behind}
 use Rattle.model_conf.specs.declared.fault.ModelFault.{ModelFault}
 use Rattle.model_conf.specs.declared.fault.ModelFault.TheVariants as fault
 use Rattle.model_conf.proofs.TotalLemmas.{AreStatements-some}
@@ -54,10 +56,10 @@ stands-push front number nothing =
 
 -- ---- lines and what they say
 
-pub passed_more : {first : Line} {lines : List Line} {tail : List Statement} → is_passed first.text ≡ true → AreStatements lines tail → AreStatements (first ∷ lines) tail
+pub passed_more : {first : Line} {lines : List Line} {tail : List Statement} → is_passed_in_model first.text ≡ true → AreStatements lines tail → AreStatements (first ∷ lines) tail
 passed_more e t = record { logical = t.logical; lines_are = passed e t.lines_are; say = t.say }
 
-pub begun_more : {first : Line} {lines left : List Line} {whole : List ℕ} {said : Said} {tail : List Statement} → is_passed first.text ≡ false → IsWhole first.text lines whole left → LineSays whole said
+pub begun_more : {first : Line} {lines left : List Line} {whole : List ℕ} {said : Said} {tail : List Statement} → is_passed_in_model first.text ≡ false → IsWhole first.text lines whole left → LineSays whole said
     → AreStatements left tail → AreStatements (first ∷ lines) (statement first.number said ∷ tail)
 begun_more {first} {whole = whole} e joined says t = record { logical = line first.number whole ∷ t.logical; lines_are = begun e joined t.lines_are; say = one_more says t.say }
 
@@ -73,7 +75,7 @@ pub record HasRead (bytes rest : List ℕ) (number : ℕ) (now : Standing) : Typ
 pub read_none : (bytes : List ℕ) (now : Standing) → now ≡ standing None [] → HasRead bytes bytes 1 now
 read_none bytes now e = record { front = []; reads = λ tail t. t; fine = refl; stands = e }
 
-pub read_passed : (bytes rest after text : List ℕ) (number : ℕ) (now : Standing) → HasRead bytes rest number now → model_lines rest ≡ text ∷ model_lines after → is_passed text ≡ true → HasRead bytes after (number + 1) now
+pub read_passed : (bytes rest after text : List ℕ) (number : ℕ) (now : Standing) → HasRead bytes rest number now → model_lines rest ≡ text ∷ model_lines after → is_passed_in_model text ≡ true → HasRead bytes after (number + 1) now
 read_passed bytes rest after text number now so_far first e = record {
   front = so_far.front;
   reads = λ tail t. so_far.reads tail (subst (λ (l : List (List ℕ)). AreStatements (numbered number l) tail) (sym first) (passed_more e t));
@@ -82,7 +84,7 @@ read_passed bytes rest after text number now so_far first e = record {
 }
 
 -- a line that was begun, with what it says, and the lines behind it
-begun_at : (bytes rest after text whole : List ℕ) (number : ℕ) (now : Standing) (left : List Line) (said : Said) (tail : List Statement) → (so_far : HasRead bytes rest number now) → model_lines rest ≡ text ∷ model_lines after → is_passed text ≡ false
+begun_at : (bytes rest after text whole : List ℕ) (number : ℕ) (now : Standing) (left : List Line) (said : Said) (tail : List Statement) → (so_far : HasRead bytes rest number now) → model_lines rest ≡ text ∷ model_lines after → is_passed_in_model text ≡ false
     → IsWhole text (numbered (number + 1) (model_lines after)) whole left → LineSays whole said → AreStatements left tail → AreStatements (numbered 1 (model_lines bytes)) (so_far.front ++ statement number said ∷ tail)
 begun_at bytes rest after text whole number now left said tail so_far first e joined says t =
     so_far.reads (statement number said ∷ tail) (subst (λ (l : List (List ℕ)). AreStatements (numbered number l) (statement number said ∷ tail)) (sym first) (begun_more e joined says t))
@@ -90,7 +92,7 @@ begun_at bytes rest after text whole number now left said tail so_far first e jo
 fault_there : (front : List Statement) (number : ℕ) (said : Said) (now : Standing) (found : Option ModelFault) → now ≡ stands_behind front → said_fault now.entries now.section number said ≡ found → fault_behind front (statement number said) ≡ found
 fault_there front number said now found stands e = ap (λ (st : Standing). said_fault st.entries st.section number said) (sym stands) ∙ e
 
-pub read_taken : (bytes rest after text : List ℕ) (left : Bor (List ℕ)) (number next : ℕ) (now later : Standing) → HasRead bytes rest number now → model_lines rest ≡ text ∷ model_lines after → is_passed text ≡ false
+pub read_taken : (bytes rest after text : List ℕ) (left : Bor (List ℕ)) (number next : ℕ) (now later : Standing) → HasRead bytes rest number now → model_lines rest ≡ text ∷ model_lines after → is_passed_in_model text ≡ false
     → TakesLines number text (numbered (number + 1) (model_lines after)) now later (Ok (left, next)) → HasRead bytes left.now next later
 read_taken bytes rest after text left number next now later so_far first e taken =
     let s = statement number taken.1 in
@@ -102,7 +104,7 @@ read_taken bytes rest after text left number next now later so_far first e taken
       stands = taken.5 ∙ ap (λ (st : Standing). behind st taken.1) so_far.stands ∙ sym (stands-push so_far.front number taken.1);
     }
 
-pub read_stopped : (bytes rest after text : List ℕ) (number : ℕ) (now later : Standing) (stop : ModelFault) → HasRead bytes rest number now → model_lines rest ≡ text ∷ model_lines after → is_passed text ≡ false
+pub read_stopped : (bytes rest after text : List ℕ) (number : ℕ) (now later : Standing) (stop : ModelFault) → HasRead bytes rest number now → model_lines rest ≡ text ∷ model_lines after → is_passed_in_model text ≡ false
     → TakesLines number text (numbered (number + 1) (model_lines after)) now later (Err stop) → stop ≢ fault.NoMemory → (statements : List Statement) × HasStatements bytes statements × (first_fault [] statements ≡ Some stop)
 read_stopped bytes rest after text number now later stop so_far first e taken other =
     let t = taken other in
@@ -115,3 +117,11 @@ pub read_all : (bytes rest : List ℕ) (number : ℕ) (now : Standing) → HasRe
 read_all bytes rest number now so_far none =
     let last : AreStatements (numbered number (model_lines rest)) [] = subst (λ (l : List (List ℕ)). AreStatements (numbered number l) []) (sym none) (record { logical = []; lines_are = no_line; say = no_more }) in
     (so_far.front, subst (AreStatements (numbered 1 (model_lines bytes))) (append-nil so_far.front) (so_far.reads [] last), so_far.fine, ap (λ (st : Standing). st.entries) so_far.stands)
+
+-- ---- the same of an equal text
+
+pub read_text : {text bytes : List ℕ} (read : Entries) → text ≡ bytes → ReadsEntries text (Ok read) → ReadsEntries bytes (Ok read)
+read_text read same is = subst (λ (t : List ℕ). ReadsEntries t (Ok read)) same is
+
+pub stopped_text : {text bytes : List ℕ} (stop : ModelFault) → text ≡ bytes → ReadsEntries text (Err stop) → ReadsEntries bytes (Err stop)
+stopped_text stop same is = subst (λ (t : List ℕ). ReadsEntries t (Err stop)) same is

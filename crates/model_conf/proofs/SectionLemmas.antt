@@ -1,6 +1,6 @@
 -- The names of sections, keys and relations.
-use Rattle.std.proofs.Common.{◌≡◌, ℕ, zero, suc, ◌+◌, ◌-◌, ◌<◌, ◌≤◌, ◌||◌, Bool, true, false, List, [], ◌∷◌, codes, get_or, Option, Some, None, refl, sym, ◌∙◌, subst, arith}
-use Rattle.std.specs.Prelude.{position}
+use Rattle.std.proofs.Common.{◌≡◌, ◌≢◌, ℕ, ◌++◌, Bor, ap, zero, suc, ◌+◌, ◌-◌, ◌<◌, ◌≤◌, ◌||◌, Bool, true, false, List, [], ◌∷◌, codes, get_or, Option, Some, None, refl, sym, ◌∙◌, subst, arith}
+use Rattle.std.specs.Prelude.{position, MatchOption}
 use Rattle.std.specs.List.{list_any}
 use Rattle.std.specs.Str.{bytes_eq}
 use Rattle.matcher_read.specs.Calls.{relation_names}
@@ -58,3 +58,13 @@ is_relation (suc (suc (suc (suc (suc (suc zero)))))) some few = refl
 is_relation (suc (suc (suc (suc (suc (suc (suc zero))))))) some few = refl
 is_relation (suc (suc (suc (suc (suc (suc (suc (suc zero)))))))) some few = refl
 is_relation (suc (suc (suc (suc (suc (suc (suc (suc (suc number))))))))) some few = absurd (omega arith)
+
+-- ---- headers
+
+-- the name of a header stands before the `]` at its end
+pub header_by : (text rest : List ℕ) (found : Option (Bor (List ℕ))) → text ≡ 91 ∷ rest → MatchOption found ((front : List ℕ) → rest ≢ front ++ 93 ∷ []) (λ (f : Bor (List ℕ)). rest ≡ f.now ++ 93 ∷ [])
+    → MatchOption found ((name : List ℕ) → ¬ (text ≡ 91 ∷ name ++ 93 ∷ [])) (λ (name : Bor (List ℕ)). text ≡ 91 ∷ name.now ++ 93 ∷ [])
+header_by text rest None is none = λ name e.
+    let same : 91 ∷ rest ≡ 91 ∷ (name ++ 93 ∷ []) = sym is ∙ e in
+    none name cc
+header_by text rest (Some f) is e = is ∙ ap (λ (t : List ℕ). 91 ∷ t) e

@@ -5,7 +5,7 @@ use Rattle.std.specs.List.{AllByRecursion}
 use Rattle.std.specs.List.Sorted.{IsStrictlyIncreasing}
 use Rattle.std.specs.Option.{option_or}
 use Rattle.std.specs.Str.{bytes_eq}
-use Rattle.std.proofs.lemmas.Bool.{eqb-true, eqb-false}
+use Rattle.std.proofs.lemmas.Bool.{eqb-true, eqb-false, or_parts}
 use Rattle.std.proofs.lemmas.List.{append_assoc, append-nil}
 use Rattle.std.proofs.lemmas.List.Elements.{recursion_from_All}
 use Rattle.std.proofs.lemmas.List.Folds.{list_any-append}
@@ -16,14 +16,13 @@ use Rattle.model_conf.specs.Kept.{AreRelations, IsRelation}
 use Rattle.model_conf.specs.Printed.{relation_entry}
 use Rattle.model_conf.specs.Relations.{bad_shape, first_bad_shape, relations_from, shape, value_of, with_domain_of, with_relation}
 use Rattle.model_conf.specs.Sections.{Entry, entry, is_key_of}
-use Rattle.model_conf.proofs.BytePlaces.{neither}
 
 -- ---- the value of a key
 
 pub value_behind : (front back : List Entry) (key : List ℕ) → is_key_of front key ≡ false → value_of (front ++ back) key ≡ value_of back key
 value_behind [] back key none = refl
 value_behind (e ∷ front) back key none =
-    let parts = neither (bytes_eq e.key key) (is_key_of front key) none in
+    let parts = or_parts (bytes_eq e.key key) (is_key_of front key) none in
     ap (λ (b : Bool). option_map (λ (x : Entry). x.value) (cond b (Some e) (find (λ (x : Entry). bytes_eq x.key key) (front ++ back)))) parts.0 ∙ value_behind front back key parts.1
 
 no_value : (entries : List Entry) (key : List ℕ) → is_key_of entries key ≡ false → value_of entries key ≡ None

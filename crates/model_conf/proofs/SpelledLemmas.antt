@@ -3,22 +3,23 @@ use Rattle.std.proofs.Common.{◌≡◌, ℕ, ◌+◌, Bool, true, false, cond, 
 use Rattle.std.specs.List.{list_all, AllByRecursion}
 use Rattle.std.proofs.lemmas.List.{append_assoc, append-nil}
 use Rattle.std.proofs.lemmas.List.Folds.{list_any-append}
-use Rattle.perm_base.specs.Fields.{is_blank}
-use Rattle.perm_base.specs.Lines.{has_byte, lines_of, with_ends}
-use Rattle.model_conf.specs.Blanks.{before_blanks, behind_blanks, trimmed}
+use Rattle.text_parts.specs.Blanks.{is_blank, before_blanks, behind_blanks, trimmed}
+use Rattle.text_parts.specs.Lines.{has_byte, lines_of, with_ends, without_cr}
 use Rattle.model_conf.specs.Comments.{IsUncommented, ended as no_bytes}
-use Rattle.model_conf.specs.Lines.{Line, line, is_passed, model_lines, numbered, without_cr}
-use Rattle.model_conf.specs.Logical.{EndsOpen, ended}
+use Rattle.model_conf.specs.Lines.{Line, line, model_lines, numbered}
+use Rattle.text_parts.specs.Passed.{is_passed_in_model}
+use Rattle.model_conf.specs.Logical.{EndsOpen, ended, no_line}
 use Rattle.model_conf.specs.Printed.{key_line, section_lines}
 use Rattle.model_conf.specs.Sections.{Entry}
 use Rattle.model_conf.specs.Statements.{Said, header, pair, IsNoHeader, Says, as_header, as_pair, LineSays, Statement, statement, AreStatements, no_more}
-use Rattle.model_conf.specs.Logical.{no_line}
-use Rattle.model_conf.proofs.BlankLemmas.{before_blanks-other, behind_blanks-blank, both}
+use Rattle.text_parts.proofs.BlankLemmas.{before_blanks-other, behind_blanks-blank}
+use Rattle.std.proofs.lemmas.Bool.{and_parts}
 use Rattle.model_conf.proofs.JoinedLemmas.{before_blanks-onto}
 use Rattle.model_conf.proofs.LineLemmas.{model_lines-first, model_lines-none}
 use Rattle.model_conf.proofs.ReadLemmas.{begun_more, passed_more}
 use Rattle.model_conf.proofs.TameLemmas.{are_tame, loose, loose-append, no_cr, not_open, tame-append, tame_firm, tame_line, tame_uncommented}
-use Rattle.model_conf.proofs.TextLemmas.{before_again, lines_of-cut}
+use Rattle.model_conf.proofs.TextLemmas.{before_again}
+use Rattle.text_parts.proofs.CallerLemmas.{lines_of-cut}
 
 -- ---- keys and values
 
@@ -27,7 +28,7 @@ pub record IsKeyText (key : List ℕ) : Type 0 where
   pub tame : are_tame key ≡ true
   pub whole : has_byte 61 (key ++ 32 ∷ []) ≡ false
   pub first : (rest : List ℕ) → behind_blanks (key ++ rest) ≡ key ++ rest
-  pub begun : (rest : List ℕ) → is_passed (key ++ rest) ≡ false
+  pub begun : (rest : List ℕ) → is_passed_in_model (key ++ rest) ≡ false
   pub other : (rest : List ℕ) → IsNoHeader (key ++ rest)
   pub bare : trimmed (key ++ 32 ∷ []) ≡ key
 
@@ -57,13 +58,13 @@ pub record IsSpelled (text : List ℕ) (said : Said) : Type 0 where
   pub whole : has_byte 10 text ≡ false
   pub no_cr_is : without_cr text ≡ text
   pub closed : (front : List ℕ) → ¬ (EndsOpen text front)
-  pub begun : is_passed text ≡ false
+  pub begun : is_passed_in_model text ≡ false
   pub says : LineSays text said
 
 all_behind : (text : List ℕ) → list_all is_blank text ≡ true → behind_blanks text ≡ []
 all_behind [] all = refl
 all_behind (byte ∷ text) all =
-    let parts = both (is_blank byte) (list_all is_blank text) all in
+    let parts = and_parts (is_blank byte) (list_all is_blank text) all in
     behind_blanks-blank byte text parts.0 ∙ all_behind text parts.1
 
 value_by : (value : List ℕ) (all : Bool) → list_all is_blank value ≡ all → trimmed value ≡ value → trimmed (before_blanks (32 ∷ value)) ≡ value

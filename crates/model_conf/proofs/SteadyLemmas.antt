@@ -3,21 +3,19 @@ use Rattle.std.proofs.Common.{◌≡◌, ℕ, ◌<◌, ◌&&◌, inl, inr, Bool,
 use Rattle.std.specs.Prelude.{IsTrue}
 use Rattle.std.specs.Char.{is_ascii_digit}
 use Rattle.std.specs.List.{list_all, join_with_byte, AllByRecursion}
-use Rattle.std.proofs.lemmas.Bool.{false≢true, eqb-true}
+use Rattle.std.proofs.lemmas.Bool.{false≢true, eqb-true, and_parts}
 use Rattle.std.proofs.lemmas.List.{append_assoc, append-nil}
 use Rattle.std.proofs.lemmas.List.Elements.{recursion_from_All}
 use Rattle.std.proofs.lemmas.List.Folds.{list_all-append}
 use Rattle.matcher_read.specs.Matcher.{IsMatcher, is_closed}
-use Rattle.matcher_read.specs.Names.{is_identifier, is_word}
+use Rattle.text_parts.specs.Names.{is_identifier, is_word}
 use Rattle.matcher_read.specs.Tokens.{Token, Placed, IsCut, ended, strayed, one_token, IsQuote, IsSpelling, as_name, as_number, as_text, as_unclosed, as_operator, as_exclamation, as_opening, as_closing, as_comma, sign}
 use Rattle.matcher_read.specs.declared.tree.Operator.{Operator}
 use Rattle.matcher_read.specs.declared.tree.Operator.TheVariants as op
-use Rattle.perm_base.specs.Fields.{is_blank}
-use Rattle.perm_base.specs.Lines.{has_byte}
-use Rattle.model_conf.specs.Blanks.{AreBlanks}
+use Rattle.text_parts.specs.Blanks.{is_blank, AreBlanks}
+use Rattle.text_parts.specs.Lines.{has_byte}
 use Rattle.model_conf.specs.Comments.{IsUncommented, ended as no_bytes, quoted}
-use Rattle.model_conf.proofs.BlankLemmas.{both}
-use Rattle.model_conf.proofs.ColumnLemmas.{words}
+use Rattle.text_parts.proofs.CallerLemmas.{words_of}
 use Rattle.model_conf.proofs.TameLemmas.{are_tame, is_tame, loose, loose-append, loose-blanks, tame_byte, tame_uncommented}
 
 -- ---- a token
@@ -38,8 +36,8 @@ is_solid_text (byte ∷ bytes) = list_all is_solid (byte ∷ bytes)
 solid_tame : (text : List ℕ) → list_all is_solid text ≡ true → are_tame text ≡ true
 solid_tame [] all = refl
 solid_tame (byte ∷ text) all =
-    let parts = both (is_solid byte) (list_all is_solid text) all in
-    rw ((both (is_tame byte) (not (is_blank byte)) parts.0).0, solid_tame text parts.1) refl
+    let parts = and_parts (is_solid byte) (list_all is_solid text) all in
+    rw ((and_parts (is_tame byte) (not (is_blank byte)) parts.0).0, solid_tame text parts.1) refl
 
 no_blank : (b : Bool) → not b ≡ true → b ≡ false
 no_blank true e = absurd cc
@@ -47,19 +45,19 @@ no_blank false e = refl
 
 solid_byte : (byte : ℕ) (so_far : Bool) (bytes : List ℕ) → is_solid byte ≡ true → loose so_far (byte ∷ bytes) ≡ loose false bytes
 solid_byte byte so_far bytes solid =
-    let parts = both (is_tame byte) (not (is_blank byte)) solid in
+    let parts = and_parts (is_tame byte) (not (is_blank byte)) solid in
     rw (no_blank (is_blank byte) parts.1, (tame_byte byte parts.0).firm) refl
 
 solid_firm : (text : List ℕ) → list_all is_solid text ≡ true → loose false text ≡ false
 solid_firm [] all = refl
 solid_firm (byte ∷ text) all =
-    let parts = both (is_solid byte) (list_all is_solid text) all in
+    let parts = and_parts (is_solid byte) (list_all is_solid text) all in
     solid_byte byte false text parts.0 ∙ solid_firm text parts.1
 
 solid_steady : (text : List ℕ) → is_solid_text text ≡ true → IsSteady text
 solid_steady [] all = absurd cc
 solid_steady (byte ∷ text) all =
-    let parts = both (is_solid byte) (list_all is_solid text) all in
+    let parts = and_parts (is_solid byte) (list_all is_solid text) all in
     record {
       uncommented = λ more left is. tame_uncommented (byte ∷ text) more left (solid_tame (byte ∷ text) all) is;
       firm = λ so_far. solid_byte byte so_far text parts.0 ∙ solid_firm text parts.1;
@@ -82,7 +80,7 @@ solid_by p a b c d e f g h byte holds =
 all_solid : (p : ℕ → Bool) → ((byte : ℕ) → p byte ≡ true → is_solid byte ≡ true) → (text : List ℕ) → list_all p text ≡ true → list_all is_solid text ≡ true
 all_solid p each [] all = refl
 all_solid p each (byte ∷ text) all =
-    let parts = both (p byte) (list_all p text) all in
+    let parts = and_parts (p byte) (list_all p text) all in
     rw (each byte parts.0, all_solid p each text parts.1) refl
 
 solid_text : (text : List ℕ) → 0 < length text → list_all is_solid text ≡ true → is_solid_text text ≡ true
@@ -90,7 +88,7 @@ solid_text [] some all = absurd (omega arith)
 solid_text (byte ∷ text) some all = all
 
 name_solid : (name : List ℕ) → IsTrue (is_identifier name) → list_all is_solid name ≡ true
-name_solid name is = all_solid is_word (solid_by is_word refl refl refl refl refl refl refl refl) name (words name is)
+name_solid name is = all_solid is_word (solid_by is_word refl refl refl refl refl refl refl refl) name (words_of name is)
 
 names_solid : (parts : List (List ℕ)) → AllByRecursion (λ (part : List ℕ). IsTrue (is_identifier part)) parts → list_all is_solid (join_with_byte 46 parts) ≡ true
 names_solid [] all = refl
@@ -152,7 +150,7 @@ pub record IsBare (text : List ℕ) : Type 0 where
 blanks_tame : (blanks : List ℕ) → AreBlanks blanks → are_tame blanks ≡ true
 blanks_tame [] blank = refl
 blanks_tame (byte ∷ blanks) blank =
-    let parts = both (is_blank byte) (list_all is_blank blanks) blank in
+    let parts = and_parts (is_blank byte) (list_all is_blank blanks) blank in
     rw (blank_tame byte parts.0, blanks_tame blanks parts.1) refl
   where
     blank_tame : (byte : ℕ) → is_blank byte ≡ true → is_tame byte ≡ true
@@ -177,7 +175,7 @@ cut_bare : {place : ℕ} {text : List ℕ} {tokens : List Placed} {stray : Optio
 cut_bare (ended {blanks = blanks} blank) none closed = blanks_bare blanks blank
 cut_bare (strayed blanks bytes blank begins e) none closed = absurd cc
 cut_bare (one_token blanks spelling behind {text = text} {token = token} {tokens = tokens} blank longest rest e) none closed =
-    let parts = both (is_closed token) (list_all (λ (t : Placed). is_closed t.token) tokens) closed in
+    let parts = and_parts (is_closed token) (list_all (λ (t : Placed). is_closed t.token) tokens) closed in
     one_more blanks spelling behind text blank (token_steady longest.spelled parts.0) (cut_bare rest none parts.1) e
 
 pub matcher_bare : (text : List ℕ) (e : _) → IsMatcher text e → IsBare text

@@ -1,19 +1,16 @@
 -- Texts that end in neither `\` nor CR, and texts of bytes that mean nothing by themselves.
 use Rattle.std.proofs.Common.{◌≡◌, ◌≢◌, ℕ, ◌&&◌, ◌||◌, inl, inr, Bool, true, false, not, cond, List, [], ◌∷◌, ◌++◌, eqb, refl, sym, ap, ◌∙◌, arith}
 use Rattle.std.specs.List.{list_all}
-use Rattle.std.proofs.lemmas.Bool.{false≢true}
+use Rattle.std.proofs.lemmas.Bool.{false≢true, and_parts}
 use Rattle.std.proofs.lemmas.Bool.Decides.{nat_tests}
 use Rattle.std.proofs.lemmas.List.Folds.{list_all-append}
-use Rattle.matcher_read.specs.Names.{is_word}
-use Rattle.perm_base.specs.Fields.{is_blank}
-use Rattle.perm_base.specs.Lines.{has_byte}
-use Rattle.model_conf.specs.Blanks.{AreBlanks}
+use Rattle.text_parts.specs.Names.{is_word}
+use Rattle.text_parts.specs.Blanks.{is_blank, AreBlanks}
+use Rattle.text_parts.specs.Lines.{has_byte, without_cr}
 use Rattle.model_conf.specs.Comments.{IsQuote, IsUncommented, plain}
-use Rattle.model_conf.specs.Lines.{without_cr}
 use Rattle.model_conf.specs.Logical.{EndsOpen}
-use Rattle.model_conf.proofs.BlankLemmas.{both}
 use Rattle.model_conf.proofs.ColumnLemmas.{differs}
-use Rattle.model_conf.proofs.LineLemmas.{without_cr-other}
+use Rattle.text_parts.proofs.CallerLemmas.{without_cr-other}
 
 -- ---- the last byte
 
@@ -33,7 +30,7 @@ loose-append so_far (byte ∷ front) back = loose-append (cond (is_blank byte) s
 pub loose-blanks : (so_far : Bool) (blanks : List ℕ) → AreBlanks blanks → loose so_far blanks ≡ so_far
 loose-blanks so_far [] blank = refl
 loose-blanks so_far (byte ∷ blanks) blank =
-    let parts = both (is_blank byte) (list_all is_blank blanks) blank in
+    let parts = and_parts (is_blank byte) (list_all is_blank blanks) blank in
     ap (λ (b : Bool). loose (cond b so_far (is_loose byte)) blanks) parts.0 ∙ loose-blanks so_far blanks parts.1
 
 pub not_open : (text : List ℕ) → loose false text ≡ false → (front : List ℕ) → ¬ (EndsOpen text front)
@@ -71,13 +68,13 @@ tame-append front back one two = rw (list_all-append is_tame front back, one, tw
 pub tame_line : (text : List ℕ) → are_tame text ≡ true → has_byte 10 text ≡ false
 tame_line [] all = refl
 tame_line (byte ∷ text) all =
-    let parts = both (is_tame byte) (are_tame text) all in
+    let parts = and_parts (is_tame byte) (are_tame text) all in
     rw ((tame_byte byte parts.0).line, tame_line text parts.1) refl
 
 pub tame_firm : (text : List ℕ) → are_tame text ≡ true → loose false text ≡ false
 tame_firm [] all = refl
 tame_firm (byte ∷ text) all =
-    let parts = both (is_tame byte) (are_tame text) all in
+    let parts = and_parts (is_tame byte) (are_tame text) all in
     ap (λ (b : Bool). loose (cond (is_blank byte) false b) text) (tame_byte byte parts.0).firm ∙ ap (λ (b : Bool). loose b text) (either (is_blank byte)) ∙ tame_firm text parts.1
   where
     either : (b : Bool) → cond b false false ≡ false
@@ -87,7 +84,7 @@ tame_firm (byte ∷ text) all =
 pub tame_uncommented : (front text left : List ℕ) → are_tame front ≡ true → IsUncommented text left → IsUncommented (front ++ text) (front ++ left)
 tame_uncommented [] text left all rest = rest
 tame_uncommented (byte ∷ front) text left all rest =
-    let parts = both (is_tame byte) (are_tame front) all in
+    let parts = and_parts (is_tame byte) (are_tame front) all in
     let t = tame_byte byte parts.0 in
     plain t.sharp t.quote (tame_uncommented front text left parts.1 rest)
 
@@ -98,5 +95,5 @@ word_tame byte word =
 pub words_tame : (name : List ℕ) → list_all is_word name ≡ true → are_tame name ≡ true
 words_tame [] all = refl
 words_tame (byte ∷ name) all =
-    let parts = both (is_word byte) (list_all is_word name) all in
+    let parts = and_parts (is_word byte) (list_all is_word name) all in
     rw (word_tame byte parts.0, words_tame name parts.1) refl

@@ -2,12 +2,13 @@
 use Rattle.std.proofs.Common.{◌≡◌, ℕ, zero, suc, ◌+◌, ◌<◌, ◌≤◌, ◌⊎◌, inl, inr, ◌||◌, Bool, true, false, List, [], ◌∷◌, ◌++◌, length, eqb, None, refl, sym, ap, ◌∙◌, subst, arith}
 use Rattle.std.proofs.lemmas.Bool.{eqb-true, eqb-false}
 use Rattle.std.proofs.lemmas.List.{length-append}
-use Rattle.perm_base.specs.Lines.{has_byte}
-use Rattle.model_conf.specs.Blanks.{before_blanks, trimmed}
-use Rattle.model_conf.specs.Lines.{Line, line, is_passed}
+use Rattle.text_parts.specs.Lines.{has_byte}
+use Rattle.text_parts.specs.Blanks.{before_blanks, trimmed}
+use Rattle.model_conf.specs.Lines.{Line, line}
+use Rattle.text_parts.specs.Passed.{is_passed_in_model}
 use Rattle.model_conf.specs.Logical.{EndsOpen, IsWhole, ended, continued, dropped, AreLogical, no_line, passed, begun}
 use Rattle.model_conf.specs.Statements.{Said, header, pair, nothing, IsNoHeader, Says, as_header, as_pair, as_nothing, LineSays, Statement, statement, AllSay, no_more, one_more, AreStatements}
-use Rattle.model_conf.proofs.BlankLemmas.{before_open, ends_open}
+use Rattle.model_conf.proofs.OpenLemmas.{before_open, ends_open}
 use Rattle.model_conf.proofs.CommentLemmas.{uncommented, uncommented_is}
 
 -- ---- the last byte
@@ -129,7 +130,7 @@ joins text (next ∷ lines) = joins_by text next lines (λ t. joins t lines) (op
 abbrev HasLogical : List Line → Type 0
 HasLogical lines = (logical : List Line) × AreLogical lines logical
 
-logical_by : (n : ℕ) (first : Line) (lines : List Line) (test : Bool) → is_passed first.text ≡ test → length (first ∷ lines) < suc n → ((others : List Line) → length others < n → HasLogical others) → HasLogical (first ∷ lines)
+logical_by : (n : ℕ) (first : Line) (lines : List Line) (test : Bool) → is_passed_in_model first.text ≡ test → length (first ∷ lines) < suc n → ((others : List Line) → length others < n → HasLogical others) → HasLogical (first ∷ lines)
 logical_by n first lines true e few rest =
     let more = rest lines (omega arith) in
     (more.0, passed e more.1)
@@ -142,7 +143,7 @@ logical_by n first lines false e few rest =
 logical_some : (n : ℕ) (lines : List Line) → length lines < n → HasLogical lines
 logical_some zero lines few = absurd (omega arith)
 logical_some (suc n) [] few = ([], no_line)
-logical_some (suc n) (first ∷ lines) few = logical_by n first lines (is_passed first.text) refl few (λ others fewer. logical_some n others fewer)
+logical_some (suc n) (first ∷ lines) few = logical_by n first lines (is_passed_in_model first.text) refl few (λ others fewer. logical_some n others fewer)
 
 all_say : (logical : List Line) → (statements : List Statement) × AllSay logical statements
 all_say [] = ([], no_more)

@@ -1,16 +1,19 @@
 -- The first use that is not declared, in parts of a matcher one after the other.
 use Rattle.std.proofs.Common.{◌≡◌, ℕ, ◌+◌, ◌<◌, ◌≤◌, ◌==◌, ◌&&◌, Bool, true, false, not, cond, List, [], ◌∷◌, ◌++◌, length, map, drop, get_or, ltb, Option, Some, None, refl, sym, ap, ◌∙◌, arith, drop-cons}
-use Rattle.std.specs.Prelude.{option_map, filter}
+use Rattle.std.specs.Prelude.{option_map, filter, position}
 use Rattle.std.specs.List.{list_any}
 use Rattle.std.specs.Str.{bytes_eq}
 use Rattle.std.proofs.lemmas.Bool.{ltb-true, ltb-false}
 use Rattle.std.proofs.lemmas.List.{drop_all}
 use Rattle.std.proofs.lemmas.List.Elements.{filter-append}
+use Rattle.std.proofs.lemmas.List.Folds.{list_any_at}
+use Rattle.std.proofs.lemmas.List.Quantifiers.{position-Some}
 use Rattle.std.proofs.Math.Numerals.{add-one}
+use Rattle.text_parts.proofs.CallerLemmas.{position-None}
 use Rattle.matcher_read.specs.Expression.{Expression, count, expression, expressions_of}
 use Rattle.matcher_read.specs.declared.tree.Tree.{Tree}
 use Rattle.perm_base.specs.declared.shapes.RoleShape.{RoleShape}
-use Rattle.model_conf.specs.Misuses.{misuse_of, misuse_place, earlier, column_misuse, role_misuse}
+use Rattle.model_conf.specs.Helps.Misuses.{misuse_of, misuse_place, earlier, column_misuse, role_misuse}
 use Rattle.model_conf.specs.Uses.{Use, of_request, of_policy, of_relation, uses, all_uses, names_of, is_declared, place_of, sooner, first_by_place, first_undeclared}
 use Rattle.model_conf.specs.declared.uses.Misuse.{Misuse}
 use Rattle.model_conf.specs.declared.uses.Misuse.TheVariants.{Column, Role}
@@ -118,3 +121,16 @@ pub misuse_step : (requests policies : List (List ℕ)) (relations : List RoleSh
     → earlier first (misuse_in requests policies relations (uses_of (drop at trees))) ≡ whole → earlier now (misuse_in requests policies relations (uses_of (drop (at + 1) trees))) ≡ whole
 misuse_step requests policies relations trees d at first found now whole within is step so_far =
     ap (λ (m : Option Misuse). earlier m (misuse_in requests policies relations (uses_of (drop (at + 1) trees)))) step ∙ misuse_more requests policies relations trees d at first found within is ∙ so_far
+
+-- ---- one column
+
+pub column_found : (columns : List (List ℕ)) (at : ℕ) (name column : List ℕ) (place : ℕ) → name ≡ column → Some place ≡ position (bytes_eq name) columns → None ≡ column_misuse columns at column
+column_found columns at name column place same e =
+    let found = position-Some (bytes_eq name) columns place [] (sym e) in
+    let any : list_any (bytes_eq column) columns ≡ true = ap (λ (n : List ℕ). list_any (bytes_eq n) columns) (sym same) ∙ list_any_at (bytes_eq name) columns place [] found.0 found.1 in
+    rw any refl
+
+pub column_lacks : (columns : List (List ℕ)) (at : ℕ) (name column : List ℕ) → name ≡ column → None ≡ position (bytes_eq name) columns → Some (Column at) ≡ column_misuse columns at column
+column_lacks columns at name column same e =
+    let none : list_any (bytes_eq column) columns ≡ false = ap (λ (n : List ℕ). list_any (bytes_eq n) columns) (sym same) ∙ position-None (bytes_eq name) columns (sym e) in
+    rw none refl

@@ -1,8 +1,8 @@
 -- The columns of a request or a policy: 1 to 32 distinct identifiers, joined by `,` with free blanks round each (Casbin, model syntax).
 use Rattle.std.specs.Prelude.{ℕ, ◌<◌, ◌≤◌, ◌≢◌, ◌==◌, List, length, IsTrue, All, AllPairs, map}
 use Rattle.std.specs.List.{slice_split}
-use Rattle.matcher_read.specs.Names.{is_identifier}
-use Rattle.model_conf.specs.Blanks.{trimmed}
+use Rattle.text_parts.specs.Names.{is_identifier}
+use Rattle.text_parts.specs.Blanks.{trimmed}
 
 -- the parts between commas, without the blanks at their ends
 unfoldable pub columns_in : List ℕ → List (List ℕ)

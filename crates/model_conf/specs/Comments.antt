@@ -1,6 +1,6 @@
 -- Comments: from the first `#` that stands outside a quoted text, a logical line is dropped (Casbin, model syntax).
 use Rattle.std.specs.Prelude.{◌≡◌, ◌≢◌, ℕ, ◌⊎◌, false, List, [], ◌∷◌, ◌++◌}
-use Rattle.perm_base.specs.Lines.{has_byte}
+use Rattle.text_parts.specs.Lines.{has_byte}
 
 -- `"` or `'`
 abbrev pub IsQuote : ℕ → Type 0

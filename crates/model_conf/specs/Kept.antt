@@ -2,11 +2,11 @@
 use Rattle.std.specs.Prelude.{◌≡◌, ℕ, false, List, All, map, IsUtf8, None}
 use Rattle.std.specs.List.Sorted.{IsStrictlyIncreasing}
 use Rattle.matcher_read.specs.Matcher.{IsMatcher}
-use Rattle.perm_base.specs.Lines.{has_byte}
+use Rattle.text_parts.specs.Lines.{has_byte}
 use Rattle.perm_base.specs.RoleShapes.{IsNumbered}
 use Rattle.perm_base.specs.declared.shapes.Fit.TheVariants.{Exact}
 use Rattle.perm_base.specs.declared.shapes.RoleShape.{RoleShape}
-use Rattle.model_conf.specs.Blanks.{trimmed}
+use Rattle.text_parts.specs.Blanks.{trimmed}
 use Rattle.model_conf.specs.Columns.{AreColumns}
 use Rattle.model_conf.specs.ModelText.{ModelParts}
 use Rattle.model_conf.specs.Uses.{uses, first_undeclared}

@@ -1,11 +1,8 @@
-pub mod Blanks
 pub mod Lines
 pub mod Logical
 pub mod Comments
 pub mod Statements
 pub mod Sections
-pub mod Steps
-pub mod Seen
 pub mod Columns
 pub mod Relations
 pub mod Effects
@@ -13,10 +10,7 @@ pub mod Uses
 pub mod ModelText
 pub mod Faults
 pub mod Later
-pub mod Misuses
 pub mod Kept
-pub mod MatcherStops
-pub mod Outlines
 pub mod Printed
-pub mod ExpressionCode
 pub mod Shapes
+pub mod Helps

@@ -1,7 +1,8 @@
 -- Logical lines: a line that is not passed over, with the lines that continue it (Casbin, model syntax).
 use Rattle.std.specs.Prelude.{◌≡◌, ℕ, true, false, List, [], ◌∷◌, ◌++◌}
-use Rattle.model_conf.specs.Blanks.{AreBlanks}
-use Rattle.model_conf.specs.Lines.{Line, line, is_passed}
+use Rattle.text_parts.specs.Blanks.{AreBlanks}
+use Rattle.model_conf.specs.Lines.{Line, line}
+use Rattle.text_parts.specs.Passed.{is_passed_in_model}
 
 -- the text ends in `\`, blanks behind it apart, and this stands before the `\`
 pub record EndsOpen (text front : List ℕ) : Type 0 where
@@ -20,6 +21,6 @@ pub data IsWhole : List ℕ → List Line → List ℕ → List Line → Type 0 
 -- the lines, without those that are passed over, each with those that continue it, under the number of the first
 pub data AreLogical : List Line → List Line → Type 0 where
   no_line : AreLogical [] []
-  passed : {first : Line} {lines logical : List Line} → is_passed first.text ≡ true → AreLogical lines logical → AreLogical (first ∷ lines) logical
-  begun : {first : Line} {lines left logical : List Line} {whole : List ℕ} → is_passed first.text ≡ false → IsWhole first.text lines whole left
+  passed : {first : Line} {lines logical : List Line} → is_passed_in_model first.text ≡ true → AreLogical lines logical → AreLogical (first ∷ lines) logical
+  begun : {first : Line} {lines left logical : List Line} {whole : List ℕ} → is_passed_in_model first.text ≡ false → IsWhole first.text lines whole left
       → AreLogical left logical → AreLogical (first ∷ lines) (line first.number whole ∷ logical)

@@ -3,7 +3,7 @@ use Rattle.std.specs.Prelude.{ℕ, ◌-◌, if◌then◌else◌, List, [], ◌�
 use Rattle.std.specs.List.{slice_index_or}
 use Rattle.matcher_read.specs.Calls.{relation_names}
 use Rattle.perm_base.specs.Fields.{joined}
-use Rattle.perm_base.specs.Lines.{with_ends}
+use Rattle.text_parts.specs.Lines.{with_ends}
 use Rattle.perm_base.specs.declared.shapes.RoleShape.{RoleShape}
 use Rattle.model_conf.specs.Effects.{effect_text}
 use Rattle.model_conf.specs.ModelText.{ModelParts}

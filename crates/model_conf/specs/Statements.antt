@@ -1,7 +1,7 @@
 -- What the logical lines of a model say: `[name]`, or `key = value` (Casbin, model syntax).
 use Rattle.std.specs.Prelude.{◌≡◌, ℕ, false, List, [], ◌∷◌, ◌++◌}
-use Rattle.perm_base.specs.Lines.{has_byte}
-use Rattle.model_conf.specs.Blanks.{trimmed}
+use Rattle.text_parts.specs.Lines.{has_byte}
+use Rattle.text_parts.specs.Blanks.{trimmed}
 use Rattle.model_conf.specs.Comments.{IsUncommented}
 use Rattle.model_conf.specs.Lines.{Line, model_lines, numbered}
 use Rattle.model_conf.specs.Logical.{AreLogical}

@@ -1,18 +1,19 @@
 ghost use Rattle.std.specs.Prelude.{◌≡◌, ◌↔◌, Some, Contains, IfNone, IfOk, IfSome, IsTrue, MatchOption, map, slice_get};
-ghost use Rattle.matcher_read.specs.Names.{is_identifier, is_letter, is_word};
 ghost use Rattle.model_conf.specs.Columns.{AreColumns, AreDistinct, AreNames, columns_in};
 
-use crate::cutting::{cut_at, trimmed};
-use perm_base::{NoMemory, Rule, Text};
+use outside::{NoMemory, Text};
+use perm_base::Rule;
 use std::alloc::Global;
+use text_parts::{cut_at, is_identifier, trimmed};
 
 // The greatest number of columns.
 const MOST_COLUMNS: usize = 32;
 
 /// Reads a text as columns: 1 to 32 distinct identifiers, joined by commas, with free blanks round each.
-pub(crate) fn read_columns(alloc: Global, text: &[u8]) -> Result<Option<Rule>, NoMemory>
-    ensures { IfOk result
-        (λ read. MatchOption read (¬ (AreColumns (columns_in text.now))) (λ rule. AreColumns (columns_in text.now) × (rule ≡ columns_in text.now))) }
+pub(crate) fn read_columns(alloc: Global, text: &str) -> Result<Option<Rule>, NoMemory>
+    ensures { IfOk result (λ read. MatchOption read
+        (¬ (AreColumns (columns_in text.now)))
+        (λ rule. AreColumns (columns_in text.now) × (rule ≡ columns_in text.now))) }
 {
     let names = cut_columns(alloc, text)?;
     if !are_columns(&names) {
@@ -23,7 +24,7 @@ pub(crate) fn read_columns(alloc: Global, text: &[u8]) -> Result<Option<Rule>, N
 }
 
 // The parts between commas, without the blanks at their ends.
-fn cut_columns(alloc: Global, text: &[u8]) -> Result<Vec<&[u8]>, NoMemory>
+fn cut_columns(alloc: Global, text: &str) -> Result<Vec<&str>, NoMemory>
     ensures { IfOk result (λ names. map (λ name. name.now) names.items ≡ columns_in text.now) }
 {
     let mut names = Vec::new(alloc);
@@ -37,13 +38,13 @@ fn cut_columns(alloc: Global, text: &[u8]) -> Result<Vec<&[u8]>, NoMemory>
 }
 
 // The columns as a rule.
-fn rule_of(alloc: Global, names: &[&[u8]]) -> Result<Rule, NoMemory>
+fn rule_of(alloc: Global, names: &[&str]) -> Result<Rule, NoMemory>
     requires { AreColumns (map (λ name. name.now) names.now) }
     ensures { IfOk result (λ rule. rule ≡ map (λ name. name.now) names.now) }
 {
     let mut fields = Vec::new(alloc);
     for name in names {
-        fields.push(Text::from_str(alloc, text_of(name))?)?;
+        fields.push(Text::from_str(alloc, name)?)?;
     }
     let Ok(rule) = Rule::from_fields(fields) else {
         unreachable!()
@@ -51,18 +52,7 @@ fn rule_of(alloc: Global, names: &[&[u8]]) -> Result<Rule, NoMemory>
     Ok(rule)
 }
 
-// An identifier as a text.
-fn text_of(name: &[u8]) -> &str
-    requires { IsTrue (is_identifier name.now) }
-    ensures { result.now ≡ name.now }
-{
-    let Ok(text) = str::from_utf8(name) else {
-        unreachable!()
-    };
-    text
-}
-
-fn are_columns(names: &[&[u8]]) -> bool
+fn are_columns(names: &[&str]) -> bool
     ensures { IsTrue result ↔ AreColumns (map (λ name. name.now) names.now) }
 {
     if names.is_empty() || names.len() > MOST_COLUMNS {
@@ -71,13 +61,13 @@ fn are_columns(names: &[&[u8]]) -> bool
     are_identifiers(names) && are_distinct(names)
 }
 
-fn are_identifiers(names: &[&[u8]]) -> bool
+fn are_identifiers(names: &[&str]) -> bool
     ensures { IsTrue result ↔ AreNames (map (λ name. name.now) names.now) }
 {
     names.iter().all(|name| is_identifier(name))
 }
 
-fn are_distinct(names: &[&[u8]]) -> bool
+fn are_distinct(names: &[&str]) -> bool
     ensures { IsTrue result ↔ AreDistinct (map (λ name. name.now) names.now) }
 {
     for at in 0..names.len() {
@@ -89,30 +79,9 @@ fn are_distinct(names: &[&[u8]]) -> bool
 }
 
 // The place of a name, counted from 0.
-fn place_of(names: &[&[u8]], name: &[u8]) -> Option<usize>
+fn place_of(names: &[&str], name: &str) -> Option<usize>
     ensures found { IfSome result (λ at. slice_get (map (λ n. n.now) names.now) at ≡ Some name.now) }
     ensures none { IfNone result (¬ (Contains (map (λ n. n.now) names.now) name.now)) }
 {
     names.iter().position(|n| *n == name)
-}
-
-fn is_identifier(name: &[u8]) -> bool
-    ensures { result ≡ is_identifier name.now }
-{
-    match name {
-        [] => false,
-        [first, others @ ..] => is_letter(*first) && others.iter().all(|byte| is_word(*byte)),
-    }
-}
-
-fn is_letter(byte: u8) -> bool
-    ensures { result ≡ is_letter byte }
-{
-    byte.is_ascii_alphabetic() || byte == b'_'
-}
-
-fn is_word(byte: u8) -> bool
-    ensures { result ≡ is_word byte }
-{
-    byte.is_ascii_alphanumeric() || byte == b'_'
 }

@@ -1,17 +1,13 @@
-ghost use Rattle.std.specs.Prelude.{◌≡◌, find, [], ◌∷◌, IfOk};
-ghost use Rattle.std.specs.Str.{bytes_eq};
-ghost use Rattle.effect_fold.specs.declared.effect.Effect.{Effect};
-ghost use Rattle.effect_fold.specs.declared.effect.Effect.TheVariants as e;
-ghost use Rattle.model_conf.specs.Blanks.{without_blanks};
-ghost use Rattle.model_conf.specs.Effects.{effect_of, effect_text};
+ghost use Rattle.std.specs.Prelude.{◌≡◌, IfOk};
+ghost use Rattle.model_conf.specs.Effects.{effect_named, effect_of, effect_text, without_blanks};
 
-use crate::cutting::is_blank;
 use effect_fold::Effect;
-use perm_base::NoMemory;
+use outside::NoMemory;
 use std::alloc::Global;
+use text_parts::is_blank;
 
 /// Reads the text of an effect, blanks apart.
-pub(crate) fn read_effect(alloc: Global, text: &[u8]) -> Result<Option<Effect>, NoMemory>
+pub(crate) fn read_effect(alloc: Global, text: &str) -> Result<Option<Effect>, NoMemory>
     ensures { IfOk result (λ effect. effect ≡ effect_of text.now) }
 {
     let bare = without_blanks(alloc, text)?;
@@ -30,10 +26,11 @@ pub(crate) fn effect_text(effect: Effect) -> &'static str
     }
 }
 
-fn without_blanks(alloc: Global, text: &[u8]) -> Result<Vec<u8>, NoMemory>
+fn without_blanks(alloc: Global, text: &str) -> Result<Vec<u8>, NoMemory>
     ensures { IfOk result (λ bare. bare.items ≡ without_blanks text.now) }
 {
     let bare = text
+        .as_bytes()
         .iter()
         .copied()
         .filter(|byte| !is_blank(*byte))
@@ -42,16 +39,16 @@ fn without_blanks(alloc: Global, text: &[u8]) -> Result<Vec<u8>, NoMemory>
 }
 
 // The effect that is written so without blanks.
-fn effect_named(text: &[u8]) -> Option<Effect>
-    ensures { result ≡ find (λ (effect : Effect). bytes_eq text.now (without_blanks (effect_text effect))) (e.AllowOverride ∷ e.DenyOverride ∷ e.AllowAndDeny ∷ e.Priority ∷ []) }
+fn effect_named(bare: &[u8]) -> Option<Effect>
+    ensures { result ≡ effect_named bare.now }
 {
-    if text == b"some(where(p.eft==allow))".as_slice() {
+    if bare == b"some(where(p.eft==allow))".as_slice() {
         Some(Effect::AllowOverride)
-    } else if text == b"!some(where(p.eft==deny))".as_slice() {
+    } else if bare == b"!some(where(p.eft==deny))".as_slice() {
         Some(Effect::DenyOverride)
-    } else if text == b"some(where(p.eft==allow))&&!some(where(p.eft==deny))".as_slice() {
+    } else if bare == b"some(where(p.eft==allow))&&!some(where(p.eft==deny))".as_slice() {
         Some(Effect::AllowAndDeny)
-    } else if text == b"priority(p.eft)||deny".as_slice() {
+    } else if bare == b"priority(p.eft)||deny".as_slice() {
         Some(Effect::Priority)
     } else {
         None

@@ -1,25 +1,25 @@
-ghost use Rattle.std.specs.Prelude.{◌≡◌, ◌+◌, ◌<◌, ◌≤◌, ◌^◌, IfOk, length, option_copied};
+ghost use Rattle.std.specs.Prelude.{◌≡◌, ◌+◌, ◌<◌, ◌≤◌, ◌^◌, IfOk, IfSome, IsUtf8, length, option_copied};
 ghost use Rattle.model_conf.specs.Lines.{model_lines, numbered};
 ghost use Rattle.model_conf.specs.Relations.{value_of};
 ghost use Rattle.model_conf.specs.Sections.{is_key_of};
-ghost use Rattle.model_conf.specs.Seen.{ReadsEntries, TakesLines, entries_seen, standing_seen};
+ghost use Rattle.model_conf.specs.Helps.Seen.{ReadsEntries, TakesLines, entries_seen, standing_seen};
 ghost use Rattle.model_conf.specs.Statements as statements;
-ghost use Rattle.model_conf.specs.Steps.{Takes};
+ghost use Rattle.model_conf.specs.Helps.Steps.{Takes};
 
-use crate::cutting::open_front;
 use crate::fault::ModelFault;
-use crate::joining::join_lines;
-use crate::lines::{is_passed, next_model_line};
+use crate::joining::{join_lines, open_front};
+use crate::lines::next_model_line;
 use crate::saying::{Said, read_said};
 use crate::sections::{Section, key_named, section_named};
-use perm_base::NoMemory;
+use outside::NoMemory;
 use std::alloc::Global;
+use text_parts::is_passed_in_model;
 
 /// A key and its value.
 #[derive(Drop)]
 pub(crate) struct Entry {
-    pub(crate) key: &'static [u8],
-    pub(crate) value: Vec<u8>,
+    pub(crate) key: &'static str,
+    pub(crate) value: String,
 }
 
 /// The key lines so far, and the section that stands open.
@@ -31,8 +31,9 @@ pub(crate) struct Entries {
 
 impl Entries {
     /// Takes a logical line, whose first line has this number. After want of memory the entries are not to be used.
-    pub(crate) fn take(&mut self, alloc: Global, number: u32, line: &[u8]) -> Result<(), ModelFault>
-        ensures { (said : statements.Said) × statements.LineSays line.now said × Takes (standing_seen self.old) (standing_seen self.new) number said result }
+    pub(crate) fn take(&mut self, alloc: Global, number: u32, line: &str) -> Result<(), ModelFault>
+        ensures { (said : statements.Said) × statements.LineSays line.now said
+            × Takes (standing_seen self.old) (standing_seen self.new) number said result }
     {
         match read_said(line) {
             Said::Header(name) => {
@@ -53,47 +54,30 @@ impl Entries {
         &mut self,
         alloc: Global,
         number: u32,
-        line: &[u8],
-        after: &'a [u8],
-    ) -> Result<(&'a [u8], u32), ModelFault>
+        line: &str,
+        after: &'a str,
+    ) -> Result<(&'a str, u32), ModelFault>
         requires { number + 1 + length after.now < 2 ^ 32 }
-        ensures taken { TakesLines number line.now (numbered (number + 1) (model_lines after.now)) (standing_seen self.old) (standing_seen self.new) result }
-        ensures fewer { IfOk result (λ left. left.1 + length left.0.now ≤ number + 1 + length after.now) }
+        ensures taken { TakesLines
+            number line.now (numbered (number + 1) (model_lines after.now))
+            (standing_seen self.old) (standing_seen self.new) result }
+        ensures fewer { IfOk result (λ left.
+            left.1 + length left.0.now ≤ number + 1 + length after.now) }
         ensures shorter { IfOk result (λ left. length left.0.now ≤ length after.now) }
     {
-        let None = open_front(line) else {
-            return self.take_joined(alloc, number, line, after);
+        let Some(_) = open_front(line) else {
+            self.take(alloc, number, line)?;
+            return Ok((after, number + 1));
         };
-        self.take(alloc, number, line)?;
-        Ok((after, number + 1))
-    }
-
-    fn take_joined<'a>(
-        &mut self,
-        alloc: Global,
-        number: u32,
-        line: &[u8],
-        after: &'a [u8],
-    ) -> Result<(&'a [u8], u32), ModelFault>
-        requires { number + 1 + length after.now < 2 ^ 32 }
-        ensures taken { TakesLines number line.now (numbered (number + 1) (model_lines after.now)) (standing_seen self.old) (standing_seen self.new) result }
-        ensures fewer { IfOk result (λ left. left.1 + length left.0.now ≤ number + 1 + length after.now) }
-        ensures shorter { IfOk result (λ left. length left.0.now ≤ length after.now) }
-    {
-        let mut text = Vec::from_slice(alloc, line).map_err(NoMemory::from)?;
+        let mut text = String::from_str(alloc, line).map_err(NoMemory::from)?;
         let left = join_lines(&mut text, after, number + 1)?;
-        self.take(alloc, number, &text)?;
+        self.take(alloc, number, text.as_str())?;
         Ok(left)
     }
 
-    fn put(
-        &mut self,
-        alloc: Global,
-        number: u32,
-        key: &[u8],
-        value: &[u8],
-    ) -> Result<(), ModelFault>
-        ensures { Takes (standing_seen self.old) (standing_seen self.new) number (statements.pair key.now value.now) result }
+    fn put(&mut self, alloc: Global, number: u32, key: &str, value: &str) -> Result<(), ModelFault>
+        ensures { Takes (standing_seen self.old) (standing_seen self.new) number
+            (statements.pair key.now value.now) result }
     {
         let Some(section) = self.section else {
             return Err(ModelFault::Line { line: number });
@@ -104,7 +88,7 @@ impl Entries {
         if has_key(&self.entries, key) {
             return Err(ModelFault::RepeatedKey { line: number });
         }
-        let value = Vec::from_slice(alloc, value).map_err(NoMemory::from)?;
+        let value = String::from_str(alloc, value).map_err(NoMemory::from)?;
         let entry = Entry { key: name, value };
         self.entries.push(entry).map_err(NoMemory::from)?;
         Ok(())
@@ -112,18 +96,18 @@ impl Entries {
 }
 
 /// Reads the lines of a text.
-pub(crate) fn read_entries(alloc: Global, bytes: &[u8]) -> Result<Entries, ModelFault>
-    requires { length bytes.now ≤ 65536 }
-    ensures { ReadsEntries bytes.now result }
+pub(crate) fn read_entries(alloc: Global, text: &str) -> Result<Entries, ModelFault>
+    requires { length text.now ≤ 65536 }
+    ensures { ReadsEntries text.now result }
 {
     let mut entries = Entries {
         section: None,
         entries: Vec::new(alloc),
     };
-    let mut rest = bytes;
+    let mut rest = text;
     let mut number = 1;
     while let Some((line, after)) = next_model_line(rest) {
-        if is_passed(line) {
+        if is_passed_in_model(line) {
             rest = after;
             number += 1;
             continue;
@@ -136,18 +120,19 @@ pub(crate) fn read_entries(alloc: Global, bytes: &[u8]) -> Result<Entries, Model
 }
 
 /// The value of a key.
-pub(crate) fn value_of<'a>(entries: &'a [Entry], key: &[u8]) -> Option<&'a [u8]>
-    ensures { option_copied result ≡ value_of (entries_seen entries.now) key.now }
+pub(crate) fn value_of<'a>(entries: &'a [Entry], key: &str) -> Option<&'a str>
+    ensures value { option_copied result ≡ value_of (entries_seen entries.now) key.now }
+    ensures utf8 { IfSome result (λ text. IsUtf8 text.now) }
 {
     for entry in entries {
         if entry.key == key {
-            return Some(entry.value.as_slice());
+            return Some(entry.value.as_str());
         }
     }
     None
 }
 
-fn has_key(entries: &[Entry], key: &[u8]) -> bool
+fn has_key(entries: &[Entry], key: &str) -> bool
     ensures { result ≡ is_key_of (entries_seen entries.now) key.now }
 {
     entries.iter().any(|entry| entry.key == key)

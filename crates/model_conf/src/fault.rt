@@ -1,6 +1,6 @@
 use crate::key::Key;
 use matcher_read::MatcherFault;
-use perm_base::NoMemory;
+use outside::NoMemory;
 
 /// Why a text is not read as a model. Of several faults the one that stands first here is told, of the four faults of
 /// lines the one in the first line that has one, and of the last two of a matcher the one at the first place. Lines
@@ -53,7 +53,7 @@ impl From<NoMemory> for ModelFault {
 
 impl From<MatcherFault> for ModelFault {
     ghost use Rattle.std.specs.Prelude.{◌≡◌};
-    ghost use Rattle.model_conf.specs.MatcherStops.{fault_of_matcher};
+    ghost use Rattle.model_conf.specs.Helps.MatcherStops.{fault_of_matcher};
 
     ghost from_gives = { λ stop fault. fault ≡ fault_of_matcher stop };
 

@@ -1,46 +1,68 @@
-ghost use Rattle.std.specs.Prelude.{◌≡◌, ◌+◌, ◌<◌, ◌≤◌, ◌^◌, [], IfOk, length};
+ghost use Rattle.std.specs.Prelude.{◌≡◌, ◌+◌, ◌<◌, ◌≤◌, ◌^◌, ℕ, List, [], IfOk, MatchBool, MatchOption, length, string_bytes};
 ghost use Rattle.model_conf.specs.Lines.{model_lines, numbered};
-ghost use Rattle.model_conf.specs.Logical.{IsWhole};
+ghost use Rattle.model_conf.specs.Logical.{EndsOpen, IsWhole};
 
-use crate::cutting::open_front;
 use crate::lines::next_model_line;
-use perm_base::NoMemory;
+use outside::NoMemory;
+use text_parts::before_blanks;
 
 /// Joins to a text the lines that continue it, the first of which has this number. Gives what stands behind them, and
 /// the number of the next line. Where memory runs out, the text is not to be used.
 pub(crate) fn join_lines<'a>(
-    text: &mut Vec<u8>,
-    lines: &'a [u8],
+    text: &mut String,
+    lines: &'a str,
     number: u32,
-) -> Result<(&'a [u8], u32), NoMemory>
+) -> Result<(&'a str, u32), NoMemory>
     requires { number + length lines.now < 2 ^ 32 }
-    ensures whole { IfOk result (λ left. IsWhole text.old.items (numbered number (model_lines lines.now)) text.new.items (numbered left.1 (model_lines left.0.now))) }
-    ensures fewer { IfOk result (λ left. left.1 + length left.0.now ≤ number + length lines.now) }
+    ensures whole { IfOk result (λ left. IsWhole
+        (string_bytes text.old) (numbered number (model_lines lines.now))
+        (string_bytes text.new) (numbered left.1 (model_lines left.0.now))) }
+    ensures fewer { IfOk result (λ left.
+        left.1 + length left.0.now ≤ number + length lines.now) }
     ensures shorter { IfOk result (λ left. length left.0.now ≤ length lines.now) }
 {
     let mut rest = lines;
     let mut next = number;
-    while let Some(front) = open_front(text) {
-        let end = front.len();
-        text.truncate(end);
+    while drop_open(text) {
         let Some((line, after)) = next_model_line(rest) else {
-            drop_ends(text);
+            drop_all_open(text);
             return Ok((rest, next));
         };
-        text.push(b' ')?;
-        text.extend_from_slice(line)?;
+        text.push(' ')?;
+        text.push_str(line)?;
         rest = after;
         next += 1;
     }
     Ok((rest, next))
 }
 
-// Drops each `\` at the end of a text that no line continues.
-fn drop_ends(text: &mut Vec<u8>)
-    ensures { IsWhole text.old.items [] text.new.items [] }
+/// What stands before the `\` that a text ends in, blanks behind it apart.
+pub(crate) fn open_front(text: &str) -> Option<&str>
+    ensures { MatchOption result
+        ((front : List ℕ) → ¬ (EndsOpen text.now front))
+        (λ front. EndsOpen text.now front.now) }
 {
-    while let Some(front) = open_front(text) {
-        let end = front.len();
-        text.truncate(end);
-    }
+    before_blanks(text).strip_suffix('\\')
+}
+
+// Drops each `\` at the end of a text that no line continues.
+fn drop_all_open(text: &mut String)
+    ensures { IsWhole (string_bytes text.old) [] (string_bytes text.new) [] }
+{
+    while drop_open(text) {}
+}
+
+// Drops the `\` that a text ends in, and the blanks behind it, where it does.
+fn drop_open(text: &mut String) -> bool
+    ensures { MatchBool result
+        (EndsOpen (string_bytes text.old) (string_bytes text.new))
+        (((front : List ℕ) → ¬ (EndsOpen (string_bytes text.old) front))
+        × (string_bytes text.new ≡ string_bytes text.old)) }
+{
+    let Some(front) = open_front(text.as_str()) else {
+        return false;
+    };
+    let end = front.len();
+    text.truncate(end);
+    true
 }

@@ -2,7 +2,6 @@
 #![tactic(auto)]
 
 mod columns;
-mod cutting;
 mod effects;
 mod entries;
 mod fault;

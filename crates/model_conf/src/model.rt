@@ -8,7 +8,8 @@ ghost use Rattle.model_conf.specs.Uses.{first_undeclared, uses};
 
 use effect_fold::Effect;
 use matcher_read::Tree;
-use perm_base::{RoleShape, Rule, Text};
+use outside::Text;
+use perm_base::{RoleShape, Rule};
 
 /// A model: the columns of a request and of a policy, the role relations, the effect and the matcher.
 #[derive(Drop)]
@@ -24,7 +25,7 @@ pub struct Model {
 impl std::marker::Model for Model {
     ghost use Rattle.std.specs.Coded.{Coded, codes};
     ghost use Rattle.matcher_read.specs.Expression.{expression};
-    ghost use Rattle.model_conf.specs.ExpressionCode.{Sign, expression_code};
+    ghost use Rattle.model_conf.specs.Helps.ExpressionCode.{Sign, expression_code};
     ghost use Rattle.model_conf.specs.Kept.{IsKept};
     ghost use Rattle.model_conf.specs.ModelText.{ModelParts, parts_of};
 

@@ -1,7 +1,7 @@
-ghost use Rattle.std.specs.Prelude.{MatchResult};
+ghost use Rattle.std.specs.Prelude.{IfOk, IsUtf8, MatchResult};
 ghost use Rattle.model_conf.specs.ModelText.{HasValues};
-ghost use Rattle.model_conf.specs.Seen.{entries_seen};
-ghost use Rattle.model_conf.specs.Outlines.{IsMissingIn, OutlinesOf, values_seen};
+ghost use Rattle.model_conf.specs.Helps.Seen.{entries_seen};
+ghost use Rattle.model_conf.specs.Helps.Outlines.{IsMissingIn, OutlinesOf, values_seen};
 
 use crate::columns::read_columns;
 use crate::effects::read_effect;
@@ -16,10 +16,10 @@ use std::alloc::Global;
 /// The values of the four keys that each model has.
 #[derive(Clone, Copy)]
 pub(crate) struct Values<'a> {
-    pub(crate) request: &'a [u8],
-    pub(crate) policy: &'a [u8],
-    pub(crate) effect: &'a [u8],
-    pub(crate) matcher: &'a [u8],
+    pub(crate) request: &'a str,
+    pub(crate) policy: &'a str,
+    pub(crate) effect: &'a str,
+    pub(crate) matcher: &'a str,
 }
 
 /// What a model says, but its matcher.
@@ -33,18 +33,21 @@ pub(crate) struct Outline {
 
 /// The values of the four keys, or the first key that has none.
 pub(crate) fn values_of(entries: &[Entry]) -> Result<Values<'_>, ModelFault>
-    ensures { MatchResult result (λ values. HasValues (entries_seen entries.now) (values_seen values)) (IsMissingIn (entries_seen entries.now)) }
+    ensures values { MatchResult result
+        (λ values. HasValues (entries_seen entries.now) (values_seen values))
+        (IsMissingIn (entries_seen entries.now)) }
+    ensures utf8 { IfOk result (λ values. IsUtf8 values.matcher.now) }
 {
-    let Some(request) = value_of(entries, b"r") else {
+    let Some(request) = value_of(entries, "r") else {
         return Err(ModelFault::Missing { key: Key::R });
     };
-    let Some(policy) = value_of(entries, b"p") else {
+    let Some(policy) = value_of(entries, "p") else {
         return Err(ModelFault::Missing { key: Key::P });
     };
-    let Some(effect) = value_of(entries, b"e") else {
+    let Some(effect) = value_of(entries, "e") else {
         return Err(ModelFault::Missing { key: Key::E });
     };
-    let Some(matcher) = value_of(entries, b"m") else {
+    let Some(matcher) = value_of(entries, "m") else {
         return Err(ModelFault::Missing { key: Key::M });
     };
     Ok(Values {

@@ -1,5 +1,5 @@
 ghost use Rattle.std.specs.Prelude.{◌≡◌, ◌≤◌, [], ◌∷◌, ◌++◌, All, IfOk, OnOk, codes, if◌then◌else◌, length};
-ghost use Rattle.perm_base.specs.Lines.{with_ends};
+ghost use Rattle.text_parts.specs.Lines.{with_ends};
 ghost use Rattle.model_conf.specs.Kept.{IsRelation};
 ghost use Rattle.model_conf.specs.ModelText.{IsModel, most_bytes};
 ghost use Rattle.model_conf.specs.Printed.{printed, role_lines};
@@ -7,7 +7,8 @@ ghost use Rattle.model_conf.specs.Printed.{printed, role_lines};
 use crate::effects::effect_text;
 use crate::model::Model;
 use crate::sections::relation_name;
-use perm_base::{NoMemory, RoleShape, Text, push_joined};
+use outside::{NoMemory, Text};
+use perm_base::{RoleShape, push_joined};
 use std::alloc::Global;
 
 /// The text of a model: its sections with an empty line between two, each line with LF behind it. The section of
@@ -45,7 +46,7 @@ fn push_relations(text: &mut Vec<u8>, relations: &[RoleShape]) -> Result<(), NoM
     }
     text.extend_from_slice(b"\n[role_definition]\n")?;
     for shape in relations {
-        text.extend_from_slice(relation_name(shape.number))?;
+        text.extend_from_slice(relation_name(shape.number).as_bytes())?;
         text.extend_from_slice(shape_text(*shape))?;
     }
     Ok(())

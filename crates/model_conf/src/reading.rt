@@ -2,11 +2,11 @@ ghost use Rattle.std.specs.Prelude.{◌≡◌, ◌≢◌, ◌≤◌, ℕ, List, 
 ghost use Rattle.effect_fold.specs.declared.effect.Effect.{Effect};
 ghost use Rattle.model_conf.specs.Faults as faults;
 ghost use Rattle.model_conf.specs.Later.{is_later};
-ghost use Rattle.model_conf.specs.Misuses.{misuse_fault};
+ghost use Rattle.model_conf.specs.Helps.Misuses.{misuse_fault};
 ghost use Rattle.model_conf.specs.ModelText.{HasEffect, IsModel, ModelParts, SayModel};
 ghost use Rattle.model_conf.specs.ModelText as text;
-ghost use Rattle.model_conf.specs.Outlines.{HasTextOfMatcher, IsSettled};
-ghost use Rattle.model_conf.specs.Seen.{entries_seen};
+ghost use Rattle.model_conf.specs.Helps.Outlines.{HasTextOfMatcher, IsSettled};
+ghost use Rattle.model_conf.specs.Helps.Seen.{entries_seen};
 ghost use Rattle.model_conf.specs.declared.fault.ModelFault as fault;
 
 use crate::entries::{Entry, read_entries};
@@ -16,7 +16,7 @@ use crate::outline::{read_outline, values_of};
 use crate::uses::{Declared, Misuse};
 use effect_fold::Effect;
 use matcher_read::read_matcher;
-use perm_base::Text;
+use outside::Text;
 use std::alloc::Global;
 
 // The greatest number of bytes.
@@ -33,14 +33,18 @@ pub fn read_model(alloc: Global, bytes: &[u8]) -> Result<Model, ModelFault>
         → MatchResult result (λ read. read ≡ model) (λ fault. fault ≡ ModelFault.NoMemory) }
 
     // Each fault is the first of the bytes, and their first fault is told.
-    ensures fault { IfErr result (λ fault. fault ≢ ModelFault.NoMemory → fault ≢ ModelFault.NotYet → faults.IsModelFault bytes.now fault) }
+    ensures fault { IfErr result (λ fault.
+        fault ≢ ModelFault.NoMemory → fault ≢ ModelFault.NotYet
+        → faults.IsModelFault bytes.now fault) }
     ensures only_fault { (first : fault.ModelFault) → faults.IsModelFault bytes.now first
         → MatchResult result (λ read. ⊥) (λ fault. fault ≢ ModelFault.NoMemory → fault ≡ first) }
 
     // Models that are not answered by yet.
-    ensures not_yet { IsErrOf result ModelFault.NotYet → (model : ModelParts) × IsModel bytes.now model × IsTrue (is_later model) }
+    ensures not_yet { IsErrOf result ModelFault.NotYet
+        → (model : ModelParts) × IsModel bytes.now model × IsTrue (is_later model) }
     ensures only_not_yet { (model : ModelParts) → IsModel bytes.now model → IsTrue (is_later model)
-        → MatchResult result (λ read. ⊥) (λ fault. fault ≢ ModelFault.NoMemory → fault ≡ ModelFault.NotYet) }
+        → MatchResult result (λ read. ⊥)
+        (λ fault. fault ≢ ModelFault.NoMemory → fault ≡ ModelFault.NotYet) }
 {
     let model = read_whole(alloc, bytes)?;
     if is_later(&model) {
@@ -54,17 +58,18 @@ fn read_whole(alloc: Global, bytes: &[u8]) -> Result<Model, ModelFault>
     ensures found { IfOk result (IsModel bytes.now) }
     ensures only { (model : ModelParts) → IsModel bytes.now model
         → MatchResult result (λ read. read ≡ model) (λ fault. fault ≡ ModelFault.NoMemory) }
-    ensures fault { IfErr result (λ fault. fault ≢ ModelFault.NoMemory → faults.IsModelFault bytes.now fault) }
+    ensures fault { IfErr result (λ fault.
+        fault ≢ ModelFault.NoMemory → faults.IsModelFault bytes.now fault) }
     ensures only_fault { (first : fault.ModelFault) → faults.IsModelFault bytes.now first
         → MatchResult result (λ read. ⊥) (λ fault. fault ≢ ModelFault.NoMemory → fault ≡ first) }
 {
     if bytes.len() > MOST_BYTES {
         return Err(ModelFault::TooLong);
     }
-    let Ok(_) = str::from_utf8(bytes) else {
+    let Ok(text) = str::from_utf8(bytes) else {
         return Err(ModelFault::NotUtf8);
     };
-    let entries = read_entries(alloc, bytes)?;
+    let entries = read_entries(alloc, text)?;
     model_of(alloc, &entries.entries)
 }
 
@@ -72,16 +77,17 @@ fn read_whole(alloc: Global, bytes: &[u8]) -> Result<Model, ModelFault>
 fn model_of(alloc: Global, entries: &[Entry]) -> Result<Model, ModelFault>
     requires { HasTextOfMatcher (entries_seen entries.now) }
     ensures found { IfOk result (SayModel (entries_seen entries.now)) }
-    ensures fault { IfErr result (λ fault. fault ≢ ModelFault.NoMemory → faults.IsEntryFault (entries_seen entries.now) fault) }
-    ensures settled { (values : text.Values) (effect : Effect) → HasEffect (entries_seen entries.now) values effect
-        → MatchResult result (λ read. IsSettled values.matcher) (λ fault. fault ≢ ModelFault.NoMemory → IsSettled values.matcher) }
+    ensures fault { IfErr result (λ fault.
+        fault ≢ ModelFault.NoMemory → faults.IsEntryFault (entries_seen entries.now) fault) }
+    ensures settled { (values : text.Values) (effect : Effect)
+        → HasEffect (entries_seen entries.now) values effect
+        → MatchResult result
+        (λ read. IsSettled values.matcher)
+        (λ fault. fault ≢ ModelFault.NoMemory → IsSettled values.matcher) }
 {
     let values = values_of(entries)?;
     let outline = read_outline(alloc, entries, values)?;
-    let Ok(text) = str::from_utf8(values.matcher) else {
-        unreachable!()
-    };
-    let tree = read_matcher(alloc, text)?;
+    let tree = read_matcher(alloc, values.matcher)?;
     let declared = Declared {
         request: &outline.request,
         policy: &outline.policy,
@@ -90,7 +96,7 @@ fn model_of(alloc: Global, entries: &[Entry]) -> Result<Model, ModelFault>
     if let Some(misuse) = declared.first_misuse(&tree) {
         return Err(misuse_fault(misuse));
     }
-    let matcher_text = Text::from_str(alloc, text)?;
+    let matcher_text = Text::from_str(alloc, values.matcher)?;
     Ok(Model::from_parts(
         outline.request,
         outline.policy,

@@ -1,20 +1,20 @@
 ghost use Rattle.std.specs.Prelude.{◌≡◌, ◌||◌, ◌==◌, ℕ, List, [], ◌∷◌, ◌++◌, MatchOption};
 ghost use Rattle.model_conf.specs.Comments.{IsUncommented};
 ghost use Rattle.model_conf.specs.Statements.{LineSays};
-ghost use Rattle.model_conf.specs.Steps.{quote_after, said_by};
+ghost use Rattle.model_conf.specs.Helps.Steps.{quote_after, said_by};
 
-use crate::cutting::{before_end, cut_at, trimmed};
+use text_parts::{cut_at, trimmed};
 
 /// What a logical line says.
 #[derive(Clone, Copy)]
 pub(crate) enum Said<'a> {
-    Header(&'a [u8]),
-    Pair(&'a [u8], &'a [u8]),
+    Header(&'a str),
+    Pair(&'a str, &'a str),
     Nothing,
 }
 
 /// What a logical line says, without its comment and the blanks at its ends.
-pub(crate) fn read_said(line: &[u8]) -> Said<'_>
+pub(crate) fn read_said(line: &str) -> Said<'_>
     ensures { LineSays line.now (said_by result) }
 {
     let text = trimmed(without_comment(line));
@@ -28,18 +28,20 @@ pub(crate) fn read_said(line: &[u8]) -> Said<'_>
 }
 
 // The name between `[` and `]`.
-fn header_name(text: &[u8]) -> Option<&[u8]>
-    ensures { MatchOption result ((name : List ℕ) → ¬ (text.now ≡ 91 ∷ name ++ 93 ∷ [])) (λ name. text.now ≡ 91 ∷ name.now ++ 93 ∷ []) }
+fn header_name(text: &str) -> Option<&str>
+    ensures { MatchOption result
+        ((name : List ℕ) → ¬ (text.now ≡ 91 ∷ name ++ 93 ∷ []))
+        (λ name. text.now ≡ 91 ∷ name.now ++ 93 ∷ []) }
 {
-    before_end(text.strip_prefix(b"[")?, b"]")
+    text.strip_prefix('[')?.strip_suffix(']')
 }
 
 // A text up to its first `#` outside quoted texts.
-fn without_comment(text: &[u8]) -> &[u8]
+fn without_comment(text: &str) -> &str
     ensures { IsUncommented text.now result.now }
 {
     let mut quote = None;
-    for (at, byte) in text.iter().enumerate() {
+    for (at, byte) in text.as_bytes().iter().enumerate() {
         if quote.is_none() && *byte == b'#' {
             return &text[..at];
         }

@@ -4,7 +4,8 @@ ghost use Rattle.model_conf.specs.Kept.{AreRelations};
 ghost use Rattle.model_conf.specs.Shapes.{AreNamedOnce, first_absent, first_failing, fit_of, fitted, has_domain, has_relation, shapes_of};
 
 use crate::model::Model;
-use perm_base::{Fit, NoMemory, RoleShape, RoleShapes, Shapes};
+use outside::NoMemory;
+use perm_base::{Fit, RoleShape, RoleShapes, Shapes};
 use std::alloc::Global;
 
 /// Why a model has no shapes with two lists of functions.

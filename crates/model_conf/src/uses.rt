@@ -1,8 +1,6 @@
 ghost use Rattle.std.specs.Prelude.{◌≡◌, option_map};
-ghost use Rattle.std.specs.List.{list_any};
-ghost use Rattle.std.specs.Str.{bytes_eq};
 ghost use Rattle.matcher_read.specs.Expression.{expression};
-ghost use Rattle.model_conf.specs.Misuses.{column_misuse, earlier, misuse_of, misuse_place, role_misuse};
+ghost use Rattle.model_conf.specs.Helps.Misuses.{column_misuse, earlier, misuse_of, misuse_place, role_misuse};
 ghost use Rattle.model_conf.specs.Uses.{first_undeclared, names_of, uses};
 
 use matcher_read::Tree;
@@ -26,12 +24,16 @@ pub(crate) struct Declared<'a> {
 impl<'a> Declared<'a> {
     /// The first misuse in a matcher, by its place.
     pub(crate) fn first_misuse(&self, tree: &Tree) -> Option<Misuse>
-        ensures { result ≡ option_map misuse_of (first_undeclared self.now.request.now self.now.policy.now self.now.relations.now (uses (expression tree.now))) }
+        ensures { result ≡ option_map misuse_of (first_undeclared
+            self.now.request.now self.now.policy.now self.now.relations.now
+            (uses (expression tree.now))) }
     {
         match tree {
             Tree::Text { .. } | Tree::Whole { .. } | Tree::Truth { .. } => None,
-            Tree::Request { at, column, .. } => { column_misuse(self.request, *at, column.bytes()) }
-            Tree::Policy { at, column } => column_misuse(self.policy, *at, column.bytes()),
+            Tree::Request { at, column, .. } => {
+                column_misuse(self.request, *at, column.as_str())
+            }
+            Tree::Policy { at, column } => column_misuse(self.policy, *at, column.as_str()),
             Tree::Not { operand, .. } | Tree::Negate { operand, .. } => self.first_misuse(operand),
             Tree::Binary { left, right, .. } => {
                 earlier(self.first_misuse(left), self.first_misuse(right))
@@ -84,25 +86,13 @@ fn place(misuse: Misuse) -> u32
     }
 }
 
-fn column_misuse(columns: &Rule, at: u32, column: &[u8]) -> Option<Misuse>
+fn column_misuse(columns: &Rule, at: u32, column: &str) -> Option<Misuse>
     ensures { result ≡ column_misuse columns.now at column.now }
 {
-    if has_column(columns, column) {
-        return None;
+    match columns.place_of(column.as_bytes()) {
+        Some(_) => None,
+        None => Some(Misuse::Column { at }),
     }
-    Some(Misuse::Column { at })
-}
-
-// Whether a column is one of these.
-fn has_column(columns: &Rule, column: &[u8]) -> bool
-    ensures { result ≡ list_any (bytes_eq column.now) columns.now }
-{
-    for at in 0..columns.len() {
-        if column == columns.field(at) {
-            return true;
-        }
-    }
-    false
 }
 
 fn role_misuse(relations: &[RoleShape], at: u32, relation: u8, names: usize) -> Option<Misuse>

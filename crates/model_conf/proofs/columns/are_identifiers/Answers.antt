@@ -1,7 +1,7 @@
 use Rattle.std.proofs.Common.{ℕ, List, Bor, rules, tests}
 use Rattle.std.proofs.lemmas.Iterator.{YieldsList-from_slice}
 use Rattle.std.proofs.lemmas.Iterator.Search.{all_from_yields_List}
-use Rattle.matcher_read.specs.Names.{is_identifier}
+use Rattle.text_parts.specs.Names.{is_identifier}
 use Rattle.model_conf.proofs.ColumnLemmas.{named_by_test}
 use Rattle.model_conf.proofs.columns.are_identifiers.Goals as goal
 

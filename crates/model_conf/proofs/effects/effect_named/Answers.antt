@@ -4,8 +4,8 @@ use Rattle.model_conf.proofs.effects.effect_named.Goals as goal
 
 pub returns-else-eq-4 : goal.returns-else-eq-4
 returns-else-eq-4 c =
-    let first : bytes_eq c.args.text.now (codes "some(where(p.eft==allow))") ≡ false = search rules in
-    let second : bytes_eq c.args.text.now (codes "!some(where(p.eft==deny))") ≡ false = search rules in
-    let third : bytes_eq c.args.text.now (codes "some(where(p.eft==allow))&&!some(where(p.eft==deny))") ≡ false = search rules in
-    let fourth : bytes_eq c.args.text.now (codes "priority(p.eft)||deny") ≡ false = search rules in
+    let first : bytes_eq c.args.bare.now (codes "some(where(p.eft==allow))") ≡ false = search rules in
+    let second : bytes_eq c.args.bare.now (codes "!some(where(p.eft==deny))") ≡ false = search rules in
+    let third : bytes_eq c.args.bare.now (codes "some(where(p.eft==allow))&&!some(where(p.eft==deny))") ≡ false = search rules in
+    let fourth : bytes_eq c.args.bare.now (codes "priority(p.eft)||deny") ≡ false = search rules in
     rw (first, second, third, fourth) refl

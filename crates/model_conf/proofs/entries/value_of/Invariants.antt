@@ -1,6 +1,6 @@
 use Rattle.std.proofs.Common.{◌≡◌, drop}
 use Rattle.model_conf.specs.Relations.{value_of}
-use Rattle.model_conf.specs.Seen.{entries_seen}
+use Rattle.model_conf.specs.Helps.Seen.{entries_seen}
 use Rattle.model_conf.proofs.entries.value_of.Given as goal
 
 abbrev pub invariant-loop-entry : goal.invariant-loop-entry

@@ -1,20 +1,23 @@
-use Rattle.std.proofs.Common.{ℕ, ◌+◌, List, ◌++◌, ap, ◌∙◌, arith}
+use Rattle.std.proofs.Common.{ℕ, ◌+◌, List, ◌++◌, ap, ◌∙◌, arith, rules}
+use Rattle.std.specs.Prelude.{string_bytes}
 use Rattle.model_conf.specs.Lines.{line, model_lines, numbered}
-use Rattle.model_conf.proofs.WholeLemmas.{drop_more, join_more, no_more}
+use Rattle.model_conf.specs.Logical.{IsWhole}
+use Rattle.model_conf.proofs.OpenLemmas.{drop_first, join_next, none_open}
 use Rattle.model_conf.proofs.joining.join_lines.Goals as goal
 
-pub returns-in_default-next_model_line-clause-whole : goal.returns-in_default-next_model_line-clause-whole
-returns-in_default-next_model_line-clause-whole c =
-    c.loop-front.invariant.joins _ _ (rw c.in_default-next_model_line.ensures.none (drop_more c.loop-front.text.items c.deref.result.now _ c.in-Some.front.now _ c.deref.ensures.value c.in-Some.ensures c.truncate.ensures.items c.drop_ends.ensures))
+pub returns-in_default-clause-whole : goal.returns-in_default-clause-whole
+returns-in_default-clause-whole c =
+    c.loop-rest.invariant.joins _ _ (rw c.in_default.ensures.none (drop_first _ _ _ _ c.loop-rest-test.true c.drop_open.ensures c.drop_all_open.ensures))
 
-pub loop-front-preserved : goal.loop-front-preserved
-loop-front-preserved c = record {
-  joins = λ whole left is. c.loop-front.invariant.joins whole left (rw c.in-Some-next_model_line.ensures.first
-      (join_more c.loop-front.text.items c.deref.result.now _ c.in-Some.front.now _ whole (line c.loop-front.next c.in-Some-next_model_line.line.now) (numbered (c.loop-front.next + 1) (model_lines c.in-Some-next_model_line.after.now)) left c.deref.ensures.value c.in-Some.ensures c.truncate.ensures.items
-      (c.in_ok-extend_from_slice.ensures.items ∙ ap (λ (t : List ℕ). t ++ c.in-Some-next_model_line.line.now) c.in_ok-push.ensures.items) is));
-  fewer = omega (arith, c.in-Some-next_model_line.ensures.shorter);
-  shorter = omega (arith, c.in-Some-next_model_line.ensures.shorter);
+pub loop-rest-preserved : goal.loop-rest-preserved
+loop-rest-preserved c = record {
+  utf8 = search rules;
+  joins = λ whole left is. c.loop-rest.invariant.joins whole left (rw c.in-Some.ensures.first
+      (join_next (string_bytes c.loop-rest.text) (string_bytes c.drop_open.new.text) _ whole (line c.loop-rest.next c.in-Some.line.now) (numbered (c.loop-rest.next + 1) (model_lines c.in-Some.after.now)) left _ c.loop-rest-test.true c.drop_open.ensures
+      (c.in_ok-push_str.ensures.bytes ∙ ap (λ (t : List ℕ). t ++ c.in-Some.line.now) (c.in_ok-push.ensures.bytes ∙ ap (λ (t : List ℕ). string_bytes c.drop_open.new.text ++ t) (c.in_ok-push.ensures.ascii (omega arith)))) is));
+  fewer = omega (arith, c.in-Some.ensures.shorter);
+  shorter = omega (arith, c.in-Some.ensures.shorter);
 }
 
 pub returns-clause-whole : goal.returns-clause-whole
-returns-clause-whole c = c.loop-front.invariant.joins _ _ (no_more c.loop-front.text.items c.deref.result.now _ c.deref.ensures.value c.in_default.ensures)
+returns-clause-whole c = c.loop-rest.invariant.joins _ _ (none_open _ _ _ _ c.loop-rest-test.false c.drop_open.ensures)

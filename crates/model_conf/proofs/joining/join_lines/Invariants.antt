@@ -1,14 +1,18 @@
+use denote.Shadow.{shadow}
+use denote.Text.{Utf8}
 use Rattle.std.proofs.Common.{ℕ, ◌+◌, ◌≤◌, List, length}
+use Rattle.std.specs.Prelude.{string_bytes}
 use Rattle.model_conf.specs.Lines.{Line, model_lines, numbered}
 use Rattle.model_conf.specs.Logical.{IsWhole}
 use Rattle.model_conf.proofs.joining.join_lines.Given as goal
 
-abbrev pub invariant-loop-front : goal.invariant-loop-front
-invariant-loop-front l = record {
-  joins : (whole : List ℕ) (left : List Line) → IsWhole l.text.items (numbered l.next (model_lines l.rest)) whole left → IsWhole l.fn.text.items (numbered l.number (model_lines l.lines)) whole left;
+abbrev pub invariant-loop-rest : goal.invariant-loop-rest
+invariant-loop-rest l = record {
+  utf8 : shadow (Utf8 l.rest);
+  joins : (whole : List ℕ) (left : List Line) → IsWhole (string_bytes l.text) (numbered l.next (model_lines l.rest)) whole left → IsWhole (string_bytes l.fn.text) (numbered l.number (model_lines l.lines)) whole left;
   fewer : l.next + length l.rest ≤ l.number + length l.lines;
   shorter : length l.rest ≤ length l.lines;
 }
 
-abbrev pub decreases-loop-front : goal.decreases-loop-front
-decreases-loop-front l = length l.rest
+abbrev pub decreases-loop-rest : goal.decreases-loop-rest
+decreases-loop-rest l = length l.rest

@@ -2,7 +2,7 @@ use Rattle.std.proofs.Common.{◌≡◌, sym, ap, ◌∙◌, subst}
 use Rattle.std.specs.Prelude.{IsUtf8}
 use Rattle.model_conf.specs.Columns.{AreNames}
 use Rattle.perm_base.specs.Fields.{joined}
-use Rattle.perm_base.specs.Lines.{with_ends}
+use Rattle.text_parts.specs.Lines.{with_ends}
 use Rattle.model_conf.specs.Effects.{effect_text}
 use Rattle.model_conf.specs.Printed.{printed, role_lines}
 use Rattle.model_conf.proofs.AsciiLemmas.{IsUtf8-printed}

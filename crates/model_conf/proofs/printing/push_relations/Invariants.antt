@@ -1,5 +1,5 @@
 use Rattle.std.proofs.Common.{◌≡◌, ◌++◌, map, take}
-use Rattle.perm_base.specs.Lines.{with_ends}
+use Rattle.text_parts.specs.Lines.{with_ends}
 use Rattle.model_conf.specs.Printed.{key_line, relation_entry}
 use Rattle.model_conf.proofs.printing.push_relations.Given as goal
 

@@ -6,8 +6,8 @@ use Rattle.matcher_read.specs.Matcher.{IsMatcher}
 use Rattle.matcher_read.specs.Expression.{expression}
 use Rattle.std.specs.Prelude.{option_map, IsUtf8}
 use Rattle.matcher_read.specs.Faults.{IsFault}
-use Rattle.model_conf.specs.Misuses.{misuse_of}
-use Rattle.model_conf.specs.Outlines.{IsSettled, values_seen}
+use Rattle.model_conf.specs.Helps.Misuses.{misuse_of}
+use Rattle.model_conf.specs.Helps.Outlines.{IsSettled, values_seen}
 use Rattle.model_conf.specs.Uses.{first_undeclared, uses}
 use Rattle.model_conf.proofs.KeptLemmas.{relations_kept}
 use Rattle.model_conf.proofs.MatcherLemmas.{all_declared, missing_settled, no_memory_of, settled_by_fault, settled_by_tree, settled_for, stops_matcher, stops_misuse, stops_missing}
@@ -16,41 +16,38 @@ use Rattle.model_conf.proofs.reading.model_of.Goals as goal
 pub returns-in_err-values-clause-fault : goal.returns-in_err-values-clause-fault
 returns-in_err-values-clause-fault c =
     let p = err_from_is_err_and c.from_residual.result c.from_residual.ensures.1 in
-    rw (p.1, p.2) (λ other. stops_missing _ _ c.in_err-values.ensures)
+    rw (p.1, p.2) (λ other. stops_missing _ _ c.in_err-values.ensures.values)
 
 pub returns-in_err-values-clause-settled : goal.returns-in_err-values-clause-settled
 returns-in_err-values-clause-settled c = λ v effect is.
     let p = err_from_is_err_and c.from_residual.result c.from_residual.ensures.1 in
-    rw (p.1, p.2) (λ other. missing_settled _ _ v effect c.in_err-values.ensures is)
-
-pub unreachable-requires : goal.unreachable-requires
-unreachable-requires c = c.in_default.ensures.cases.0 (c.requires _ c.in_ok-values.ensures.matcher).0
+    rw (p.1, p.2) (λ other. missing_settled _ _ v effect c.in_err-values.ensures.values is)
 
 pub returns-in_err-tree-clause-fault : goal.returns-in_err-tree-clause-fault
 returns-in_err-tree-clause-fault c =
     let p = err_from_is_err_and c.from_residual-in_err-tree.result c.from_residual-in_err-tree.ensures.1 in
     let stop = c.in_err-tree.field-0.0 in
-    rw (p.1, p.2) (λ other. stops_matcher _ _ c.in_ok-outline.outline.effect stop c.in_ok-outline.ensures.has (λ differs. subst (λ t. IsFault t stop) c.in-Ok.ensures.cases.0 (c.in_err-tree.ensures.fault differs)) other)
+    rw (p.1, p.2) (λ other. stops_matcher _ _ c.in_ok-outline.outline.effect stop c.in_ok-outline.ensures.has c.in_err-tree.ensures.fault other)
 
 pub returns-in_err-tree-clause-settled : goal.returns-in_err-tree-clause-settled
 returns-in_err-tree-clause-settled c = λ v effect is.
     let p = err_from_is_err_and c.from_residual-in_err-tree.result c.from_residual-in_err-tree.ensures.1 in
     let stop = c.in_err-tree.field-0.0 in
     rw (p.1, p.2) (λ other.
-    let settled = settled_by_fault c.in-Ok.text.now stop (no_memory_of stop other) (λ e one. c.in_err-tree.ensures.only e one) (λ first one. c.in_err-tree.ensures.only_fault first one) in
-    settled_for _ (values_seen c.in_ok-values.values) v c.in_ok-outline.outline.effect effect c.in_ok-outline.ensures.has is (subst IsSettled c.in-Ok.ensures.cases.0 settled))
+    let settled = settled_by_fault c.in_ok-values.values.matcher.now stop (no_memory_of stop other) (λ e one. c.in_err-tree.ensures.only e one) (λ first one. c.in_err-tree.ensures.only_fault first one) in
+    settled_for _ (values_seen c.in_ok-values.values) v c.in_ok-outline.outline.effect effect c.in_ok-outline.ensures.has is settled)
 
 pub returns-in-Some-clause-fault : goal.returns-in-Some-clause-fault
 returns-in-Some-clause-fault c = λ other.
     let outline = c.in_ok-outline.outline in
     let e = expression c.in_ok-tree.tree in
-    stops_misuse _ (values_seen c.in_ok-values.values) outline e c.in-Some.misuse _ c.in_ok-outline.ensures (subst (λ t. IsMatcher t e) c.in-Ok.ensures.cases.0 c.in_ok-tree.ensures.found)
+    stops_misuse _ (values_seen c.in_ok-values.values) outline e c.in-Some.misuse _ c.in_ok-outline.ensures c.in_ok-tree.ensures.found
     (c.in-Some.ensures ∙ ap (λ x. option_map misuse_of (first_undeclared outline.request outline.policy x (uses e))) c.deref.ensures.value) c.misuse_fault.ensures
 
 pub returns-in-Some-clause-settled : goal.returns-in-Some-clause-settled
 returns-in-Some-clause-settled c = λ v effect is other.
-    let settled = settled_by_tree c.in-Ok.text.now (expression c.in_ok-tree.tree) (λ e one. c.in_ok-tree.ensures.only e one) (λ first one. c.in_ok-tree.ensures.only_fault first one) in
-    settled_for _ (values_seen c.in_ok-values.values) v c.in_ok-outline.outline.effect effect c.in_ok-outline.ensures.has is (subst IsSettled c.in-Ok.ensures.cases.0 settled)
+    let settled = settled_by_tree c.in_ok-values.values.matcher.now (expression c.in_ok-tree.tree) (λ e one. c.in_ok-tree.ensures.only e one) (λ first one. c.in_ok-tree.ensures.only_fault first one) in
+    settled_for _ (values_seen c.in_ok-values.values) v c.in_ok-outline.outline.effect effect c.in_ok-outline.ensures.has is settled
 
 pub from_parts-requires : goal.from_parts-requires
 from_parts-requires c =
@@ -58,18 +55,18 @@ from_parts-requires c =
     let o = c.in_ok-outline.ensures in
     let e = expression c.in_ok-tree.tree in
     let text = c.in_ok-matcher_text.ensures in
-    let part = (c.requires _ c.in_ok-values.ensures.matcher).1 in
+    let part = c.requires _ c.in_ok-values.ensures.values.matcher in
     record {
       request = subst AreColumns (sym o.request) o.has.has.request;
       policy = subst AreColumns (sym o.policy) o.has.has.policy;
       relations = subst AreRelations (sym o.relations) (relations_kept _);
-      part = subst IsPartOfLine (sym c.in-Ok.ensures.cases.0 ∙ sym text) part;
-      utf8 = subst IsUtf8 (sym c.in-Ok.ensures.cases.0 ∙ sym text) (c.requires _ c.in_ok-values.ensures.matcher).0;
+      part = subst IsPartOfLine (sym text) part;
+      utf8 = subst IsUtf8 (sym text) c.in_ok-values.ensures.utf8;
       matcher = subst (λ t. IsMatcher t e) (sym text) c.in_ok-tree.ensures.found;
-      declared = all_declared outline.request outline.policy outline.relations.items (uses e) (c.in_default-first_misuse.ensures ∙ ap (λ x. option_map misuse_of (first_undeclared outline.request outline.policy x (uses e))) c.deref.ensures.value);
+      declared = all_declared outline.request outline.policy outline.relations.items (uses e) (c.in_default.ensures ∙ ap (λ x. option_map misuse_of (first_undeclared outline.request outline.policy x (uses e))) c.deref.ensures.value);
     }
 
 pub returns-clause-settled : goal.returns-clause-settled
 returns-clause-settled c = λ v effect is.
-    let settled = settled_by_tree c.in-Ok.text.now (expression c.in_ok-tree.tree) (λ e one. c.in_ok-tree.ensures.only e one) (λ first one. c.in_ok-tree.ensures.only_fault first one) in
-    settled_for _ (values_seen c.in_ok-values.values) v c.in_ok-outline.outline.effect effect c.in_ok-outline.ensures.has is (subst IsSettled c.in-Ok.ensures.cases.0 settled)
+    let settled = settled_by_tree c.in_ok-values.values.matcher.now (expression c.in_ok-tree.tree) (λ e one. c.in_ok-tree.ensures.only e one) (λ first one. c.in_ok-tree.ensures.only_fault first one) in
+    settled_for _ (values_seen c.in_ok-values.values) v c.in_ok-outline.outline.effect effect c.in_ok-outline.ensures.has is settled

@@ -1,8 +1,7 @@
 use Rattle.std.proofs.Common.{◌≡◌, [], drop, sym, ap, ◌∙◌, arith}
 use Rattle.std.proofs.lemmas.List.{drop_all}
-use Rattle.model_conf.specs.Relations.{first_bad_shape}
-use Rattle.model_conf.specs.Seen.{entries_seen, entry_seen}
-use Rattle.model_conf.specs.Relations.{bad_shape_of}
+use Rattle.model_conf.specs.Relations.{first_bad_shape, bad_shape_of}
+use Rattle.model_conf.specs.Helps.Seen.{entries_seen, entry_seen}
 use Rattle.model_conf.proofs.EntryLemmas.{bad_here, none_bad}
 use Rattle.model_conf.proofs.relations.first_bad_shape.Goals as goal
 

@@ -1,6 +1,6 @@
 use Rattle.std.proofs.Common.{◌≡◌, drop}
 use Rattle.model_conf.specs.Relations.{first_bad_shape}
-use Rattle.model_conf.specs.Seen.{entries_seen}
+use Rattle.model_conf.specs.Helps.Seen.{entries_seen}
 use Rattle.model_conf.proofs.relations.first_bad_shape.Given as goal
 
 abbrev pub invariant-loop-entry : goal.invariant-loop-entry

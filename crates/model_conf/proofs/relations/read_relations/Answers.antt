@@ -3,7 +3,7 @@ use Rattle.std.proofs.lemmas.List.{append_assoc}
 use Rattle.matcher_read.specs.Calls.{relation_names}
 use Rattle.perm_base.specs.declared.shapes.RoleShape.{RoleShape}
 use Rattle.model_conf.specs.Relations.{relations_from, relations_of, shape}
-use Rattle.model_conf.specs.Seen.{entries_seen}
+use Rattle.model_conf.specs.Helps.Seen.{entries_seen}
 use Rattle.model_conf.proofs.EntryLemmas.{relation_declared, relation_none}
 use Rattle.model_conf.proofs.relations.read_relations.Goals as goal
 use Rattle.model_conf.proofs.relations.read_relations.Goals.{in-Some+in_ok-push, in_default}

@@ -8,9 +8,9 @@ pub returns-in_err-take-clause-taken : goal.returns-in_err-take-clause-taken
 returns-in_err-take-clause-taken c =
     let p = err_from_is_err_and c.from_residual.result c.from_residual.ensures.1 in
     let t = c.in_err-take.ensures in
-    rw (p.1, p.2) (λ other. (c.args.line.now, numbered (c.args.number + 1) (model_lines c.args.after.now), t.0, ended c.in-None.ensures, t.1, t.2 other))
+    rw (p.1, p.2) (λ other. (c.args.line.now, numbered (c.args.number + 1) (model_lines c.args.after.now), t.0, ended c.in_default.ensures, t.1, t.2 other))
 
-pub returns-clause-taken : goal.returns-clause-taken
-returns-clause-taken c =
+pub returns-in_default-clause-taken : goal.returns-in_default-clause-taken
+returns-in_default-clause-taken c =
     let t = c.in_ok-take.ensures in
-    (c.args.line.now, t.0, ended c.in-None.ensures, t.1, t.2.0, t.2.1)
+    (c.args.line.now, t.0, ended c.in_default.ensures, t.1, t.2.0, t.2.1)

@@ -1,7 +1,7 @@
 use Rattle.std.proofs.Common.{◌≡◌, ◌++◌, ◌∷◌, [], ℕ, List, length, map, refl, sym, ap, ◌∙◌, arith}
 use Rattle.std.proofs.lemmas.List.{length-map}
 use Rattle.matcher_read.specs.Expression.{Expression, expression, count, expressions_of}
-use Rattle.model_conf.specs.Misuses.{column_misuse, earlier, role_misuse}
+use Rattle.model_conf.specs.Helps.Misuses.{column_misuse, earlier, role_misuse}
 use Rattle.model_conf.specs.Uses.{uses, of_relation}
 use Rattle.model_conf.proofs.TreeLemmas.{literal_uses, expression-Request, expression-Policy, expression-Binary, expression-Among, expression-Role}
 use Rattle.model_conf.proofs.UseLemmas.{count-expressions_of, misuse_begin, misuse_end, misuse_in, misuse_in-append, misuse_in-none, misuse_in-policy, misuse_in-request, misuse_in-role, misuse_step}
@@ -26,14 +26,14 @@ pub returns-in-Request : goal.returns-in-Request
 returns-in-Request t c =
     let d = c.args.self.now in
     let is = ap expression c.in-Request.is ∙ expression-Request c.in-Request.at c.in-Request.column c.in-Request.path in
-    c.column_misuse.ensures ∙ ap (column_misuse d.request.now c.in-Request.at) c.bytes.ensures.value ∙ sym (misuse_in-request d.request.now d.policy.now d.relations.now c.in-Request.at c.in-Request.column)
+    c.column_misuse.ensures ∙ ap (column_misuse d.request.now c.in-Request.at) c.as_str.ensures ∙ sym (misuse_in-request d.request.now d.policy.now d.relations.now c.in-Request.at c.in-Request.column)
     ∙ ap (λ (e : Expression). misuse_in d.request.now d.policy.now d.relations.now (uses e)) (sym is)
 
 pub returns-in-Policy : goal.returns-in-Policy
 returns-in-Policy t c =
     let d = c.args.self.now in
     let is = ap expression c.in-Policy.is ∙ expression-Policy c.in-Policy.at c.in-Policy.column in
-    c.column_misuse-in-Policy.ensures ∙ ap (column_misuse d.policy.now c.in-Policy.at) c.bytes-in-Policy.ensures.value ∙ sym (misuse_in-policy d.request.now d.policy.now d.relations.now c.in-Policy.at c.in-Policy.column)
+    c.column_misuse-in-Policy.ensures ∙ ap (column_misuse d.policy.now c.in-Policy.at) c.as_str-in-Policy.ensures ∙ sym (misuse_in-policy d.request.now d.policy.now d.relations.now c.in-Policy.at c.in-Policy.column)
     ∙ ap (λ (e : Expression). misuse_in d.request.now d.policy.now d.relations.now (uses e)) (sym is)
 
 pub returns-in-Binary : goal.returns-in-Binary

@@ -1,6 +1,6 @@
 use Rattle.std.proofs.Common.{◌≡◌, drop}
 use Rattle.matcher_read.specs.Expression.{expression}
-use Rattle.model_conf.specs.Misuses.{earlier}
+use Rattle.model_conf.specs.Helps.Misuses.{earlier}
 use Rattle.model_conf.specs.Uses.{uses}
 use Rattle.model_conf.proofs.UseLemmas.{misuse_in, uses_of}
 use Rattle.model_conf.proofs.uses.Declared.+first_misuse.Given as goal

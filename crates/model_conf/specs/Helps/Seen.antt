@@ -1,18 +1,18 @@
 -- Entries in memory, seen as keys and values; only private functions cite this.
-use Rattle.std.specs.Prelude.{◌≡◌, ◌≢◌, ℕ, List, [], map, Option, Some, None, option_map, Result, Ok, Err}
+use Rattle.std.specs.Prelude.{◌≡◌, ◌≢◌, ℕ, List, [], map, Option, Some, None, option_map, Result, Ok, Err, string_bytes}
 use Rattle.std.specs.Borrow.{Bor}
 use Rattle.model_conf.specs.Lines.{Line, model_lines, numbered}
 use Rattle.model_conf.specs.Logical.{IsWhole}
 use Rattle.model_conf.specs.Sections.{Entry, entry, entries_of, said_fault, first_fault}
 use Rattle.model_conf.specs.Statements.{Said, Statement, LineSays, HasStatements}
-use Rattle.model_conf.specs.Steps.{Standing, standing, behind, section_text}
+use Rattle.model_conf.specs.Helps.Steps.{Standing, standing, behind, section_text}
 use Rattle.model_conf.specs.declared.fault.ModelFault.{ModelFault}
 use Rattle.model_conf.specs.declared.fault.ModelFault.TheVariants as fault
 use Rattle.model_conf.specs.declared.entries.Entry.{Entry as Kept}
 use Rattle.model_conf.specs.declared.entries.Entries.{Entries}
 
 abbrev pub entry_seen : Kept → Entry
-entry_seen kept = entry kept.key.now kept.value.items
+entry_seen kept = entry kept.key.now (string_bytes kept.value)
 
 abbrev pub entries_seen : List Kept → List Entry
 entries_seen kept = map entry_seen kept

@@ -1,5 +1,5 @@
 -- What the steps give that read the values of entries; only private functions cite this.
-use Rattle.std.specs.Prelude.{◌≡◌, ◌≢◌, ℕ, List, Some, codes, IsUtf8, Result, Ok, Err}
+use Rattle.std.specs.Prelude.{◌≡◌, ◌≢◌, ℕ, List, Some, codes, Result, Ok, Err}
 use Rattle.effect_fold.specs.declared.effect.Effect.{Effect}
 use Rattle.matcher_read.specs.Expression.{Expression}
 use Rattle.matcher_read.specs.Faults.{IsFault}
@@ -38,7 +38,7 @@ OutlinesOf entries values (Err stop) = stop ≢ fault.NoMemory → IsEntryFault 
 
 -- the value of the matcher's key can be a matcher's text
 abbrev pub HasTextOfMatcher : List Entry → Type 0
-HasTextOfMatcher entries = (text : List ℕ) → value_of entries (codes "m") ≡ Some text → IsUtf8 text × IsPartOfLine text
+HasTextOfMatcher entries = (text : List ℕ) → value_of entries (codes "m") ≡ Some text → IsPartOfLine text
 
 -- a text says one matcher, or has one fault, and not both
 pub record IsSettled (text : List ℕ) : Type 0 where

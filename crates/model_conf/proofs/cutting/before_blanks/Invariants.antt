@@ -1,9 +1,0 @@
-use Rattle.std.proofs.Common.{◌≡◌, ◌≤◌, length, take}
-use Rattle.model_conf.specs.Blanks.{before_blanks}
-use Rattle.model_conf.proofs.cutting.before_blanks.Given as goal
-
-abbrev pub invariant-loop-end : goal.invariant-loop-end
-invariant-loop-end l = record { within : l.end ≤ length l.text; same : before_blanks (take l.end l.text) ≡ before_blanks l.text }
-
-abbrev pub decreases-loop-end : goal.decreases-loop-end
-decreases-loop-end l = l.end

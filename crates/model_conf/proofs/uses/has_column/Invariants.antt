@@ -1,6 +1,0 @@
-use Rattle.std.proofs.Common.{◌≡◌, ℕ, ◌<◌, false, [], get_or}
-use Rattle.std.specs.Str.{bytes_eq}
-use Rattle.model_conf.proofs.uses.has_column.Given as goal
-
-abbrev pub invariant-loop-at : goal.invariant-loop-at
-invariant-loop-at l = (k : ℕ) → k < l.at → bytes_eq l.column (get_or l.columns k []) ≡ false
