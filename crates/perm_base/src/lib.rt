@@ -27,7 +27,7 @@ pub use fields::{
 };
 pub use lines::{lines_with_ends, lines_without_last_end, next_full_line, next_line};
 pub use outside::{
-    Failed, Fetch, ListShelf, ListSink, ListSource, NoMemory, ReadStop, Shelf, Sink, Source,
+    Failed, Fetch, ListShelf, ListSink, ListSource, NoMemory, ReadStop, Share, Shelf, Sink, Source,
     SureShelf, SureSink, SureSource, Text, push_all, read_all,
 };
 pub use patterns::is_pattern;
