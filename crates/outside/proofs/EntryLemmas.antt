@@ -7,7 +7,7 @@ use Rattle.std.specs.Global.{Vec}
 use Rattle.std.proofs.lemmas.List.Quantifiers.{position-Some}
 use Rattle.std.proofs.lemmas.Slice.Eq.{bytes_eq-Decides}
 use Rattle.outside.specs.declared.memory.entries.Entry.{Entry}
-use Rattle.outside.specs.Entries.{named_bytes, has_name}
+use Rattle.outside.specs.Helps.Entries.{named_bytes, has_name}
 use Rattle.outside.specs.Files.{file_of}
 
 -- what stands under a name, by the first entry that has it

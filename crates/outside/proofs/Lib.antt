@@ -1,2 +1,3 @@
-pub mod Outside
+pub mod CallerLemmas
+pub mod PieceLemmas
 pub mod EntryLemmas

@@ -1,6 +1,8 @@
 pub mod Faults
 pub mod Told
+pub mod Pulls
+pub mod Pushes
 pub mod Files
-pub mod Fetch
-pub mod Entries
+pub mod Fetches
 pub mod Listed
+pub mod Helps

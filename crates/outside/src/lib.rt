@@ -3,8 +3,7 @@
 
 mod fault;
 mod memory;
-#[cfg(test)]
-mod memory_tests;
+mod share;
 mod shelf;
 mod sink;
 mod source;
@@ -12,6 +11,7 @@ mod text;
 
 pub use fault::{Failed, NoMemory};
 pub use memory::{ListShelf, ListSink, ListSource, SureShelf, SureSink, SureSource};
+pub use share::Share;
 pub use shelf::{Fetch, Shelf};
 pub use sink::{Sink, push_all};
 pub use source::{ReadStop, Source, read_all};

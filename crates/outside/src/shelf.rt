@@ -1,6 +1,6 @@
-ghost use Rattle.std.specs.Prelude.{◌≡◌, ◌<◌, ◌≤◌, ◌↔◌, ℕ, List, Option, IfOk, IsErrOf, length};
-ghost use Rattle.outside.specs.Faults.{Rose};
-ghost use Rattle.outside.specs.Files.{Files, Holds, Lacks, OfFile};
+ghost use Rattle.std.specs.Prelude.{◌≡◌, ℕ, Option};
+ghost use Rattle.outside.specs.Files.{Files};
+ghost use Rattle.outside.specs.Fetches.{Fetches};
 ghost use Rattle.outside.specs.declared.shelf.Fetch.TheVariants as stops;
 
 use crate::fault::NoMemory;
@@ -36,12 +36,6 @@ pub trait Shelf {
 
     /// The bytes of the file of that name, where they are at most `most`.
     fn fetch(&mut self, alloc: Global, name: &str, most: u64) -> Result<Vec<u8>, Fetch>
-        ensures same_files { files self.new ≡ files self.old }
-        ensures found { IfOk result (λ bytes. Holds (files self.old) name.now bytes.items) }
-        ensures within { IfOk result (λ bytes. length bytes.items ≤ most) }
-        ensures absent { IsErrOf result Fetch.Absent ↔ Lacks (files self.old) name.now }
-        ensures uncounted { IsErrOf result Fetch.Absent → faults self.new ≡ faults self.old }
-        ensures too_long { IsErrOf result Fetch.TooLong → OfFile (files self.old) name.now (λ bytes. most < length bytes) }
-        ensures counted { faults self.old ≤ faults self.new }
-        ensures failed { IsErrOf result Fetch.Failed → Rose (faults self.old) (faults self.new) };
+        ensures { Fetches (files self.old) (files self.new) (faults self.old) (faults self.new)
+            name.now most result };
 }

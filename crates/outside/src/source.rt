@@ -1,5 +1,6 @@
 ghost use Rattle.std.specs.Prelude.{◌≡◌, ◌<◌, ◌≤◌, ℕ, [], List, Option, IfOk, IfErr, IfSome, OnOk, OnErr, IsErrOf, length, take};
 ghost use Rattle.outside.specs.Faults.{Rose};
+ghost use Rattle.outside.specs.Pulls.{Pulls};
 ghost use Rattle.outside.specs.Told.{with_front, HasRead, HasReadAtMost, HasReadMore};
 ghost use Rattle.outside.specs.declared.source.ReadStop.TheVariants as stops;
 
@@ -20,12 +21,8 @@ pub trait Source {
     /// Takes the next bytes into the front of `buf` and answers how many. At 0 for a `buf` that is not empty
     /// the source is at its end.
     fn pull(&mut self, buf: &mut [u8]) -> Result<usize, Failed>
-        ensures within { IfOk result (λ count. count ≤ length buf.old) }
-        ensures given { IfOk result (λ count. left self.old ≡ with_front (take count buf.new) (left self.new)) }
-        ensures ended { IfOk result (λ count. count ≡ 0 → 0 < length buf.old → IfSome (left self.old) (λ bytes. bytes ≡ [])) }
-        ensures kept { OnErr result (left self.new ≡ left self.old) }
-        ensures counted { faults self.old ≤ faults self.new }
-        ensures failed { OnErr result (Rose (faults self.old) (faults self.new)) };
+        ensures { Pulls (left self.old) (left self.new) (faults self.old) (faults self.new)
+            buf.old buf.new result };
 }
 
 /// Why the bytes of a source were not read to their end.
@@ -57,14 +54,18 @@ impl From<NoMemory> for ReadStop {
 /// Reads a source to its end, where at most `most` bytes are left in it. After a stop some of its first bytes
 /// were read.
 pub fn read_all<S: Source>(alloc: Global, source: &mut S, most: u64) -> Result<Vec<u8>, ReadStop>
-    ensures read { IfOk result (λ bytes. S.left source.old ≡ with_front bytes.items (S.left source.new)) }
+    ensures read { IfOk result (λ bytes.
+        S.left source.old ≡ with_front bytes.items (S.left source.new)) }
     ensures ended { OnOk result (IfSome (S.left source.new) (λ rest. rest ≡ [])) }
     ensures within { IfOk result (λ bytes. length bytes.items ≤ most) }
     ensures stopped { OnErr result (HasRead (S.left source.old) (S.left source.new)) }
     ensures counted { S.faults source.old ≤ S.faults source.new }
-    ensures failed { IsErrOf result ReadStop.Failed → Rose (S.faults source.old) (S.faults source.new) }
-    ensures failed_within { IsErrOf result ReadStop.Failed → HasReadAtMost most (S.left source.old) (S.left source.new) }
-    ensures too_long { IsErrOf result ReadStop.TooLong → HasReadMore most (S.left source.old) (S.left source.new) }
+    ensures failed { IsErrOf result ReadStop.Failed
+        → Rose (S.faults source.old) (S.faults source.new) }
+    ensures failed_within { IsErrOf result ReadStop.Failed
+        → HasReadAtMost most (S.left source.old) (S.left source.new) }
+    ensures too_long { IsErrOf result ReadStop.TooLong
+        → HasReadMore most (S.left source.old) (S.left source.new) }
 {
     let mut bytes = Vec::new(alloc);
     let mut piece = [0; PIECE];

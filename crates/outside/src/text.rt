@@ -6,6 +6,7 @@ ghost use Rattle.std.specs.Hash as fed;
 ghost use Rattle.std.proofs.Common.{rules};
 
 use crate::fault::NoMemory;
+use crate::share::Share;
 use std::alloc::Global;
 use std::hash::{Hash, Hasher};
 use std::marker::Model;
@@ -49,6 +50,8 @@ impl Text {
         self.text.as_str()
     }
 }
+
+impl Share for Text {}
 
 impl PartialEq for Text {
     ghost eq = { pointwise nat_eq };

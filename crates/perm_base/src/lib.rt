@@ -18,7 +18,7 @@ pub use fields::{
 };
 pub use lines::next_line;
 pub use outside::{
-    Failed, Fetch, ListShelf, ListSink, ListSource, NoMemory, ReadStop, Shelf, Sink, Source,
+    Failed, Fetch, ListShelf, ListSink, ListSource, NoMemory, ReadStop, Share, Shelf, Sink, Source,
     SureShelf, SureSink, SureSource, Text, push_all, read_all,
 };
 pub use patterns::is_pattern;

@@ -6,7 +6,7 @@ use std::marker::Model;
 
 /// Which calls of an object in memory fail, and how many were made and failed.
 #[derive(Drop)]
-pub struct Calls {
+pub(crate) struct Calls {
     fails: Vec<u32>,
     calls: u32,
     faults: u64,
@@ -21,7 +21,7 @@ impl Model for Calls {
 }
 
 impl Calls {
-    pub fn new(fails: Vec<u32>) -> Calls
+    pub(crate) fn new(fails: Vec<u32>) -> Calls
         ensures { result ≡ fresh fails.items }
     {
         Calls {
@@ -32,7 +32,7 @@ impl Calls {
     }
 
     /// Counts a call and answers whether it is one of those that fail.
-    pub fn begin(&mut self) -> bool
+    pub(crate) fn begin(&mut self) -> bool
         ensures listed { result ≡ is_listed self.old }
         ensures after { self.new ≡ after_call self.old }
     {
@@ -41,7 +41,7 @@ impl Calls {
     }
 
     /// Counts a fault.
-    pub fn fail(&mut self) -> Failed
+    pub(crate) fn fail(&mut self) -> Failed
         ensures after { self.new ≡ after_fault self.old }
         ensures counted { self.old.faults ≤ self.new.faults }
     {

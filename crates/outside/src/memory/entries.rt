@@ -1,7 +1,7 @@
 ghost use Rattle.std.specs.Prelude.{◌≡◌, ◌≤◌, [], MatchResult, OnOk, OnErr, length, option_copied, position};
 ghost use Rattle.outside.specs.Files.{file_of, Puts};
-ghost use Rattle.outside.specs.Fetch.{CopyStops};
-ghost use Rattle.outside.specs.Entries.{has_name};
+ghost use Rattle.outside.specs.Helps.Copies.{CopyStops};
+ghost use Rattle.outside.specs.Helps.Entries.{has_name};
 
 use crate::fault::NoMemory;
 use crate::shelf::Fetch;
@@ -11,7 +11,7 @@ use std::marker::Model;
 
 /// Names and bytes, one entry a file. Contracts see the list of them.
 #[derive(Drop)]
-pub struct Entries {
+pub(crate) struct Entries {
     entries: Vec<Entry>,
 }
 
@@ -26,13 +26,13 @@ impl Model for Entries {
 
     ghost Value = { List (List ℕ × List ℕ) };
 
-    ghost use Rattle.outside.specs.Entries.{named_bytes};
+    ghost use Rattle.outside.specs.Helps.Entries.{named_bytes};
 
     ghost view = { λ e. named_bytes e.entries.items };
 }
 
 impl Entries {
-    pub fn new(alloc: Global) -> Entries
+    pub(crate) fn new(alloc: Global) -> Entries
         ensures { result ≡ [] }
     {
         Entries {
@@ -41,7 +41,7 @@ impl Entries {
     }
 
     /// The bytes under a name.
-    pub fn get(&self, name: &str) -> Option<&[u8]>
+    pub(crate) fn get(&self, name: &str) -> Option<&[u8]>
         ensures { option_copied result ≡ file_of self.now name.now }
     {
         let at = place_of(&self.entries, name)?;
@@ -49,7 +49,7 @@ impl Entries {
     }
 
     /// Puts bytes under a name, in the place of those that were there.
-    pub fn put(&mut self, name: Text, bytes: Vec<u8>) -> Result<(), NoMemory>
+    pub(crate) fn put(&mut self, name: Text, bytes: Vec<u8>) -> Result<(), NoMemory>
         ensures ok { OnOk result (Puts name bytes.items (file_of self.old) (file_of self.new)) }
         ensures err { OnErr result (self.new ≡ self.old) }
     {
@@ -69,8 +69,9 @@ fn place_of(entries: &[Entry], name: &str) -> Option<usize>
 }
 
 /// A copy of bytes that are at most `most`.
-pub fn copy_within(alloc: Global, bytes: &[u8], most: u64) -> Result<Vec<u8>, Fetch>
-    ensures { MatchResult result (λ copy. (copy.items ≡ bytes.now) × (length bytes.now ≤ most)) (CopyStops most bytes.now) }
+pub(crate) fn copy_within(alloc: Global, bytes: &[u8], most: u64) -> Result<Vec<u8>, Fetch>
+    ensures { MatchResult result (λ copy. (copy.items ≡ bytes.now) × (length bytes.now ≤ most))
+        (CopyStops most bytes.now) }
 {
     if bytes.len() as u64 > most {
         return Err(Fetch::TooLong);

@@ -1,5 +1,6 @@
-ghost use Rattle.std.specs.Prelude.{◌≡◌, [], Some, OnOk, OnErr};
-ghost use Rattle.outside.specs.Listed.{fresh};
+ghost use Rattle.std.specs.Prelude.{◌≡◌, ◌↔◌, [], Some, true, IsErrOf, OnOk, OnErr};
+ghost use Rattle.outside.specs.Fetches.{Fetches};
+ghost use Rattle.outside.specs.Listed.{fresh, after_fetch, fetch_fails};
 ghost use Rattle.outside.specs.Files.{file_of, Puts};
 
 use crate::fault::NoMemory;
@@ -38,7 +39,8 @@ impl ListShelf {
 
     /// Puts a file under a name, in the place of the one that had it.
     pub fn put(&mut self, name: Text, bytes: Vec<u8>) -> Result<(), NoMemory>
-        ensures ok { OnOk result (Puts name bytes.items (file_of self.old.entries) (file_of self.new.entries)) }
+        ensures ok { OnOk result (Puts name bytes.items
+            (file_of self.old.entries) (file_of self.new.entries)) }
         ensures same_schedule { self.new.schedule ≡ self.old.schedule }
         ensures err { OnErr result (self.new ≡ self.old) }
     {
@@ -51,7 +53,13 @@ impl Shelf for ListShelf {
 
     ghost faults = { λ s. s.schedule.faults };
 
-    fn fetch(&mut self, alloc: Global, name: &str, most: u64) -> Result<Vec<u8>, Fetch> {
+    fn fetch(&mut self, alloc: Global, name: &str, most: u64) -> Result<Vec<u8>, Fetch>
+        ensures fetches { Fetches
+            (Some (file_of self.old.entries)) (Some (file_of self.new.entries))
+            self.old.schedule.faults self.new.schedule.faults name.now most result }
+        ensures fails { IsErrOf result Fetch.Failed ↔ (fetch_fails self.old name.now ≡ true) }
+        ensures after { self.new ≡ after_fetch self.old name.now }
+    {
         let fails = self.calls.begin();
         let bytes = self.entries.get(name).ok_or(Fetch::Absent)?;
         if fails {

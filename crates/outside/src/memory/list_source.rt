@@ -1,5 +1,6 @@
-ghost use Rattle.std.specs.Prelude.{◌≡◌, Some};
-ghost use Rattle.outside.specs.Listed.{fresh};
+ghost use Rattle.std.specs.Prelude.{◌≡◌, ◌↔◌, Some, true, IfOk, IsErr, length, min};
+ghost use Rattle.outside.specs.Listed.{fresh, after_call_that, is_listed};
+ghost use Rattle.outside.specs.Pulls.{Pulls};
 
 use crate::fault::Failed;
 use crate::memory::calls::Calls;
@@ -39,7 +40,14 @@ impl Source for ListSource {
 
     ghost faults = { λ s. s.schedule.faults };
 
-    fn pull(&mut self, buf: &mut [u8]) -> Result<usize, Failed> {
+    fn pull(&mut self, buf: &mut [u8]) -> Result<usize, Failed>
+        ensures pulls { Pulls (Some self.old.left) (Some self.new.left)
+            self.old.schedule.faults self.new.schedule.faults buf.old buf.new result }
+        ensures fails { IsErr result ↔ (is_listed self.old.schedule ≡ true) }
+        ensures count { IfOk result (λ count. count ≡ min (length buf.old) (length self.old.left)) }
+        ensures after { self.new.schedule
+            ≡ after_call_that (is_listed self.old.schedule) self.old.schedule }
+    {
         if self.calls.begin() {
             return Err(self.calls.fail());
         }

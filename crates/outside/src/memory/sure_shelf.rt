@@ -1,4 +1,5 @@
-ghost use Rattle.std.specs.Prelude.{◌≡◌, [], Some, OnOk, OnErr};
+ghost use Rattle.std.specs.Prelude.{◌≡◌, [], Some, IsErrOf, OnOk, OnErr};
+ghost use Rattle.outside.specs.Fetches.{Fetches};
 ghost use Rattle.outside.specs.Files.{file_of, Puts};
 
 use crate::fault::NoMemory;
@@ -46,7 +47,12 @@ impl Shelf for SureShelf {
 
     ghost faults = { λ _. 0 };
 
-    fn fetch(&mut self, alloc: Global, name: &str, most: u64) -> Result<Vec<u8>, Fetch> {
+    fn fetch(&mut self, alloc: Global, name: &str, most: u64) -> Result<Vec<u8>, Fetch>
+        ensures fetches { Fetches (Some (file_of self.old)) (Some (file_of self.new))
+            0 0 name.now most result }
+        ensures sure { ¬ (IsErrOf result Fetch.Failed) }
+        ensures same { self.new ≡ self.old }
+    {
         let bytes = self.entries.get(name).ok_or(Fetch::Absent)?;
         copy_within(alloc, bytes, most)
     }

@@ -1,4 +1,5 @@
-ghost use Rattle.std.specs.Prelude.{None};
+ghost use Rattle.std.specs.Prelude.{◌≡◌, None, IfOk, IsOk, length};
+ghost use Rattle.outside.specs.Pushes.{PushesSome};
 
 use crate::fault::Failed;
 use crate::sink::Sink;
@@ -18,7 +19,11 @@ impl Sink for SureSink {
 
     ghost faults = { λ _. 0 };
 
-    fn push(&mut self, piece: &[u8]) -> Result<usize, Failed> {
+    fn push(&mut self, piece: &[u8]) -> Result<usize, Failed>
+        ensures pushes { PushesSome None None 0 0 piece.now result }
+        ensures sure { IsOk result }
+        ensures count { IfOk result (λ count. count ≡ length piece.now) }
+    {
         Ok(piece.len())
     }
 }

@@ -1,6 +1,5 @@
-ghost use Rattle.std.specs.Prelude.{◌≡◌, ◌<◌, ◌≤◌, [], Some, IfOk, IfSome, IsOk, OnErr, length, take};
-ghost use Rattle.outside.specs.Faults.{Rose};
-ghost use Rattle.outside.specs.Told.{with_front};
+ghost use Rattle.std.specs.Prelude.{◌≡◌, Some, IfOk, IsOk, length, min};
+ghost use Rattle.outside.specs.Pulls.{Pulls};
 
 use crate::fault::Failed;
 use crate::memory::unread::Unread;
@@ -37,7 +36,11 @@ impl Source for SureSource {
 
     ghost faults = { λ _. 0 };
 
-    fn pull(&mut self, buf: &mut [u8]) -> Result<usize, Failed> {
+    fn pull(&mut self, buf: &mut [u8]) -> Result<usize, Failed>
+        ensures pulls { Pulls (Some self.old) (Some self.new) 0 0 buf.old buf.new result }
+        ensures sure { IsOk result }
+        ensures count { IfOk result (λ count. count ≡ min (length buf.old) (length self.old)) }
+    {
         Ok(self.unread.give(buf))
     }
 }

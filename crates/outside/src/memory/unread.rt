@@ -4,7 +4,7 @@ use std::marker::Model;
 
 /// The bytes that a source in memory has left. Contracts see them as a list.
 #[derive(Drop)]
-pub struct Unread {
+pub(crate) struct Unread {
     bytes: Vec<u8>,
     at: usize,
 }
@@ -20,14 +20,14 @@ impl Model for Unread {
 }
 
 impl Unread {
-    pub fn new(bytes: Vec<u8>) -> Unread
+    pub(crate) fn new(bytes: Vec<u8>) -> Unread
         ensures { result ≡ bytes.items }
     {
         Unread { bytes, at: 0 }
     }
 
     /// Moves bytes into the front of `buf`, as many as fit, and answers how many.
-    pub fn give(&mut self, buf: &mut [u8]) -> usize
+    pub(crate) fn give(&mut self, buf: &mut [u8]) -> usize
         ensures count { result ≡ min (length buf.old) (length self.old) }
         ensures given { self.old ≡ take result buf.new ++ self.new }
     {

@@ -1,5 +1,5 @@
 use Rattle.std.proofs.Common.{length, ◌-◌}
-use Rattle.outside.proofs.Outside.{IsPushed}
+use Rattle.outside.proofs.PieceLemmas.{IsPushed}
 use Rattle.outside.proofs.sink.push_all.Given as goal
 
 abbrev pub invariant-loop-at : goal.invariant-loop-at

@@ -1,5 +1,5 @@
 use Rattle.std.proofs.lemmas.Result.{err_from_is_err_and}
-use Rattle.outside.proofs.Outside.{read_on}
+use Rattle.outside.proofs.PieceLemmas.{read_on}
 use Rattle.outside.proofs.source.read_all.Goals as goal
 
 pub returns-in_err-map_err-clause-stopped : goal.returns-in_err-map_err-clause-stopped

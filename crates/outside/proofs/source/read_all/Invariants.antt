@@ -1,5 +1,5 @@
 use Rattle.std.proofs.Common.{length, ◌-◌, ◌+◌}
-use Rattle.outside.proofs.Outside.{IsRead}
+use Rattle.outside.proofs.PieceLemmas.{IsRead}
 use Rattle.outside.proofs.source.read_all.Given as goal
 
 abbrev pub invariant-loop-bytes : goal.invariant-loop-bytes

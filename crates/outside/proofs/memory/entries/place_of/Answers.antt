@@ -1,7 +1,7 @@
 use Rattle.std.proofs.Common.{rules, tests}
 use Rattle.std.proofs.lemmas.Iterator.{YieldsList-from_slice}
 use Rattle.std.proofs.lemmas.Iterator.Search.{position_from_yields_List}
-use Rattle.outside.specs.Entries.{has_name}
+use Rattle.outside.specs.Helps.Entries.{has_name}
 use Rattle.outside.proofs.memory.entries.place_of.Goals as goal
 
 pub returns : goal.returns

@@ -1,6 +1,6 @@
 use Rattle.std.proofs.Common.{arith, length, ◌≡◌}
 use Rattle.std.proofs.lemmas.List.{length-take}
-use Rattle.outside.proofs.Outside.{given_is}
+use Rattle.outside.proofs.PieceLemmas.{given_is}
 use Rattle.outside.proofs.memory.unread.Unread.give.Goals as goal
 
 pub returns-clause-given : goal.returns-clause-given

@@ -1,9 +1,10 @@
 -- Reading and writing piece by piece.
-use Rattle.std.proofs.Common.{◌≡◌, ℕ, ◌+◌, ◌-◌, ◌≤◌, List, [], ◌++◌, length, take, drop, refl, sym, ap, ◌∙◌, append_assoc, arith}
-use Rattle.std.specs.Prelude.{Option, Some, None}
+use Rattle.std.proofs.Common.{◌≡◌, ℕ, ◌+◌, ◌-◌, ◌≤◌, List, ◌++◌, length, take, drop, sym, ap, ◌∙◌, arith}
+use Rattle.std.specs.Prelude.{Option}
 use Rattle.std.proofs.Math.Seq.{take-add}
 use Rattle.std.proofs.lemmas.List.{take_rest, take_at, drop-drop, length-drop, take-append-drop}
 use Rattle.outside.specs.Told.{with_front, with_back, HasRead, TookFront}
+use Rattle.outside.proofs.CallerLemmas.{with_front-append, with_back-append}
 
 -- how far a loop has pushed
 pub record IsPushed (before now : Option (List ℕ)) (bytes : List ℕ) (at faults_before faults_now : ℕ) : Type 0 where
@@ -16,18 +17,6 @@ pub record IsRead (most : ℕ) (before now : Option (List ℕ)) (bytes : List �
   pub within : length bytes ≤ most
   pub read : before ≡ with_front bytes now
   pub counted : faults_before ≤ faults_now
-
-pub with_front-nothing : (told : Option (List ℕ)) → with_front [] told ≡ told
-with_front-nothing None = refl
-with_front-nothing (Some rest) = refl
-
-pub with_front-append : (told : Option (List ℕ)) (a b : List ℕ) → with_front a (with_front b told) ≡ with_front (a ++ b) told
-with_front-append None a b = refl
-with_front-append (Some rest) a b = ap (λ (x : List ℕ). Some x) (sym (append_assoc a b rest))
-
-pub with_back-append : (told : Option (List ℕ)) (a b : List ℕ) → with_back (with_back told a) b ≡ with_back told (a ++ b)
-with_back-append None a b = refl
-with_back-append (Some had) a b = ap (λ (x : List ℕ). Some x) (append_assoc had a b)
 
 -- the piece from a place to the end
 abbrev rest_of : ℕ → List ℕ → List ℕ

@@ -1,0 +1,3 @@
+-- Helps for proofs: what the parts of the forms in memory give to each other. No public clause cites them.
+pub mod Copies
+pub mod Entries
