@@ -1,8 +1,9 @@
 use crate::texts::{fault_text, list_text, push_quoted, quoted, rule_text};
 use anyhow::{Context, Result, ensure};
-use perm_base::{Rule, Text, cut_joined, next_line, print_fields, read_fields, read_plain_fields};
+use perm_base::{Rule, Text, cut_joined, push_fields, read_fields, read_plain_fields};
 use policy_csv::read_policy;
 use std::alloc::Global;
+use text_parts::next_line;
 
 /// The fields of a line, and their printed form.
 pub(crate) fn fields(alloc: Global, line: &str) -> Result<String> {
@@ -15,14 +16,14 @@ pub(crate) fn fields(alloc: Global, line: &str) -> Result<String> {
         return fault_text(alloc, "no rule");
     };
     answer.push('\n')?;
-    push_printed(alloc, &mut answer, &rule)?;
+    push_printed(&mut answer, &rule)?;
     Ok(answer)
 }
 
 /// The fields of a line without quotes. Their number stands before the line.
 pub(crate) fn plain(alloc: Global, text: &str) -> Result<String> {
     let (columns, line) = text.split_once(' ').context("no number of columns")?;
-    match read_plain_fields(alloc, line.as_bytes(), columns.parse::<u32>()?) {
+    match read_plain_fields(alloc, line, columns.parse::<u32>()?) {
         Ok(rule) => rule_text(alloc, &rule),
         Err(fault) => fault_text(alloc, fault),
     }
@@ -30,11 +31,11 @@ pub(crate) fn plain(alloc: Global, text: &str) -> Result<String> {
 
 /// The texts that a line joins by a comma and a blank.
 pub(crate) fn joined(alloc: Global, line: &str) -> Result<String> {
-    match cut_joined(alloc, line.as_bytes()) {
+    match cut_joined(alloc, line) {
         Ok(texts) => {
             let mut list = String::from_str(alloc, "[")?;
             for text in &texts {
-                push_quoted(alloc, &mut list, text)?;
+                push_quoted(alloc, &mut list, text.as_bytes())?;
             }
             list.push_str("]")?;
             Ok(list)
@@ -45,12 +46,12 @@ pub(crate) fn joined(alloc: Global, line: &str) -> Result<String> {
 
 /// The first line of a text, and what stands behind it.
 pub(crate) fn line(alloc: Global, text: &str) -> Result<String> {
-    let Some((line, rest)) = next_line(text.as_bytes()) else {
+    let Some((line, rest)) = next_line(text) else {
         return Ok(String::from_str(alloc, "none")?);
     };
-    let mut answer = quoted(alloc, line)?;
+    let mut answer = quoted(alloc, line.as_bytes())?;
     answer.push_str(" before ")?;
-    answer.push_str(quoted(alloc, rest)?.as_str())?;
+    answer.push_str(quoted(alloc, rest.as_bytes())?.as_str())?;
     Ok(answer)
 }
 
@@ -77,9 +78,9 @@ pub(crate) fn policy(alloc: Global, bytes: &[u8], words: &str) -> Result<String>
     match read_policy(alloc, bytes, columns_of(words)?) {
         Ok(rules) => {
             let mut answer = format!(in alloc; "rules: {}", rules.len())?;
-            for at in 0..rules.len() {
+            for rule in rules.as_slice() {
                 answer.push('\n')?;
-                push_printed(alloc, &mut answer, rules.at(at))?;
+                push_printed(&mut answer, rule)?;
             }
             Ok(answer)
         }
@@ -100,8 +101,6 @@ fn columns_of(words: &str) -> Result<u32> {
     Ok(columns.parse::<u32>()?)
 }
 
-fn push_printed(alloc: Global, answer: &mut String, rule: &Rule) -> Result<()> {
-    let text = print_fields(alloc, rule).ok().context("memory ran out")?;
-    answer.push_str(text.as_str())?;
-    Ok(())
+fn push_printed(answer: &mut String, rule: &Rule) -> Result<()> {
+    push_fields(answer, rule).ok().context("memory ran out")
 }

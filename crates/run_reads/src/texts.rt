@@ -15,12 +15,7 @@ pub(crate) fn fault_text(alloc: Global, fault: impl Debug + Drop) -> Result<Stri
 
 /// The fields of a rule, each in quotes.
 pub(crate) fn rule_text(alloc: Global, rule: &Rule) -> Result<String> {
-    let mut list = String::from_str(alloc, "[")?;
-    for at in 0..rule.len() {
-        push_quoted(alloc, &mut list, rule.field(at))?;
-    }
-    list.push_str("]")?;
-    Ok(list)
+    list_text(alloc, rule.fields())
 }
 
 /// The texts, each in quotes.
