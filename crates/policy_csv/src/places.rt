@@ -12,7 +12,8 @@ const MOST_RULES: usize = 200_000;
 
 /// The law that no rule stands twice among first places.
 pub fn first_places_stand_once()
-    ensures { (rules : List (List (List ℕ))) → AllPairs (λ rule later. rule ≢ later) (first_places rules) }
+    ensures { (rules : List (List (List ℕ)))
+        → AllPairs (λ rule later. rule ≢ later) (first_places rules) }
 {}
 
 /// The law that among first places stand the rules of the list, and no others.
@@ -25,13 +26,14 @@ pub fn first_places_have_the_same_rules()
 /// and none otherwise.
 pub fn first_places_keep_the_order()
     ensures none { first_places [] ≡ [] }
-    ensures again { (rules : List (List (List ℕ))) (rule : List (List ℕ)) → Contains rules rule
-        → first_places (rules ++ rule ∷ []) ≡ first_places rules }
-    ensures new_rule { (rules : List (List (List ℕ))) (rule : List (List ℕ)) → ¬ (Contains rules rule)
+    ensures again { (rules : List (List (List ℕ))) (rule : List (List ℕ))
+        → Contains rules rule → first_places (rules ++ rule ∷ []) ≡ first_places rules }
+    ensures new_rule { (rules : List (List (List ℕ))) (rule : List (List ℕ))
+        → ¬ (Contains rules rule)
         → first_places (rules ++ rule ∷ []) ≡ first_places rules ++ rule ∷ [] }
 {}
 
-// Puts the rule behind the others, unless it is among them.
+/// Puts the rule behind the others, unless it is among them.
 pub(crate) fn keep(rules: &mut IndexSet<Rule>, rule: Rule) -> Result<(), PolicyFault>
     requires { index_set_len rules.old ≤ MOST_RULES }
     ensures kept { OnOk result (rules.new.keys
@@ -50,7 +52,7 @@ pub(crate) fn keep(rules: &mut IndexSet<Rule>, rule: Rule) -> Result<(), PolicyF
     Ok(())
 }
 
-// The rules in their order.
+/// The rules in their order.
 pub(crate) fn listed(alloc: Global, rules: IndexSet<Rule>) -> Result<Vec<Rule>, NoMemory>
     ensures { IfOk result (λ list. list.items ≡ rules.keys) }
 {
