@@ -6,6 +6,7 @@ use Rattle.std.proofs.lemmas.List.{take-append-drop, take_all, take_more, length
 use Rattle.effect_fold.specs.Steps.{Progress, progress, begun, behind, ended, taken}
 use Rattle.effect_fold.specs.Verdict.{Taken, verdict}
 use Rattle.effect_fold.specs.declared.effect.Effect.{Effect}
+use Rattle.effect_fold.specs.declared.fault.Cause.{Cause}
 use Rattle.effect_fold.specs.declared.fault.Cause.TheVariants.{Pattern}
 use Rattle.effect_fold.specs.declared.fault.Fault.{Fault}
 use Rattle.effect_fold.specs.declared.outcome.Outcome.{Outcome}
@@ -19,12 +20,11 @@ use Rattle.outside.specs.Faults.{Rose}
 use Rattle.outside.specs.declared.fault.NoMemory.{NoMemory}
 use Rattle.matcher_read.specs.Expression.{Expression}
 use Rattle.perm_value.specs.Datum.{Datum}
-use Rattle.std.specs.Borrow.{Bor}
-use Rattle.matcher_meaning.specs.Answers.{fails}
-use Rattle.enforce_core.specs.Programs.{ComesTo, IsJudgedOn, IsRefused, word_of_row}
-use Rattle.enforce_core.specs.Seen.{EndsIn, IsUsed, refused_by}
-use Rattle.enforce_core.specs.declared.halt.Halt.{Halt}
-use Rattle.enforce_core.specs.declared.halt.Halt.TheVariants as halt
+use Rattle.regex_gate.specs.Refusals.{Refusals, IsRefused}
+use Rattle.enforce_core.specs.Helps.Outcomes.{ComesTo, IsJudgedOn, word_of_row}
+use Rattle.enforce_core.specs.Programs.{IsTruthOf}
+use Rattle.enforce_core.specs.declared.stop.Stop.{Stop}
+use Rattle.enforce_core.specs.declared.stop.Stop.TheVariants as stop
 
 -- a matcher comes to a truth
 abbrev pub ComesToTruth : Type 0
@@ -177,25 +177,17 @@ once_there fold_law m q IsBad fold outcome (inr (place, pattern, bad, failed, is
       ((None, outcome) ∷ [], (outcome, is, refl), ap ended step ∙ fold_law m.effect ((None, outcome) ∷ [])),
     )
 
--- what a matcher's truth comes to, where nothing is refused
-pub comes_to : (m : Judging) (q : List Datum) (IsBad : List ℕ → Type 0) (row : Option (List (List ℕ))) (rc pc : List (List ℕ)) (e : Expression) (t : Result Bool Fault) (o : Outcome) → rc ≡ m.request_columns → pc ≡ m.policy_columns → e ≡ m.matcher
-    → IsTruth (without_roles rc q pc row None) e t → o ≡ outcome_of t (word_of_row m.policy_columns row) → ComesTo m q IsBad row o
-comes_to m q IsBad row rc pc e t o request policy matcher is gives = inl (t, (rw (sym request, sym policy, sym matcher) is), gives)
+-- what a truth comes to
+pub comes_to : (m : Judging) (q : List Datum) (IsBad : List ℕ → Type 0) (row : Option (List (List ℕ))) (truth : Bool) (o : Outcome) → IsTruthOf (λ b. b) m q row IsBad (Ok truth) → o ≡ outcome_of (Ok truth) (word_of_row m.policy_columns row) → ComesTo m q IsBad row o
+comes_to m q IsBad row truth o (b, same, is) gives = inl (Ok truth, subst (λ (x : Bool). IsTruth (without_roles m.request_columns q m.policy_columns row None) m.matcher (Ok x)) (sym same) is, gives)
 
--- and where a search is refused
-pub comes_refused : (m : Judging) (q : List Datum) (IsBad : List ℕ → Type 0) (row : Option (List (List ℕ))) (rc pc : List (List ℕ)) (e : Expression) (at : ℕ) (pattern : List ℕ) → rc ≡ m.request_columns → pc ≡ m.policy_columns → e ≡ m.matcher
-    → IsTruth (without_roles rc q pc row (Some (at, pattern))) e (Err (record { cause = Pattern; at = at })) → IsBad pattern → ComesTo m q IsBad row (Failed (record { cause = Pattern; at = at }))
-comes_refused m q IsBad row rc pc e at pattern request policy matcher is bad = inr (at, pattern, bad, refl, (Err (record { cause = Pattern; at = at }), (rw (sym request, sym policy, sym matcher) is), refl))
-
--- a truth that is not there is a fault, or a search that was refused
-pub fault_of_halt : (Says : Option (ℕ × List ℕ) → Result Bool Fault → Type 0) (searching : Bool) (h : Halt) (failed : Fault) → EndsIn {X = Bool} Says (λ b. b) searching (Err h) → h ≡ halt.Fault failed → Says None (Err failed)
-fault_of_halt Says searching h failed ends is = subst (λ (x : Halt). EndsIn {X = Bool} Says (λ b. b) searching (Err x)) is ends
-
-pub refusal_of_halt : (Says : Option (ℕ × List ℕ) → Result Bool Fault → Type 0) (searching : Bool) (h : Halt) (at : ℕ) (pattern : Bor (List ℕ)) → EndsIn {X = Bool} Says (λ b. b) searching (Err h) → h ≡ halt.Refused at pattern → Says (Some (at, pattern.now)) (fails Pattern at)
-refusal_of_halt Says searching h at pattern ends is = subst (λ (x : Halt). EndsIn {X = Bool} Says (λ b. b) searching (Err x)) is ends
-
-pub used_of_halt : (a b : ℕ) (k l : List (List ℕ)) (h : Halt) (at : ℕ) (pattern : Bor (List ℕ)) → IsUsed a b k l (refused_by {X = Bool} (Err h)) → h ≡ halt.Refused at pattern → IsRefused a b l pattern.now
-used_of_halt a b k l h at pattern used is = (subst (λ (x : Halt). IsUsed a b k l (refused_by {X = Bool} (Err x))) is used).refusal
+-- and a fault in its place
+pub comes_to_fault : (m : Judging) (q : List Datum) (IsBad : List ℕ → Type 0) (row : Option (List (List ℕ))) (given : Stop) (failed : Fault) → IsTruthOf {X = Bool} (λ b. b) m q row IsBad (Err given) → given ≡ stop.Fault failed → ComesTo m q IsBad row (Failed failed)
+comes_to_fault m q IsBad row given failed is same = go (subst (λ (s : Stop). IsTruthOf {X = Bool} (λ b. b) m q row IsBad (Err s)) same is)
+  where
+    go : IsTruthOf {X = Bool} (λ b. b) m q row IsBad (Err (stop.Fault failed)) → ComesTo m q IsBad row (Failed failed)
+    go (inl is) = inl (Err failed, is, refl)
+    go (inr (pattern, bad, cause, is)) = inr (failed.at, pattern, bad, ap (λ (c : Cause). Failed (record { cause = c; at = failed.at })) cause, (Err failed, is, refl))
 
 -- what counts as refused in a part counts so in the whole
 pub comes_for_more : (m : Judging) (q : List Datum) (IsBad IsBadToo : List ℕ → Type 0) (row : Option (List (List ℕ))) (o : Outcome) → ((pattern : List ℕ) → IsBad pattern → IsBadToo pattern) → ComesTo m q IsBad row o → ComesTo m q IsBadToo row o
@@ -203,8 +195,8 @@ comes_for_more m q IsBad IsBadToo row o more (inl is) = inl is
 comes_for_more m q IsBad IsBadToo row o more (inr (at, pattern, bad, failed, is)) = inr (at, pattern, more pattern bad, failed, is)
 
 -- a fault of a pattern comes only where the finder refused
-pub rose_of_refusal : ((model : Judging) (request : List Datum) (rows : Rows) (v : Verdict) → IsPerm model request rows None v → is_refusal v ≡ false) → (m : Judging) (q : List Datum) (rows : Rows) (a b : ℕ) (kept : List (List ℕ)) (r : Result Verdict NoMemory)
-    → IfOk r (IsJudged m q rows (IsRefused a b kept)) → IfOk r (λ v. is_refusal v ≡ true → Rose a b)
-rose_of_refusal law m q rows a b kept (Ok v) (inl perm) = λ h. absurd (true≢false (sym h ∙ law m q rows v perm))
-rose_of_refusal law m q rows a b kept (Ok v) (inr refused) = λ h. refused.1.0
-rose_of_refusal law m q rows a b kept (Err e) h = tt
+pub rose_of_refusal : ((model : Judging) (request : List Datum) (rows : Rows) (v : Verdict) → IsPerm model request rows None v → is_refusal v ≡ false) → (m : Judging) (q : List Datum) (rows : Rows) (before now : Refusals) (r : Result Verdict NoMemory)
+    → IfOk r (IsJudged m q rows (IsRefused before now)) → IfOk r (λ v. is_refusal v ≡ true → Rose before.count now.count)
+rose_of_refusal law m q rows before now (Ok v) (inl perm) = λ h. absurd (true≢false (sym h ∙ law m q rows v perm))
+rose_of_refusal law m q rows before now (Ok v) (inr refused) = λ h. refused.1.rose
+rose_of_refusal law m q rows before now (Err e) h = tt
