@@ -13,6 +13,7 @@ use Rattle.effect_fold.specs.declared.outcome.Outcome.{Outcome}
 use Rattle.effect_fold.specs.declared.outcome.Outcome.TheVariants.{Failed}
 use Rattle.effect_fold.specs.declared.verdict.Verdict.{Verdict}
 use Rattle.effect_fold.specs.declared.verdict.Verdict.TheVariants as verdicts
+use Rattle.matcher_meaning.proofs.CallerLemmas.{SomeTruth, some_list}
 use Rattle.matcher_meaning.specs.Environment.{Environment, without_roles}
 use Rattle.matcher_meaning.specs.Meaning.{IsTruth}
 use Rattle.matcher_meaning.specs.Perm.{Judging, Refusal, refused_at, AreOutcomes, IsOnce, IsOutcome, IsPerm, IsJudged, is_refusal, outcome_of, refusal_fault, row_word}
@@ -26,10 +27,6 @@ use Rattle.enforce_core.specs.Programs.{IsTruthOf}
 use Rattle.enforce_core.specs.declared.stop.Stop.{Stop}
 use Rattle.enforce_core.specs.declared.stop.Stop.TheVariants as stop
 
--- a matcher comes to a truth
-abbrev pub ComesToTruth : Type 0
-ComesToTruth = (env : Environment) (e : Expression) → (r : Result Bool Fault) × IsTruth env e r
-
 -- a fold ends in the verdict
 abbrev pub EndsInVerdict : Type 0
 EndsInVerdict = (e : Effect) (outcomes : List Taken) → ended (behind (begun e) outcomes) ≡ verdict e outcomes
@@ -37,13 +34,6 @@ EndsInVerdict = (e : Effect) (outcomes : List Taken) → ended (behind (begun e)
 -- lists of rows
 abbrev Rows : Type 0
 Rows = List (List (List ℕ))
-
-some_outcomes : ComesToTruth → (m : Judging) (q : List Datum) (refused : Option Refusal) (number : ℕ) (rows : Rows) → (outcomes : List Taken) × AreOutcomes m q refused number rows outcomes
-some_outcomes law m q refused number [] = ([], tt)
-some_outcomes law m q refused number (row ∷ rows) =
-    let t = law (without_roles m.request_columns q m.policy_columns (Some row) (refused_at refused (Some number))) m.matcher in
-    let rest = some_outcomes law m q refused (number + 1) rows in
-    ((Some number, outcome_of t.0 (row_word m.policy_columns row)) ∷ rest.0, (refl, (t.0, t.1, refl), rest.1))
 
 outcomes-append : (m : Judging) (q : List Datum) (refused : Option Refusal) (number : ℕ) (front back : Rows) (a b : List Taken) → AreOutcomes m q refused number front a → AreOutcomes m q refused (number + length front) back b → AreOutcomes m q refused number (front ++ back) (a ++ b)
 outcomes-append m q refused number [] back [] b one other = subst (λ (n : ℕ). AreOutcomes m q refused n back b) (add-zero number) other
@@ -116,10 +106,10 @@ folded_more m q IsBad rows at fold next row outcome so within here (inr (place, 
     settled_twice (Some w) v e h = absurd cc
 
 -- the whole list behind a row that settles it
-settled_list : ComesToTruth → EndsInVerdict → (m : Judging) (q : List Datum) (refused : Option Refusal) (rows : Rows) (at : ℕ) (next : Progress) (front : List Taken) → AreOutcomes m q refused 1 (take (at + 1) rows) front → next ≡ behind (begun m.effect) front → is_some next.settled ≡ true
+settled_list : SomeTruth → EndsInVerdict → (m : Judging) (q : List Datum) (refused : Option Refusal) (rows : Rows) (at : ℕ) (next : Progress) (front : List Taken) → AreOutcomes m q refused 1 (take (at + 1) rows) front → next ≡ behind (begun m.effect) front → is_some next.settled ≡ true
     → (outcomes : List Taken) × AreOutcomes m q refused 1 rows outcomes × (ended next ≡ verdict m.effect outcomes)
 settled_list law fold_law m q refused rows at next front are given settled =
-    let rest = some_outcomes law m q refused (1 + length (take (at + 1) rows)) (drop (at + 1) rows) in
+    let rest = some_list law m q refused (1 + length (take (at + 1) rows)) (drop (at + 1) rows) in
     let all = outcomes-append m q refused 1 (take (at + 1) rows) (drop (at + 1) rows) front rest.0 are rest.1 in
     let whole : take (at + 1) rows ++ drop (at + 1) rows ≡ rows = take-append-drop (at + 1) rows in
     let last : ended (behind next rest.0) ≡ ended next = stays_with next next.settled rest.0 refl settled in
@@ -147,7 +137,7 @@ here_refused : (m : Judging) (q : List Datum) (place : ℕ) (pattern : List ℕ)
 here_refused m q place pattern k row outcome is = let same : (k == k) ≡ true = eq-eqb k k refl in rw same is
 
 -- the row that settles the verdict
-pub settled_there : ComesToTruth → EndsInVerdict → (m : Judging) (q : List Datum) (IsBad : List ℕ → Type 0) (rows : Rows) (at : ℕ) (fold next : Progress) (row : List (List ℕ)) (outcome : Outcome) → IsFolded m q rows at fold → at < length rows → get_or rows at row ≡ row
+pub settled_there : SomeTruth → EndsInVerdict → (m : Judging) (q : List Datum) (IsBad : List ℕ → Type 0) (rows : Rows) (at : ℕ) (fold next : Progress) (row : List (List ℕ)) (outcome : Outcome) → IsFolded m q rows at fold → at < length rows → get_or rows at row ≡ row
     → ComesTo m q IsBad (Some row) outcome → next ≡ taken fold (Some (at + 1)) outcome → is_some next.settled ≡ true → IsJudgedOn m (λ refused. AreOutcomes m q refused 1 rows) IsBad (ended next)
 settled_there law fold_law m q IsBad rows at fold next row outcome so within here (inl is) step settled =
     inl (settled_list law fold_law m q None rows at next (so.outcomes ++ (Some (at + 1), outcome) ∷ []) (more m q None rows at row outcome so.outcomes so.are within here is) (next_fold m so.outcomes fold next (Some (at + 1)) outcome so.fold_is step) settled)

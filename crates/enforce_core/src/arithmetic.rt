@@ -7,7 +7,7 @@ ghost use Rattle.matcher_meaning.specs.Arithmetic.{fitted, divided, of_wholes};
 ghost use Rattle.enforce_core.specs.Helps.Ends.{answer_of};
 ghost use Rattle.enforce_core.specs.Helps.Steps.{given};
 
-use crate::operators::kind;
+use crate::faults::{fault, kind};
 use effect_fold::{Cause, Fault};
 use perm_value::View;
 
@@ -42,10 +42,4 @@ pub(crate) fn divided<'a>(at: u32, by: i64, number: Option<i64>) -> Result<View<
         None if by == 0 => Err(fault(Cause::ZeroDivisor, at)),
         None => Err(fault(Cause::Overflow, at)),
     }
-}
-
-fn fault(cause: Cause, at: u32) -> Fault
-    ensures { result ≡ record { cause = cause; at = at } }
-{
-    Fault { cause, at }
 }

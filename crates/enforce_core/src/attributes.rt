@@ -3,6 +3,7 @@ ghost use Rattle.perm_value.specs.Seen.{datum_of_view};
 ghost use Rattle.matcher_meaning.specs.Meaning.{along};
 ghost use Rattle.enforce_core.specs.Helps.Ends.{answer_of};
 
+use crate::faults::fault;
 use effect_fold::{Cause, Fault};
 use perm_base::Text;
 use perm_value::View;
@@ -16,22 +17,13 @@ pub(crate) fn attribute_along<'a>(
     ensures { answer_of result ≡ along at (option_map datum_of_view value.entry) path.now }
 {
     let Some(mut reached) = value else {
-        return Err(no_attribute(at));
+        return Err(fault(Cause::NoAttribute, at));
     };
     for name in path {
         let Some(next) = reached.attribute(name.as_str()) else {
-            return Err(no_attribute(at));
+            return Err(fault(Cause::NoAttribute, at));
         };
         reached = next;
     }
     Ok(reached)
-}
-
-fn no_attribute(at: u32) -> Fault
-    ensures { result ≡ record { cause = Cause.NoAttribute; at = at } }
-{
-    Fault {
-        cause: Cause::NoAttribute,
-        at,
-    }
 }

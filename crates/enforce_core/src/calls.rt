@@ -7,8 +7,8 @@ ghost use Rattle.regex_gate.specs.Refusals.{IsUsed};
 ghost use Rattle.enforce_core.specs.Helps.Ends.{CallEnds, EndsIn, answer_of, callee, environment, refused_by};
 ghost use Rattle.enforce_core.specs.declared.case.Case.{Case};
 
+use crate::faults::{fault, kind};
 use crate::halt::Halt;
-use crate::operators::kind;
 use effect_fold::{Cause, Fault};
 use ip_match::{IpFault, ip_match};
 use key_match::{
@@ -134,14 +134,8 @@ fn lies_in<'a>(at: u32, text: &[u8], block: &[u8]) -> Result<View<'a>, Fault>
 {
     match ip_match(text, block) {
         Ok(inside) => Ok(View::Truth(inside)),
-        Err(IpFault::BadAddress) => Err(Fault {
-            cause: Cause::BadAddress,
-            at,
-        }),
-        Err(IpFault::BadBlock) => Err(Fault {
-            cause: Cause::BadBlock,
-            at,
-        }),
+        Err(IpFault::BadAddress) => Err(fault(Cause::BadAddress, at)),
+        Err(IpFault::BadBlock) => Err(fault(Cause::BadBlock, at)),
     }
 }
 

@@ -8,9 +8,9 @@ ghost use Rattle.enforce_core.specs.Helps.Ends.{AmongEnds, ArgumentsEnd, ValueEn
 use crate::attributes::attribute_along;
 use crate::calls::{Called, call_of_three, call_of_two};
 use crate::case::Case;
+use crate::faults::kind;
 use crate::halt::Halt;
-use crate::operators::{is_member, joined, kind, negated, opposed, settled};
-use matcher_meaning::refusal_is_the_fault;
+use crate::operators::{is_member, joined, negated, opposed, settled};
 use matcher_read::Tree;
 use perm_value::View;
 use regex_gate::Finder;
@@ -27,7 +27,6 @@ pub(crate) fn value_of<'a, P: Finder>(
     ensures value { ValueEnds (environment case.now) (expression tree.now) result }
     ensures used { IsUsed (P.refusals finder.old) (P.refusals finder.new) (refused_by result) }
 {
-    refusal_is_the_fault();
     match tree {
         Tree::Text { text, .. } => Ok(View::Text(text.bytes())),
         Tree::Whole { number, .. } => Ok(View::Whole(*number)),
@@ -37,14 +36,8 @@ pub(crate) fn value_of<'a, P: Finder>(
             Ok(attribute_along(*at, value, path)?)
         }
         Tree::Policy { column, .. } => Ok(View::Text(case.policy_text(column))),
-        Tree::Not { at, operand } => {
-            let value = value_of(operand, case, finder)?;
-            Ok(negated(*at, &value)?)
-        }
-        Tree::Negate { at, operand } => {
-            let value = value_of(operand, case, finder)?;
-            Ok(opposed(*at, &value)?)
-        }
+        Tree::Not { at, operand } => Ok(negated(*at, &value_of(operand, case, finder)?)?),
+        Tree::Negate { at, operand } => Ok(opposed(*at, &value_of(operand, case, finder)?)?),
         Tree::Binary {
             at,
             operator,
@@ -87,7 +80,6 @@ fn is_among<'a, P: Finder>(
         (expressions_of (map expression members.now)) result }
     ensures used { IsUsed (P.refusals finder.old) (P.refusals finder.new) (refused_by result) }
 {
-    refusal_is_the_fault();
     for member in members {
         let item = value_of(member, case, finder)?;
         if is_member(value, &item) {
@@ -110,7 +102,6 @@ fn call<'a, P: Finder>(
         (tree.call at (callee called) (expressions_of (map expression arguments.now))) result }
     ensures used { IsUsed (P.refusals finder.old) (P.refusals finder.new) (refused_by result) }
 {
-    refusal_is_the_fault();
     match arguments {
         [first, second] => {
             let first = value_of(first, case, finder)?;
@@ -141,7 +132,6 @@ fn evaluate_all<'a, P: Finder>(
         (expressions_of (map expression arguments.now)) (length arguments.now) result }
     ensures used { IsUsed (P.refusals finder.old) (P.refusals finder.new) (refused_by result) }
 {
-    refusal_is_the_fault();
     for argument in arguments {
         value_of(argument, case, finder)?;
     }

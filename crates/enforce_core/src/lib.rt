@@ -7,6 +7,7 @@ mod calls;
 mod case;
 mod decide;
 mod evaluate;
+mod faults;
 mod halt;
 mod names;
 mod operators;

@@ -6,20 +6,11 @@ ghost use Rattle.enforce_core.specs.Helps.Ends.{answer_of};
 ghost use Rattle.enforce_core.specs.Helps.Steps.{tested};
 
 use crate::arithmetic::{divided, fitted, wholes};
-use effect_fold::{Cause, Fault};
+use crate::faults::kind;
+use effect_fold::Fault;
 use matcher_read::Operator;
 use perm_value::{Value, View};
 use std::cmp::Ordering;
-
-/// A value of another kind than is wanted here.
-pub(crate) fn kind(at: u32) -> Fault
-    ensures { result ≡ record { cause = Cause.Kind; at = at } }
-{
-    Fault {
-        cause: Cause::Kind,
-        at,
-    }
-}
 
 /// `!`
 pub(crate) fn negated<'a>(at: u32, value: &View<'a>) -> Result<View<'a>, Fault>

@@ -8,10 +8,10 @@ ghost use Rattle.enforce_core.specs.Programs.{IsTruthOf, IsWantOfMemory, judging
 
 use crate::case::Case;
 use crate::evaluate::value_of;
+use crate::faults::{fault, kind};
 use crate::halt::Halt;
-use crate::operators::kind;
 use crate::stop::Stop;
-use effect_fold::{Cause, Fault};
+use effect_fold::Cause;
 use matcher_read::Tree;
 use model_conf::Model;
 use perm_base::Rule;
@@ -34,11 +34,8 @@ pub(crate) fn truth_of<P: Finder>(
     let case = Case::new(model, request, row);
     match truth_in(model.matcher(), &case, finder) {
         Ok(truth) => Ok(truth),
-        Err(Halt::Fault(fault)) => Err(Stop::Fault(fault)),
-        Err(Halt::Refused { at, .. }) => Err(Stop::Fault(Fault {
-            cause: Cause::Pattern,
-            at,
-        })),
+        Err(Halt::Fault(failed)) => Err(Stop::Fault(failed)),
+        Err(Halt::Refused { at, .. }) => Err(Stop::Fault(fault(Cause::Pattern, at))),
         Err(Halt::NoMemory) => Err(Stop::NoMemory),
     }
 }

@@ -21,7 +21,7 @@ pub call-returns-in_err-second-in-len2-clause-value : goal.call-returns-in_err-s
 call-returns-in_err-second-in-len2-clause-value g t c =
     let are = two_trees c.args.arguments.now c.first-item.result c.second-item.result c.in-len2.len_at_least c.in-len2.len_below c.first-item.is c.second-item.is in
     let stop : c.from_residual-in_err-second-in-len2.result ≡ Err c.in_err-second-in-len2.field-0.0 = search rules in
-    rw stop (second_stops c.refusal_is_the_fault.ensures (environment c.args.case.now) c.args.at (callee c.args.called) c.args.arguments.now c.first-item.result c.second-item.result _ _ _ are c.in_ok-first-in-len2.ensures.value c.in_err-second-in-len2.ensures.value)
+    rw stop (second_stops (environment c.args.case.now) c.args.at (callee c.args.called) c.args.arguments.now c.first-item.result c.second-item.result _ _ _ are c.in_ok-first-in-len2.ensures.value c.in_err-second-in-len2.ensures.value)
 
 pub call-returns-in_err-first-in-len3-clause-value : goal.call-returns-in_err-first-in-len3-clause-value
 call-returns-in_err-first-in-len3-clause-value g t c =
@@ -33,29 +33,29 @@ pub call-returns-in_err-second-in-len3-clause-value : goal.call-returns-in_err-s
 call-returns-in_err-second-in-len3-clause-value g t c =
     let are = three_trees c.args.arguments.now c.first-item-then-arguments-lt4.result c.second-item-then-arguments-lt4.result c.third-item.result c.in-len3.len_at_least c.in-len3.len_below c.first-item-then-arguments-lt4.is c.second-item-then-arguments-lt4.is c.third-item.is in
     let stop : c.from_residual-in_err-second-in-len3.result ≡ Err c.in_err-second-in-len3.field-0.0 = search rules in
-    rw stop (second_stops c.refusal_is_the_fault.ensures (environment c.args.case.now) c.args.at (callee c.args.called) c.args.arguments.now c.first-item-then-arguments-lt4.result c.second-item-then-arguments-lt4.result _ _ _ are c.in_ok-first-in-len3.ensures.value c.in_err-second-in-len3.ensures.value)
+    rw stop (second_stops (environment c.args.case.now) c.args.at (callee c.args.called) c.args.arguments.now c.first-item-then-arguments-lt4.result c.second-item-then-arguments-lt4.result _ _ _ are c.in_ok-first-in-len3.ensures.value c.in_err-second-in-len3.ensures.value)
 
 pub call-returns-in_err-third-in-len3-clause-value : goal.call-returns-in_err-third-in-len3-clause-value
 call-returns-in_err-third-in-len3-clause-value g t c =
     let are = three_trees c.args.arguments.now c.first-item-then-arguments-lt4.result c.second-item-then-arguments-lt4.result c.third-item.result c.in-len3.len_at_least c.in-len3.len_below c.first-item-then-arguments-lt4.is c.second-item-then-arguments-lt4.is c.third-item.is in
     let stop : c.from_residual-in_err-third-in-len3.result ≡ Err c.in_err-third-in-len3.field-0.0 = search rules in
-    rw stop (third_stops c.refusal_is_the_fault.ensures (environment c.args.case.now) c.args.at (callee c.args.called) c.args.arguments.now c.first-item-then-arguments-lt4.result c.second-item-then-arguments-lt4.result c.third-item.result _ _ _ are c.in_ok-first-in-len3.ensures.value c.in_ok-second-in-len3.ensures.value c.in_err-third-in-len3.ensures.value)
+    rw stop (third_stops (environment c.args.case.now) c.args.at (callee c.args.called) c.args.arguments.now c.first-item-then-arguments-lt4.result c.second-item-then-arguments-lt4.result c.third-item.result _ _ _ are c.in_ok-first-in-len3.ensures.value c.in_ok-second-in-len3.ensures.value c.in_err-third-in-len3.ensures.value)
 
 pub call-returns-in_err-call_of_three-in-len3-clause-value : goal.call-returns-in_err-call_of_three-in-len3-clause-value
 call-returns-in_err-call_of_three-in-len3-clause-value g t c =
     let are = three_trees c.args.arguments.now c.first-item-then-arguments-lt4.result c.second-item-then-arguments-lt4.result c.third-item.result c.in-len3.len_at_least c.in-len3.len_below c.first-item-then-arguments-lt4.is c.second-item-then-arguments-lt4.is c.third-item.is in
     let stop : c.from_residual-in_err-call_of_three-in-len3.result ≡ Err (halt.Fault c.in_err-call_of_three-in-len3.field-0.0) = search rules in
-    rw stop (three_end c.refusal_is_the_fault.ensures (environment c.args.case.now) c.args.at (callee c.args.called) c.args.arguments.now c.first-item-then-arguments-lt4.result c.second-item-then-arguments-lt4.result c.third-item.result _ _ _ (Err (halt.Fault c.in_err-call_of_three-in-len3.field-0.0)) are c.in_ok-first-in-len3.ensures.value c.in_ok-second-in-len3.ensures.value c.in_ok-third-in-len3.ensures.value (c.in_err-call_of_three-in-len3.ensures c.args.case.now))
+    rw stop (three_end (environment c.args.case.now) c.args.at (callee c.args.called) c.args.arguments.now c.first-item-then-arguments-lt4.result c.second-item-then-arguments-lt4.result c.third-item.result _ _ _ (Err (halt.Fault c.in_err-call_of_three-in-len3.field-0.0)) are c.in_ok-first-in-len3.ensures.value c.in_ok-second-in-len3.ensures.value c.in_ok-third-in-len3.ensures.value (c.in_err-call_of_three-in-len3.ensures c.args.case.now))
 
 pub call-returns-in_ok-call_of_three-in-len3-clause-value : goal.call-returns-in_ok-call_of_three-in-len3-clause-value
 call-returns-in_ok-call_of_three-in-len3-clause-value g t c =
     let are = three_trees c.args.arguments.now c.first-item-then-arguments-lt4.result c.second-item-then-arguments-lt4.result c.third-item.result c.in-len3.len_at_least c.in-len3.len_below c.first-item-then-arguments-lt4.is c.second-item-then-arguments-lt4.is c.third-item.is in
-    three_end c.refusal_is_the_fault.ensures (environment c.args.case.now) c.args.at (callee c.args.called) c.args.arguments.now c.first-item-then-arguments-lt4.result c.second-item-then-arguments-lt4.result c.third-item.result _ _ _ (Ok c.in_ok-call_of_three-in-len3.field-0) are c.in_ok-first-in-len3.ensures.value c.in_ok-second-in-len3.ensures.value c.in_ok-third-in-len3.ensures.value (c.in_ok-call_of_three-in-len3.ensures c.args.case.now)
+    three_end (environment c.args.case.now) c.args.at (callee c.args.called) c.args.arguments.now c.first-item-then-arguments-lt4.result c.second-item-then-arguments-lt4.result c.third-item.result _ _ _ (Ok c.in_ok-call_of_three-in-len3.field-0) are c.in_ok-first-in-len3.ensures.value c.in_ok-second-in-len3.ensures.value c.in_ok-third-in-len3.ensures.value (c.in_ok-call_of_three-in-len3.ensures c.args.case.now)
 
 pub call-returns-in_ok-second-in-len2-clause-value : goal.call-returns-in_ok-second-in-len2-clause-value
 call-returns-in_ok-second-in-len2-clause-value g t c =
     let are = two_trees c.args.arguments.now c.first-item.result c.second-item.result c.in-len2.len_at_least c.in-len2.len_below c.first-item.is c.second-item.is in
-    two_end c.refusal_is_the_fault.ensures (environment c.args.case.now) c.args.at (callee c.args.called) c.args.arguments.now c.first-item.result c.second-item.result _ _ c.call_of_two.result are c.in_ok-first-in-len2.ensures.value c.in_ok-second-in-len2.ensures.value (c.call_of_two.ensures.value c.args.case.now)
+    two_end (environment c.args.case.now) c.args.at (callee c.args.called) c.args.arguments.now c.first-item.result c.second-item.result _ _ c.call_of_two.result are c.in_ok-first-in-len2.ensures.value c.in_ok-second-in-len2.ensures.value (c.call_of_two.ensures.value c.args.case.now)
 
 pub call-returns-in_ok-evaluate_all-in_default-clause-value : goal.call-returns-in_ok-evaluate_all-in_default-clause-value
 call-returns-in_ok-evaluate_all-in_default-clause-value g t c =
@@ -73,7 +73,7 @@ is_among-loop-member-preserved g t c =
     let at = tail_at c.args.members.now c.loop-member.member-index c.member-item.result c.loop-member-test.true c.member-item.is in
     let so = subst (λ (rest : Expressions). IsLookedUp (environment c.args.case.now) (datum_of_view c.args.value.now) (expressions_of (map expression c.args.members.now)) rest) at c.loop-member.invariant.looked in
     record {
-      looked = looked_more c.refusal_is_the_fault.ensures (environment c.args.case.now) (datum_of_view c.args.value.now) (datum_of_view c.in_ok-item.item) (expressions_of (map expression c.args.members.now)) (expression c.member-item.result) _ so c.in_ok-item.ensures.value (sym c.is_member.ensures ∙ c.if-is_member.false);
+      looked = looked_more (environment c.args.case.now) (datum_of_view c.args.value.now) (datum_of_view c.in_ok-item.item) (expressions_of (map expression c.args.members.now)) (expression c.member-item.result) _ so c.in_ok-item.ensures.value (sym c.is_member.ensures ∙ c.if-is_member.false);
       used = used_then _ _ _ None c.loop-member.invariant.used c.in_ok-item.ensures.used;
     }
 
@@ -106,7 +106,7 @@ evaluate_all-loop-argument-preserved g t c =
     let found = c.loop-argument.invariant.found in
     let so = subst (λ (rest : Expressions). IsWalked (environment c.args.case.now) (expressions_of (map expression c.args.arguments.now)) rest found.0) at found.2 in
     record {
-      found = (found.0 ++ datum_of_view c.in_ok-value_of.field-0 ∷ [], further_length c.args.arguments.now c.loop-argument.argument-index c.argument-item.result found.0 _ c.loop-argument-test.true found.1, walked_more c.refusal_is_the_fault.ensures (environment c.args.case.now) (expressions_of (map expression c.args.arguments.now)) (expression c.argument-item.result) _ found.0 (datum_of_view c.in_ok-value_of.field-0) so c.in_ok-value_of.ensures.value);
+      found = (found.0 ++ datum_of_view c.in_ok-value_of.field-0 ∷ [], further_length c.args.arguments.now c.loop-argument.argument-index c.argument-item.result found.0 _ c.loop-argument-test.true found.1, walked_more (environment c.args.case.now) (expressions_of (map expression c.args.arguments.now)) (expression c.argument-item.result) _ found.0 (datum_of_view c.in_ok-value_of.field-0) so c.in_ok-value_of.ensures.value);
       used = used_then _ _ _ None c.loop-argument.invariant.used c.in_ok-value_of.ensures.used;
     }
 
@@ -131,10 +131,10 @@ value_of-returns-in_err-right-in-Binary-clause-value g t c =
     let open_is = sym c.settled.ensures ∙ ap (option_map answer_of) c.in_default.is in
     let is = expression-Binary c.args.tree.now c.deref-in-Binary.result.now c.deref-in-Binary-2.result.now c.in-Binary.at c.in-Binary.operator c.in-Binary.left c.in-Binary.right c.in-Binary.is c.deref-in-Binary.ensures c.deref-in-Binary-2.ensures in
     rw stop (tree_ends (environment c.args.case.now) c.args.tree.now _ (Err c.in_err-right-in-Binary.field-0.0) is
-    (sides_stop c.refusal_is_the_fault.ensures (environment c.args.case.now) c.in-Binary.at c.in-Binary.operator (expression c.deref-in-Binary.result.now) (expression c.deref-in-Binary-2.result.now) _ _ c.in_ok-left-in-Binary.ensures.value open_is c.in_err-right-in-Binary.ensures.value))
+    (sides_stop (environment c.args.case.now) c.in-Binary.at c.in-Binary.operator (expression c.deref-in-Binary.result.now) (expression c.deref-in-Binary-2.result.now) _ _ c.in_ok-left-in-Binary.ensures.value open_is c.in_err-right-in-Binary.ensures.value))
 
 pub value_of-returns-in_ok-value-in-Among-clause-value : goal.value_of-returns-in_ok-value-in-Among-clause-value
 value_of-returns-in_ok-value-in-Among-clause-value g t c =
     let is = expression-Among c.args.tree.now c.deref-in-Among.result.now c.deref-in-Among-2.result.now c.in-Among.at c.in-Among.value c.in-Among.members c.in-Among.is c.deref-in-Among.ensures c.deref-in-Among-2.ensures.value in
     tree_ends (environment c.args.case.now) c.args.tree.now _ c.is_among.result is
-    (among_ends c.refusal_is_the_fault.ensures (environment c.args.case.now) c.in-Among.at (expression c.deref-in-Among.result.now) (expressions_of (map expression c.deref-in-Among-2.result.now)) _ c.is_among.result c.in_ok-value-in-Among.ensures.value c.is_among.ensures.value)
+    (among_ends (environment c.args.case.now) c.in-Among.at (expression c.deref-in-Among.result.now) (expressions_of (map expression c.deref-in-Among-2.result.now)) _ c.is_among.result c.in_ok-value-in-Among.ensures.value c.is_among.ensures.value)
