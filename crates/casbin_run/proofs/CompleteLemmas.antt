@@ -50,7 +50,7 @@ exact_done law words files input s out out_now stop took told read cause = told_
 pub complete_done : HasOneEnd → (words : List (List ℕ)) (files : Option Files) (input : Option (List ℕ)) (s : Searches) (out out_now : Option (List ℕ)) (text : List ℕ) → TookAll words files input s out out_now → IsSome files → IsSome input
     → ¬ (RoseBy 1 s.before s.now) → IsAnswered words files input NoneBad text → out_now ≡ with_back out text
 complete_done law words files input s out out_now text took told read still is =
-    took.took ∙ ap (with_back out) (told_one_text law words files input took.text text told read (answered_more words files input (IsBad s.before s.now s.kept) NoneBad (λ pattern bad. still bad.0) took.text took.answered) is)
+    took.took ∙ ap (with_back out) (told_one_text law words files input took.text text told read (answered_more words files input (IsBad s.before s.now) NoneBad (λ pattern bad. still bad.0) took.text took.answered) is)
 
 -- where there is a cause, the only faults are those of reading
 read_or_memory : HasOneEnd → (words : List (List ℕ)) (files : Option Files) (input : Option (List ℕ)) (s : Searches) (out out_now : Option (List ℕ)) (shelf source sink : Type 0) (given stop : Stop) → Fault words files input s out out_now shelf source sink given → IsSome files → IsSome input

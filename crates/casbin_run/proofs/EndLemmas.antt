@@ -106,21 +106,21 @@ answered_more words files input A B more text is = record {
 }
 
 pub took_all : (words : List (List ℕ)) (files : Option Files) (input : Option (List ℕ)) (s : Searches) (out out_now : Option (List ℕ)) (command : Command) (parts : ModelParts) (rules : Rules) (script : List ℕ) → HasRead words files input command parts rules script
-    → Answering parts rules command.json (IsBad s.before s.now s.kept) (requests_of script) (λ replies text. (out_now ≡ with_back out text) × RoseBy (refusals_in replies) s.before s.now) → TookAll words files input s out out_now
+    → Answering parts rules command.json (IsBad s.before s.now) (requests_of script) (λ replies text. (out_now ≡ with_back out text) × RoseBy (refusals_in replies) s.before s.now) → TookAll words files input s out out_now
 unfolding answered_is
 took_all words files input s out out_now command parts rules script has (replies, are, (took, counted)) = record {
   text = text_of_replies rules 1 replies;
-  answered = answered_is words files input (IsBad s.before s.now s.kept) command parts rules script replies has are;
+  answered = answered_is words files input (IsBad s.before s.now) command parts rules script replies has are;
   counted = counted;
   took = took;
 }
 
 took_some : (words : List (List ℕ)) (files : Option Files) (input : Option (List ℕ)) (s : Searches) (out out_now : Option (List ℕ)) (command : Command) (parts : ModelParts) (rules : Rules) (script : List ℕ) (replies : List Reply) → HasRead words files input command parts rules script
-    → AreAnswers parts rules command.json (IsBad s.before s.now s.kept) (requests_of script) replies → RoseBy (refusals_in replies) s.before s.now → TookFront out out_now (text_of_replies rules 1 replies) → TookSome words files input s out out_now
+    → AreAnswers parts rules command.json (IsBad s.before s.now) (requests_of script) replies → RoseBy (refusals_in replies) s.before s.now → TookFront out out_now (text_of_replies rules 1 replies) → TookSome words files input s out out_now
 unfolding answered_is
 took_some words files input s out out_now command parts rules script replies has are counted took = record {
   text = text_of_replies rules 1 replies;
-  answered = answered_is words files input (IsBad s.before s.now s.kept) command parts rules script replies has are;
+  answered = answered_is words files input (IsBad s.before s.now) command parts rules script replies has are;
   counted = counted;
   took = took;
 }
@@ -130,7 +130,7 @@ abbrev Stopping : Option (List ℕ) → Option (List ℕ) → ℕ → ℕ → Se
 Stopping out out_now before now s stop replies text = PrintStops out out_now before now stop text × RoseBy (refusals_in replies) s.before s.now
 
 pub print_ends : (words : List (List ℕ)) (files : Option Files) (input : Option (List ℕ)) (s : Searches) (out out_now : Option (List ℕ)) (shelf source : Type 0) (before now : ℕ) (command : Command) (parts : ModelParts) (rules : Rules) (script : List ℕ) (stop : Stop) → HasRead words files input command parts rules script
-    → Answering parts rules command.json (IsBad s.before s.now s.kept) (requests_of script) (Stopping out out_now before now s stop) → EndsBy words files input s out out_now shelf source (Rose before now) stop
+    → Answering parts rules command.json (IsBad s.before s.now) (requests_of script) (Stopping out out_now before now s stop) → EndsBy words files input s out out_now shelf source (Rose before now) stop
 unfolding EndsBy
 print_ends words files input s out out_now shelf source before now command parts rules script CannotWrite has (replies, are, (stops, counted)) = inr (took_some words files input s out out_now command parts rules script replies has are counted stops.0, stops.1)
 print_ends words files input s out out_now shelf source before now command parts rules script NoMemory has (replies, are, (stops, counted)) = inr ((command, has.told, tt), inr (took_some words files input s out out_now command parts rules script replies has are counted stops))

@@ -41,13 +41,13 @@ pub record IsAnswered (words : List (List ℕ)) (files : Option Files) (input : 
 -- the sink took the text that answers the requests, and nothing else; the finders refused as often as it tells at least
 pub record TookAll (words : List (List ℕ)) (files : Option Files) (input : Option (List ℕ)) (s : Searches) (out out_now : Option (List ℕ)) : Type 0 where
   pub text : List ℕ
-  pub answered : IsAnswered words files input (IsBad s.before s.now s.kept) text
+  pub answered : IsAnswered words files input (IsBad s.before s.now) text
   pub counted : RoseBy (refusals_in answered.replies) s.before s.now
   pub took : out_now ≡ with_back out text
 
 -- the sink took a front of that text
 pub record TookSome (words : List (List ℕ)) (files : Option Files) (input : Option (List ℕ)) (s : Searches) (out out_now : Option (List ℕ)) : Type 0 where
   pub text : List ℕ
-  pub answered : IsAnswered words files input (IsBad s.before s.now s.kept) text
+  pub answered : IsAnswered words files input (IsBad s.before s.now) text
   pub counted : RoseBy (refusals_in answered.replies) s.before s.now
   pub took : TookFront out out_now text

@@ -1,35 +1,39 @@
 -- What the finders of a run did: their counts of refusals, and the patterns that they keep.
-use Rattle.std.specs.Prelude.{◌≤◌, ◌⊎◌, ℕ, ◌+◌, List, [], ◌∷◌, Contains, ⊤}
+use Rattle.std.specs.Prelude.{◌≤◌, ◌⊎◌, ℕ, ◌+◌, List, [], ◌∷◌, None, Contains, map, ⊤}
 use Rattle.std.specs.List.{sum}
 use Rattle.outside.specs.Faults.{most_faults}
+use Rattle.regex_gate.specs.Refusals.{Refusals, IsUsed}
 
--- the counts of all finders before a run and after it, and then what each of them keeps
+-- what all finders had refused before a run, and after it
 pub record Searches : Type 0 where
-  pub before : List ℕ
-  pub now : List ℕ
-  pub kept : List (List (List ℕ))
+  pub before : List Refusals
+  pub now : List Refusals
 
-abbrev pub searches : List ℕ → List ℕ → List (List (List ℕ)) → Searches
-searches before now kept = record { before = before; now = now; kept = kept }
+abbrev pub searches : List Refusals → List Refusals → Searches
+searches before now = record { before = before; now = now }
+
+-- how often all finders had refused
+abbrev pub counts : List Refusals → List ℕ
+counts refusals = map (λ (r : Refusals). r.count) refusals
 
 -- one of the counts stands at its end
 abbrev pub IsAtEnd : List ℕ → Type 0
 IsAtEnd counts = (count : ℕ) × Contains counts count × (most_faults ≤ count)
 
 -- together the counts rose by so many at least, or one of them stands at its end
-abbrev pub RoseBy : ℕ → List ℕ → List ℕ → Type 0
-RoseBy n before now = (sum before + n ≤ sum now) ⊎ IsAtEnd now
+abbrev pub RoseBy : ℕ → List Refusals → List Refusals → Type 0
+RoseBy n before now = (sum (counts before) + n ≤ sum (counts now)) ⊎ IsAtEnd (counts now)
 
 -- a pattern that counts as refused in a run: some count rose, and one of the finders keeps the pattern
-abbrev pub IsBad : List ℕ → List ℕ → List (List (List ℕ)) → List ℕ → Type 0
-IsBad before now kept pattern = RoseBy 1 before now × ((patterns : List (List ℕ)) × Contains kept patterns × Contains patterns pattern)
+abbrev pub IsBad : List Refusals → List Refusals → List ℕ → Type 0
+IsBad before now pattern = RoseBy 1 before now × ((refusals : Refusals) × Contains now refusals × Contains refusals.patterns pattern)
 
 -- no pattern counts as refused
 abbrev pub NoneBad : List ℕ → Type 0
 NoneBad pattern = ⊥
 
--- the relation holds of two lists place by place
-abbrev pub Pairwise : {X : Type 0} → (X → X → Type 0) → List X → List X → Type 0
-Pairwise relation [] [] = ⊤
-Pairwise relation (x ∷ xs) (y ∷ ys) = relation x y × Pairwise relation xs ys
-Pairwise relation _ _ = ⊥
+-- each finder was used, place by place
+abbrev pub AreUsed : List Refusals → List Refusals → Type 0
+AreUsed [] [] = ⊤
+AreUsed (before ∷ befores) (now ∷ nows) = IsUsed before now None × AreUsed befores nows
+AreUsed _ _ = ⊥

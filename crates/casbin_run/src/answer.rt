@@ -1,9 +1,8 @@
-ghost use Rattle.std.specs.Prelude.{◌≡◌, ◌≢◌, ◌≤◌, ◌^◌, ◌++◌, ◌+◌, ℕ, List, OnOk, IfErr, Ok, codes, decimal, length, map, true};
-ghost use Rattle.enforce_core.specs.Programs.{IsRefused};
+ghost use Rattle.std.specs.Prelude.{◌≡◌, ◌≢◌, ◌≤◌, ◌^◌, ◌++◌, ◌+◌, ℕ, List, None, OnOk, IfErr, Ok, codes, decimal, length, map, true};
 ghost use Rattle.outside.specs.Faults.{Rose};
 ghost use Rattle.outside.specs.Told.{with_back};
 ghost use Rattle.perm_value.specs.Seen.{datum};
-ghost use Rattle.regex_gate.specs.Refused.{HasGrown};
+ghost use Rattle.regex_gate.specs.Refusals.{IsRefused, IsUsed};
 ghost use Rattle.casbin_run.specs.Answer.{IsAnswer, IsReply, Reply, is_refused_search, line_text, refusals_in, reply_text, shown};
 ghost use Rattle.casbin_run.specs.Print.{Answering, PrintStops, RoseTo};
 ghost use Rattle.casbin_run.specs.Script.{requests_of};
@@ -15,7 +14,7 @@ use enforce_core::{Program, Scratch, decide_rows};
 use matcher_meaning::{only_a_refusal_is_a_pattern, verdict_is_there};
 use perm_base::{NoMemory, Rules, Sink, every_line_is_fields_or_at_fault, push_all};
 use perm_value::Request;
-use regex_gate::{Finder, grown_lists_grow};
+use regex_gate::{Finder, uses_add_up};
 use std::alloc::Global;
 
 // How many bytes of answers are gathered before they are pushed.
@@ -38,21 +37,22 @@ pub fn print_answers<K: Sink, P: Finder>(
     finder: &mut P,
 ) -> Result<(), Stop>
     ensures printed { OnOk result (Answering court.now.program.now court.now.rules.now court.now.json
-        (IsRefused (P.refusals finder.old) (P.refusals finder.new) (P.bad finder.new)) (requests_of input.now)
+        (IsRefused (P.refusals finder.old) (P.refusals finder.new)) (requests_of input.now)
         (λ replies text. (K.taken out.new ≡ with_back (K.taken out.old) text)
-        × RoseTo (refusals_in replies) (P.refusals finder.old) (P.refusals finder.new))) }
+        × RoseTo (refusals_in replies) (P.refusals finder.old).count
+        (P.refusals finder.new).count)) }
     ensures stopped { IfErr result (λ stop. Answering court.now.program.now court.now.rules.now court.now.json
-        (IsRefused (P.refusals finder.old) (P.refusals finder.new) (P.bad finder.new)) (requests_of input.now)
+        (IsRefused (P.refusals finder.old) (P.refusals finder.new)) (requests_of input.now)
         (λ replies text. PrintStops (K.taken out.old) (K.taken out.new) (K.faults out.old) (K.faults out.new) stop text
-        × RoseTo (refusals_in replies) (P.refusals finder.old) (P.refusals finder.new))) }
+        × RoseTo (refusals_in replies) (P.refusals finder.old).count
+        (P.refusals finder.new).count)) }
     ensures counted { K.faults out.old ≤ K.faults out.new }
-    ensures risen { P.refusals finder.old ≤ P.refusals finder.new }
-    ensures grown { HasGrown (P.bad finder.old) (P.bad finder.new) }
+    ensures used { IsUsed (P.refusals finder.old) (P.refusals finder.new) None }
 {
     every_line_is_fields_or_at_fault();
     verdict_is_there();
     only_a_refusal_is_a_pattern();
-    grown_lists_grow();
+    uses_add_up();
     let mut scratch = Scratch::for_program(alloc, court.program);
     let mut text = Vec::new(alloc);
     let mut rest = input;
@@ -87,14 +87,15 @@ fn push_answer<P: Finder>(
     finder: &mut P,
     scratch: &mut Scratch,
 ) -> Result<(), NoMemory>
-    ensures answered { OnOk result ((reply : Reply) × IsAnswer court.now.program.now court.now.rules.now court.now.json
-        (IsRefused (P.refusals finder.old) (P.refusals finder.new) (P.bad finder.new)) line.now reply
+    ensures answered { OnOk result ((reply : Reply)
+        × IsAnswer court.now.program.now court.now.rules.now court.now.json
+        (IsRefused (P.refusals finder.old) (P.refusals finder.new)) line.now reply
         × (text.new.items ≡ text.old.items ++ line_text court.now.rules.now number reply)
-        × (is_refused_search reply ≡ true → Rose (P.refusals finder.old) (P.refusals finder.new))) }
-    ensures counted { P.refusals finder.old ≤ P.refusals finder.new }
-    ensures grown { HasGrown (P.bad finder.old) (P.bad finder.new) }
+        × (is_refused_search reply ≡ true
+        → Rose (P.refusals finder.old).count (P.refusals finder.new).count)) }
+    ensures used { IsUsed (P.refusals finder.old) (P.refusals finder.new) None }
 {
-    grown_lists_grow();
+    uses_add_up();
     push_number(text, number)?;
     match read_request(alloc, court.json, line) {
         Ok(request) => push_reply(alloc, text, court, &request, finder, scratch)?,
@@ -114,13 +115,14 @@ fn push_reply<P: Finder>(
     scratch: &mut Scratch,
 ) -> Result<(), NoMemory>
     ensures replied { OnOk result ((reply : Reply) × IsReply court.now.program.now
-        (IsRefused (P.refusals finder.old) (P.refusals finder.new) (P.bad finder.new)) (Ok (map datum request.now)) court.now.rules.now reply
+        (IsRefused (P.refusals finder.old) (P.refusals finder.new)) (Ok (map datum request.now))
+        court.now.rules.now reply
         × (text.new.items ≡ text.old.items ++ reply_text court.now.rules.now reply)
-        × (is_refused_search reply ≡ true → Rose (P.refusals finder.old) (P.refusals finder.new))) }
-    ensures counted { P.refusals finder.old ≤ P.refusals finder.new }
-    ensures grown { HasGrown (P.bad finder.old) (P.bad finder.new) }
+        × (is_refused_search reply ≡ true
+        → Rose (P.refusals finder.old).count (P.refusals finder.new).count)) }
+    ensures used { IsUsed (P.refusals finder.old) (P.refusals finder.new) None }
 {
-    grown_lists_grow();
+    uses_add_up();
     if let Err(arity) = court.program.takes(request) {
         return push_arity(text, arity.got, arity.want);
     }

@@ -1,11 +1,10 @@
 ghost use Rattle.std.specs.Prelude.{◌≡◌, ◌≢◌, ◌≤◌, ◌⊎◌, ◌↔◌, ℕ, List, [], None, IfErr, IfSome, IsSome, OnOk, drop, length, map, string_bytes};
 ghost use Rattle.outside.specs.Faults.{Rose};
 ghost use Rattle.outside.specs.Told.{TookFront, with_back};
-ghost use Rattle.regex_gate.specs.Refused.{HasGrown};
 ghost use Rattle.casbin_run.specs.Answer.{refusals_in};
 ghost use Rattle.casbin_run.specs.Answers.{IsAnswered, IsInOrder, TookAll, TookSome};
 ghost use Rattle.casbin_run.specs.Cause.{Cause, EndsBy, IsBeforeOutput};
-ghost use Rattle.casbin_run.specs.Finders.{IsBad, NoneBad, Pairwise, RoseBy, searches};
+ghost use Rattle.casbin_run.specs.Finders.{AreUsed, IsBad, NoneBad, RoseBy, searches};
 ghost use Rattle.casbin_run.specs.Print.{Answering, PrintStops};
 ghost use Rattle.casbin_run.specs.Script.{requests_of};
 ghost use Rattle.casbin_run.specs.declared.stop.Part.{Part};
@@ -23,7 +22,7 @@ use crate::telling::tell;
 use crate::words::read_words;
 use enforce_core::make_program;
 use perm_base::{Shelf, Sink, Source};
-use regex_gate::{Finder, grown_lists_grow};
+use regex_gate::Finder;
 use std::alloc::Global;
 
 /// Runs a command: `enforce MODEL POLICY`, where requests are JSON with the flag `--json`, answers each request of the
@@ -43,7 +42,7 @@ pub fn run_casbin<F: Shelf, S: Source, K: Sink, E: Sink, P: Finder>(
     // The input was read to its end, and `out` took the text that answers its requests, and nothing else.
     ensures done { result ≡ Status.Done
         → TookAll (map string_bytes words.now) (F.files shelf.old) (S.left input.old)
-        (searches (map P.refusals finders.old.items) (map P.refusals finders.new.items) (map P.bad finders.new.items))
+        (searches (map P.refusals finders.old.items) (map P.refusals finders.new.items))
         (K.taken out.old) (K.taken out.new) }
     ensures read_to_end { result ≡ Status.Done → IfSome (S.left input.new) (λ rest. rest ≡ []) }
 
@@ -85,14 +84,14 @@ pub fn run_casbin<F: Shelf, S: Source, K: Sink, E: Sink, P: Finder>(
     ensures some { (result ≡ Status.WriteFault) ⊎ (result ≡ Status.NoMemory)
         → (K.taken out.new ≡ K.taken out.old)
         ⊎ TookSome (map string_bytes words.now) (F.files shelf.old) (S.left input.old)
-        (searches (map P.refusals finders.old.items) (map P.refusals finders.new.items) (map P.bad finders.new.items))
+        (searches (map P.refusals finders.old.items) (map P.refusals finders.new.items))
         (K.taken out.old) (K.taken out.new) }
 
     // What `err` took: nothing, or a front of the line of the stop that came, all of it where no push failed.
     ensures silent { result ≡ Status.Done → E.taken err.new ≡ E.taken err.old }
     ensures line { result ≢ Status.Done → (stop : Stop) × (result ≡ status_of stop)
         × EndsBy (map string_bytes words.now) (F.files shelf.old) (S.left input.old)
-        (searches (map P.refusals finders.old.items) (map P.refusals finders.new.items) (map P.bad finders.new.items))
+        (searches (map P.refusals finders.old.items) (map P.refusals finders.new.items))
         (K.taken out.old) (K.taken out.new)
         (Rose (F.faults shelf.old) (F.faults shelf.new)) (Rose (S.faults input.old) (S.faults input.new))
         (Rose (K.faults out.old) (K.faults out.new)) stop
@@ -101,8 +100,8 @@ pub fn run_casbin<F: Shelf, S: Source, K: Sink, E: Sink, P: Finder>(
 
     // What the finders did: no count falls, and what each keeps begins with what it kept; only the first is asked, and none
     // where the run stopped before the answers.
-    ensures finders { Pairwise (λ (before now : P). (P.refusals before ≤ P.refusals now) × HasGrown (P.bad before) (P.bad now))
-        finders.old.items finders.new.items }
+    ensures finders { AreUsed (map P.refusals finders.old.items)
+        (map P.refusals finders.new.items) }
     ensures others { drop 1 finders.new.items ≡ drop 1 finders.old.items }
     ensures idle { (stop : Stop) → result ≡ status_of stop → IsBeforeOutput stop → finders.new.items ≡ finders.old.items }
 {
@@ -127,18 +126,20 @@ fn answer<F: Shelf, S: Source, K: Sink, P: Finder>(
 ) -> Result<(), Stop>
     requires { length finders.old.items ≡ 9 }
     ensures answered { OnOk result (TookAll (map string_bytes words.now) (F.files shelf.old) (S.left input.old)
-        (searches (map P.refusals finders.old.items) (map P.refusals finders.new.items) (map P.bad finders.new.items)) (K.taken out.old) (K.taken out.new)) }
+        (searches (map P.refusals finders.old.items) (map P.refusals finders.new.items))
+        (K.taken out.old) (K.taken out.new)) }
     ensures ended { OnOk result (IfSome (S.left input.new) (λ rest. rest ≡ [])) }
     ensures stopped { IfErr result (EndsBy (map string_bytes words.now) (F.files shelf.old) (S.left input.old)
-        (searches (map P.refusals finders.old.items) (map P.refusals finders.new.items) (map P.bad finders.new.items)) (K.taken out.old) (K.taken out.new)
-        (Rose (F.faults shelf.old) (F.faults shelf.new)) (Rose (S.faults input.old) (S.faults input.new)) (Rose (K.faults out.old) (K.faults out.new))) }
+        (searches (map P.refusals finders.old.items) (map P.refusals finders.new.items))
+        (K.taken out.old) (K.taken out.new)
+        (Rose (F.faults shelf.old) (F.faults shelf.new)) (Rose (S.faults input.old) (S.faults input.new))
+        (Rose (K.faults out.old) (K.faults out.new))) }
     ensures quiet { IfErr result (λ stop. IsBeforeOutput stop → K.taken out.new ≡ K.taken out.old) }
-    ensures finders { Pairwise (λ (before now : P). (P.refusals before ≤ P.refusals now) × HasGrown (P.bad before) (P.bad now))
-        finders.old.items finders.new.items }
+    ensures finders { AreUsed (map P.refusals finders.old.items)
+        (map P.refusals finders.new.items) }
     ensures others { drop 1 finders.new.items ≡ drop 1 finders.old.items }
     ensures idle { IfErr result (λ stop. IsBeforeOutput stop → finders.new.items ≡ finders.old.items) }
 {
-    grown_lists_grow();
     let Some(command) = read_words(words) else {
         return Err(Stop::Words);
     };
@@ -164,17 +165,20 @@ fn answer_by_first<K: Sink, P: Finder>(
 ) -> Result<(), Stop>
     requires { length finders.old.items ≡ 9 }
     ensures printed { OnOk result (Answering court.now.program.now court.now.rules.now court.now.json
-        (IsBad (map P.refusals finders.old.items) (map P.refusals finders.new.items) (map P.bad finders.new.items)) (requests_of input.now)
+        (IsBad (map P.refusals finders.old.items) (map P.refusals finders.new.items))
+        (requests_of input.now)
         (λ replies text. (K.taken out.new ≡ with_back (K.taken out.old) text)
-        × RoseBy (refusals_in replies) (map P.refusals finders.old.items) (map P.refusals finders.new.items))) }
+        × RoseBy (refusals_in replies) (map P.refusals finders.old.items)
+        (map P.refusals finders.new.items))) }
     ensures stopped { IfErr result (λ stop. Answering court.now.program.now court.now.rules.now court.now.json
-        (IsBad (map P.refusals finders.old.items) (map P.refusals finders.new.items) (map P.bad finders.new.items)) (requests_of input.now)
+        (IsBad (map P.refusals finders.old.items) (map P.refusals finders.new.items))
+        (requests_of input.now)
         (λ replies text. PrintStops (K.taken out.old) (K.taken out.new) (K.faults out.old) (K.faults out.new) stop text
-        × RoseBy (refusals_in replies) (map P.refusals finders.old.items) (map P.refusals finders.new.items))) }
-    ensures finders { Pairwise (λ (before now : P). (P.refusals before ≤ P.refusals now) × HasGrown (P.bad before) (P.bad now))
-        finders.old.items finders.new.items }
+        × RoseBy (refusals_in replies) (map P.refusals finders.old.items)
+        (map P.refusals finders.new.items))) }
+    ensures finders { AreUsed (map P.refusals finders.old.items)
+        (map P.refusals finders.new.items) }
     ensures others { drop 1 finders.new.items ≡ drop 1 finders.old.items }
 {
-    grown_lists_grow();
     print_answers(alloc, out, court, input, &mut finders[0])
 }

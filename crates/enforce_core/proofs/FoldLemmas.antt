@@ -6,12 +6,14 @@ use Rattle.std.proofs.lemmas.List.{take-append-drop, take_all, take_more, length
 use Rattle.effect_fold.specs.Steps.{Progress, progress, begun, behind, ended, taken}
 use Rattle.effect_fold.specs.Verdict.{Taken, verdict}
 use Rattle.effect_fold.specs.declared.effect.Effect.{Effect}
+use Rattle.effect_fold.specs.declared.fault.Cause.{Cause}
 use Rattle.effect_fold.specs.declared.fault.Cause.TheVariants.{Pattern}
 use Rattle.effect_fold.specs.declared.fault.Fault.{Fault}
 use Rattle.effect_fold.specs.declared.outcome.Outcome.{Outcome}
 use Rattle.effect_fold.specs.declared.outcome.Outcome.TheVariants.{Failed}
 use Rattle.effect_fold.specs.declared.verdict.Verdict.{Verdict}
 use Rattle.effect_fold.specs.declared.verdict.Verdict.TheVariants as verdicts
+use Rattle.matcher_meaning.proofs.CallerLemmas.{SomeTruth, some_list}
 use Rattle.matcher_meaning.specs.Environment.{Environment, without_roles}
 use Rattle.matcher_meaning.specs.Meaning.{IsTruth}
 use Rattle.matcher_meaning.specs.Perm.{Judging, Refusal, refused_at, AreOutcomes, IsOnce, IsOutcome, IsPerm, IsJudged, is_refusal, outcome_of, refusal_fault, row_word}
@@ -19,16 +21,11 @@ use Rattle.outside.specs.Faults.{Rose}
 use Rattle.outside.specs.declared.fault.NoMemory.{NoMemory}
 use Rattle.matcher_read.specs.Expression.{Expression}
 use Rattle.perm_value.specs.Datum.{Datum}
-use Rattle.std.specs.Borrow.{Bor}
-use Rattle.matcher_meaning.specs.Answers.{fails}
-use Rattle.enforce_core.specs.Programs.{ComesTo, IsJudgedOn, IsRefused, word_of_row}
-use Rattle.enforce_core.specs.Seen.{EndsIn, IsUsed, refused_by}
-use Rattle.enforce_core.specs.declared.halt.Halt.{Halt}
-use Rattle.enforce_core.specs.declared.halt.Halt.TheVariants as halt
-
--- a matcher comes to a truth
-abbrev pub ComesToTruth : Type 0
-ComesToTruth = (env : Environment) (e : Expression) → (r : Result Bool Fault) × IsTruth env e r
+use Rattle.regex_gate.specs.Refusals.{Refusals, IsRefused}
+use Rattle.enforce_core.specs.Helps.Outcomes.{ComesTo, IsJudgedOn, word_of_row}
+use Rattle.enforce_core.specs.Programs.{IsTruthOf}
+use Rattle.enforce_core.specs.declared.stop.Stop.{Stop}
+use Rattle.enforce_core.specs.declared.stop.Stop.TheVariants as stop
 
 -- a fold ends in the verdict
 abbrev pub EndsInVerdict : Type 0
@@ -37,13 +34,6 @@ EndsInVerdict = (e : Effect) (outcomes : List Taken) → ended (behind (begun e)
 -- lists of rows
 abbrev Rows : Type 0
 Rows = List (List (List ℕ))
-
-some_outcomes : ComesToTruth → (m : Judging) (q : List Datum) (refused : Option Refusal) (number : ℕ) (rows : Rows) → (outcomes : List Taken) × AreOutcomes m q refused number rows outcomes
-some_outcomes law m q refused number [] = ([], tt)
-some_outcomes law m q refused number (row ∷ rows) =
-    let t = law (without_roles m.request_columns q m.policy_columns (Some row) (refused_at refused (Some number))) m.matcher in
-    let rest = some_outcomes law m q refused (number + 1) rows in
-    ((Some number, outcome_of t.0 (row_word m.policy_columns row)) ∷ rest.0, (refl, (t.0, t.1, refl), rest.1))
 
 outcomes-append : (m : Judging) (q : List Datum) (refused : Option Refusal) (number : ℕ) (front back : Rows) (a b : List Taken) → AreOutcomes m q refused number front a → AreOutcomes m q refused (number + length front) back b → AreOutcomes m q refused number (front ++ back) (a ++ b)
 outcomes-append m q refused number [] back [] b one other = subst (λ (n : ℕ). AreOutcomes m q refused n back b) (add-zero number) other
@@ -116,10 +106,10 @@ folded_more m q IsBad rows at fold next row outcome so within here (inr (place, 
     settled_twice (Some w) v e h = absurd cc
 
 -- the whole list behind a row that settles it
-settled_list : ComesToTruth → EndsInVerdict → (m : Judging) (q : List Datum) (refused : Option Refusal) (rows : Rows) (at : ℕ) (next : Progress) (front : List Taken) → AreOutcomes m q refused 1 (take (at + 1) rows) front → next ≡ behind (begun m.effect) front → is_some next.settled ≡ true
+settled_list : SomeTruth → EndsInVerdict → (m : Judging) (q : List Datum) (refused : Option Refusal) (rows : Rows) (at : ℕ) (next : Progress) (front : List Taken) → AreOutcomes m q refused 1 (take (at + 1) rows) front → next ≡ behind (begun m.effect) front → is_some next.settled ≡ true
     → (outcomes : List Taken) × AreOutcomes m q refused 1 rows outcomes × (ended next ≡ verdict m.effect outcomes)
 settled_list law fold_law m q refused rows at next front are given settled =
-    let rest = some_outcomes law m q refused (1 + length (take (at + 1) rows)) (drop (at + 1) rows) in
+    let rest = some_list law m q refused (1 + length (take (at + 1) rows)) (drop (at + 1) rows) in
     let all = outcomes-append m q refused 1 (take (at + 1) rows) (drop (at + 1) rows) front rest.0 are rest.1 in
     let whole : take (at + 1) rows ++ drop (at + 1) rows ≡ rows = take-append-drop (at + 1) rows in
     let last : ended (behind next rest.0) ≡ ended next = stays_with next next.settled rest.0 refl settled in
@@ -147,7 +137,7 @@ here_refused : (m : Judging) (q : List Datum) (place : ℕ) (pattern : List ℕ)
 here_refused m q place pattern k row outcome is = let same : (k == k) ≡ true = eq-eqb k k refl in rw same is
 
 -- the row that settles the verdict
-pub settled_there : ComesToTruth → EndsInVerdict → (m : Judging) (q : List Datum) (IsBad : List ℕ → Type 0) (rows : Rows) (at : ℕ) (fold next : Progress) (row : List (List ℕ)) (outcome : Outcome) → IsFolded m q rows at fold → at < length rows → get_or rows at row ≡ row
+pub settled_there : SomeTruth → EndsInVerdict → (m : Judging) (q : List Datum) (IsBad : List ℕ → Type 0) (rows : Rows) (at : ℕ) (fold next : Progress) (row : List (List ℕ)) (outcome : Outcome) → IsFolded m q rows at fold → at < length rows → get_or rows at row ≡ row
     → ComesTo m q IsBad (Some row) outcome → next ≡ taken fold (Some (at + 1)) outcome → is_some next.settled ≡ true → IsJudgedOn m (λ refused. AreOutcomes m q refused 1 rows) IsBad (ended next)
 settled_there law fold_law m q IsBad rows at fold next row outcome so within here (inl is) step settled =
     inl (settled_list law fold_law m q None rows at next (so.outcomes ++ (Some (at + 1), outcome) ∷ []) (more m q None rows at row outcome so.outcomes so.are within here is) (next_fold m so.outcomes fold next (Some (at + 1)) outcome so.fold_is step) settled)
@@ -177,25 +167,17 @@ once_there fold_law m q IsBad fold outcome (inr (place, pattern, bad, failed, is
       ((None, outcome) ∷ [], (outcome, is, refl), ap ended step ∙ fold_law m.effect ((None, outcome) ∷ [])),
     )
 
--- what a matcher's truth comes to, where nothing is refused
-pub comes_to : (m : Judging) (q : List Datum) (IsBad : List ℕ → Type 0) (row : Option (List (List ℕ))) (rc pc : List (List ℕ)) (e : Expression) (t : Result Bool Fault) (o : Outcome) → rc ≡ m.request_columns → pc ≡ m.policy_columns → e ≡ m.matcher
-    → IsTruth (without_roles rc q pc row None) e t → o ≡ outcome_of t (word_of_row m.policy_columns row) → ComesTo m q IsBad row o
-comes_to m q IsBad row rc pc e t o request policy matcher is gives = inl (t, (rw (sym request, sym policy, sym matcher) is), gives)
+-- what a truth comes to
+pub comes_to : (m : Judging) (q : List Datum) (IsBad : List ℕ → Type 0) (row : Option (List (List ℕ))) (truth : Bool) (o : Outcome) → IsTruthOf (λ b. b) m q row IsBad (Ok truth) → o ≡ outcome_of (Ok truth) (word_of_row m.policy_columns row) → ComesTo m q IsBad row o
+comes_to m q IsBad row truth o (b, same, is) gives = inl (Ok truth, subst (λ (x : Bool). IsTruth (without_roles m.request_columns q m.policy_columns row None) m.matcher (Ok x)) (sym same) is, gives)
 
--- and where a search is refused
-pub comes_refused : (m : Judging) (q : List Datum) (IsBad : List ℕ → Type 0) (row : Option (List (List ℕ))) (rc pc : List (List ℕ)) (e : Expression) (at : ℕ) (pattern : List ℕ) → rc ≡ m.request_columns → pc ≡ m.policy_columns → e ≡ m.matcher
-    → IsTruth (without_roles rc q pc row (Some (at, pattern))) e (Err (record { cause = Pattern; at = at })) → IsBad pattern → ComesTo m q IsBad row (Failed (record { cause = Pattern; at = at }))
-comes_refused m q IsBad row rc pc e at pattern request policy matcher is bad = inr (at, pattern, bad, refl, (Err (record { cause = Pattern; at = at }), (rw (sym request, sym policy, sym matcher) is), refl))
-
--- a truth that is not there is a fault, or a search that was refused
-pub fault_of_halt : (Says : Option (ℕ × List ℕ) → Result Bool Fault → Type 0) (searching : Bool) (h : Halt) (failed : Fault) → EndsIn {X = Bool} Says (λ b. b) searching (Err h) → h ≡ halt.Fault failed → Says None (Err failed)
-fault_of_halt Says searching h failed ends is = subst (λ (x : Halt). EndsIn {X = Bool} Says (λ b. b) searching (Err x)) is ends
-
-pub refusal_of_halt : (Says : Option (ℕ × List ℕ) → Result Bool Fault → Type 0) (searching : Bool) (h : Halt) (at : ℕ) (pattern : Bor (List ℕ)) → EndsIn {X = Bool} Says (λ b. b) searching (Err h) → h ≡ halt.Refused at pattern → Says (Some (at, pattern.now)) (fails Pattern at)
-refusal_of_halt Says searching h at pattern ends is = subst (λ (x : Halt). EndsIn {X = Bool} Says (λ b. b) searching (Err x)) is ends
-
-pub used_of_halt : (a b : ℕ) (k l : List (List ℕ)) (h : Halt) (at : ℕ) (pattern : Bor (List ℕ)) → IsUsed a b k l (refused_by {X = Bool} (Err h)) → h ≡ halt.Refused at pattern → IsRefused a b l pattern.now
-used_of_halt a b k l h at pattern used is = (subst (λ (x : Halt). IsUsed a b k l (refused_by {X = Bool} (Err x))) is used).refusal
+-- and a fault in its place
+pub comes_to_fault : (m : Judging) (q : List Datum) (IsBad : List ℕ → Type 0) (row : Option (List (List ℕ))) (given : Stop) (failed : Fault) → IsTruthOf {X = Bool} (λ b. b) m q row IsBad (Err given) → given ≡ stop.Fault failed → ComesTo m q IsBad row (Failed failed)
+comes_to_fault m q IsBad row given failed is same = go (subst (λ (s : Stop). IsTruthOf {X = Bool} (λ b. b) m q row IsBad (Err s)) same is)
+  where
+    go : IsTruthOf {X = Bool} (λ b. b) m q row IsBad (Err (stop.Fault failed)) → ComesTo m q IsBad row (Failed failed)
+    go (inl is) = inl (Err failed, is, refl)
+    go (inr (pattern, bad, cause, is)) = inr (failed.at, pattern, bad, ap (λ (c : Cause). Failed (record { cause = c; at = failed.at })) cause, (Err failed, is, refl))
 
 -- what counts as refused in a part counts so in the whole
 pub comes_for_more : (m : Judging) (q : List Datum) (IsBad IsBadToo : List ℕ → Type 0) (row : Option (List (List ℕ))) (o : Outcome) → ((pattern : List ℕ) → IsBad pattern → IsBadToo pattern) → ComesTo m q IsBad row o → ComesTo m q IsBadToo row o
@@ -203,8 +185,8 @@ comes_for_more m q IsBad IsBadToo row o more (inl is) = inl is
 comes_for_more m q IsBad IsBadToo row o more (inr (at, pattern, bad, failed, is)) = inr (at, pattern, more pattern bad, failed, is)
 
 -- a fault of a pattern comes only where the finder refused
-pub rose_of_refusal : ((model : Judging) (request : List Datum) (rows : Rows) (v : Verdict) → IsPerm model request rows None v → is_refusal v ≡ false) → (m : Judging) (q : List Datum) (rows : Rows) (a b : ℕ) (kept : List (List ℕ)) (r : Result Verdict NoMemory)
-    → IfOk r (IsJudged m q rows (IsRefused a b kept)) → IfOk r (λ v. is_refusal v ≡ true → Rose a b)
-rose_of_refusal law m q rows a b kept (Ok v) (inl perm) = λ h. absurd (true≢false (sym h ∙ law m q rows v perm))
-rose_of_refusal law m q rows a b kept (Ok v) (inr refused) = λ h. refused.1.0
-rose_of_refusal law m q rows a b kept (Err e) h = tt
+pub rose_of_refusal : ((model : Judging) (request : List Datum) (rows : Rows) (v : Verdict) → IsPerm model request rows None v → is_refusal v ≡ false) → (m : Judging) (q : List Datum) (rows : Rows) (before now : Refusals) (r : Result Verdict NoMemory)
+    → IfOk r (IsJudged m q rows (IsRefused before now)) → IfOk r (λ v. is_refusal v ≡ true → Rose before.count now.count)
+rose_of_refusal law m q rows before now (Ok v) (inl perm) = λ h. absurd (true≢false (sym h ∙ law m q rows v perm))
+rose_of_refusal law m q rows before now (Ok v) (inr refused) = λ h. refused.1.rose
+rose_of_refusal law m q rows before now (Err e) h = tt

@@ -1,3 +1,2 @@
-pub mod Seen
-pub mod Steps
 pub mod Programs
+pub mod Helps

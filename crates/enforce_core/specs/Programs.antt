@@ -1,61 +1,32 @@
--- Programs, and what they judge.
-use Rattle.std.specs.Prelude.{◌≡◌, ◌⊎◌, ℕ, Bool, true, List, codes, Contains, Option, Some, None, Result, Ok, Err, position, ⊤}
-use Rattle.std.specs.Str.{bytes_eq}
+-- Models, and what they judge.
+use Rattle.std.specs.Prelude.{◌≡◌, ◌⊎◌, ℕ, Bool, List, Option, Some, None, option_map, Result, Ok, Err, ⊤}
+use Rattle.std.specs.Borrow.{Bor}
 use Rattle.effect_fold.specs.declared.fault.Cause.TheVariants.{Pattern}
-use Rattle.effect_fold.specs.declared.outcome.Outcome.{Outcome}
-use Rattle.effect_fold.specs.declared.outcome.Outcome.TheVariants.{Failed}
-use Rattle.effect_fold.specs.Verdict.{Taken, verdict}
-use Rattle.effect_fold.specs.declared.verdict.Verdict.{Verdict}
-use Rattle.matcher_meaning.specs.Perm.{Judging, Refusal, IsOutcome, names_policy, refusal_fault, row_word}
-use Rattle.model_conf.specs.ModelText.{ModelParts}
-use Rattle.outside.specs.Faults.{Rose}
-use Rattle.perm_value.specs.Datum.{Datum}
-use Rattle.perm_value.specs.declared.value.View.{View}
-use Rattle.perm_value.specs.declared.value.View.TheVariants as view
 use Rattle.matcher_meaning.specs.Environment.{without_roles}
 use Rattle.matcher_meaning.specs.Meaning.{IsTruth}
+use Rattle.matcher_meaning.specs.Perm.{Judging}
+use Rattle.model_conf.specs.ModelText.{ModelParts}
+use Rattle.perm_value.specs.Datum.{Datum}
 use Rattle.enforce_core.specs.declared.stop.Stop.{Stop}
 use Rattle.enforce_core.specs.declared.stop.Stop.TheVariants as stop
 
--- what is kept beside a model: whether its matcher names a column of the policy, and the place of the column `eft`
-pub record IsProgram (model : ModelParts) (by_row : Bool) (effect_place : Option ℕ) : Type 0 where
-  pub rows : by_row ≡ names_policy model.matcher
-  pub effect : effect_place ≡ position (bytes_eq (codes "eft")) model.policy
+-- the texts of a row, or none
+abbrev pub row_of : Option (Bor (List (List ℕ))) → Option (List (List ℕ))
+row_of row = option_map (λ r. r.now) row
 
 -- the parts of a model by which requests are judged
 abbrev pub judging : ModelParts → Judging
 judging model = record { request_columns = model.request; policy_columns = model.policy; effect = model.effect; matcher = model.matcher }
-
--- a pattern that counts as refused: the finder refused a pattern in the call, and keeps this one
-abbrev pub IsRefused : (before now : ℕ) → List (List ℕ) → List ℕ → Type 0
-IsRefused before now kept pattern = Rose before now × Contains kept pattern
-
--- what a row says; without a row it is allow
-abbrev pub word_of_row : List (List ℕ) → Option (List (List ℕ)) → Option Bool
-word_of_row columns None = Some true
-word_of_row columns (Some row) = row_word columns row
-
--- an outcome where nothing is refused; or the fault of a search for a pattern that counts as refused, where that search is refused
-abbrev pub ComesTo : Judging → List Datum → (List ℕ → Type 0) → Option (List (List ℕ)) → Outcome → Type 0
-ComesTo m q IsBad row outcome =
-    IsOutcome m q None row (word_of_row m.policy_columns row) outcome
-    ⊎ ((at : ℕ) × (pattern : List ℕ) × IsBad pattern × (outcome ≡ Failed (record { cause = Pattern; at = at })) × IsOutcome m q (Some (at, pattern)) row (word_of_row m.policy_columns row) outcome)
-
--- the verdict on outcomes of which this holds where nothing is refused; or the fault of a search for a pattern that counts as refused, where that search is refused
-abbrev pub IsJudgedOn : Judging → (Option Refusal → List Taken → Type 0) → (List ℕ → Type 0) → Verdict → Type 0
-IsJudgedOn m Has IsBad v =
-    ((outcomes : List Taken) × Has None outcomes × (v ≡ verdict m.effect outcomes))
-    ⊎ ((refusal : Refusal) × IsBad refusal.pattern × (v ≡ refusal_fault refusal) × ((outcomes : List Taken) × Has (Some refusal) outcomes × (v ≡ verdict m.effect outcomes)))
 
 -- memory ran out
 abbrev pub IsWantOfMemory : Stop → Type 0
 IsWantOfMemory (stop.Fault failed) = ⊥
 IsWantOfMemory stop.NoMemory = ⊤
 
--- the truth of a matcher as a value, where nothing is refused; or its fault, or the fault of a search for a pattern that counts as refused, where that search is refused
-abbrev pub IsTruthOf : Judging → List Datum → Option (List (List ℕ)) → (List ℕ → Type 0) → Result View Stop → Type 0
-IsTruthOf m q row IsBad (Ok v) = (b : Bool) × (v ≡ view.Truth b) × IsTruth (without_roles m.request_columns q m.policy_columns row None) m.matcher (Ok b)
-IsTruthOf m q row IsBad (Err (stop.Fault failed)) =
+-- the truth of a matcher, as a value that stands for it, where nothing is refused; or its fault, or the fault of a search for a pattern that counts as refused, where that search is refused
+abbrev pub IsTruthOf : {X : Type 0} → (Bool → X) → Judging → List Datum → Option (List (List ℕ)) → (List ℕ → Type 0) → Result X Stop → Type 0
+IsTruthOf value m q row IsBad (Ok v) = (b : Bool) × (v ≡ value b) × IsTruth (without_roles m.request_columns q m.policy_columns row None) m.matcher (Ok b)
+IsTruthOf value m q row IsBad (Err (stop.Fault failed)) =
     IsTruth (without_roles m.request_columns q m.policy_columns row None) m.matcher (Err failed)
     ⊎ ((pattern : List ℕ) × IsBad pattern × (failed.cause ≡ Pattern) × IsTruth (without_roles m.request_columns q m.policy_columns row (Some (failed.at, pattern))) m.matcher (Err failed))
-IsTruthOf m q row IsBad (Err stop.NoMemory) = ⊤
+IsTruthOf value m q row IsBad (Err stop.NoMemory) = ⊤

@@ -1,14 +1,14 @@
-ghost use Rattle.std.specs.Prelude.{◌≡◌, ℕ, true, false, List, [], ◌∷◌, Option, None};
+ghost use Rattle.std.specs.Prelude.{◌≡◌, true, false, [], ◌∷◌, None};
 ghost use Rattle.matcher_read.specs.Expression.{function};
 ghost use Rattle.matcher_meaning.specs.Calls.{Calls, IsInBlock, OfThree, OfTwo, searched};
-ghost use Rattle.matcher_meaning.specs.Environment.{without_roles};
 ghost use Rattle.matcher_meaning.specs.Meaning.{is_search};
-ghost use Rattle.perm_value.specs.Datum.{Datum};
 ghost use Rattle.perm_value.specs.Seen.{datum_of_view};
-ghost use Rattle.enforce_core.specs.Seen.{EndsIn, IsUsed, answer_of, callee, refused_by};
+ghost use Rattle.regex_gate.specs.Refusals.{IsUsed};
+ghost use Rattle.enforce_core.specs.Helps.Ends.{CallEnds, EndsIn, answer_of, callee, environment, refused_by};
+ghost use Rattle.enforce_core.specs.declared.case.Case.{Case};
 
+use crate::faults::{fault, kind};
 use crate::halt::Halt;
-use crate::operators::kind;
 use effect_fold::{Cause, Fault};
 use ip_match::{IpFault, ip_match};
 use key_match::{
@@ -34,10 +34,9 @@ pub(crate) fn call_of_two<'a, P: Finder>(
     second: &View<'a>,
     finder: &mut P,
 ) -> Result<View<'a>, Halt<'a>>
-    ensures value { (request_columns policy_columns : List (List ℕ)) (request : List Datum) (row : Option (List (List ℕ)))
-        → EndsIn (λ refused r. Calls (without_roles request_columns request policy_columns row refused) at (callee called) (datum_of_view first.now ∷ datum_of_view second.now ∷ []) r)
-        datum_of_view (is_search (callee called)) result }
-    ensures used { IsUsed (P.refusals finder.old) (P.refusals finder.new) (P.bad finder.old) (P.bad finder.new) (refused_by result) }
+    ensures value { (case : Case) → CallEnds (environment case) at (callee called)
+        (datum_of_view first.now ∷ datum_of_view second.now ∷ []) result }
+    ensures used { IsUsed (P.refusals finder.old) (P.refusals finder.new) (refused_by result) }
 {
     match (*first, *second) {
         (View::Text(first), View::Text(second)) => match called {
@@ -56,9 +55,9 @@ pub(crate) fn call_of_three<'a>(
     second: &View<'a>,
     third: &View<'a>,
 ) -> Result<View<'a>, Fault>
-    ensures { (request_columns policy_columns : List (List ℕ)) (request : List Datum) (row : Option (List (List ℕ)))
-        (refused : Option (ℕ × List ℕ)) → Calls (without_roles request_columns request policy_columns row refused) at (callee called)
-        (datum_of_view first.now ∷ datum_of_view second.now ∷ datum_of_view third.now ∷ []) (answer_of result) }
+    ensures { (case : Case) → Calls (environment case) at (callee called)
+        (datum_of_view first.now ∷ datum_of_view second.now ∷ datum_of_view third.now ∷ [])
+        (answer_of result) }
 {
     match (*first, *second, *third) {
         (View::Text(first), View::Text(second), View::Text(third)) => match called {
@@ -77,8 +76,9 @@ fn of_two<'a, P: Finder>(
     second: &'a [u8],
     finder: &mut P,
 ) -> Result<View<'a>, Halt<'a>>
-    ensures value { EndsIn (λ refused r. OfTwo refused at called first.now second.now r) datum_of_view (is_search (function called)) result }
-    ensures used { IsUsed (P.refusals finder.old) (P.refusals finder.new) (P.bad finder.old) (P.bad finder.new) (refused_by result) }
+    ensures value { EndsIn (λ refused r. OfTwo refused at called first.now second.now r)
+        datum_of_view (is_search (function called)) result }
+    ensures used { IsUsed (P.refusals finder.old) (P.refusals finder.new) (refused_by result) }
 {
     match called {
         Function::RegexMatch => search(at, first, second, finder),
@@ -134,14 +134,8 @@ fn lies_in<'a>(at: u32, text: &[u8], block: &[u8]) -> Result<View<'a>, Fault>
 {
     match ip_match(text, block) {
         Ok(inside) => Ok(View::Truth(inside)),
-        Err(IpFault::BadAddress) => Err(Fault {
-            cause: Cause::BadAddress,
-            at,
-        }),
-        Err(IpFault::BadBlock) => Err(Fault {
-            cause: Cause::BadBlock,
-            at,
-        }),
+        Err(IpFault::BadAddress) => Err(fault(Cause::BadAddress, at)),
+        Err(IpFault::BadBlock) => Err(fault(Cause::BadBlock, at)),
     }
 }
 
@@ -152,8 +146,9 @@ fn search<'a, P: Finder>(
     pattern: &'a [u8],
     finder: &mut P,
 ) -> Result<View<'a>, Halt<'a>>
-    ensures value { EndsIn (λ refused r. r ≡ searched refused at text.now pattern.now) datum_of_view true result }
-    ensures used { IsUsed (P.refusals finder.old) (P.refusals finder.new) (P.bad finder.old) (P.bad finder.new) (refused_by result) }
+    ensures value { EndsIn (λ refused r. r ≡ searched refused at text.now pattern.now)
+        datum_of_view true result }
+    ensures used { IsUsed (P.refusals finder.old) (P.refusals finder.new) (refused_by result) }
 {
     match finder.find(pattern, text) {
         Ok(found) => Ok(View::Truth(found)),

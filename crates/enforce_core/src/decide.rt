@@ -1,22 +1,22 @@
-ghost use Rattle.std.specs.Prelude.{◌≡◌, ◌≤◌, true, IfErr, IfOk, IsTrue, Ok, map};
+ghost use Rattle.std.specs.Prelude.{◌≡◌, true, IfErr, IfOk, IsTrue, None, Ok, map};
 ghost use Rattle.matcher_meaning.specs.Meaning.{searches};
 ghost use Rattle.matcher_meaning.specs.Perm.{AreOutcomes, IsJudged, IsOnce, is_refusal, outcome_of, word_of};
 ghost use Rattle.outside.specs.Faults.{Rose};
 ghost use Rattle.perm_value.specs.Seen.{datum};
-ghost use Rattle.regex_gate.specs.Refused.{HasGrown};
-ghost use Rattle.enforce_core.specs.Programs.{ComesTo, IsJudgedOn, IsRefused, judging, word_of_row};
-ghost use Rattle.enforce_core.specs.Seen.{row_of};
+ghost use Rattle.regex_gate.specs.Refusals.{IsRefused, IsUsed};
+ghost use Rattle.enforce_core.specs.Helps.Outcomes.{ComesTo, IsJudgedOn, word_of_row};
+ghost use Rattle.enforce_core.specs.Programs.{judging, row_of};
 
-use crate::halt::Halt;
 use crate::program::Program;
 use crate::rows::Rows;
 use crate::scratch::Scratch;
+use crate::stop::Stop;
 use crate::truth::truth_of;
-use effect_fold::{Cause, Fault, Fold, Outcome, Verdict, fold_gives_verdict};
+use effect_fold::{Fold, Outcome, Verdict, fold_gives_verdict};
 use matcher_meaning::{meaning_is_there, only_a_refusal_is_a_pattern};
 use perm_base::{NoMemory, Rule};
 use perm_value::Request;
-use regex_gate::{Finder, grown_lists_grow};
+use regex_gate::{Finder, uses_add_up};
 
 /// The verdict of a program on a request over the rules of a table (PERM: request, policy, matchers, effect), without role
 /// relations: a name is linked to itself alone. The matcher is evaluated for each rule in order, up to the first that
@@ -29,12 +29,12 @@ pub fn decide_rows<R: Rows, P: Finder>(
     finder: &mut P,
     _scratch: &mut Scratch,
 ) -> Result<Verdict, NoMemory>
-    ensures judged { IfOk result (λ v. IsJudged (judging program.now) (map datum request.now) (R.rules rows.now)
-        (IsRefused (P.refusals finder.old) (P.refusals finder.new) (P.bad finder.new)) v) }
-    ensures refusal { IfOk result (λ v. is_refusal v ≡ true → Rose (P.refusals finder.old) (P.refusals finder.new)) }
+    ensures judged { IfOk result (IsJudged (judging program.now) (map datum request.now)
+        (R.rules rows.now) (IsRefused (P.refusals finder.old) (P.refusals finder.new))) }
+    ensures refusal { IfOk result (λ v. is_refusal v ≡ true
+        → Rose (P.refusals finder.old).count (P.refusals finder.new).count) }
     ensures no_memory { IfErr result (λ e. IsTrue (searches program.now.matcher)) }
-    ensures counted { P.refusals finder.old ≤ P.refusals finder.new }
-    ensures grown { HasGrown (P.bad finder.old) (P.bad finder.new) }
+    ensures used { IsUsed (P.refusals finder.old) (P.refusals finder.new) None }
 {
     only_a_refusal_is_a_pattern();
     verdict_of(program, rows, request, finder)
@@ -47,11 +47,10 @@ fn verdict_of<R: Rows, P: Finder>(
     request: &Request,
     finder: &mut P,
 ) -> Result<Verdict, NoMemory>
-    ensures judged { IfOk result (λ v. IsJudged (judging program.now) (map datum request.now) (R.rules rows.now)
-        (IsRefused (P.refusals finder.old) (P.refusals finder.new) (P.bad finder.new)) v) }
+    ensures judged { IfOk result (IsJudged (judging program.now) (map datum request.now)
+        (R.rules rows.now) (IsRefused (P.refusals finder.old) (P.refusals finder.new))) }
     ensures no_memory { IfErr result (λ e. IsTrue (searches program.now.matcher)) }
-    ensures counted { P.refusals finder.old ≤ P.refusals finder.new }
-    ensures grown { HasGrown (P.bad finder.old) (P.bad finder.new) }
+    ensures used { IsUsed (P.refusals finder.old) (P.refusals finder.new) None }
 {
     if program.by_row() && rows.len() > 0 {
         verdict_by_row(program, rows, request, finder)
@@ -66,11 +65,11 @@ fn verdict_once<P: Finder>(
     request: &Request,
     finder: &mut P,
 ) -> Result<Verdict, NoMemory>
-    ensures judged { IfOk result (IsJudgedOn (judging program.now) (IsOnce (judging program.now) (map datum request.now))
-        (IsRefused (P.refusals finder.old) (P.refusals finder.new) (P.bad finder.new))) }
+    ensures judged { IfOk result (IsJudgedOn (judging program.now)
+        (IsOnce (judging program.now) (map datum request.now))
+        (IsRefused (P.refusals finder.old) (P.refusals finder.new))) }
     ensures no_memory { IfErr result (λ e. IsTrue (searches program.now.matcher)) }
-    ensures counted { P.refusals finder.old ≤ P.refusals finder.new }
-    ensures grown { HasGrown (P.bad finder.old) (P.bad finder.new) }
+    ensures used { IsUsed (P.refusals finder.old) (P.refusals finder.new) None }
 {
     fold_gives_verdict();
     let mut fold = Fold::new(program.model().effect());
@@ -87,15 +86,15 @@ fn verdict_by_row<R: Rows, P: Finder>(
     finder: &mut P,
 ) -> Result<Verdict, NoMemory>
     ensures judged { IfOk result (IsJudgedOn (judging program.now)
-        (λ refused. AreOutcomes (judging program.now) (map datum request.now) refused 1 (R.rules rows.now))
-        (IsRefused (P.refusals finder.old) (P.refusals finder.new) (P.bad finder.new))) }
+        (λ refused. AreOutcomes (judging program.now) (map datum request.now) refused 1
+        (R.rules rows.now))
+        (IsRefused (P.refusals finder.old) (P.refusals finder.new))) }
     ensures no_memory { IfErr result (λ e. IsTrue (searches program.now.matcher)) }
-    ensures counted { P.refusals finder.old ≤ P.refusals finder.new }
-    ensures grown { HasGrown (P.bad finder.old) (P.bad finder.new) }
+    ensures used { IsUsed (P.refusals finder.old) (P.refusals finder.new) None }
 {
     meaning_is_there();
     fold_gives_verdict();
-    grown_lists_grow();
+    uses_add_up();
     let mut fold = Fold::new(program.model().effect());
     for at in 0..rows.len() {
         let outcome = outcome(program, request, Some(rows.at(at)), finder)?;
@@ -114,21 +113,15 @@ fn outcome<P: Finder>(
     finder: &mut P,
 ) -> Result<Outcome, NoMemory>
     ensures comes { IfOk result (ComesTo (judging program.now) (map datum request.now)
-        (IsRefused (P.refusals finder.old) (P.refusals finder.new) (P.bad finder.new)) (row_of row.entry)) }
+        (IsRefused (P.refusals finder.old) (P.refusals finder.new)) (row_of row.entry)) }
     ensures no_memory { IfErr result (λ e. IsTrue (searches program.now.matcher)) }
-    ensures counted { P.refusals finder.old ≤ P.refusals finder.new }
-    ensures grown { HasGrown (P.bad finder.old) (P.bad finder.new) }
+    ensures used { IsUsed (P.refusals finder.old) (P.refusals finder.new) None }
 {
-    let columns = program.columns();
-    match truth_of(program.model().matcher(), &columns, request, row, finder) {
+    match truth_of(program.model(), request, row, finder) {
         Ok(true) => Ok(matched(word_of_row(program, row))),
         Ok(false) => Ok(Outcome::Unmatched),
-        Err(Halt::Fault(fault)) => Ok(Outcome::Failed(fault)),
-        Err(Halt::Refused { at, .. }) => Ok(Outcome::Failed(Fault {
-            cause: Cause::Pattern,
-            at,
-        })),
-        Err(Halt::NoMemory) => Err(NoMemory),
+        Err(Stop::Fault(fault)) => Ok(Outcome::Failed(fault)),
+        Err(Stop::NoMemory) => Err(NoMemory),
     }
 }
 

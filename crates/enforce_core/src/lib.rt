@@ -2,10 +2,12 @@
 #![tactic(auto)]
 
 mod arithmetic;
+mod attributes;
 mod calls;
-mod columns;
+mod case;
 mod decide;
 mod evaluate;
+mod faults;
 mod halt;
 mod names;
 mod operators;
@@ -15,10 +17,12 @@ mod scratch;
 mod stop;
 #[cfg(test)]
 mod tests;
+mod tree_values;
 mod truth;
 
 pub use decide::decide_rows;
 pub use program::{Arity, Program, make_program};
 pub use rows::Rows;
 pub use scratch::Scratch;
-pub use stop::{Stop, tree_value};
+pub use stop::Stop;
+pub use tree_values::tree_value;

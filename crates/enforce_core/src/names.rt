@@ -6,7 +6,7 @@ use matcher_read::Tree;
 
 /// The matcher names a column of the policy. It takes no memory.
 #[cycle(names)]
-pub fn names_policy(tree: &Tree) -> bool
+pub(crate) fn names_policy(tree: &Tree) -> bool
     ensures { result ≡ names_policy (expression tree.now) }
 {
     match tree {

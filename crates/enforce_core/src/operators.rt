@@ -2,25 +2,17 @@ ghost use Rattle.std.specs.Prelude.{◌≡◌, Bool, option_map};
 ghost use Rattle.std.specs.declared.cmp.Ordering.{Ordering};
 ghost use Rattle.perm_value.specs.Seen.{datum_of_view, items};
 ghost use Rattle.matcher_meaning.specs.Operators.{negated, opposed, as_truth, ended_by, settled, ordered, joined, has_item, is_member};
-ghost use Rattle.enforce_core.specs.Seen.{answer_of};
-ghost use Rattle.enforce_core.specs.Steps.{tested};
+ghost use Rattle.enforce_core.specs.Helps.Ends.{answer_of};
+ghost use Rattle.enforce_core.specs.Helps.Steps.{tested};
 
 use crate::arithmetic::{divided, fitted, wholes};
-use effect_fold::{Cause, Fault};
+use crate::faults::kind;
+use effect_fold::Fault;
 use matcher_read::Operator;
 use perm_value::{Value, View};
 use std::cmp::Ordering;
 
-pub(crate) fn kind(at: u32) -> Fault
-    ensures { result ≡ record { cause = Cause.Kind; at = at } }
-{
-    Fault {
-        cause: Cause::Kind,
-        at,
-    }
-}
-
-// `!`
+/// `!`
 pub(crate) fn negated<'a>(at: u32, value: &View<'a>) -> Result<View<'a>, Fault>
     ensures { answer_of result ≡ negated at (datum_of_view value.now) }
 {
@@ -30,7 +22,7 @@ pub(crate) fn negated<'a>(at: u32, value: &View<'a>) -> Result<View<'a>, Fault>
     }
 }
 
-// `-` before an operand
+/// `-` before an operand
 pub(crate) fn opposed<'a>(at: u32, value: &View<'a>) -> Result<View<'a>, Fault>
     ensures { answer_of result ≡ opposed at (datum_of_view value.now) }
 {
@@ -40,7 +32,7 @@ pub(crate) fn opposed<'a>(at: u32, value: &View<'a>) -> Result<View<'a>, Fault>
     }
 }
 
-// What the left side of an operator gives alone.
+/// What the left side of an operator gives alone.
 pub(crate) fn settled<'a>(
     at: u32,
     operator: Operator,
@@ -65,7 +57,7 @@ fn ended_by<'a>(at: u32, end: bool, left: &View<'a>) -> Option<Result<View<'a>, 
     }
 }
 
-// What both sides of an operator give.
+/// What both sides of an operator give.
 pub(crate) fn joined<'a>(
     at: u32,
     operator: Operator,
@@ -117,8 +109,8 @@ fn as_truth<'a>(at: u32, side: &View<'a>) -> Result<View<'a>, Fault>
 
 // The order of two numbers, or of two texts by their bytes.
 fn order(at: u32, left: &View<'_>, right: &View<'_>) -> Result<Ordering, Fault>
-    ensures { (is_so : Ordering → Bool)
-        → tested result is_so ≡ ordered at is_so (datum_of_view left.now) (datum_of_view right.now) }
+    ensures { (is_so : Ordering → Bool) → tested result is_so
+        ≡ ordered at is_so (datum_of_view left.now) (datum_of_view right.now) }
 {
     match (*left, *right) {
         (View::Whole(number), View::Whole(other)) => Ok(number.cmp(&other)),
@@ -127,7 +119,7 @@ fn order(at: u32, left: &View<'_>, right: &View<'_>) -> Result<Ordering, Fault>
     }
 }
 
-// Whether a member of `in` is the value, or a list that has it.
+/// Whether a member of `in` is the value, or a list that has it.
 pub(crate) fn is_member(value: &View<'_>, member: &View<'_>) -> bool
     ensures { result ≡ is_member (datum_of_view value.now) (datum_of_view member.now) }
 {

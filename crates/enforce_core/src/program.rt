@@ -1,9 +1,7 @@
 ghost use Rattle.std.specs.Prelude.{◌≡◌, ◌↔◌, ◌≢◌, None, IfErr, IfOk, Ok, length, position, codes};
 ghost use Rattle.std.specs.Str.{bytes_eq};
 ghost use Rattle.matcher_meaning.specs.Perm.{names_policy};
-ghost use Rattle.enforce_core.specs.Programs.{IsProgram};
 
-use crate::columns::Columns;
 use crate::names::names_policy;
 use model_conf::Model;
 use perm_base::NoMemory;
@@ -23,7 +21,7 @@ impl std::marker::Model for Program {
     ghost use Rattle.std.specs.Coded.{Coded, codes};
     ghost use Rattle.model_conf.specs.Helps.ExpressionCode.{Sign, expression_code};
     ghost use Rattle.model_conf.specs.ModelText.{ModelParts};
-    ghost use Rattle.enforce_core.specs.Programs.{IsProgram};
+    ghost use Rattle.enforce_core.specs.Helps.Outcomes.{IsProgram};
 
     ghost Value = { ModelParts };
 
@@ -83,25 +81,14 @@ impl Program {
         None
     }
 
-    // The columns of a request and of a policy's rows.
-    pub(crate) fn columns(&self) -> Columns<'_>
-        ensures request { result.request.now ≡ self.now.request }
-        ensures policy { result.policy.now ≡ self.now.policy }
-    {
-        Columns {
-            request: self.model.request_columns(),
-            policy: self.model.policy_columns(),
-        }
-    }
-
-    // Whether the matcher names a column of the policy.
+    /// Whether the matcher names a column of the policy.
     pub(crate) fn by_row(&self) -> bool
         ensures { result ≡ names_policy self.now.matcher }
     {
         self.by_row
     }
 
-    // The place of the policy's column `eft`.
+    /// The place of the policy's column `eft`.
     pub(crate) fn effect_place(&self) -> Option<u32>
         ensures { result ≡ position (bytes_eq (codes "eft")) self.now.policy }
     {

@@ -1,3 +1,4 @@
+pub mod CallerLemmas
 mod CallLemmas
 mod RefusalLemmas
 mod MeaningLemmas

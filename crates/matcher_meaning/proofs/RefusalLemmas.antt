@@ -144,7 +144,7 @@ mutual
       found_keeps at (Means (unrefused env) e) (Means (refusing env at pattern) e) (IsAmong (unrefused env) d es) (IsAmong (refusing env at pattern) d es) d
       (value_keeps env at pattern e) (among_keeps env at pattern d es) r p
 
-  arguments_keep : (env : Environment) (at : ℕ) (pattern : List ℕ) (es : Expressions) → Keeps at (AreArguments (unrefused env) es) (AreArguments (refusing env at pattern) es)
+  pub arguments_keep : (env : Environment) (at : ℕ) (pattern : List ℕ) (es : Expressions) → Keeps at (AreArguments (unrefused env) es) (AreArguments (refusing env at pattern) es)
   arguments_keep env at pattern no_more r p = inl p
   arguments_keep env at pattern (one_more e es) r p =
       after_keeps at (Means (unrefused env) e) (Means (refusing env at pattern) e)

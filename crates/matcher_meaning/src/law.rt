@@ -27,7 +27,8 @@ pub fn meaning_is_unique()
 /// The law that an expression comes to an answer, whatever columns it names, and a matcher to a truth.
 pub fn meaning_is_there()
     ensures value { (env : Environment) (e : Expression) → (r : Answer) × Means env e r }
-    ensures truth { (env : Environment) (e : Expression) → (r : Result Bool Fault) × IsTruth env e r }
+    ensures truth { (env : Environment) (e : Expression)
+        → (r : Result Bool Fault) × IsTruth env e r }
 {
     covering_is_decided();
     named_part_is_one();
@@ -36,33 +37,37 @@ pub fn meaning_is_there()
 
 /// The law that a search which is refused leaves an answer as it is, or is its fault.
 pub fn refusal_is_the_fault()
-    ensures { (env : Environment) (e : Expression) (at : ℕ) (pattern : List ℕ) (r : Answer) → Means (unrefused env) e r
-        → Means (refusing env at pattern) e r ⊎ Means (refusing env at pattern) e (fails Pattern at) }
+    ensures { (env : Environment) (e : Expression) (at : ℕ) (pattern : List ℕ) (r : Answer)
+        → Means (unrefused env) e r
+        → Means (refusing env at pattern) e r
+        ⊎ Means (refusing env at pattern) e (fails Pattern at) }
 {}
 
 /// The law that where no search is refused no fault is that of a pattern.
 pub fn only_a_refusal_is_a_pattern()
-    ensures value { (env : Environment) (e : Expression) (failed : Fault) → Means (unrefused env) e (Err failed)
-        → is_pattern failed.cause ≡ false }
-    ensures truth { (env : Environment) (e : Expression) (failed : Fault) → IsTruth (unrefused env) e (Err failed)
-        → is_pattern failed.cause ≡ false }
-    ensures verdict { (model : Judging) (request : List Datum) (rows : List (List (List ℕ))) (v : Verdict)
-        → IsPerm model request rows None v → is_refusal v ≡ false }
+    ensures value { (env : Environment) (e : Expression) (failed : Fault)
+        → Means (unrefused env) e (Err failed) → is_pattern failed.cause ≡ false }
+    ensures truth { (env : Environment) (e : Expression) (failed : Fault)
+        → IsTruth (unrefused env) e (Err failed) → is_pattern failed.cause ≡ false }
+    ensures verdict { (model : Judging) (request : List Datum) (rows : List (List (List ℕ)))
+        (v : Verdict) → IsPerm model request rows None v → is_refusal v ≡ false }
 {}
 
 /// The law that a model comes to one verdict at most for a request over the rows of a policy, where one search is refused
 /// or none.
 pub fn verdict_is_unique()
-    ensures { (model : Judging) (request : List Datum) (rows : List (List (List ℕ))) (refused : Option Refusal) (first second : Verdict)
-        → IsPerm model request rows refused first → IsPerm model request rows refused second → first ≡ second }
+    ensures { (model : Judging) (request : List Datum) (rows : List (List (List ℕ)))
+        (refused : Option Refusal) (first second : Verdict)
+        → IsPerm model request rows refused first → IsPerm model request rows refused second
+        → first ≡ second }
 {
     meaning_is_unique();
 }
 
 /// The law that a model comes to a verdict for each request over each list of rows.
 pub fn verdict_is_there()
-    ensures { (model : Judging) (request : List Datum) (rows : List (List (List ℕ))) (refused : Option Refusal)
-        → (v : Verdict) × IsPerm model request rows refused v }
+    ensures { (model : Judging) (request : List Datum) (rows : List (List (List ℕ)))
+        (refused : Option Refusal) → (v : Verdict) × IsPerm model request rows refused v }
 {
     meaning_is_there();
 }

@@ -6,14 +6,14 @@ const LONG: &[u8] =
 
 /// A pattern and a text in which it is found at the end.
 #[derive(Drop)]
-pub struct Sample {
-    pub pattern: &'static [u8],
-    pub text: Vec<u8>,
+pub(crate) struct Sample {
+    pub(crate) pattern: &'static [u8],
+    pub(crate) text: Vec<u8>,
 }
 
 impl Sample {
     /// The sample of a name: a small pattern, one of 200 bytes, or a text of 4,096 bytes.
-    pub fn named(alloc: Global, name: &str) -> Result<Option<Sample>, AllocError> {
+    pub(crate) fn named(alloc: Global, name: &str) -> Result<Option<Sample>, AllocError> {
         let mut text = Vec::new(alloc);
         let pattern = match name {
             "small" => b"GET|POST",

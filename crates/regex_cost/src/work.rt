@@ -3,7 +3,7 @@ use regex_gate::Finder;
 use std::alloc::{AllocError, Global};
 
 /// How many of so many searches find the pattern of a sample.
-pub fn count_found<F: Finder>(finder: &mut F, sample: &Sample, times: u32) -> u32 {
+pub(crate) fn count_found<F: Finder>(finder: &mut F, sample: &Sample, times: u32) -> u32 {
     let mut count: u32 = 0;
     for _ in 0..times {
         if finder.find(sample.pattern, &sample.text) == Ok(true) {
@@ -15,7 +15,7 @@ pub fn count_found<F: Finder>(finder: &mut F, sample: &Sample, times: u32) -> u3
 
 /// How many of so many comparisons find the text of a sample equal to a copy. A byte of both changes each time, so
 /// that no comparison can be left out.
-pub fn count_equal(alloc: Global, sample: &Sample, times: u32) -> Result<u32, AllocError> {
+pub(crate) fn count_equal(alloc: Global, sample: &Sample, times: u32) -> Result<u32, AllocError> {
     let mut text = Vec::from_slice(alloc, &sample.text)?;
     let mut copy = Vec::from_slice(alloc, &sample.text)?;
     let mut count: u32 = 0;

@@ -7,6 +7,6 @@ mod pattern;
 mod regex_finder;
 mod search;
 
-pub use finder::{FindStop, Finder, grown_lists_grow};
+pub use finder::{FindStop, Finder, uses_add_up};
 pub use list_finder::ListFinder;
 pub use regex_finder::RegexFinder;

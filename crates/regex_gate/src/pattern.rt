@@ -6,7 +6,7 @@ use std::marker::Model;
 
 /// A pattern that a finder keeps. Contracts see its bytes.
 #[derive(Drop)]
-pub struct Pattern {
+pub(crate) struct Pattern {
     bytes: Vec<u8>,
 }
 
@@ -20,7 +20,7 @@ impl Model for Pattern {
 
 impl Pattern {
     /// A copy of these bytes.
-    pub fn from_slice(alloc: Global, bytes: &[u8]) -> Result<Pattern, NoMemory>
+    pub(crate) fn from_slice(alloc: Global, bytes: &[u8]) -> Result<Pattern, NoMemory>
         ensures { IfOk result (λ copy. copy ≡ bytes.now) }
     {
         Ok(Pattern {
@@ -29,7 +29,7 @@ impl Pattern {
     }
 
     /// The bytes as they are.
-    pub fn bytes(&self) -> &[u8]
+    pub(crate) fn bytes(&self) -> &[u8]
         ensures { result.now ≡ self.now }
     {
         &self.bytes

@@ -1,6 +1,7 @@
-ghost use Rattle.std.specs.Prelude.{◌≡◌, ◌≤◌, [], Some, Contains, IfOk, OnOk, OnErr, IsErrOf, IsUtf8};
+ghost use Rattle.std.specs.Prelude.{◌≡◌, [], None, Some, Contains, IfOk, OnOk, OnErr, IsErrOf, IsUtf8};
 ghost use Rattle.regex_gate.specs.Found.{found};
 ghost use Rattle.regex_gate.specs.Refused.{has_pattern, with_pattern, IsEachOnce};
+ghost use Rattle.regex_gate.specs.Refusals.{IsUsed};
 ghost use Rattle.regex_gate.specs.Finders.{after_refusal};
 
 use crate::finder::{FindStop, Finder};
@@ -10,51 +11,49 @@ use outside::NoMemory;
 use std::alloc::Global;
 use std::marker::Model;
 
-#[cfg(test)]
-mod tests;
-
 /// A finder that refuses what `regex` does not build. It builds the pattern at each call. Contracts see how often
 /// it has refused, and the patterns that it refused.
 #[derive(Drop)]
 pub struct RegexFinder {
     alloc: Global,
-    pub(crate) count: u64,
-    pub(crate) bad: Vec<Pattern>,
+    count: u64,
+    patterns: Vec<Pattern>,
 }
 
 impl Model for RegexFinder {
-    ghost use Rattle.regex_gate.specs.Finders.{Refusals};
+    ghost use Rattle.regex_gate.specs.Refusals.{Refusals};
 
     ghost Value = { Refusals };
 
     ghost use Rattle.regex_gate.specs.Refused.{IsEachOnce};
 
-    ghost view = { λ f. record { count = f.count; bad = f.bad.items } };
+    ghost view = { λ f. record { count = f.count; patterns = f.patterns.items } };
 
-    ghost invariant = { λ f. IsEachOnce f.bad.items };
+    ghost invariant = { λ f. IsEachOnce f.patterns.items };
 }
 
 impl RegexFinder {
     /// A finder that has refused nothing. It takes no memory.
     pub fn new(alloc: Global) -> RegexFinder
-        ensures { result ≡ record { count = 0; bad = [] } }
+        ensures { result ≡ record { count = 0; patterns = [] } }
     {
         RegexFinder {
             alloc,
             count: 0,
-            bad: Vec::new(alloc),
+            patterns: Vec::new(alloc),
         }
     }
 
     /// Counts and keeps a pattern as refused. Where there is no room for it, nothing changes.
     pub(crate) fn refuse(&mut self, pattern: &[u8]) -> FindStop
-        ensures refused { result ≡ FindStop.Refused → self.new ≡ after_refusal self.old pattern.now }
+        ensures refused { result ≡ FindStop.Refused
+            → self.new ≡ after_refusal self.old pattern.now }
         ensures no_memory { result ≡ FindStop.NoMemory → self.new ≡ self.old }
-        ensures counted { self.old.count ≤ self.new.count }
-        ensures stands { result ≡ FindStop.Refused → Contains self.new.bad pattern.now }
-        ensures each_once { IsEachOnce self.new.bad }
+        ensures used { IsUsed self.old self.new None }
+        ensures stands { result ≡ FindStop.Refused → Contains self.new.patterns pattern.now }
+        ensures each_once { IsEachOnce self.new.patterns }
     {
-        match keep(self.alloc, &mut self.bad, pattern) {
+        match keep(self.alloc, &mut self.patterns, pattern) {
             Ok(()) => {
                 self.count = self.count.saturating_add(1);
                 FindStop::Refused
@@ -65,19 +64,18 @@ impl RegexFinder {
 }
 
 impl Finder for RegexFinder {
-    ghost refusals = { λ f. f.count };
-
-    ghost bad = { λ f. f.bad };
+    ghost refusals = { λ f. f };
 
     fn find(&mut self, pattern: &[u8], text: &[u8]) -> Result<bool, FindStop>
         ensures found { IfOk result (λ is_found. found pattern.now text.now ≡ Some is_found) }
         ensures utf8 { OnOk result (IsUtf8 pattern.now) }
-        ensures counted { self.old.count ≤ self.new.count }
-        ensures refused { IsErrOf result FindStop.Refused → self.new ≡ after_refusal self.old pattern.now }
-        ensures stands { IsErrOf result FindStop.Refused → Contains self.new.bad pattern.now }
+        ensures used { IsUsed self.old self.new None }
+        ensures refused { IsErrOf result FindStop.Refused
+            → self.new ≡ after_refusal self.old pattern.now }
+        ensures stands { IsErrOf result FindStop.Refused → Contains self.new.patterns pattern.now }
         ensures same { OnOk result (self.new ≡ self.old) }
         ensures no_memory { IsErrOf result FindStop.NoMemory → self.new ≡ self.old }
-        ensures each_once { IsEachOnce self.new.bad }
+        ensures each_once { IsEachOnce self.new.patterns }
     {
         match search(self.alloc, pattern, text)? {
             Some(is_found) => Ok(is_found),

@@ -7,7 +7,7 @@ use Rattle.casbin_run.proofs.answer.print_answers.Given as goal
 abbrev pub invariant-loop-line : goal.invariant-loop-line
 invariant-loop-line g l = record {
   printed : IsPrinted l.court.program.now l.court.rules.now l.court.json (requests_of l.input) (requests_of l.rest) l.number (g.K.Sink.taken l.initial.out) (g.K.Sink.taken l.out) l.text.items (g.K.Sink.faults l.initial.out) (g.K.Sink.faults l.out)
-      (g.P.Finder.refusals l.initial.finder) (g.P.Finder.refusals l.finder) (g.P.Finder.bad l.initial.finder) (g.P.Finder.bad l.finder);
+      (g.P.Finder.refusals l.initial.finder) (g.P.Finder.refusals l.finder);
   utf8 : IsUtf8 l.rest;
 }
 

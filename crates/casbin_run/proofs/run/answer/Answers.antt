@@ -50,7 +50,7 @@ returns-clause-answered g c =
     let told : command_of (map string_bytes c.args.words.now) ≡ Some command = sym c.in-Some.ensures in
     let wide : c.len.result ≡ length c.in_ok-model.model.policy = c.len.ensures ∙ ap length c.policy_columns.ensures.value in
     let policy = policy_since (g.F.Shelf.files c.args.shelf.now) _ command.policy _ _ c.in_ok-rules.rules c.read_model_file.ensures.same_files wide c.in_ok-rules.ensures.read in
-    on_ok_weaker c.answer_by_first.result (took_all _ _ (g.S.Source.left c.args.input.now) (searches _ _ _) _ _ command c.in_ok-model.model c.in_ok-rules.rules c.as_str.result.now (record { told = told; model = c.in_ok-model.ensures.read; policy = policy; input_is = rw c.as_str.ensures.value c.in_ok-requests.ensures.read; utf8 = c.as_str.utf8 }))
+    on_ok_weaker c.answer_by_first.result (took_all _ _ (g.S.Source.left c.args.input.now) (searches _ _) _ _ command c.in_ok-model.model c.in_ok-rules.rules c.as_str.result.now (record { told = told; model = c.in_ok-model.ensures.read; policy = policy; input_is = rw c.as_str.ensures.value c.in_ok-requests.ensures.read; utf8 = c.as_str.utf8 }))
     (rw c.in_ok-program.ensures at c.answer_by_first.ensures.printed)
 
 pub returns-clause-stopped : goal.returns-clause-stopped
@@ -59,19 +59,19 @@ returns-clause-stopped g c =
     let told : command_of (map string_bytes c.args.words.now) ≡ Some command = sym c.in-Some.ensures in
     let wide : c.len.result ≡ length c.in_ok-model.model.policy = c.len.ensures ∙ ap length c.policy_columns.ensures.value in
     let policy = policy_since (g.F.Shelf.files c.args.shelf.now) _ command.policy _ _ c.in_ok-rules.rules c.read_model_file.ensures.same_files wide c.in_ok-rules.ensures.read in
-    IfErr-weaker c.answer_by_first.result _ _ (λ stop. print_ends _ _ (g.S.Source.left c.args.input.now) (searches _ _ _) _ _ _ _ _ _ command c.in_ok-model.model c.in_ok-rules.rules c.as_str.result.now stop (record { told = told; model = c.in_ok-model.ensures.read; policy = policy; input_is = rw c.as_str.ensures.value c.in_ok-requests.ensures.read; utf8 = c.as_str.utf8 })) (rw c.in_ok-program.ensures at c.answer_by_first.ensures.stopped)
+    IfErr-weaker c.answer_by_first.result _ _ (λ stop. print_ends _ _ (g.S.Source.left c.args.input.now) (searches _ _) _ _ _ _ _ _ command c.in_ok-model.model c.in_ok-rules.rules c.as_str.result.now stop (record { told = told; model = c.in_ok-model.ensures.read; policy = policy; input_is = rw c.as_str.ensures.value c.in_ok-requests.ensures.read; utf8 = c.as_str.utf8 })) (rw c.in_ok-program.ensures at c.answer_by_first.ensures.stopped)
 
 pub returns-in_default-clause-finders : goal.returns-in_default-clause-finders
-returns-in_default-clause-finders g c = finders_same g.P.Finder.refusals g.P.Finder.bad c.args.finders.now.items
+returns-in_default-clause-finders g c = finders_same (map g.P.Finder.refusals c.args.finders.now.items)
 
 pub returns-in_err-model-clause-finders : goal.returns-in_err-model-clause-finders
-returns-in_err-model-clause-finders g c = finders_same g.P.Finder.refusals g.P.Finder.bad c.args.finders.now.items
+returns-in_err-model-clause-finders g c = finders_same (map g.P.Finder.refusals c.args.finders.now.items)
 
 pub returns-in_err-rules-clause-finders : goal.returns-in_err-rules-clause-finders
-returns-in_err-rules-clause-finders g c = finders_same g.P.Finder.refusals g.P.Finder.bad c.args.finders.now.items
+returns-in_err-rules-clause-finders g c = finders_same (map g.P.Finder.refusals c.args.finders.now.items)
 
 pub returns-in_err-requests-clause-finders : goal.returns-in_err-requests-clause-finders
-returns-in_err-requests-clause-finders g c = finders_same g.P.Finder.refusals g.P.Finder.bad c.args.finders.now.items
+returns-in_err-requests-clause-finders g c = finders_same (map g.P.Finder.refusals c.args.finders.now.items)
 
 pub returns-in_err-program-clause-finders : goal.returns-in_err-program-clause-finders
-returns-in_err-program-clause-finders g c = finders_same g.P.Finder.refusals g.P.Finder.bad c.args.finders.now.items
+returns-in_err-program-clause-finders g c = finders_same (map g.P.Finder.refusals c.args.finders.now.items)
