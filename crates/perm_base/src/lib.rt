@@ -3,7 +3,6 @@
 
 mod fields;
 mod line_ends;
-mod lines;
 mod patterns;
 mod quoted;
 mod quoted_print;
@@ -16,7 +15,6 @@ pub use fields::{
     JoinFault, PlainFault, cut_joined, joined_texts_are_unique, plain_fields_are_unique,
     push_joined, push_texts, read_plain_fields,
 };
-pub use lines::next_line;
 pub use outside::{
     Failed, Fetch, ListShelf, ListSink, ListSource, NoMemory, ReadStop, Share, Shelf, Sink, Source,
     SureShelf, SureSink, SureSource, Text, push_all, read_all,

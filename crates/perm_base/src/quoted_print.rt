@@ -1,5 +1,5 @@
 ghost use Rattle.std.specs.Prelude.{◌≡◌, ◌<◌, ◌≤◌, ◌++◌, ℕ, List, IfOk, IsUtf8, Ok, OnOk, length, string_bytes};
-ghost use Rattle.perm_base.specs.Fields.{is_blank};
+ghost use Rattle.text_parts.specs.Blanks.{is_blank};
 ghost use Rattle.text_parts.specs.Lines.{has_byte};
 ghost use Rattle.perm_base.specs.LineEnds.{AreFields};
 ghost use Rattle.perm_base.specs.FieldLine.{IsFields, doubled, has_odd_ends, needs_quotes, printed, printed_field};

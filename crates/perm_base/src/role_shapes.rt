@@ -2,6 +2,7 @@ ghost use Rattle.std.specs.Prelude.{◌≡◌};
 ghost use Rattle.perm_base.specs.RoleShapes.{AreRoles, shape_of};
 
 use crate::shapes::RoleShape;
+use outside::Share;
 use std::marker::Model;
 
 /// The role relations of a policy, numbered 1 to 8, by rising number without repeats. Contracts see the list of
@@ -60,3 +61,5 @@ impl RoleShapes {
         None
     }
 }
+
+impl Share for RoleShapes {}

@@ -9,7 +9,7 @@ ghost use Rattle.perm_base.specs.LineEnds.{AreFields, has_line_end};
 ghost use Rattle.perm_base.specs.Rule.{line_end_of, IsFirstLineEnd};
 
 use crate::line_ends::has_line_end;
-use outside::{NoMemory, Text};
+use outside::{NoMemory, Share, Text};
 use std::alloc::Global;
 use std::hash::{Hash, Hasher};
 use std::marker::Model;
@@ -115,6 +115,8 @@ impl Rule {
         Ok(Rule { fields })
     }
 }
+
+impl Share for Rule {}
 
 impl PartialEq for Rule {
     ghost eq = { pointwise (pointwise nat_eq) };

@@ -1,6 +1,7 @@
 ghost use Rattle.std.specs.Prelude.{◌≡◌, ◌<◌, ◌^◌, Some, length, slice_get, vec_len};
 
 use crate::rule::Rule;
+use outside::Share;
 use std::marker::Model;
 
 /// A list of fewer than 2^32 rules. Contracts see the list of its rules.
@@ -59,3 +60,5 @@ impl Rules {
         &self.rules[at as usize]
     }
 }
+
+impl Share for Rules {}

@@ -1,4 +1,5 @@
 use crate::role_shapes::RoleShapes;
+use outside::Share;
 
 /// How a name in a role relation is compared with one of a request: byte by byte, or by the function of the name.
 #[derive(Clone, Copy, Debug, PartialEq, Eq)]
@@ -45,3 +46,11 @@ pub struct Shapes {
     pub roles: RoleShapes,
     pub limit: u8,
 }
+
+impl Share for Fit {}
+
+impl Share for RoleShape {}
+
+impl Share for TableId {}
+
+impl Share for Shapes {}
