@@ -168,7 +168,7 @@ fn quoted_text(alloc: Global, inside: &str) -> Result<Option<(Text, &str)>, NoMe
     while let Some((before, after)) = cut_at(rest, b'"') {
         text.push_str(before)?;
         let Some(next) = behind(after, b'"') else {
-            return Ok(Some((Text::from_str(alloc, text.as_str())?, after)));
+            return Ok(Some((Text::from_string(text), after)));
         };
         text.push_str("\"")?;
         rest = next;

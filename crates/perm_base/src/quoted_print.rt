@@ -16,7 +16,7 @@ pub fn print_fields(alloc: Global, rule: &Rule) -> Result<Text, NoMemory>
 {
     let mut text = String::new(alloc);
     push_fields(&mut text, rule)?;
-    Text::from_str(alloc, text.as_str())
+    Ok(Text::from_string(text))
 }
 
 /// Appends the fields of a rule as `print_fields` prints them.
