@@ -1,7 +1,7 @@
 use anyhow::{Context, Result, ensure};
 use casbin_run::run_casbin;
 use case_list::{Case, Field};
-use perm_base::{ListShelf, ListSink, ListSource, Text};
+use outside::{ListShelf, ListSink, ListSource, Text};
 use regex_gate::ListFinder;
 use std::alloc::Global;
 use std::io::Write;
