@@ -15,16 +15,12 @@ use Rattle.casbin_run.specs.Cause.{EndsBy, IsBeforeOutput}
 use Rattle.casbin_run.specs.Finders.{IsBad, RoseBy, Searches}
 use Rattle.casbin_run.specs.Judging.{IsAnsweredBy}
 use Rattle.casbin_run.specs.Parts.{FileIs, InputIs, model_limit, policy_limit}
-use Rattle.casbin_run.specs.Print.{Answering, PrintStops}
-use Rattle.casbin_run.specs.Reading.{ModelStops, PolicyStops, InputStops}
+use Rattle.casbin_run.specs.Helps.Print.{Answering, PrintStops}
+use Rattle.casbin_run.specs.Helps.Reading.{ModelStops, PolicyStops, InputStops}
 use Rattle.casbin_run.specs.Script.{requests_of}
 use Rattle.casbin_run.specs.Words.{Command, command_of}
-use Rattle.casbin_run.proofs.AnswerLemmas.{answers_more}
+use Rattle.casbin_run.proofs.AnswerLemmas.{Rules, answers_more}
 use Rattle.casbin_run.proofs.GatheredLemmas.{rose_later}
-
--- lists of rules
-abbrev Rules : Type 0
-Rules = List (List (List ℕ))
 
 pub words_end : (words : List (List ℕ)) (files : Option Files) (input : Option (List ℕ)) (s : Searches) (out out_now : Option (List ℕ)) (shelf source sink : Type 0) → command_of words ≡ None → EndsBy words files input s out out_now shelf source sink Words
 unfolding EndsBy

@@ -8,7 +8,7 @@ use Rattle.regex_gate.specs.Refusals.{Refusals, IsRefused, IsUsed}
 use Rattle.regex_gate.proofs.CallerLemmas.{used_none}
 use Rattle.casbin_run.specs.Answer.{refusals_in}
 use Rattle.casbin_run.specs.Finders.{AreUsed, IsAtEnd, IsBad, RoseBy, counts}
-use Rattle.casbin_run.specs.Print.{Answering, RoseTo}
+use Rattle.casbin_run.specs.Helps.Print.{Answering, RoseTo}
 use Rattle.casbin_run.proofs.AnswerLemmas.{answers_more}
 
 sum_first : (c : ℕ) (cs : List ℕ) → sum (c ∷ cs) ≡ c + sum cs

@@ -16,10 +16,7 @@ use Rattle.perm_value.specs.declared.request.RequestFault.TheVariants as fault
 use Rattle.casbin_run.specs.Answer.{AreAnswers, IsAnswer, IsReply, Reply, arity, judged, refused}
 use Rattle.casbin_run.specs.Finders.{NoneBad}
 use Rattle.casbin_run.specs.Request.{Reading, Says, SaysFields}
-
--- lists of rules
-abbrev pub Rules : Type 0
-Rules = List (List (List ℕ))
+use Rattle.casbin_run.proofs.AnswerLemmas.{Rules}
 
 -- a line is one list of fields or has one fault, and a request has one verdict
 pub record SaysLinesOnce : Type 0 where

@@ -19,6 +19,7 @@ use Rattle.casbin_run.specs.Parts.{model_limit, policy_limit, input_limit}
 use Rattle.casbin_run.specs.Script.{requests_of}
 use Rattle.casbin_run.specs.Words.{Command, command_of}
 use Rattle.casbin_run.proofs.OnceLemmas.{SaysLinesOnce, answers_once}
+use Rattle.casbin_run.proofs.AnswerLemmas.{Rules}
 
 -- what reading a part comes to
 data State (X F : Type 0) : Type 0 where
@@ -67,10 +68,7 @@ one_state content limit says faulty one (good x) long p q = too_wide content lim
 one_state content limit says faulty one (good x) (bad g) p q = absurd (one.either q.0 x g (subst (λ (b : List ℕ). says b x) (same_bytes content p.0 q.0 p.1 q.1) p.3) q.3)
 one_state content limit says faulty one (good x) (good y) p q = ap good (one.said q.0 x y (subst (λ (b : List ℕ). says b x) (same_bytes content p.0 q.0 p.1 q.1) p.3) q.3)
 
--- lists of rules; a part that has one fault, or one good state
-abbrev Rules : Type 0
-Rules = List (List (List ℕ))
-
+-- a part that has one fault, or one good state
 abbrev One : Type 0
 One = Unit {0}
 

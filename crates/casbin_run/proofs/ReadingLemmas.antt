@@ -12,7 +12,8 @@ use Rattle.policy_csv.specs.declared.policy.PolicyFault.TheVariants.{NotYet, NoM
 use Rattle.casbin_run.specs.Cause.{IsLater, SaysNoPolicy}
 use Rattle.casbin_run.specs.Judging.{IsAnsweredBy}
 use Rattle.casbin_run.specs.Parts.{FileIs, model_limit, policy_limit}
-use Rattle.casbin_run.specs.Reading.{ModelStops, PolicyStops, model_stop_of, policy_stop_of}
+use Rattle.casbin_run.specs.Helps.Reading.{ModelStops, PolicyStops}
+use Rattle.casbin_run.specs.Stops.{model_stop_of, policy_stop_of}
 
 pub policy_stops : (files : Option Files) (name : List ℕ) (columns : ℕ) (rose : Type 0) (bytes : List ℕ) (fault : PolicyFault) → Holds files name bytes → length bytes ≤ policy_limit → (fault ≡ NotYet → SaysNoPolicy columns bytes) → PolicyStops files name columns rose (policy_stop_of fault)
 policy_stops files name columns rose bytes NotYet holds within says = (bytes, holds, within, says refl)

@@ -5,9 +5,8 @@ pub mod Judging
 pub mod Finders
 pub mod Answer
 pub mod Message
-pub mod Pieces
-pub mod Print
+pub mod Stops
 pub mod Parts
 pub mod Answers
 pub mod Cause
-pub mod Reading
+pub mod Helps

@@ -43,19 +43,20 @@ matcher_line (matcher.TooDeep at) = in_matcher at (codes ": too deep\n")
 matcher_line matcher.TooManyNodes = codes "model: matcher too large\n"
 matcher_line matcher.NoMemory = codes "no memory\n"
 
+-- a key, at the end of a line
+abbrev pub key_end : Key → List ℕ
+key_end k.R = codes "r\n"
+key_end k.P = codes "p\n"
+key_end k.E = codes "e\n"
+key_end k.M = codes "m\n"
+
 -- a key that a model lacks
 abbrev pub missing_line : Key → List ℕ
-missing_line k.R = codes "model: missing r\n"
-missing_line k.P = codes "model: missing p\n"
-missing_line k.E = codes "model: missing e\n"
-missing_line k.M = codes "model: missing m\n"
+missing_line key = codes "model: missing " ++ key_end key
 
 -- a key whose columns are out of order
 abbrev pub columns_line : Key → List ℕ
-columns_line k.R = codes "model: columns of r\n"
-columns_line k.P = codes "model: columns of p\n"
-columns_line k.E = codes "model: columns of e\n"
-columns_line k.M = codes "model: columns of m\n"
+columns_line key = codes "model: columns of " ++ key_end key
 
 -- a relation whose shape is none: the first is `g`, the others have their number
 abbrev pub shape_line : ℕ → List ℕ

@@ -1,6 +1,11 @@
 -- The words of a command: `enforce MODEL POLICY`, with the flag `--json` or without it.
-use Rattle.std.specs.Prelude.{ℕ, Bool, ◌==◌, ◌&&◌, ◌||◌, not, nat_le, List, [], ◌∷◌, ◌++◌, filter, Option, Some, None, codes, bytes_eq, count_by, if◌then◌else◌, slice_index}
+use Rattle.std.specs.Prelude.{ℕ, Bool, ◌==◌, ◌&&◌, ◌||◌, not, nat_le, List, [], ◌∷◌, ◌++◌, filter, Option, Some, None, codes, bytes_eq, count_by, if◌then◌else◌, slice_index, map, String, string_bytes}
+use Rattle.std.specs.declared.alloc.Global.{Global}
 use Rattle.std.specs.List.{list_all, before_first, after_first}
+
+-- the texts of words
+abbrev pub texts : List (String Global) → List (List ℕ)
+texts words = map (λ (word : String Global). string_bytes word) words
 
 -- what the words ask for: whether requests are JSON, and the names of the model's and the policy's file
 pub record Command : Type 0 where

@@ -4,7 +4,7 @@ ghost use Rattle.outside.specs.Files.{Holds};
 ghost use Rattle.policy_csv.specs.Policy.{IsPolicy};
 ghost use Rattle.casbin_run.specs.Parts.{FileIs, InputIs, model_limit, policy_limit};
 ghost use Rattle.casbin_run.specs.Judging.{IsAnsweredBy};
-ghost use Rattle.casbin_run.specs.Reading.{FetchStops, ModelStops, PolicyStops, InputStops};
+ghost use Rattle.casbin_run.specs.Helps.Reading.{FetchStops, ModelStops, PolicyStops, InputStops};
 
 use crate::stop::{Part, Stop};
 use model_conf::{Model, read_model};
@@ -20,9 +20,15 @@ const POLICY_LIMIT: u64 = 16_777_216;
 const INPUT_LIMIT: u64 = 16_777_216;
 
 /// Fetches and reads the model.
-pub fn read_model_file<F: Shelf>(alloc: Global, shelf: &mut F, name: &str) -> Result<Model, Stop>
-    ensures read { IfOk result (λ model. FileIs (F.files shelf.old) name.now model_limit (λ bytes. IsAnsweredBy bytes model)) }
-    ensures stopped { IfErr result (ModelStops (F.files shelf.old) name.now (Rose (F.faults shelf.old) (F.faults shelf.new))) }
+pub(crate) fn read_model_file<F: Shelf>(
+    alloc: Global,
+    shelf: &mut F,
+    name: &str,
+) -> Result<Model, Stop>
+    ensures read { IfOk result (λ model. FileIs (F.files shelf.old) name.now model_limit
+        (λ bytes. IsAnsweredBy bytes model)) }
+    ensures stopped { IfErr result (ModelStops (F.files shelf.old) name.now
+        (Rose (F.faults shelf.old) (F.faults shelf.new))) }
     ensures same_files { F.files shelf.new ≡ F.files shelf.old }
     ensures counted { F.faults shelf.old ≤ F.faults shelf.new }
 {
@@ -31,15 +37,17 @@ pub fn read_model_file<F: Shelf>(alloc: Global, shelf: &mut F, name: &str) -> Re
 }
 
 /// Fetches and reads the policy.
-pub fn read_policy_file<F: Shelf>(
+pub(crate) fn read_policy_file<F: Shelf>(
     alloc: Global,
     shelf: &mut F,
     name: &str,
     columns: u32,
 ) -> Result<Rules, Stop>
-    ensures read { IfOk result (λ rules. FileIs (F.files shelf.old) name.now policy_limit (λ bytes. IsPolicy columns bytes rules)) }
+    ensures read { IfOk result (λ rules. FileIs (F.files shelf.old) name.now policy_limit
+        (λ bytes. IsPolicy columns bytes rules)) }
     ensures columns { IfOk result (λ rules. All (λ rule. length rule ≡ columns) rules) }
-    ensures stopped { IfErr result (PolicyStops (F.files shelf.old) name.now columns (Rose (F.faults shelf.old) (F.faults shelf.new))) }
+    ensures stopped { IfErr result (PolicyStops (F.files shelf.old) name.now columns
+        (Rose (F.faults shelf.old) (F.faults shelf.new))) }
     ensures counted { F.faults shelf.old ≤ F.faults shelf.new }
 {
     let bytes = fetch(alloc, shelf, name, POLICY_LIMIT, Part::Policy)?;
@@ -47,10 +55,12 @@ pub fn read_policy_file<F: Shelf>(
 }
 
 /// Reads the input to its end.
-pub fn read_input<S: Source>(alloc: Global, input: &mut S) -> Result<String, Stop>
-    ensures read { IfOk result (λ text. InputIs (S.left input.old) (λ bytes. bytes ≡ string_bytes text)) }
+pub(crate) fn read_input<S: Source>(alloc: Global, input: &mut S) -> Result<String, Stop>
+    ensures read { IfOk result (λ text. InputIs (S.left input.old)
+        (λ bytes. bytes ≡ string_bytes text)) }
     ensures ended { OnOk result (IfSome (S.left input.new) (λ rest. rest ≡ [])) }
-    ensures stopped { IfErr result (InputStops (S.left input.old) (Rose (S.faults input.old) (S.faults input.new))) }
+    ensures stopped { IfErr result (InputStops (S.left input.old)
+        (Rose (S.faults input.old) (S.faults input.new))) }
     ensures counted { S.faults input.old ≤ S.faults input.new }
 {
     let bytes = match read_all(alloc, input, INPUT_LIMIT) {
@@ -75,7 +85,8 @@ fn fetch<F: Shelf>(
 ) -> Result<Vec<u8>, Stop>
     ensures found { IfOk result (λ bytes. Holds (F.files shelf.old) name.now bytes.items) }
     ensures within { IfOk result (λ bytes. length bytes.items ≤ most) }
-    ensures stopped { IfErr result (FetchStops (F.files shelf.old) name.now most (Rose (F.faults shelf.old) (F.faults shelf.new)) part) }
+    ensures stopped { IfErr result (FetchStops (F.files shelf.old) name.now most
+        (Rose (F.faults shelf.old) (F.faults shelf.new)) part) }
     ensures same_files { F.files shelf.new ≡ F.files shelf.old }
     ensures counted { F.faults shelf.old ≤ F.faults shelf.new }
 {

@@ -15,12 +15,16 @@ use policy_csv::policies_are_unique;
 /// The law that told words, files and input have one end: one cause at most, none where they are in order, and one
 /// text that answers them where no search is refused.
 pub fn one_end()
-    ensures one_cause { (words : List (List ℕ)) (files : Files) (input : List ℕ) (first second : Stop)
-        → Cause words (Some files) (Some input) first → Cause words (Some files) (Some input) second → first ≡ second }
+    ensures one_cause { (words : List (List ℕ)) (files : Files) (input : List ℕ)
+        (first second : Stop)
+        → Cause words (Some files) (Some input) first
+        → Cause words (Some files) (Some input) second → first ≡ second }
     ensures no_cause { (words : List (List ℕ)) (files : Files) (input : List ℕ) (stop : Stop)
-        → IsInOrder words (Some files) (Some input) → ¬ (Cause words (Some files) (Some input) stop) }
+        → IsInOrder words (Some files) (Some input)
+        → ¬ (Cause words (Some files) (Some input) stop) }
     ensures one_text { (words : List (List ℕ)) (files : Files) (input first second : List ℕ)
-        → IsAnswered words (Some files) (Some input) NoneBad first → IsAnswered words (Some files) (Some input) NoneBad second → first ≡ second }
+        → IsAnswered words (Some files) (Some input) NoneBad first
+        → IsAnswered words (Some files) (Some input) NoneBad second → first ≡ second }
 {
     text_says_one_model();
     text_has_one_model_fault();

@@ -2,12 +2,6 @@
 #![tactic(auto)]
 
 mod answer;
-#[cfg(test)]
-mod answer_tests;
-#[cfg(test)]
-mod call_tests;
-#[cfg(test)]
-mod example_tests;
 mod files;
 mod law;
 mod message;
@@ -23,6 +17,3 @@ pub use law::one_end;
 pub use run::run_casbin;
 pub use status::Status;
 pub use stop::{Part, Stop};
-
-#[cfg(test)]
-mod tests;

@@ -1,6 +1,6 @@
 ghost use Rattle.std.specs.Prelude.{◌≡◌, ◌++◌, decimal};
-ghost use Rattle.casbin_run.specs.Message.{columns_line, in_line, in_matcher, line_of, matcher_line, missing_line, model_line, shape_line};
-ghost use Rattle.casbin_run.specs.Pieces.{text_of};
+ghost use Rattle.casbin_run.specs.Message.{in_line, in_matcher, key_end, line_of, matcher_line, model_line, shape_line};
+ghost use Rattle.casbin_run.specs.Helps.Pieces.{text_of};
 
 use crate::stop::{Part, Stop};
 use matcher_read::MatcherFault;
@@ -8,14 +8,14 @@ use model_conf::{Key, ModelFault};
 
 /// A line with a number in it, or without one.
 #[derive(Clone, Copy)]
-pub struct Message {
+pub(crate) struct Message {
     pub head: &'static [u8],
     pub number: Option<u32>,
     pub tail: &'static [u8],
 }
 
 /// The line that tells a stop, with its LF.
-pub fn message_of(stop: Stop) -> Message
+pub(crate) fn message_of(stop: Stop) -> Message
     ensures { text_of result ≡ line_of stop }
 {
     match stop {
@@ -45,8 +45,8 @@ fn model_message(fault: ModelFault) -> Message
         ModelFault::UnknownSection { line } => in_line(line, b": unknown section\n"),
         ModelFault::UnknownKey { line } => in_line(line, b": unknown key\n"),
         ModelFault::RepeatedKey { line } => in_line(line, b": repeated key\n"),
-        ModelFault::Missing { key } => missing_message(key),
-        ModelFault::Columns { key } => columns_message(key),
+        ModelFault::Missing { key } => of_key(b"model: missing ", key),
+        ModelFault::Columns { key } => of_key(b"model: columns of ", key),
         ModelFault::RoleShape { relation } => shape_message(relation),
         ModelFault::UnknownEffect => whole(b"model: unknown effect\n"),
         ModelFault::Matcher(fault) => matcher_message(fault),
@@ -57,25 +57,25 @@ fn model_message(fault: ModelFault) -> Message
     }
 }
 
-fn missing_message(key: Key) -> Message
-    ensures { text_of result ≡ missing_line key }
+// A message that ends in a key.
+fn of_key(head: &'static [u8], key: Key) -> Message
+    ensures { text_of result ≡ head.now ++ key_end key }
 {
-    match key {
-        Key::R => whole(b"model: missing r\n"),
-        Key::P => whole(b"model: missing p\n"),
-        Key::E => whole(b"model: missing e\n"),
-        Key::M => whole(b"model: missing m\n"),
+    Message {
+        head,
+        number: None,
+        tail: key_end(key),
     }
 }
 
-fn columns_message(key: Key) -> Message
-    ensures { text_of result ≡ columns_line key }
+fn key_end(key: Key) -> &'static [u8]
+    ensures { result.now ≡ key_end key }
 {
     match key {
-        Key::R => whole(b"model: columns of r\n"),
-        Key::P => whole(b"model: columns of p\n"),
-        Key::E => whole(b"model: columns of e\n"),
-        Key::M => whole(b"model: columns of m\n"),
+        Key::R => b"r\n",
+        Key::P => b"p\n",
+        Key::E => b"e\n",
+        Key::M => b"m\n",
     }
 }
 

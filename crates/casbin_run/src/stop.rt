@@ -56,7 +56,7 @@ impl From<Failed> for Stop {
 }
 
 impl From<ModelFault> for Stop {
-    ghost use Rattle.casbin_run.specs.Reading.{model_stop_of};
+    ghost use Rattle.casbin_run.specs.Stops.{model_stop_of};
 
     ghost from_gives = { λ fault stop. stop ≡ model_stop_of fault };
 
@@ -69,7 +69,7 @@ impl From<ModelFault> for Stop {
 }
 
 impl From<PolicyFault> for Stop {
-    ghost use Rattle.casbin_run.specs.Reading.{policy_stop_of};
+    ghost use Rattle.casbin_run.specs.Stops.{policy_stop_of};
 
     ghost from_gives = { λ fault stop. stop ≡ policy_stop_of fault };
 

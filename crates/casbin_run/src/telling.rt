@@ -2,7 +2,7 @@ ghost use Rattle.std.specs.Prelude.{◌≡◌, ◌≤◌, ◌⊎◌, OnOk, OnErr
 ghost use Rattle.outside.specs.Faults.{Rose};
 ghost use Rattle.outside.specs.Told.{TookFront, with_back};
 ghost use Rattle.casbin_run.specs.Message.{line_of};
-ghost use Rattle.casbin_run.specs.Pieces.{number_text, text_of};
+ghost use Rattle.casbin_run.specs.Helps.Pieces.{number_text, text_of};
 
 use crate::message::{Message, message_of};
 use crate::stop::Stop;
@@ -10,9 +10,10 @@ use itoa::Buffer;
 use perm_base::{Failed, Sink, push_all};
 
 /// Pushes the line of a stop; where that fails, the stop is told by the status alone. It takes no memory.
-pub fn tell<E: Sink>(err: &mut E, stop: Stop)
+pub(crate) fn tell<E: Sink>(err: &mut E, stop: Stop)
     ensures some { TookFront (E.taken err.old) (E.taken err.new) (line_of stop) }
-    ensures all { (E.taken err.new ≡ with_back (E.taken err.old) (line_of stop)) ⊎ Rose (E.faults err.old) (E.faults err.new) }
+    ensures all { (E.taken err.new ≡ with_back (E.taken err.old) (line_of stop))
+        ⊎ Rose (E.faults err.old) (E.faults err.new) }
 {
     let _ = push_message(err, message_of(stop));
 }
@@ -20,7 +21,8 @@ pub fn tell<E: Sink>(err: &mut E, stop: Stop)
 // Pushes the pieces of a message.
 fn push_message<E: Sink>(err: &mut E, message: Message) -> Result<(), Failed>
     ensures took { OnOk result (E.taken err.new ≡ with_back (E.taken err.old) (text_of message)) }
-    ensures stopped { OnErr result (TookFront (E.taken err.old) (E.taken err.new) (text_of message)) }
+    ensures stopped { OnErr result
+        (TookFront (E.taken err.old) (E.taken err.new) (text_of message)) }
     ensures counted { E.faults err.old ≤ E.faults err.new }
     ensures failed { OnErr result (Rose (E.faults err.old) (E.faults err.new)) }
 {
@@ -31,8 +33,10 @@ fn push_message<E: Sink>(err: &mut E, message: Message) -> Result<(), Failed>
 
 // Pushes a number, where there is one.
 fn push_number<E: Sink>(err: &mut E, number: Option<u32>) -> Result<(), Failed>
-    ensures took { OnOk result (E.taken err.new ≡ with_back (E.taken err.old) (number_text number)) }
-    ensures stopped { OnErr result (TookFront (E.taken err.old) (E.taken err.new) (number_text number)) }
+    ensures took { OnOk result
+        (E.taken err.new ≡ with_back (E.taken err.old) (number_text number)) }
+    ensures stopped { OnErr result
+        (TookFront (E.taken err.old) (E.taken err.new) (number_text number)) }
     ensures counted { E.faults err.old ≤ E.faults err.new }
     ensures failed { OnErr result (Rose (E.faults err.old) (E.faults err.new)) }
 {

@@ -1,10 +1,11 @@
-ghost use Rattle.std.specs.Prelude.{◌≡◌, map, option_map, string_bytes, ◌≤◌, count_by, drop, length, ◌+◌, slice_get};
+ghost use Rattle.std.specs.Prelude.{◌≡◌, ◌+◌, ◌≤◌, count_by, drop, length, option_map, slice_get};
 ghost use Rattle.std.specs.List.{list_all, position_or_len};
-ghost use Rattle.casbin_run.specs.Words.{asked, asking, command_of, is_dashes, is_json, is_known, is_operand, named, operands};
+ghost use Rattle.casbin_run.specs.Words.{asked, asking, command_of, is_dashes, is_json, is_known};
+ghost use Rattle.casbin_run.specs.Words.{is_operand, named, operands, texts};
 
 /// What the words of a command ask for.
 #[derive(Clone, Copy)]
-pub struct Command<'a> {
+pub(crate) struct Command<'a> {
     /// Requests are JSON.
     pub json: bool,
     /// The name of the model's file.
@@ -14,8 +15,9 @@ pub struct Command<'a> {
 }
 
 /// What the words ask for, where they are a command. It takes no memory.
-pub fn read_words(words: &[String]) -> Option<Command<'_>>
-    ensures { option_map (λ c. asking c.json c.model.now c.policy.now) result ≡ command_of (map (λ word. string_bytes word) words.now) }
+pub(crate) fn read_words(words: &[String]) -> Option<Command<'_>>
+    ensures { option_map (λ c. asking c.json c.model.now c.policy.now) result
+        ≡ command_of (texts words.now) }
 {
     let (first, others) = words.split_first()?;
     if first.as_str() != "enforce" {
@@ -27,7 +29,8 @@ pub fn read_words(words: &[String]) -> Option<Command<'_>>
 
 // What the words before the first `--` and those behind it ask for.
 fn asked<'a>(before: &'a [String], behind: &'a [String]) -> Option<Command<'a>>
-    ensures { option_map (λ c. asking c.json c.model.now c.policy.now) result ≡ asked (map (λ word. string_bytes word) before.now) (map (λ word. string_bytes word) behind.now) }
+    ensures { option_map (λ c. asking c.json c.model.now c.policy.now) result
+        ≡ asked (texts before.now) (texts behind.now) }
 {
     let flags = flags(before);
     if !are_known(before) || flags > 1 {
@@ -38,7 +41,8 @@ fn asked<'a>(before: &'a [String], behind: &'a [String]) -> Option<Command<'a>>
 
 // The command that exactly two operands make.
 fn named<'a>(json: bool, before: &'a [String], behind: &'a [String]) -> Option<Command<'a>>
-    ensures { option_map (λ c. asking c.json c.model.now c.policy.now) result ≡ named json (operands (map (λ word. string_bytes word) before.now) (map (λ word. string_bytes word) behind.now)) }
+    ensures { option_map (λ c. asking c.json c.model.now c.policy.now) result
+        ≡ named json (operands (texts before.now) (texts behind.now)) }
 {
     let Some(model) = operand(before, behind, 0) else {
         return None;
@@ -58,7 +62,8 @@ fn named<'a>(json: bool, before: &'a [String], behind: &'a [String]) -> Option<C
 
 // The operand at a place, counted from 0.
 fn operand<'a>(before: &'a [String], behind: &'a [String], at: usize) -> Option<&'a str>
-    ensures { option_map (λ word. word.now) result ≡ slice_get (operands (map (λ word. string_bytes word) before.now) (map (λ word. string_bytes word) behind.now)) at }
+    ensures { option_map (λ word. word.now) result
+        ≡ slice_get (operands (texts before.now) (texts behind.now)) at }
 {
     let mut left = at;
     for word in before {
@@ -73,7 +78,7 @@ fn operand<'a>(before: &'a [String], behind: &'a [String], at: usize) -> Option<
 }
 
 fn word_at(words: &[String], at: usize) -> Option<&str>
-    ensures { option_map (λ word. word.now) result ≡ slice_get (map (λ word. string_bytes word) words.now) at }
+    ensures { option_map (λ word. word.now) result ≡ slice_get (texts words.now) at }
 {
     match words.get(at) {
         Some(word) => Some(word.as_str()),
@@ -83,7 +88,7 @@ fn word_at(words: &[String], at: usize) -> Option<&str>
 
 // The place of the first `--`, or the end.
 fn end_of_flags(words: &[String]) -> usize
-    ensures place { result ≡ position_or_len is_dashes (map (λ word. string_bytes word) words.now) }
+    ensures place { result ≡ position_or_len is_dashes (texts words.now) }
     ensures within { result ≤ length words.now }
 {
     words
@@ -94,7 +99,7 @@ fn end_of_flags(words: &[String]) -> usize
 
 // The words behind the one at a place, if there is one.
 fn words_behind(words: &[String], at: usize) -> &[String]
-    ensures { map (λ word. string_bytes word) result.now ≡ drop (at + 1) (map (λ word. string_bytes word) words.now) }
+    ensures { texts result.now ≡ drop (at + 1) (texts words.now) }
 {
     if at < words.len() {
         &words[at + 1..]
@@ -105,14 +110,14 @@ fn words_behind(words: &[String], at: usize) -> &[String]
 
 // How often the flag stands among the words.
 fn flags(words: &[String]) -> usize
-    ensures { result ≡ count_by is_json (map (λ word. string_bytes word) words.now) }
+    ensures { result ≡ count_by is_json (texts words.now) }
 {
     words.iter().filter(|word| is_json(word)).count()
 }
 
 // Each word is the flag or an operand.
 fn are_known(words: &[String]) -> bool
-    ensures { result ≡ list_all is_known (map (λ word. string_bytes word) words.now) }
+    ensures { result ≡ list_all is_known (texts words.now) }
 {
     words.iter().all(|word| is_json(word) || is_operand(word))
 }

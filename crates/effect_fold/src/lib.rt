@@ -4,8 +4,6 @@
 mod effect;
 mod fault;
 mod fold;
-#[cfg(test)]
-mod fold_tests;
 mod outcome;
 mod verdict;
 mod worked;

@@ -15,8 +15,6 @@ mod program;
 mod rows;
 mod scratch;
 mod stop;
-#[cfg(test)]
-mod tests;
 mod tree_values;
 mod truth;
 

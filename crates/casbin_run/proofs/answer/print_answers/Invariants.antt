@@ -1,4 +1,5 @@
 use Rattle.std.proofs.Common.{length}
+use Rattle.std.specs.Prelude.{string_bytes}
 use Rattle.std.specs.Str.{IsUtf8}
 use Rattle.casbin_run.specs.Script.{requests_of}
 use Rattle.casbin_run.proofs.PrintLemmas.{IsPrinted}
@@ -6,7 +7,7 @@ use Rattle.casbin_run.proofs.answer.print_answers.Given as goal
 
 abbrev pub invariant-loop-line : goal.invariant-loop-line
 invariant-loop-line g l = record {
-  printed : IsPrinted l.court.program.now l.court.rules.now l.court.json (requests_of l.input) (requests_of l.rest) l.number (g.K.Sink.taken l.initial.out) (g.K.Sink.taken l.out) l.text.items (g.K.Sink.faults l.initial.out) (g.K.Sink.faults l.out)
+  printed : IsPrinted l.court.program.now l.court.rules.now l.court.json (requests_of l.input) (requests_of l.rest) l.number (g.K.Sink.taken l.initial.out) (g.K.Sink.taken l.out) (string_bytes l.text) (g.K.Sink.faults l.initial.out) (g.K.Sink.faults l.out)
       (g.P.Finder.refusals l.initial.finder) (g.P.Finder.refusals l.finder);
   utf8 : IsUtf8 l.rest;
 }

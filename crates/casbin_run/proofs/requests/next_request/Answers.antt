@@ -1,5 +1,6 @@
 use Rattle.std.proofs.Common.{◌≡◌, true, false, sym, ◌∙◌, arith, rules}
-use Rattle.casbin_run.specs.Script.{is_passed, without_cr}
+use Rattle.text_parts.specs.Lines.{without_cr}
+use Rattle.text_parts.specs.Passed.{is_passed}
 use Rattle.casbin_run.proofs.RequestLemmas.{requests_of-none, requests_of-passed, requests_of-first}
 use Rattle.casbin_run.proofs.requests.next_request.Goals as goal
 

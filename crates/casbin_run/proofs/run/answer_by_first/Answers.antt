@@ -1,7 +1,7 @@
 use Rattle.std.proofs.Common.{◌≡◌, ◌<◌, length, arith}
 use Rattle.std.proofs.lemmas.Result.{IfErr-weaker, on_ok_weaker}
 use Rattle.outside.specs.Told.{with_back}
-use Rattle.casbin_run.specs.Print.{PrintStops}
+use Rattle.casbin_run.specs.Helps.Print.{PrintStops}
 use Rattle.casbin_run.proofs.FinderLemmas.{answering_first, first_used}
 use Rattle.casbin_run.proofs.run.answer_by_first.Goals as goal
 

@@ -1,5 +1,5 @@
 use Rattle.std.proofs.lemmas.Result.{err_from_is_err_and, on_err_weaker}
-use Rattle.casbin_run.specs.Pieces.{number_text}
+use Rattle.casbin_run.specs.Helps.Pieces.{number_text}
 use Rattle.casbin_run.proofs.TellingLemmas.{front_first, front_second, front_third}
 use Rattle.casbin_run.proofs.telling.push_message.Goals as goal
 

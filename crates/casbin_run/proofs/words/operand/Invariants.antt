@@ -1,7 +1,6 @@
 use Rattle.std.proofs.Common.{◌≡◌, drop}
 use Rattle.std.specs.Prelude.{slice_get}
-use Rattle.casbin_run.specs.Words.{operands}
-use Rattle.casbin_run.proofs.WordLemmas.{texts}
+use Rattle.casbin_run.specs.Words.{operands, texts}
 use Rattle.casbin_run.proofs.words.operand.Given as goal
 
 abbrev pub invariant-loop-word : goal.invariant-loop-word

@@ -1,10 +1,6 @@
 -- Why a part of a run was not read, by cases on the stop.
 use Rattle.std.specs.Prelude.{◌≡◌, ◌⊎◌, ℕ, ◌<◌, List, Option, IfSome, length, ⊤}
 use Rattle.outside.specs.Files.{Files, Lacks, OfFile}
-use Rattle.model_conf.specs.declared.fault.ModelFault.{ModelFault}
-use Rattle.model_conf.specs.declared.fault.ModelFault.TheVariants as model
-use Rattle.policy_csv.specs.declared.policy.PolicyFault.{PolicyFault}
-use Rattle.policy_csv.specs.declared.policy.PolicyFault.TheVariants as policy
 use Rattle.casbin_run.specs.declared.stop.Part.{Part}
 use Rattle.casbin_run.specs.declared.stop.Part.TheVariants.{Model, Policy, Input}
 use Rattle.casbin_run.specs.declared.stop.Stop.{Stop}
@@ -42,12 +38,3 @@ InputStops input rose (TooLong Input) = IfSome input (λ bytes. input_limit < le
 InputStops input rose NoScript = InputIs input SaysNoText
 InputStops input rose NoMemory = ⊤
 InputStops input rose _ = ⊥
-
--- the stop of a fault of each text
-abbrev pub model_stop_of : ModelFault → Stop
-model_stop_of model.NoMemory = NoMemory
-model_stop_of fault = NoModel fault
-
-abbrev pub policy_stop_of : PolicyFault → Stop
-policy_stop_of policy.NotYet = NoPolicy
-policy_stop_of policy.NoMemory = NoMemory

@@ -1,0 +1,183 @@
+use anyhow::{Context, Result, ensure};
+use casbin_run::run_casbin;
+use case_list::{Case, Field};
+use outside::{ListShelf, ListSink, ListSource, Text};
+use regex_gate::ListFinder;
+use std::alloc::Global;
+use std::io::Write;
+
+// The fields of a case. Those that end in `-fails` have the numbers of the calls that fail, counted from 1.
+const KEYS: [&str; 8] = [
+    "words",
+    "shelf-fails",
+    "input-fails",
+    "out-fails",
+    "out-most",
+    "err-fails",
+    "err-most",
+    "finder-fails",
+];
+
+const KEYS_OF_TEXTS: [&str; 3] = ["file", "input", "matchers"];
+
+// The file to which a line below `matchers` is added.
+const MODEL: &str = "m.conf";
+
+// How many bytes a sink has room for.
+const ROOM: u32 = 65_536;
+
+// A line of more bytes than the first is long, and of it so many are shown in front and at the end.
+const LONG: usize = 200;
+
+const SHOWN: usize = 80;
+
+const SHOWN_AT_END: usize = 40;
+
+/// Runs a case, and says what it came to. A case with `matchers` is run for each of these lines, with the line as the
+/// matcher at the end of its model.
+pub fn report(alloc: Global, case: &Case) -> Result<Vec<u8>> {
+    case.check_keys(&KEYS, &KEYS_OF_TEXTS)?;
+    let matchers = case.text(alloc, "matchers")?;
+    let mut report = Vec::new(alloc);
+    if matchers.is_empty() {
+        push_run(alloc, &mut report, case, b"")?;
+    }
+    for matcher in matchers.split_inclusive(|byte| *byte == b'\n') {
+        push_run(alloc, &mut report, case, matcher)?;
+    }
+    Ok(report)
+}
+
+// Runs a case with this matcher, and says what it came to.
+fn push_run(alloc: Global, report: &mut Vec<u8>, case: &Case, matcher: &[u8]) -> Result<()> {
+    let mut out = sink(alloc, case, "out-most", "out-fails")?;
+    let mut err = sink(alloc, case, "err-most", "err-fails")?;
+    let code = run(alloc, case, matcher, &mut out, &mut err)?;
+    write!(report, "case {}", case.name)?;
+    if let Some(matcher) = matcher.strip_suffix(b"\n") {
+        report.extend_from_slice(b": ")?;
+        report.extend_from_slice(matcher)?;
+    }
+    writeln!(report, ": status {code}")?;
+    push_lines(report, "out", out.bytes())?;
+    push_lines(report, "err", err.bytes())
+}
+
+// Runs a case with this matcher and these sinks, and gives its exit status.
+fn run(
+    alloc: Global,
+    case: &Case,
+    matcher: &[u8],
+    out: &mut ListSink,
+    err: &mut ListSink,
+) -> Result<u8> {
+    let words = case.words(alloc, "words")?;
+    let mut shelf = ListShelf::new(alloc, case.numbers(alloc, "shelf-fails")?);
+    put_files(alloc, &mut shelf, case, matcher)?;
+    let mut input = input(alloc, case)?;
+    let mut finders = finders(alloc, case)?;
+    run_over(
+        alloc,
+        &words,
+        &mut shelf,
+        &mut input,
+        out,
+        err,
+        &mut finders,
+    )
+}
+
+// Runs the program. What its contract says is of no use here, so this function keeps it from the others.
+fn run_over(
+    alloc: Global,
+    words: &[String],
+    shelf: &mut ListShelf,
+    input: &mut ListSource,
+    out: &mut ListSink,
+    err: &mut ListSink,
+    finders: &mut Vec<ListFinder>,
+) -> Result<u8> {
+    ensure!(finders.len() == 9, "a run has nine finders");
+    Ok(run_casbin(alloc, words, shelf, input, out, err, finders).code())
+}
+
+// The input of a case.
+fn input(alloc: Global, case: &Case) -> Result<ListSource> {
+    let fails = case.numbers(alloc, "input-fails")?;
+    Ok(ListSource::new(case.text(alloc, "input")?, fails))
+}
+
+// Puts the files of a case on a shelf.
+fn put_files(alloc: Global, shelf: &mut ListShelf, case: &Case, matcher: &[u8]) -> Result<()> {
+    for field in &case.fields {
+        if field.key.as_str() == "file" {
+            put_file(alloc, shelf, field, matcher)?;
+        }
+    }
+    Ok(())
+}
+
+fn put_file(alloc: Global, shelf: &mut ListShelf, field: &Field, matcher: &[u8]) -> Result<()> {
+    let name = Text::from_str(alloc, field.rest.as_str());
+    let name = name.ok().context("memory ran out")?;
+    let mut bytes = Vec::from_slice(alloc, &field.text)?;
+    if field.rest.as_str() == MODEL && !matcher.is_empty() {
+        bytes.extend_from_slice(b"m = ")?;
+        bytes.extend_from_slice(matcher)?;
+    }
+    shelf.put(name, bytes).ok().context("memory ran out")
+}
+
+// A sink that takes at most so many bytes at a call, where the case says how many.
+fn sink(alloc: Global, case: &Case, most: &str, fails: &str) -> Result<ListSink> {
+    let most = case.numbers(alloc, most)?.first().copied().unwrap_or(ROOM);
+    ensure!(most > 0, "a sink takes a byte at least");
+    let fails = case.numbers(alloc, fails)?;
+    let sink = ListSink::new(alloc, ROOM, most, fails);
+    sink.ok().context("memory ran out")
+}
+
+// The finders of a run, of which the first refuses the calls that the case says.
+fn finders(alloc: Global, case: &Case) -> Result<Vec<ListFinder>> {
+    let mut finders = Vec::new(alloc);
+    let refused = case.numbers(alloc, "finder-fails")?;
+    finders.push(ListFinder::new(alloc, refused))?;
+    for _ in 1..9 {
+        finders.push(ListFinder::new(alloc, Vec::new(alloc)))?;
+    }
+    Ok(finders)
+}
+
+// Says which lines a sink took. A last one without an end of line is said to be a front.
+fn push_lines(report: &mut Vec<u8>, sink: &str, bytes: &[u8]) -> Result<()> {
+    for line in bytes.split_inclusive(|byte| *byte == b'\n') {
+        match line.strip_suffix(b"\n") {
+            Some(line) => push_line(report, &["  ", sink, " "], line)?,
+            None => push_line(report, &["  ", sink, "-front "], line)?,
+        }
+    }
+    Ok(())
+}
+
+fn push_line(report: &mut Vec<u8>, tag: &[&str], line: &[u8]) -> Result<()> {
+    for part in tag {
+        report.extend_from_slice(part.as_bytes())?;
+    }
+    push_short(report, line)?;
+    report.push(b'\n')?;
+    Ok(())
+}
+
+// Appends a line; of a long one its first bytes, its length and its last bytes.
+fn push_short(report: &mut Vec<u8>, line: &[u8]) -> Result<()> {
+    let end = line.len().saturating_sub(SHOWN_AT_END);
+    match line.split_at_checked(end) {
+        Some((front, back)) if line.len() > LONG => {
+            report.extend_from_slice(front.get(..SHOWN).unwrap_or(front))?;
+            write!(report, " .. {} bytes .. ", line.len())?;
+            report.extend_from_slice(back)?;
+        }
+        _ => report.extend_from_slice(line)?,
+    }
+    Ok(())
+}
