@@ -80,7 +80,8 @@ fn are_distinct(names: &[&str]) -> bool
 
 // The place of a name, counted from 0.
 fn place_of(names: &[&str], name: &str) -> Option<usize>
-    ensures found { IfSome result (λ at. slice_get (map (λ n. n.now) names.now) at ≡ Some name.now) }
+    ensures found { IfSome result (λ at.
+        slice_get (map (λ n. n.now) names.now) at ≡ Some name.now) }
     ensures none { IfNone result (¬ (Contains (map (λ n. n.now) names.now) name.now)) }
 {
     names.iter().position(|n| *n == name)

@@ -9,7 +9,8 @@ use matcher_read::{faulty_text_is_no_matcher, text_has_one_fault, text_says_one_
 
 /// The law that a text says one model at most.
 pub fn text_says_one_model()
-    ensures { (bytes : List ℕ) (first second : ModelParts) → IsModel bytes first → IsModel bytes second → first ≡ second }
+    ensures { (bytes : List ℕ) (first second : ModelParts)
+        → IsModel bytes first → IsModel bytes second → first ≡ second }
 {
     text_says_one_matcher();
     text_has_one_fault();
@@ -18,7 +19,8 @@ pub fn text_says_one_model()
 
 /// The law that a text has one first fault at most.
 pub fn text_has_one_model_fault()
-    ensures { (bytes : List ℕ) (first second : ModelFault) → IsModelFault bytes first → IsModelFault bytes second → first ≡ second }
+    ensures { (bytes : List ℕ) (first second : ModelFault)
+        → IsModelFault bytes first → IsModelFault bytes second → first ≡ second }
 {
     text_says_one_matcher();
     text_has_one_fault();
@@ -27,7 +29,8 @@ pub fn text_has_one_model_fault()
 
 /// The law that a text with a fault is no model.
 pub fn faulty_text_is_no_model()
-    ensures { (bytes : List ℕ) (fault : ModelFault) (model : ModelParts) → IsModelFault bytes fault → ¬ (IsModel bytes model) }
+    ensures { (bytes : List ℕ) (fault : ModelFault) (model : ModelParts)
+        → IsModelFault bytes fault → ¬ (IsModel bytes model) }
 {
     text_says_one_matcher();
     text_has_one_fault();
@@ -36,5 +39,6 @@ pub fn faulty_text_is_no_model()
 
 /// The law that the printed text of a model says this model, where it has no more bytes than a model may have.
 pub fn printed_model_is_read()
-    ensures { (model : ModelParts) → IsKept model → length (printed model) ≤ most_bytes → IsModel (printed model) model }
+    ensures { (model : ModelParts) → IsKept model → length (printed model) ≤ most_bytes
+        → IsModel (printed model) model }
 {}

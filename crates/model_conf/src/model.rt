@@ -31,11 +31,15 @@ impl std::marker::Model for Model {
 
     ghost Value = { ModelParts };
 
-    ghost coded = { let s : Coded Sign = Prim.hlevel codes in Prim.hlevel (codes, expression_code s) };
+    ghost coded = {
+        let s : Coded Sign = Prim.hlevel codes in Prim.hlevel (codes, expression_code s)
+    };
 
-    ghost view = { λ m. parts_of m.request m.policy m.relations.items m.effect m.matcher_text (expression m.matcher) };
+    ghost view = { λ m. parts_of
+        m.request m.policy m.relations.items m.effect m.matcher_text (expression m.matcher) };
 
-    ghost invariant = { λ m. IsKept (parts_of m.request m.policy m.relations.items m.effect m.matcher_text (expression m.matcher)) };
+    ghost invariant = { λ m. IsKept (parts_of
+        m.request m.policy m.relations.items m.effect m.matcher_text (expression m.matcher)) };
 }
 
 impl Model {
@@ -48,8 +52,10 @@ impl Model {
         matcher_text: Text,
         matcher: Tree,
     ) -> Model
-        requires { IsKept (parts_of request policy relations.items effect matcher_text (expression matcher)) }
-        ensures { result ≡ parts_of request policy relations.items effect matcher_text (expression matcher) }
+        requires { IsKept (parts_of
+            request policy relations.items effect matcher_text (expression matcher)) }
+        ensures { result ≡ parts_of
+            request policy relations.items effect matcher_text (expression matcher) }
     {
         Model {
             request,
@@ -107,7 +113,9 @@ impl Model {
     /// number of names.
     pub fn matcher(&self) -> &Tree
         ensures value { expression result.now ≡ self.now.matcher }
-        ensures declared { first_undeclared self.now.request self.now.policy self.now.relations (uses (expression result.now)) ≡ None }
+        ensures declared { first_undeclared
+            self.now.request self.now.policy self.now.relations
+            (uses (expression result.now)) ≡ None }
     {
         &self.matcher
     }

@@ -53,7 +53,8 @@ pub(crate) fn key_named(section: Section, key: &str) -> Option<&'static str>
 pub(crate) fn relation_named(key: &str) -> Option<u8>
     ensures none { IfNone result (list_any (bytes_eq key.now) relation_names ≡ false) }
     ensures within { IfSome result (λ number. (0 < number) × (number ≤ 8)) }
-    ensures found { IfSome result (λ number. key.now ≡ slice_index_or relation_names (number - 1) []) }
+    ensures found { IfSome result (λ number.
+        key.now ≡ slice_index_or relation_names (number - 1) []) }
 {
     for number in 1..9 {
         if relation_name(number) == key {

@@ -42,12 +42,16 @@ pub fn shapes_of(
     requires names { AreNamedOnce names.now }
     requires domains { AreNamedOnce domains.now }
     requires limit { (0 < limit) × (limit ≤ 250) }
-    ensures found { IfOk result (λ shapes. shapes ≡ shapes_of model.now names.now domains.now limit) }
+    ensures found { IfOk result (λ shapes.
+        shapes ≡ shapes_of model.now names.now domains.now limit) }
     ensures valid { IfOk result (λ shapes. AreValid shapes) }
     ensures missing { (relation : ℕ)
-        → IsErrOf result (ShapeFault.NoRelation relation) ↔ (first_absent model.now.relations names.now domains.now ≡ Some relation) }
+        → IsErrOf result (ShapeFault.NoRelation relation)
+        ↔ (first_absent model.now.relations names.now domains.now ≡ Some relation) }
     ensures only { first_absent model.now.relations names.now domains.now ≡ None
-        → MatchResult result (λ shapes. shapes ≡ shapes_of model.now names.now domains.now limit) (λ fault. fault ≡ ShapeFault.NoMemory) }
+        → MatchResult result
+            (λ shapes. shapes ≡ shapes_of model.now names.now domains.now limit)
+            (λ fault. fault ≡ ShapeFault.NoMemory) }
 {
     let relations = model.relations();
     if let Some(relation) = first_absent(relations, names, domains) {
