@@ -3,7 +3,7 @@ use Rattle.std.proofs.Common.{◌≡◌, ℕ, ◌+◌, Bool, false, cond, List, 
 use Rattle.std.specs.Str.{bytes_eq}
 use Rattle.matcher_read.specs.Calls.{callee_of, functions, function_or, is_known, name_of, relation_at, relation_names}
 use Rattle.matcher_read.specs.Expression.{function, relation, expression, expressions_of, count}
-use Rattle.matcher_read.specs.TokenLists.{pieces}
+use Rattle.matcher_read.specs.Helps.TokenLists.{pieces}
 use Rattle.matcher_read.specs.declared.tree.Function.{Function}
 use Rattle.matcher_read.specs.declared.tree.Function.TheVariants as f
 use Rattle.matcher_read.specs.declared.tree.Tree.{Tree}

@@ -8,8 +8,8 @@ use Rattle.matcher_read.specs.Tokens.{Placed, placed, operator}
 use Rattle.matcher_read.specs.Tokens as token
 use Rattle.matcher_read.specs.declared.tree.Operator.{Operator}
 use Rattle.matcher_read.specs.declared.tree.Operator.TheVariants as op
-pub use Rattle.matcher_read.specs.Giving.{fresh, entry, Gives, holds_list}
-use Rattle.matcher_read.proofs.Machine.{Lefts, Kind, parentheses, members, arguments, Frame, Control, wants, has, has_members, opens, State, no_lefts, comparison_of, and_of, or_of, left_of, state_of, with_operand, pushed, Rank, term_rank, sum_rank, comparing_rank, rank, operates, parts, closes, step}
+use Rattle.matcher_read.specs.Helps.Giving.{fresh, entry, Gives, holds_list}
+use Rattle.matcher_read.specs.Helps.Machine.{Lefts, Kind, parentheses, members, arguments, Frame, Control, wants, has, has_members, opens, State, no_lefts, comparison_of, and_of, or_of, left_of, state_of, with_operand, pushed, Rank, term_rank, sum_rank, comparing_rank, rank, operates, parts, closes, step}
 
 -- what a part gives, the rule gives
 pub gives_part : {part rule : Rule} (l : Lefts) (frames : List Frame) (s : State) (e : Expression) → IsPartOf part rule → Gives part (fresh rule l) frames s e → Gives rule l frames s e

@@ -8,7 +8,7 @@ use Rattle.matcher_read.specs.Matcher.{IsMatcher, is_closed, most_levels, most_n
 use Rattle.matcher_read.specs.Tokens.{Placed, Token, name, called, number, text, unclosed, operator, exclamation, opening, closing, comma, is_reserved, name_before, token_before, with_calls}
 use Rattle.matcher_read.specs.declared.fault.MatcherFault.{MatcherFault}
 use Rattle.matcher_read.proofs.CuttingLemmas.{cut_is_one}
-use Rattle.matcher_read.proofs.Machine.{start, verdict}
+use Rattle.matcher_read.specs.Helps.Machine.{start, verdict}
 use Rattle.matcher_read.proofs.Runs.{derives_one, whole_reads}
 use Rattle.matcher_read.proofs.Verdicts.{Shows, first_verdict}
 

@@ -6,7 +6,6 @@ mod FrontLemmas
 mod Gives
 mod LawLemmas
 mod ListLemmas
-mod Machine
 mod NameLemmas
 mod NamingLemmas
 mod OpenSteps

@@ -4,9 +4,9 @@ use Rattle.std.proofs.lemmas.Bool.{eqb-true, eqb-false}
 use Rattle.std.proofs.lemmas.List.{get_or-take, length-drop}
 use Rattle.matcher_read.specs.Tokens.{Token, Placed, placed, name, called, number, text, unclosed, operator, exclamation, opening, closing, comma, IsSpelling, as_name, as_number, as_text, as_unclosed, as_operator, as_exclamation, as_opening, as_closing, as_comma, name_before, token_before, with_calls, is_reserved}
 use Rattle.std.specs.Prelude.{option_map}
-use Rattle.matcher_read.specs.TokenLists.{TokenList, HasDigits, end_of, placed_of, token_of}
+use Rattle.matcher_read.specs.Helps.TokenLists.{TokenList, HasDigits, end_of, placed_of, token_of}
 use Rattle.matcher_read.specs.declared.token.PlacedToken.{PlacedToken}
-use Rattle.matcher_read.specs.Cutting.{Found, found, token_at, or_one, Cut, onto_cut, cut_full, blanks, cut_within, cut, listed, IsAtEnd, IsLeft, begins_opening, name_by, marked}
+use Rattle.matcher_read.specs.Helps.Cutting.{Found, found, token_at, or_one, Cut, onto_cut, cut_full, blanks, cut_within, cut, listed, IsAtEnd, IsLeft, begins_opening, name_by, marked}
 use Rattle.matcher_read.proofs.TokenLemmas.{token_at-spelled, token_at-full}
 use Rattle.matcher_read.proofs.CuttingLemmas.{blanks-behind, cut_within-front, cut_full-at, cut_full-token, cut_within-one, cut-is}
 

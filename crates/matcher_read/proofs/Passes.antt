@@ -5,7 +5,7 @@ use Rattle.std.proofs.lemmas.Option.{none-some}
 use Rattle.matcher_read.specs.Tokens.{Placed}
 use Rattle.matcher_read.specs.declared.fault.MatcherFault.{MatcherFault}
 use Rattle.matcher_read.specs.declared.fault.MatcherFault.TheVariants.{Unexpected}
-use Rattle.matcher_read.proofs.Machine.{State, step, goes, goes_within, depth, token_fault, after_fault, read_step, verdict}
+use Rattle.matcher_read.specs.Helps.Machine.{State, step, goes, goes_within, depth, token_fault, after_fault, read_step, verdict}
 
 -- ---- two fronts of the tokens
 

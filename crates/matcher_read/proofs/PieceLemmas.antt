@@ -5,9 +5,9 @@ use Rattle.std.proofs.lemmas.List.Splits.{slice_split_first, length-slice_split,
 use Rattle.std.proofs.lemmas.Str.Pattern.{IsSplitOnceResult, split_once_first}
 use Rattle.std.specs.List.{position_or_len, after_first, slice_split, onto_first, join_with_byte}
 use Rattle.std.specs.Str.{bytes_eq}
-use Rattle.matcher_read.specs.Machine.{name_operand, is_in}
-use Rattle.matcher_read.specs.Naming.{request_of, policy_of}
-use Rattle.matcher_read.specs.TokenLists.{pieces}
+use Rattle.matcher_read.specs.Helps.Machine.{name_operand, is_in}
+use Rattle.matcher_read.specs.Helps.Naming.{request_of, policy_of}
+use Rattle.matcher_read.specs.Helps.TokenLists.{pieces}
 use denote.Ref.{Bor}
 
 -- no byte passes: one piece

@@ -2,13 +2,13 @@
 use Rattle.std.proofs.Common.{◌≡◌, ℕ, suc, ◌+◌, Bool, true, false, cond, List, [], ◌∷◌, ◌++◌, Option, None, Err, refl, ap, sym, ◌∙◌, subst, arith, append_assoc, append-nil, inl, inr, ◌⊎◌}
 use Rattle.std.proofs.lemmas.Bool.{false≢true}
 use Rattle.matcher_read.specs.Expression.{Expression, Expressions, no_more, one_more, expressions_of}
-use Rattle.matcher_read.specs.Giving.{Gives, holds_list}
+use Rattle.matcher_read.specs.Helps.Giving.{Gives, holds_list}
 use Rattle.matcher_read.specs.Grammar.{or_rule, Derives, DerivesList, by_last, by_more}
-use Rattle.matcher_read.specs.Machine.{is_in, Lefts, Frame, Kind, Control, wants, opens, State, no_lefts, levels_of, depth, step, verdict, state_of, pushed, final_value}
+use Rattle.matcher_read.specs.Helps.Machine.{is_in, Lefts, Frame, Kind, Control, wants, opens, State, no_lefts, levels_of, depth, step, verdict, state_of, pushed, final_value}
 use Rattle.matcher_read.specs.Matcher.{most_levels, is_sound, are_sound}
-use Rattle.matcher_read.specs.Parsing.{StopsAt, Read, Fails, ReadList, FailsList}
-use Rattle.matcher_read.specs.Taking.{may_follow, head_is, is_closing, is_opening, is_comma, Takes, Stays, IsUnexpected, ToldAt}
-use Rattle.matcher_read.specs.TokenLists.{TokenList}
+use Rattle.matcher_read.specs.Helps.Parsing.{StopsAt, Read, Fails, ReadList, FailsList}
+use Rattle.matcher_read.specs.Helps.Taking.{may_follow, head_is, is_closing, is_opening, is_comma, Takes, Stays, IsUnexpected, ToldAt}
+use Rattle.matcher_read.specs.Helps.TokenLists.{TokenList}
 use Rattle.matcher_read.specs.Tokens.{Placed, placed, Token, operator}
 use Rattle.matcher_read.specs.Tokens as token
 use Rattle.matcher_read.specs.declared.fault.MatcherFault.{MatcherFault}

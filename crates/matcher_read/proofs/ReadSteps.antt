@@ -4,13 +4,13 @@ use Rattle.std.proofs.lemmas.Bool.{le-leb}
 use Rattle.std.proofs.lemmas.Bool.{lt-leb}
 use Rattle.matcher_read.specs.Expression.{Expression}
 use Rattle.matcher_read.specs.Matcher.{most_levels}
-use Rattle.matcher_read.specs.Parsing.{StopsAt}
-use Rattle.matcher_read.specs.Taking.{place_of_first}
-use Rattle.matcher_read.specs.TokenLists.{end_of}
+use Rattle.matcher_read.specs.Helps.Parsing.{StopsAt}
+use Rattle.matcher_read.specs.Helps.Taking.{place_of_first}
+use Rattle.matcher_read.specs.Helps.TokenLists.{end_of}
 use Rattle.matcher_read.specs.Tokens.{Placed}
 use Rattle.matcher_read.specs.declared.fault.MatcherFault.{MatcherFault}
 use Rattle.matcher_read.specs.declared.fault.MatcherFault.TheVariants.{Unexpected, TooDeep}
-use Rattle.matcher_read.specs.Machine.{State, step, depth, token_fault, after_fault, final_value, finish, verdict}
+use Rattle.matcher_read.specs.Helps.Machine.{State, step, depth, token_fault, after_fault, final_value, finish, verdict}
 
 by_step : State → Placed → Option State → Result State MatcherFault
 by_step s t o = elim o [

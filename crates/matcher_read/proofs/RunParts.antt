@@ -10,9 +10,10 @@ use Rattle.matcher_read.specs.Grammar.{Rule, or_rule, and_rule, cmp_rule, sum_ru
 use Rattle.matcher_read.specs.Matcher.{is_sound, are_sound, is_closed, most_levels}
 use Rattle.matcher_read.specs.declared.fault.MatcherFault.TheVariants.{TooDeep}
 use Rattle.matcher_read.specs.declared.tree.Operator.{Operator}
-use Rattle.matcher_read.proofs.Machine.{State, step, depth, token_fault, Lefts, Frame, wants, no_lefts, state_of, with_operand, levels_of}
+use Rattle.matcher_read.specs.Helps.Machine.{State, step, depth, token_fault, Lefts, Frame, wants, no_lefts, state_of, with_operand, levels_of}
 use Rattle.matcher_read.proofs.Passes.{Passes, passes_both, passes_more, passes_none, passes_weaker}
-use Rattle.matcher_read.proofs.Gives.{fresh, entry, Gives, gives_part, Continues, join_continues, comparison_continues, holds_list}
+use Rattle.matcher_read.specs.Helps.Giving.{fresh, entry, Gives, holds_list}
+use Rattle.matcher_read.proofs.Gives.{gives_part, Continues, join_continues, comparison_continues}
 
 -- ---- expressions as lists
 

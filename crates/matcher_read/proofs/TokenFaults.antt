@@ -13,7 +13,7 @@ use Rattle.matcher_read.specs.declared.tree.Operator.TheVariants as op
 use Rattle.matcher_read.specs.declared.fault.MatcherFault.{MatcherFault}
 use Rattle.matcher_read.specs.declared.fault.MatcherFault.TheVariants as fault
 use Rattle.matcher_read.proofs.Depths.{encloses, within_depth, open_within_here, enclosing_settles, deeper_encloses}
-use Rattle.matcher_read.proofs.Machine.{State, Control, Lefts, Frame, Kind, state_of, wants, has, has_members, opens, arguments, members, parentheses, start, step, step_by, pushed, depth, goes, goes_within, call_fault, token_fault, after_fault, read_step, comparison_of}
+use Rattle.matcher_read.specs.Helps.Machine.{State, Control, Lefts, Frame, Kind, state_of, wants, has, has_members, opens, arguments, members, parentheses, start, step, step_by, pushed, depth, goes, goes_within, call_fault, token_fault, after_fault, read_step, comparison_of}
 use Rattle.matcher_read.proofs.Opens.{open_by_goes, top_call}
 use Rattle.matcher_read.proofs.Passes.{goes_behind, within_behind, within_goes}
 use Rattle.matcher_read.proofs.Runs.{derives_goes, list_goes}

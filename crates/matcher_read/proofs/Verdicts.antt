@@ -7,7 +7,7 @@ use Rattle.matcher_read.specs.Matcher.{most_levels, most_nodes}
 use Rattle.matcher_read.specs.Tokens.{Placed}
 use Rattle.matcher_read.specs.declared.fault.MatcherFault.{MatcherFault}
 use Rattle.matcher_read.specs.declared.fault.MatcherFault.TheVariants as fault
-use Rattle.matcher_read.proofs.Machine.{State, start, step, depth, goes, goes_within, token_fault, after_fault, read_step, final_value, finish, verdict}
+use Rattle.matcher_read.specs.Helps.Machine.{State, start, step, depth, goes, goes_within, token_fault, after_fault, read_step, final_value, finish, verdict}
 use Rattle.matcher_read.proofs.TokenFaults.{deep_fault, deep_opens, met_step, read_none, read_some, shallow, step_met}
 use Rattle.matcher_read.proofs.Opens.{whole_within}
 use Rattle.matcher_read.proofs.Passes.{reads, read_on, within_goes}

@@ -1,8 +1,8 @@
 ghost use Rattle.std.specs.Prelude.{◌≡◌, ◌+◌, option_map, position, find, MatchOption, false};
 ghost use Rattle.std.specs.Str.{bytes_eq};
 ghost use Rattle.matcher_read.specs.Calls.{callee_of, functions, is_known, name_of, relation_names, takes as accepts};
-ghost use Rattle.matcher_read.specs.Taking.{callee};
-ghost use Rattle.matcher_read.specs.TokenLists.{pieces};
+ghost use Rattle.matcher_read.specs.Helps.Taking.{callee};
+ghost use Rattle.matcher_read.specs.Helps.TokenLists.{pieces};
 
 use crate::tree::Function;
 

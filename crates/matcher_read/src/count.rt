@@ -1,7 +1,7 @@
 ghost use Rattle.std.specs.Prelude.{◌≡◌, nat_lt};
-ghost use Rattle.matcher_read.specs.Counting.{is_node as is_node_token, node_count};
+ghost use Rattle.matcher_read.specs.Helps.Counting.{is_node as is_node_token, node_count};
 ghost use Rattle.matcher_read.specs.Matcher.{most_nodes};
-ghost use Rattle.matcher_read.specs.TokenLists.{token_of};
+ghost use Rattle.matcher_read.specs.Helps.TokenLists.{token_of};
 
 use crate::token::Token;
 use crate::tokens::Tokens;

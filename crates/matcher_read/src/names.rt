@@ -1,9 +1,9 @@
 ghost use Rattle.std.specs.Prelude.{◌≡◌, IfOk, map, option_map};
 ghost use Rattle.matcher_read.specs.Expression as tree;
 ghost use Rattle.matcher_read.specs.Expression.{expression};
-ghost use Rattle.matcher_read.specs.Machine.{name_operand};
-ghost use Rattle.matcher_read.specs.TokenLists.{pieces};
-ghost use Rattle.matcher_read.specs.Naming.{policy_of, request_of, truth_of};
+ghost use Rattle.matcher_read.specs.Helps.Machine.{name_operand};
+ghost use Rattle.matcher_read.specs.Helps.TokenLists.{pieces};
+ghost use Rattle.matcher_read.specs.Helps.Naming.{policy_of, request_of, truth_of};
 
 use crate::tree::Tree;
 use perm_base::{NoMemory, Text};

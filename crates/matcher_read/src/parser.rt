@@ -1,9 +1,9 @@
 ghost use Rattle.std.specs.Prelude.{◌≡◌, ◌≢◌, Err, false, true, IfErr, MatchBool, MatchResult, Ok, ℕ};
-ghost use Rattle.matcher_read.specs.Counting.{IsWithin, is_ended};
+ghost use Rattle.matcher_read.specs.Helps.Counting.{IsWithin, is_ended};
 ghost use Rattle.matcher_read.specs.Expression.{expression};
 ghost use Rattle.matcher_read.specs.Grammar.{cmp_rule, prim_rule, unary_rule};
-ghost use Rattle.matcher_read.specs.Parsing.{ReadsBy, ReadsList};
-ghost use Rattle.matcher_read.specs.Taking.{
+ghost use Rattle.matcher_read.specs.Helps.Parsing.{ReadsBy, ReadsList};
+ghost use Rattle.matcher_read.specs.Helps.Taking.{
   Stays,
   Takes,
   TakesClosing,
@@ -23,7 +23,7 @@ ghost use Rattle.matcher_read.specs.Taking.{
   place_of_next,
   rule_of,
 };
-ghost use Rattle.matcher_read.specs.TokenLists.{end_of};
+ghost use Rattle.matcher_read.specs.Helps.TokenLists.{end_of};
 ghost use Rattle.matcher_read.specs.Tokens.{Placed, placed, comma};
 
 use crate::calls::called_by;

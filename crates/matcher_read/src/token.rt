@@ -2,11 +2,11 @@ ghost use Rattle.std.specs.Prelude.{◌≡◌, ◌<◌, ◌≤◌, ◌+◌, ◌-
 ghost use Rattle.std.specs.Char.{is_ascii_digit};
 ghost use Rattle.std.specs.List.{prefix_len};
 ghost use Rattle.std.specs.Str.{IsCharBoundary};
-ghost use Rattle.matcher_read.specs.Names.{is_letter, is_word};
-ghost use Rattle.matcher_read.specs.Cutting.{begins_name, found, goes_on, is_quote, name_at, name_size, number_at, sign_at, sign_of_one, sign_of_two, text_at, token_at};
-ghost use Rattle.matcher_read.specs.TokenLists.{token_of};
+ghost use Rattle.matcher_read.specs.Helps.Cutting.{begins_name, found, goes_on, is_quote, name_at, name_size, number_at, sign_at, sign_of_one, sign_of_two, text_at, token_at};
+ghost use Rattle.matcher_read.specs.Helps.TokenLists.{token_of};
 
 use crate::tree::Operator;
+use text_parts::{cut_at, is_letter, is_word};
 
 /// A token of a matcher (Casbin, syntax for models: matchers).
 #[derive(Clone, Copy)]
@@ -94,8 +94,8 @@ fn first_text(text: &str) -> (Token<'_>, usize)
 {
     let quote = text.as_bytes()[0];
     let rest = &text[1..];
-    match rest.as_bytes().iter().position(|byte| *byte == quote) {
-        Some(at) => (Token::Text(&rest[..at]), at + 2),
+    match cut_at(rest, quote) {
+        Some((inside, _)) => (Token::Text(inside), inside.len() + 2),
         None => (Token::Unclosed(rest), rest.len() + 1),
     }
 }
@@ -178,18 +178,6 @@ fn digits(bytes: &[u8]) -> usize
         size += 1;
     }
     size
-}
-
-fn is_letter(byte: u8) -> bool
-    ensures { result ≡ is_letter byte }
-{
-    byte.is_ascii_alphabetic() || byte == b'_'
-}
-
-fn is_word(byte: u8) -> bool
-    ensures { result ≡ is_word byte }
-{
-    byte.is_ascii_alphanumeric() || byte == b'_'
 }
 
 fn is_quote(byte: u8) -> bool

@@ -1,4 +1,4 @@
--- A help for the proofs, which no public clause cites: a machine that reads tokens from the left, one at a time, with what stands open round it.
+-- A machine that reads tokens from the left, one at a time, with what stands open round it.
 use Rattle.std.specs.Prelude.{ℕ, suc, ◌+◌, nat_le, nat_lt, pos, Bool, true, false, cond, List, [], ◌∷◌, ◌++◌, length, codes, Option, Some, None, option_and_then, option_map, Result, Ok, Err}
 use Rattle.std.specs.Str.{bytes_eq}
 use Rattle.std.specs.Str.Parse.{digits_value}
