@@ -27,7 +27,7 @@ pub(crate) fn called_by(name: &str) -> Option<Called>
     None
 }
 
-/// The function of a name.
+// The function of a name.
 fn function_by(name: &str) -> Option<Function>
     ensures { result ≡ find (λ found. bytes_eq name.now (name_of found)) functions }
 {
@@ -47,9 +47,10 @@ fn function_by(name: &str) -> Option<Function>
     }
 }
 
-/// The number of a role relation.
+// The number of a role relation.
 fn relation_by(name: &str) -> Option<u8>
-    ensures { result ≡ option_map (λ place. place + 1) (position (bytes_eq name.now) relation_names) }
+    ensures { result
+        ≡ option_map (λ place. place + 1) (position (bytes_eq name.now) relation_names) }
 {
     match name {
         "g" => Some(1),

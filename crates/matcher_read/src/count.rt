@@ -6,7 +6,7 @@ ghost use Rattle.matcher_read.specs.Helps.TokenLists.{token_of};
 use crate::token::Token;
 use crate::tokens::Tokens;
 
-/// The greatest number of nodes.
+// The greatest number of nodes.
 const MOST_NODES: u32 = 1024;
 
 /// Whether the tokens of a matcher make more nodes than it may have.
@@ -26,7 +26,7 @@ pub(crate) fn has_too_many_nodes(mut tokens: Tokens) -> bool
     false
 }
 
-/// Whether a token is a node: each but a parenthesis or a comma is one.
+// Whether a token is a node: each but a parenthesis or a comma is one.
 fn is_node(token: Token) -> bool
     ensures { result ≡ is_node_token (token_of token.entry) }
 {

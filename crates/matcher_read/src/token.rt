@@ -40,9 +40,10 @@ pub(crate) struct PlacedToken<'a> {
     pub(crate) token: Token<'a>,
 }
 
-// The longest token at the front of a text, and how many bytes spell it.
+/// The longest token at the front of a text, and how many bytes spell it.
 pub(crate) fn first_token(text: &str) -> Option<(Token<'_>, usize)>
-    ensures value { token_at text.now ≡ option_map (λ front. found (token_of front.0) front.1) result }
+    ensures value { token_at text.now
+        ≡ option_map (λ front. found (token_of front.0) front.1) result }
     ensures some { IfSome result (λ front. 0 < front.1) }
     ensures boundary { IfSome result (λ front. IsCharBoundary text.now front.1) }
 {
@@ -103,7 +104,8 @@ fn first_text(text: &str) -> (Token<'_>, usize)
 // The sign at the front of bytes; where one of two bytes fits, it is taken.
 fn first_sign(bytes: &[u8]) -> Option<(Token<'static>, usize)>
     requires { 0 < length bytes.now }
-    ensures value { option_map (λ front. found (token_of front.0) front.1) result ≡ sign_at bytes.now }
+    ensures value { option_map (λ front. found (token_of front.0) front.1) result
+        ≡ sign_at bytes.now }
     ensures some { IfSome result (λ front. 0 < front.1) }
     ensures ascii { IfSome result (λ front. slice_index bytes.now (front.1 - 1) < 128) }
     ensures within { IfSome result (λ front. front.1 ≤ length bytes.now) }
@@ -117,6 +119,7 @@ fn first_sign(bytes: &[u8]) -> Option<(Token<'static>, usize)>
     Some((token, 1))
 }
 
+// The sign of two bytes.
 fn sign_of_two(first: u8, second: u8) -> Option<Operator>
     ensures { result ≡ sign_of_two first second }
 {
@@ -131,6 +134,7 @@ fn sign_of_two(first: u8, second: u8) -> Option<Operator>
     }
 }
 
+// The sign of one byte.
 fn sign_of_one(byte: u8) -> Option<Token<'static>>
     ensures { option_map token_of result ≡ sign_of_one byte }
 {

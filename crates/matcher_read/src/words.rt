@@ -71,7 +71,8 @@ pub(crate) fn compares(operator: Operator) -> bool
 
 /// Whether a name is the word `in`.
 pub(crate) fn is_in(name: &str) -> bool
-    ensures { MatchBool result (pieces name.now ≡ codes "in" ∷ []) (is_in_word (pieces name.now) ≡ false) }
+    ensures { MatchBool result (pieces name.now ≡ codes "in" ∷ [])
+        (is_in_word (pieces name.now) ≡ false) }
 {
     name == "in"
 }
