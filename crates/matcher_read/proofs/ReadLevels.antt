@@ -1,6 +1,6 @@
 -- How what opens a level is read: members, calls, parentheses and signs.
 use Rattle.std.proofs.Common.{◌≡◌, ℕ, suc, ◌+◌, Bool, true, false, cond, List, [], ◌∷◌, ◌++◌, length, codes, Option, Some, None, Err, refl, ap, sym, ◌∙◌, subst, arith, append_assoc, length-append}
-use Rattle.std.proofs.lemmas.Bool.{false≢true}
+use Rattle.std.proofs.lemmas.Bool.{and_from, false≢true}
 use Rattle.std.specs.List.{list_all}
 use Rattle.matcher_read.specs.Calls.{callee_of, is_known, takes}
 use Rattle.matcher_read.specs.Expression.{Expression, among, call, expressions_of, count}
@@ -17,8 +17,9 @@ use Rattle.matcher_read.specs.declared.fault.MatcherFault.{MatcherFault}
 use Rattle.matcher_read.specs.declared.fault.MatcherFault.TheVariants.{UnknownFunction, WrongArguments}
 use Rattle.matcher_read.proofs.Gives.{step_in, step_called, closing_behind}
 use Rattle.matcher_read.proofs.RunLists.{takes_known}
-use Rattle.matcher_read.proofs.ReadSteps.{verdict_more, verdict_told, verdict_stops, quiet}
-use Rattle.matcher_read.proofs.ReadParts.{both, closed_join, small_depth}
+use Rattle.matcher_read.proofs.Passes.{verdict_next, verdict_meets}
+use Rattle.matcher_read.proofs.ReadSteps.{verdict_stops, quiet}
+use Rattle.matcher_read.proofs.ReadParts.{closed_join, small_depth}
 use Rattle.matcher_read.proofs.ReadLists.{framed_final, over_opening, FailsOpening, opening_fails}
 
 -- ---- a list in parentheses, behind what opens it
@@ -73,7 +74,7 @@ over_enclosed {n} {inside} {es} {before} {after} p kind l frames next size stray
     let k = enclosed_reaches p kind l frames holds h in
     ap (verdict size stray (state_of (opens kind) l frames)) p.opening.tokens ∙ over_opening n inside p.first_at kind l frames p.opened.tokens size stray p.levels h ∙ k.same size stray
     ∙ ap (verdict size stray k.state) p.closing.tokens
-    ∙ verdict_more size stray k.state next (placed p.last_at token.closing) after.tokens (closing_behind p.last_at no_lefts (last_frame kind l k.front ∷ frames) k.state k.last k.gives ∙ closed k.front k.last k.whole)
+    ∙ verdict_next size stray k.state next (placed p.last_at token.closing) after.tokens (closing_behind p.last_at no_lefts (last_frame kind l k.front ∷ frames) k.state k.last k.gives ∙ closed k.front k.last k.whole)
     (ap (λ (s : State). call_fault s.frames) k.gives.2 ∙ fine k.front k.last k.whole)
 
 -- ---- members
@@ -110,7 +111,7 @@ over_in : (n at : ℕ) (l : Lefts) (frames : List Frame) (s : State) (e : Expres
     → verdict size stray s (in_token at ∷ behind) ≡ verdict size stray (state_of (opens (members at e)) (fresh cmp_rule l) frames) behind
 over_in n at l frames s e behind size stray h g =
     let next = state_of (opens (members at e)) (fresh cmp_rule l) frames in
-    verdict_more size stray s next (in_token at) behind (step_in at l frames s e g) (quiet at (depth next) (small_depth (depth next) n h))
+    verdict_next size stray s next (in_token at) behind (step_in at l frames s e g) (quiet at (depth next) (small_depth (depth next) n h))
 
 pub read_members : {n inside at : ℕ} {e : Expression} {es : List Expression} {before middle behind after : TokenList} → Read n sum_rule sum_rule e before middle → Takes (in_token at) middle behind → Enclosed n inside es behind after
     → Read n cmp_rule cmp_rule (among at e (expressions_of es)) before after
@@ -122,7 +123,7 @@ read_members {n} {inside} {at} {e} {es} {before} {middle} {behind} {after} r t p
   derived = subst (λ (levels : ℕ). Derives levels cmp_rule (r.front ++ (in_token at ∷ enclosed_tokens p)) (among at e (expressions_of es))) (sym p.levels)
       (by_members p.first_at p.last_at (subst (λ (levels : ℕ). Derives levels sum_rule r.front e) p.levels r.derived) p.list.derived
       (sym (append_assoc r.front (in_token at ∷ placed p.first_at token.opening ∷ p.list.front) (placed p.last_at token.closing ∷ []))));
-  sound = both (is_sound e) (are_sound (expressions_of es)) r.sound p.list.sound;
+  sound = and_from (is_sound e) (are_sound (expressions_of es)) r.sound p.list.sound;
   closed = closed_join r.front (enclosed_tokens p) (in_token at) refl r.closed (closed_end p.list.front (placed p.last_at token.closing) refl p.list.closed);
   reaches = λ l frames h.
       let first = r.reaches (fresh cmp_rule l) frames h in
@@ -212,7 +213,7 @@ called_token at parts = placed at (token.called parts)
 over_called : (at : ℕ) (parts : List (List ℕ)) (l : Lefts) (frames : List Frame) (behind : List Placed) (size : ℕ) (stray : Option ℕ) → is_known (callee_of parts) ≡ true
     → verdict size stray (state_of wants l frames) (called_token at parts ∷ behind) ≡ verdict size stray (state_of (opens (arguments at parts)) l frames) behind
 over_called at parts l frames behind size stray known =
-    verdict_more size stray (state_of wants l frames) (state_of (opens (arguments at parts)) l frames) (called_token at parts) behind (step_called at parts l frames) (ap (λ (b : Bool). cond b None (Some (UnknownFunction at))) known)
+    verdict_next size stray (state_of wants l frames) (state_of (opens (arguments at parts)) l frames) (called_token at parts) behind (step_called at parts l frames) (ap (λ (b : Bool). cond b None (Some (UnknownFunction at))) known)
 
 count_is : (es : List Expression) → count (expressions_of es) ≡ length es
 count_is [] = refl
@@ -229,7 +230,7 @@ read_call {n} {inside} {at} {parts} {es} {before} {behind} {after} t p right = r
   stray = p.closing.stray ∙ p.list.stray ∙ p.opening.stray ∙ t.stray;
   size = p.closing.size ∙ p.list.size ∙ p.opening.size ∙ t.size;
   derived = subst (λ (levels : ℕ). Derives levels prim_rule (called_token at parts ∷ enclosed_tokens p) (call at (callee_of parts) (expressions_of es))) (sym p.levels) (by_call p.first_at p.last_at p.list.derived refl);
-  sound = both (takes (callee_of parts) (count (expressions_of es))) (are_sound (expressions_of es)) right p.list.sound;
+  sound = and_from (takes (callee_of parts) (count (expressions_of es))) (are_sound (expressions_of es)) right p.list.sound;
   closed = closed_end p.list.front (placed p.last_at token.closing) refl p.list.closed;
   reaches = λ l frames h.
       let made = call at (callee_of parts) (expressions_of es) in
@@ -267,7 +268,7 @@ fails_arguments {n} {inside} {at} {parts} {es} {before} {behind} {after} t known
       ap (verdict size stray (state_of wants l frames)) t.tokens ∙ over_called at parts l frames behind.tokens size stray known
       ∙ ap (verdict size stray (state_of (opens kind) l frames)) p.opening.tokens ∙ over_opening n inside p.first_at kind l frames p.opened.tokens size stray p.levels h ∙ k.same size stray
       ∙ ap (verdict size stray k.state) p.closing.tokens
-      ∙ verdict_told size stray k.state next (placed p.last_at token.closing) after.tokens (WrongArguments at) (closing_behind p.last_at no_lefts (last_frame kind l k.front ∷ frames) k.state k.last k.gives)
+      ∙ verdict_meets size stray k.state next (placed p.last_at token.closing) after.tokens (WrongArguments at) (closing_behind p.last_at no_lefts (last_frame kind l k.front ∷ frames) k.state k.last k.gives)
       (ap (λ (s : State). call_fault s.frames) k.gives.2
       ∙ ap (λ (m : ℕ). cond (takes (callee_of parts) m) None (Some (WrongArguments at))) (count_last es k.front k.last k.whole) ∙ ap (λ (b : Bool). cond b None (Some (WrongArguments at))) wrong);
 }

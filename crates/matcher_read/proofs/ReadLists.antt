@@ -1,6 +1,6 @@
 -- How lists, and what stands in parentheses, are read.
 use Rattle.std.proofs.Common.{◌≡◌, ℕ, suc, ◌+◌, Bool, true, false, cond, List, [], ◌∷◌, ◌++◌, Option, None, Err, refl, ap, sym, ◌∙◌, subst, arith, append_assoc, append-nil, inl, inr, ◌⊎◌}
-use Rattle.std.proofs.lemmas.Bool.{false≢true}
+use Rattle.std.proofs.lemmas.Bool.{and_from, and_parts, false≢true}
 use Rattle.matcher_read.specs.Expression.{Expression, Expressions, no_more, one_more, expressions_of}
 use Rattle.matcher_read.specs.Helps.Giving.{Gives, holds_list}
 use Rattle.matcher_read.specs.Grammar.{or_rule, Derives, DerivesList, by_last, by_more}
@@ -14,9 +14,9 @@ use Rattle.matcher_read.specs.Tokens as token
 use Rattle.matcher_read.specs.declared.fault.MatcherFault.{MatcherFault}
 use Rattle.matcher_read.specs.declared.fault.MatcherFault.TheVariants.{TooDeep}
 use Rattle.matcher_read.proofs.Gives.{step_opens, comma_behind, with_one}
-use Rattle.matcher_read.proofs.RunParts.{both_parts}
-use Rattle.matcher_read.proofs.ReadSteps.{verdict_more, verdict_told, verdict_stops, quiet, loud}
-use Rattle.matcher_read.proofs.ReadParts.{both, closed_join, tokens_join, fails_in}
+use Rattle.matcher_read.proofs.Passes.{verdict_next, verdict_meets}
+use Rattle.matcher_read.proofs.ReadSteps.{verdict_stops, quiet, loud}
+use Rattle.matcher_read.proofs.ReadParts.{closed_join, tokens_join, fails_in}
 
 -- ---- a list as tokens
 
@@ -35,8 +35,8 @@ derives_last at {n} {ts} {us} {e} (by_more there {first = first} {others = other
     by_more there d (derives_last at ds k) (ap (λ (xs : List Placed). xs ++ placed at token.comma ∷ us) same ∙ append_assoc first (placed there token.comma ∷ others) (placed at token.comma ∷ us))
 
 sound_last : (es : Expressions) (e : Expression) → are_sound es ≡ true → is_sound e ≡ true → are_sound (and_last es e) ≡ true
-sound_last no_more e p q = both (is_sound e) true q refl
-sound_last (one_more x es) e p q = let parts = both_parts (is_sound x) (are_sound es) p in both (is_sound x) (are_sound (and_last es e)) parts.0 (sound_last es e parts.1 q)
+sound_last no_more e p q = and_from (is_sound e) true q refl
+sound_last (one_more x es) e p q = let parts = and_parts (is_sound x) (are_sound es) p in and_from (is_sound x) (are_sound (and_last es e)) parts.0 (sound_last es e parts.1 q)
 
 -- ---- the machine in a list
 
@@ -51,7 +51,7 @@ list_first {n} {e} {before} {after} r = record {
   stray = r.stray;
   size = r.size;
   derived = by_last r.derived;
-  sound = both (is_sound e) true r.sound refl;
+  sound = and_from (is_sound e) true r.sound refl;
   closed = r.closed;
   reaches = λ frame frames kind h.
       let k = r.reaches no_lefts (frame ∷ frames) (omega (arith, h)) in
@@ -74,7 +74,7 @@ over_comma : (n at : ℕ) (frame : Frame) (frames : List Frame) (s : State) (las
     → Gives or_rule no_lefts (frame ∷ frames) s last → verdict size stray s (placed at token.comma ∷ behind) ≡ verdict size stray (state_of wants no_lefts (with_one frame last ∷ frames)) behind
 over_comma n at frame frames s last behind size stray kind h g =
     let next = state_of wants no_lefts (with_one frame last ∷ frames) in
-    verdict_more size stray s next (placed at token.comma) behind (comma_behind at no_lefts frame frames s last kind g) (quiet at (depth next) (omega (arith, h)))
+    verdict_next size stray s next (placed at token.comma) behind (comma_behind at no_lefts frame frames s last kind g) (quiet at (depth next) (omega (arith, h)))
 
 pub list_more : {n at : ℕ} {es : List Expression} {e : Expression} {before middle behind after : TokenList} → ReadList n (may_follow or_rule) es before middle → Takes (placed at token.comma) middle behind
     → Read n or_rule or_rule e behind after → ReadList n (may_follow or_rule) (es ++ e ∷ []) before after
@@ -181,7 +181,7 @@ head_no_opening kind l frames (t ∷ ts) h = no_opening kind l frames t.at t.tok
 pub over_opening : (n inside at : ℕ) (kind : Kind) (l : Lefts) (frames : List Frame) (behind : List Placed) (size : ℕ) (stray : Option ℕ) → n ≡ suc inside → depth (state_of (opens kind) l frames) + n ≡ most_levels
     → verdict size stray (state_of (opens kind) l frames) (placed at token.opening ∷ behind) ≡ verdict size stray (pushed kind l frames) behind
 over_opening n inside at kind l frames behind size stray e h =
-    verdict_more size stray (state_of (opens kind) l frames) (pushed kind l frames) (placed at token.opening) behind (step_opens at kind l frames) (quiet at (depth (pushed kind l frames)) (omega (arith, h, e)))
+    verdict_next size stray (state_of (opens kind) l frames) (pushed kind l frames) (placed at token.opening) behind (step_opens at kind l frames) (quiet at (depth (pushed kind l frames)) (omega (arith, h, e)))
 
 -- a fault where a parenthesis has to open
 abbrev pub FailsOpening : ℕ → TokenList → MatcherFault → Type 0
@@ -208,6 +208,6 @@ opening_fails n kind l frames before fault h (inl u) =
     verdict_stops before.size before.stray (state_of (opens kind) l frames) before.tokens (head_no_opening kind l frames before.tokens u.head) (opens_final kind l frames) ∙ ap (λ (f : MatcherFault). Err f) (sym u.told_there)
 opening_fails n kind l frames before fault h (inr (d, none)) =
     ap (verdict before.size before.stray (state_of (opens kind) l frames)) (d.tokens ∙ ap (λ (t : Placed). t ∷ d.others) (opening_is d.first d.passes))
-    ∙ verdict_told before.size before.stray (state_of (opens kind) l frames) (pushed kind l frames) (placed d.first.at token.opening) d.others (TooDeep d.first.at) (step_opens d.first.at kind l frames)
+    ∙ verdict_meets before.size before.stray (state_of (opens kind) l frames) (pushed kind l frames) (placed d.first.at token.opening) d.others (TooDeep d.first.at) (step_opens d.first.at kind l frames)
     (loud d.first.at (depth (pushed kind l frames)) (omega (arith, h, none)))
     ∙ ap (λ (f : MatcherFault). Err f) (sym d.told_there)

@@ -1,6 +1,6 @@
 -- How operands are read: what stands in parentheses, behind signs, and alone.
 use Rattle.std.proofs.Common.{◌≡◌, ℕ, suc, ◌+◌, ◌<◌, ◌≤◌, nat_lt, pos, Bool, true, false, cond, List, [], ◌∷◌, ◌++◌, codes, Option, Some, None, option_map, option_and_then, Result, Ok, Err, refl, ap, sym, ◌∙◌, subst, arith, append_assoc, inl, inr}
-use Rattle.std.proofs.lemmas.Bool.{false≢true}
+use Rattle.std.proofs.lemmas.Bool.{and_from, false≢true}
 use Rattle.std.specs.List.{list_all}
 use Rattle.std.specs.Option.{ok_or}
 use Rattle.std.specs.Result.{result_ok}
@@ -25,8 +25,9 @@ use Rattle.matcher_read.specs.declared.words.Sign.{Sign}
 use Rattle.matcher_read.specs.declared.words.Sign.TheVariants as sign
 use Rattle.matcher_read.proofs.Gives.{step_comma, step_called, step_parenthesis, step_negation, step_opposite, step_unclosed, step_number, closing_behind}
 use Rattle.matcher_read.proofs.OpenSteps.{AreDerived, name_derived}
-use Rattle.matcher_read.proofs.ReadSteps.{verdict_more, verdict_told, verdict_stops, quiet, loud}
-use Rattle.matcher_read.proofs.ReadParts.{both, fails_in}
+use Rattle.matcher_read.proofs.Passes.{verdict_next, verdict_meets}
+use Rattle.matcher_read.proofs.ReadSteps.{verdict_stops, quiet, loud}
+use Rattle.matcher_read.proofs.ReadParts.{fails_in}
 use Rattle.matcher_read.proofs.ReadLists.{framed_final, no_comma, FailsOpening, opening_is}
 use Rattle.matcher_read.proofs.ReadLevels.{list_frame, called_token, head_operand_stops, closed_end, unexpected_here}
 
@@ -35,7 +36,7 @@ use Rattle.matcher_read.proofs.ReadLevels.{list_frame, called_token, head_operan
 over_parenthesis : (n inside at : ℕ) (l : Lefts) (frames : List Frame) (behind : List Placed) (size : ℕ) (stray : Option ℕ) → n ≡ suc inside → depth (state_of wants l frames) + n ≡ most_levels
     → verdict size stray (state_of wants l frames) (placed at token.opening ∷ behind) ≡ verdict size stray (pushed parentheses l frames) behind
 over_parenthesis n inside at l frames behind size stray e h =
-    verdict_more size stray (state_of wants l frames) (pushed parentheses l frames) (placed at token.opening) behind (step_parenthesis at l frames) (quiet at (depth (pushed parentheses l frames)) (omega (arith, h, e)))
+    verdict_next size stray (state_of wants l frames) (pushed parentheses l frames) (placed at token.opening) behind (step_parenthesis at l frames) (quiet at (depth (pushed parentheses l frames)) (omega (arith, h, e)))
 
 inner_depth : (inside n : ℕ) (l : Lefts) (frames : List Frame) → n ≡ suc inside → depth (state_of wants l frames) + n ≡ most_levels → depth (entry or_rule no_lefts (list_frame parentheses l ∷ frames)) + inside ≡ most_levels
 inner_depth inside n l frames e h = omega (arith, e, h)
@@ -58,7 +59,7 @@ read_parentheses {n} {inside} {first_at} {last_at} {e} {before} {opened} {middle
         gives = refl;
         same = λ size stray.
             ap (verdict size stray (state_of wants l frames)) o.tokens ∙ over_parenthesis n inside first_at l frames opened.tokens size stray levels h ∙ k.same size stray ∙ ap (verdict size stray k.state) c.tokens
-            ∙ verdict_more size stray k.state (with_operand l frames e) (placed last_at token.closing) after.tokens (closing_behind last_at no_lefts (list_frame parentheses l ∷ frames) k.state e k.gives)
+            ∙ verdict_next size stray k.state (with_operand l frames e) (placed last_at token.closing) after.tokens (closing_behind last_at no_lefts (list_frame parentheses l ∷ frames) k.state e k.gives)
             (ap (λ (s : State). call_fault s.frames) k.gives.2);
         stops = head_operand_stops _ _ frames after.tokens;
       };
@@ -72,7 +73,7 @@ fails_at_parenthesis {n} {fault} {before} here (inl u) = not_unexpected before.t
 fails_at_parenthesis {n} {fault} {before} here (inr (d, none)) = record {
   told = λ l frames h.
       ap (verdict before.size before.stray (state_of wants l frames)) (d.tokens ∙ ap (λ (t : Placed). t ∷ d.others) (opening_is d.first d.passes))
-      ∙ verdict_told before.size before.stray (state_of wants l frames) (pushed parentheses l frames) (placed d.first.at token.opening) d.others (TooDeep d.first.at) (step_parenthesis d.first.at l frames)
+      ∙ verdict_meets before.size before.stray (state_of wants l frames) (pushed parentheses l frames) (placed d.first.at token.opening) d.others (TooDeep d.first.at) (step_parenthesis d.first.at l frames)
       (loud d.first.at (depth (pushed parentheses l frames)) (omega (arith, h, none)))
       ∙ ap (λ (f : MatcherFault). Err f) (sym d.told_there);
 }
@@ -139,7 +140,7 @@ over_sign : (s : Sign) (n inside : ℕ) (l : Lefts) (frames : List Frame) (behin
     → verdict size stray (state_of wants l frames) (sign_token s ∷ behind) ≡ verdict size stray (state_of wants (with_sign s l) frames) behind
 over_sign s n inside l frames behind size stray e h =
     let next = state_of wants (with_sign s l) frames in
-    verdict_more size stray (state_of wants l frames) next (sign_token s) behind (step_sign s l frames) (sign_quiet s (state_of wants l frames) next (omega (arith, h, e)))
+    verdict_next size stray (state_of wants l frames) next (sign_token s) behind (step_sign s l frames) (sign_quiet s (state_of wants l frames) next (omega (arith, h, e)))
 
 sign_derives : (s : Sign) (n : ℕ) (ts : List Placed) (e : Expression) → Derives n unary_rule ts e → Derives (suc n) unary_rule (sign_token s ∷ ts) (signed_by s e)
 sign_derives (sign.Not at) n ts e d = by_negation d
@@ -214,7 +215,7 @@ fails_at_sign {n} {fault} {before} d none = record {
       let s = sign_is d.first d.passes in
       let next = state_of wants (with_sign s.0 l) frames in
       ap (verdict before.size before.stray (state_of wants l frames)) (d.tokens ∙ ap (λ (t : Placed). t ∷ d.others) s.1)
-      ∙ verdict_told before.size before.stray (state_of wants l frames) next (sign_token s.0) d.others (TooDeep (sign_token s.0).at) (step_sign s.0 l frames)
+      ∙ verdict_meets before.size before.stray (state_of wants l frames) next (sign_token s.0) d.others (TooDeep (sign_token s.0).at) (step_sign s.0 l frames)
       (sign_loud s.0 (state_of wants l frames) next (omega (arith, h, none)))
       ∙ ap (λ (t : Placed). Err (TooDeep t.at)) (sym s.1) ∙ ap (λ (f : MatcherFault). Err f) (sym d.told_there);
 }
@@ -226,7 +227,7 @@ fails_at_call {n} {fault} {before} d = record {
   told = λ l frames h.
       let c = strange_is d.first d.passes in
       ap (verdict before.size before.stray (state_of wants l frames)) (d.tokens ∙ ap (λ (t : Placed). t ∷ d.others) c.1)
-      ∙ verdict_told before.size before.stray (state_of wants l frames) (state_of (opens (arguments d.first.at c.0)) l frames) (called_token d.first.at c.0) d.others (UnknownFunction d.first.at) (step_called d.first.at c.0 l frames)
+      ∙ verdict_meets before.size before.stray (state_of wants l frames) (state_of (opens (arguments d.first.at c.0)) l frames) (called_token d.first.at c.0) d.others (UnknownFunction d.first.at) (step_called d.first.at c.0 l frames)
       (ap (λ (b : Bool). cond b None (Some (UnknownFunction d.first.at))) c.2)
       ∙ ap (λ (f : MatcherFault). Err f) (sym d.told_there);
 }
@@ -355,13 +356,13 @@ read_operand {n} {first} {e} {before} {after} t h =
       size = t.size;
       derived = alone.derived;
       sound = alone.sound;
-      closed = both (is_closed first.token) true alone.closed refl;
+      closed = and_from (is_closed first.token) true alone.closed refl;
       reaches = λ l frames small. record {
         state = with_operand l frames e;
         gives = refl;
         same = λ size stray.
             ap (verdict size stray (state_of wants l frames)) t.tokens
-            ∙ verdict_more size stray (state_of wants l frames) (with_operand l frames e) first after.tokens (step_operand first.at first.token e l frames h)
+            ∙ verdict_next size stray (state_of wants l frames) (with_operand l frames e) first after.tokens (step_operand first.at first.token e l frames h)
             (alone.quiet (state_of wants l frames) (with_operand l frames e) (omega (arith, small)));
         stops = head_operand_stops _ _ frames after.tokens;
       };
@@ -419,10 +420,10 @@ step_comma_none at l frames = refl
 told_at : (at : ℕ) (t : Token) (fault : MatcherFault) (behind : List Placed) (size : ℕ) (stray : Option ℕ) (l : Lefts) (frames : List Frame) → is_sign t ≡ false → is_opening t ≡ false → is_called t ≡ false → operand_of at t ≡ Err fault
     → verdict size stray (state_of wants l frames) (placed at t ∷ behind) ≡ Err fault
 told_at at (token.unclosed bytes) fault behind size stray l frames a b c h =
-    verdict_told size stray (state_of wants l frames) (with_operand l frames (text at bytes)) (placed at (token.unclosed bytes)) behind (OpenText at) (step_unclosed at bytes l frames) refl ∙ ap (λ (f : MatcherFault). Err f) (let same : OpenText at ≡ fault = cc in same)
+    verdict_meets size stray (state_of wants l frames) (with_operand l frames (text at bytes)) (placed at (token.unclosed bytes)) behind (OpenText at) (step_unclosed at bytes l frames) refl ∙ ap (λ (f : MatcherFault). Err f) (let same : OpenText at ≡ fault = cc in same)
 told_at at (token.number digits) fault behind size stray l frames a b c h =
     let p = number_fault at digits fault h in
-    verdict_told size stray (state_of wants l frames) (with_operand l frames (whole at (pos (digits_value 10 digits)))) (placed at (token.number digits)) behind (NumberTooWide at) (step_number at digits l frames)
+    verdict_meets size stray (state_of wants l frames) (with_operand l frames (whole at (pos (digits_value 10 digits)))) (placed at (token.number digits)) behind (NumberTooWide at) (step_number at digits l frames)
     (ap (λ (b : Bool). cond b None (Some (NumberTooWide at))) p.0)
     ∙ ap (λ (f : MatcherFault). Err f) p.1
 told_at at (token.name names) fault behind size stray l frames a b c h =

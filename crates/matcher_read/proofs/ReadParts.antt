@@ -1,6 +1,6 @@
 -- How parts of an expression that were read make the whole, by a rule with operators.
 use Rattle.std.proofs.Common.{◌≡◌, ℕ, ◌+◌, ◌≤◌, Bool, true, false, cond, ◌&&◌, List, [], ◌∷◌, ◌++◌, length, Option, Some, None, Err, refl, ap, sym, ◌∙◌, subst, arith, append_assoc}
-use Rattle.std.proofs.lemmas.Bool.{false≢true}
+use Rattle.std.proofs.lemmas.Bool.{and_from, false≢true}
 use Rattle.std.proofs.lemmas.List.Folds.{list_all-append}
 use Rattle.std.specs.List.{list_all}
 use Rattle.matcher_read.specs.Expression.{Expression, binary}
@@ -19,7 +19,8 @@ use Rattle.matcher_read.specs.declared.tree.Operator.TheVariants as op
 use Rattle.matcher_read.specs.declared.words.Chain.{Chain}
 use Rattle.matcher_read.specs.declared.words.Chain.TheVariants as chain
 use Rattle.matcher_read.proofs.Gives.{gives_part, same_entry, Continues, join_continues}
-use Rattle.matcher_read.proofs.ReadSteps.{verdict_more, quiet}
+use Rattle.matcher_read.proofs.Passes.{verdict_next}
+use Rattle.matcher_read.proofs.ReadSteps.{quiet}
 
 -- ---- a part of a rule
 
@@ -52,13 +53,9 @@ fails_part {n} {part} {rule} {fault} {before} i f = record {
 
 -- ---- an operator and another part
 
--- what is sound and closed, of two sides
-pub both : (a b : Bool) → a ≡ true → b ≡ true → (a && b) ≡ true
-both a b p q = ap (λ (x : Bool). x && b) p ∙ q
-
 pub closed_join : (left right : List Placed) (t : Placed) → is_closed t.token ≡ true → list_all (λ (t : Placed). is_closed t.token) left ≡ true → list_all (λ (t : Placed). is_closed t.token) right ≡ true
     → list_all (λ (t : Placed). is_closed t.token) (left ++ t ∷ right) ≡ true
-closed_join left right t c p q = list_all-append (λ (t : Placed). is_closed t.token) left (t ∷ right) ∙ both _ _ p (both (is_closed t.token) _ c q)
+closed_join left right t c p q = list_all-append (λ (t : Placed). is_closed t.token) left (t ∷ right) ∙ and_from _ _ p (and_from (is_closed t.token) _ c q)
 
 pub tokens_join : (before left right middle behind after : List Placed) (t : Placed) → before ≡ left ++ middle → middle ≡ t ∷ behind → behind ≡ right ++ after → before ≡ (left ++ t ∷ right) ++ after
 tokens_join before left right middle behind after t p q r = p ∙ ap (λ (xs : List Placed). left ++ xs) (q ∙ ap (λ (xs : List Placed). t ∷ xs) r) ∙ sym (append_assoc left (t ∷ right) after)
@@ -79,7 +76,7 @@ over : {rule part : Rule} (n : ℕ) (at : ℕ) (o : Operator) (l : Lefts) (frame
     → verdict size stray s (placed at (operator o) ∷ behind) ≡ verdict size stray (entry part c.lefts frames) behind
 over {rule} {part} n at o l frames s build behind size stray u c h =
     let next = entry part c.lefts frames in
-    verdict_more size stray s next (placed at (operator o)) behind c.steps (quiet at (depth next) (small_depth (depth next) n (part_depth rule part n l c.lefts frames u c.unsigned h)))
+    verdict_next size stray s next (placed at (operator o)) behind c.steps (quiet at (depth next) (small_depth (depth next) n (part_depth rule part n l c.lefts frames u c.unsigned h)))
 
 -- the rules that have operators between their parts, or compare
 unsigned_cmp : Unsigned cmp_rule
@@ -103,7 +100,7 @@ read_joined {n} {at} {rule} {part} {stop} {o} {e} {f} {before} {middle} {behind}
   stray = k.stray ∙ t.stray ∙ r.stray;
   size = k.size ∙ t.size ∙ r.size;
   derived = by_join j i r.derived k.derived refl;
-  sound = both (is_sound e) (is_sound f) r.sound k.sound;
+  sound = and_from (is_sound e) (is_sound f) r.sound k.sound;
   closed = closed_join r.front k.front (placed at (operator o)) refl r.closed k.closed;
   reaches = λ l frames h.
       let first = r.reaches l frames h in
@@ -275,7 +272,7 @@ read_compared {n} {at} {o} {e} {f} {before} {middle} {behind} {after} j r t k = 
   stray = k.stray ∙ t.stray ∙ r.stray;
   size = k.size ∙ t.size ∙ r.size;
   derived = by_comparison (compares_is o j) r.derived k.derived refl;
-  sound = both (is_sound e) (is_sound f) r.sound k.sound;
+  sound = and_from (is_sound e) (is_sound f) r.sound k.sound;
   closed = closed_join r.front k.front (placed at (operator o)) refl r.closed k.closed;
   reaches = λ l frames h.
       let first = r.reaches (fresh cmp_rule l) frames h in

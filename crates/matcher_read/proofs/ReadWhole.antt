@@ -21,7 +21,7 @@ use Rattle.matcher_read.proofs.CountLemmas.{nodes_derived}
 use Rattle.matcher_read.proofs.Gives.{closing_behind, step_comma}
 use Rattle.matcher_read.proofs.LawLemmas.{calls_closed, no_matcher_with_fault, one_fault, one_matcher}
 use Rattle.matcher_read.proofs.ReadLists.{no_comma}
-use Rattle.matcher_read.proofs.ReadSteps.{verdict_none}
+use Rattle.matcher_read.proofs.Passes.{verdict_none}
 use Rattle.matcher_read.proofs.Runs.{reads_through}
 use Rattle.matcher_read.proofs.Verdicts.{read_fine, verdict_first}
 

@@ -1,6 +1,6 @@
 -- A run for each of the grammar's operators, from the runs of the operands.
 use Rattle.std.proofs.Common.{◌≡◌, ℕ, ◌+◌, ◌≤◌, nat_le, Bool, true, false, cond, ◌&&◌, List, [], ◌∷◌, ◌++◌, Some, None, refl, ap, sym, ◌∙◌, arith, suc, length}
-use Rattle.std.proofs.lemmas.Bool.{le-leb, false≢true}
+use Rattle.std.proofs.lemmas.Bool.{and_parts, false≢true, le-leb}
 use Rattle.std.proofs.lemmas.List.Folds.{list_all-append}
 use Rattle.std.specs.List.{list_all}
 use Rattle.matcher_read.specs.Tokens.{Placed, placed, operator}
@@ -11,6 +11,7 @@ use Rattle.matcher_read.specs.Matcher.{is_sound, are_sound, is_closed, most_leve
 use Rattle.matcher_read.specs.declared.fault.MatcherFault.TheVariants.{TooDeep}
 use Rattle.matcher_read.specs.declared.tree.Operator.{Operator}
 use Rattle.matcher_read.specs.Helps.Machine.{State, step, depth, token_fault, Lefts, Frame, wants, no_lefts, state_of, with_operand, levels_of}
+use Rattle.matcher_read.proofs.ReadSteps.{quiet}
 use Rattle.matcher_read.proofs.Passes.{Passes, passes_both, passes_more, passes_none, passes_weaker}
 use Rattle.matcher_read.specs.Helps.Giving.{fresh, entry, Gives, holds_list}
 use Rattle.matcher_read.proofs.Gives.{gives_part, Continues, join_continues, comparison_continues}
@@ -41,25 +42,21 @@ pub record Fine (most : ℕ) (ts : List Placed) (test : Bool) : Type 0 where
   pub closed : are_closed ts ≡ true
   pub shallow : most ≤ most_levels
 
-pub both_parts : (a b : Bool) → (a && b) ≡ true → (a ≡ true) × (b ≡ true)
-both_parts true b h = (refl, h)
-both_parts false b h = absurd (false≢true h)
-
 pub closed-append : (ts us : List Placed) → are_closed (ts ++ us) ≡ true → (are_closed ts ≡ true) × (are_closed us ≡ true)
-closed-append ts us h = both_parts (are_closed ts) (are_closed us) (sym (list_all-append (λ (t : Placed). is_closed t.token) ts us) ∙ h)
+closed-append ts us h = and_parts (are_closed ts) (are_closed us) (sym (list_all-append (λ (t : Placed). is_closed t.token) ts us) ∙ h)
 
 -- with the whole its parts are fine
 pub fine_front : {most : ℕ} {test : Bool} (ts us : List Placed) → Fine most (ts ++ us) test → Fine most ts test
 fine_front ts us q = record { sound = q.sound; closed = (closed-append ts us q.closed).0; shallow = q.shallow }
 
 pub fine_behind : {most : ℕ} {test : Bool} (ts : List Placed) (t : Placed) (us : List Placed) → Fine most (ts ++ t ∷ us) test → Fine most us test
-fine_behind ts t us q = record { sound = q.sound; closed = (both_parts (is_closed t.token) (are_closed us) (closed-append ts (t ∷ us) q.closed).1).1; shallow = q.shallow }
+fine_behind ts t us q = record { sound = q.sound; closed = (and_parts (is_closed t.token) (are_closed us) (closed-append ts (t ∷ us) q.closed).1).1; shallow = q.shallow }
 
 pub fine_first : {most : ℕ} {ts : List Placed} (a b : Bool) → Fine most ts (a && b) → Fine most ts a
-fine_first a b q = record { sound = (both_parts a b q.sound).0; closed = q.closed; shallow = q.shallow }
+fine_first a b q = record { sound = (and_parts a b q.sound).0; closed = q.closed; shallow = q.shallow }
 
 pub fine_second : {most : ℕ} {ts : List Placed} (a b : Bool) → Fine most ts (a && b) → Fine most ts b
-fine_second a b q = record { sound = (both_parts a b q.sound).1; closed = q.closed; shallow = q.shallow }
+fine_second a b q = record { sound = (and_parts a b q.sound).1; closed = q.closed; shallow = q.shallow }
 
 -- ---- what runs
 
@@ -88,7 +85,7 @@ RunsList n ts es = (most : ℕ) (frame : Frame) (frames : List Frame) → holds_
 -- ---- levels
 
 pub shallow_fault : (next : State) (at most : ℕ) → depth next ≤ most → most ≤ most_levels → cond (nat_le (depth next) most_levels) None (Some (TooDeep at)) ≡ None
-shallow_fault next at most h k = ap (λ (b : Bool). cond b None (Some (TooDeep at))) (le-leb (depth next) most_levels (omega arith))
+shallow_fault next at most h k = quiet at (depth next) (omega arith)
 
 pub unsigned_depth : (l : Lefts) (frames : List Frame) → l.signs ≡ [] → depth (state_of wants l frames) ≡ levels_of frames
 unsigned_depth l frames e = ap (λ (signs : List (ℕ × Bool)). length signs + levels_of frames) e ∙ omega arith
