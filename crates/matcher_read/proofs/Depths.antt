@@ -6,7 +6,7 @@ use Rattle.matcher_read.specs.Tokens.{Placed, Token, name, called, number, unclo
 use Rattle.matcher_read.specs.Tokens as token
 use Rattle.matcher_read.specs.declared.tree.Operator.{Operator}
 use Rattle.matcher_read.specs.declared.tree.Operator.TheVariants as op
-use Rattle.matcher_read.specs.Helps.Machine.{Left, Lefts, Kind, parentheses, members, arguments, Frame, State, Control, wants, has, has_members, opens, start, with_operand, goes, goes_within, joined_left, sum_of, Rank, term_rank, sum_rank, comparing_rank, and_rank, or_rank, rank, joins, operates, asks, parts, closes, name_operand, is_in, step_wants, step_by, step, levels_of, depth}
+use Rattle.matcher_read.specs.Helps.Machine.{Left, Lefts, Kind, parentheses, members, arguments, Frame, State, Control, wants, has, has_members, opens, start, with_operand, goes_within, joined_left, sum_of, Rank, term_rank, sum_rank, comparing_rank, and_rank, or_rank, rank, joins, operates, asks, parts, closes, name_operand, is_in, step_wants, step_by, step, levels_of, depth}
 use Rattle.matcher_read.proofs.Opens.{awaited, open_within}
 use Rattle.matcher_read.proofs.Passes.{within_more}
 

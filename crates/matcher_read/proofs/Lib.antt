@@ -12,6 +12,7 @@ mod OpenSteps
 mod Opens
 mod Passes
 mod PieceLemmas
+mod Ranks
 mod ReadLevels
 mod ReadLists
 mod ReadOperands

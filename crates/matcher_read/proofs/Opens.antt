@@ -1,5 +1,5 @@
 -- What the machine goes through can be completed to a matcher, and what it has gone through whole is one.
-use Rattle.std.proofs.Common.{◌≡◌, ℕ, suc, ◌+◌, ◌≤◌, nat_le, Bool, true, false, cond, List, [], ◌∷◌, ◌++◌, length, Option, Some, None, option_and_then, option_map, refl, sym, ap, ◌∙◌, subst, arith, append_assoc, append-nil, le_trans, leb-true, le-leb}
+use Rattle.std.proofs.Common.{◌≡◌, ℕ, suc, ◌+◌, ◌≤◌, nat_le, Bool, true, false, cond, List, [], ◌∷◌, ◌++◌, length, Option, Some, None, option_and_then, option_map, refl, sym, ap, ◌∙◌, subst, arith, append_assoc, append-nil, leb-true}
 use Rattle.matcher_read.specs.Expression.{Expression, Expressions, one_more, no_more, count}
 use Rattle.matcher_read.specs.Faults.{IsOpenWithin, IsOpen}
 use Rattle.matcher_read.specs.Grammar.{Derives, by_text, DerivesList, by_last, or_rule}

@@ -15,6 +15,7 @@ use Rattle.matcher_read.specs.Tokens.{Placed, placed, Token, operator}
 use Rattle.matcher_read.specs.Tokens as token
 use Rattle.matcher_read.specs.declared.fault.MatcherFault.{MatcherFault}
 use Rattle.matcher_read.specs.declared.fault.MatcherFault.TheVariants.{UnknownFunction, WrongArguments}
+use Rattle.matcher_read.proofs.CallLemmas.{count_is}
 use Rattle.matcher_read.proofs.Gives.{step_in, step_called, closing_behind}
 use Rattle.matcher_read.proofs.RunLists.{takes_known}
 use Rattle.matcher_read.proofs.Passes.{verdict_next, verdict_meets}
@@ -89,15 +90,9 @@ members_stop e l frames at (token.operator o) h = by_rank (rank o) h
     by_rank comparing_rank h = refl
     by_rank and_rank h = absurd (false≢true (sym h))
     by_rank or_rank h = absurd (false≢true (sym h))
-members_stop e l frames at (token.name parts) h = refl
-members_stop e l frames at (token.called parts) h = refl
-members_stop e l frames at (token.number digits) h = refl
-members_stop e l frames at (token.text bytes) h = refl
-members_stop e l frames at (token.unclosed bytes) h = refl
-members_stop e l frames at token.exclamation h = refl
-members_stop e l frames at token.opening h = refl
 members_stop e l frames at token.closing h = absurd (false≢true (sym h))
 members_stop e l frames at token.comma h = absurd (false≢true (sym h))
+members_stop e l frames at _ h = refl
 
 head_members_stop : (e : Expression) (l : Lefts) (frames : List Frame) (ts : List Placed) → head_is (may_follow cmp_rule) ts ≡ false → StopsAt (state_of (has_members e) l frames) ts
 head_members_stop e l frames [] h = tt
@@ -192,14 +187,9 @@ operand_stops x l frames at (token.name parts) h = by_word (is_in parts) h
     by_word : (b : Bool) → cond b true false ≡ false → cond b (asks at l frames x) None ≡ None
     by_word true h = absurd (false≢true (sym h))
     by_word false h = refl
-operand_stops x l frames at (token.called parts) h = refl
-operand_stops x l frames at (token.number digits) h = refl
-operand_stops x l frames at (token.text bytes) h = refl
-operand_stops x l frames at (token.unclosed bytes) h = refl
-operand_stops x l frames at token.exclamation h = refl
-operand_stops x l frames at token.opening h = refl
 operand_stops x l frames at token.closing h = absurd (false≢true (sym h))
 operand_stops x l frames at token.comma h = absurd (false≢true (sym h))
+operand_stops x l frames at _ h = refl
 
 pub head_operand_stops : (x : Expression) (l : Lefts) (frames : List Frame) (ts : List Placed) → head_is (may_follow prim_rule) ts ≡ false → StopsAt (state_of (has x) l frames) ts
 head_operand_stops x l frames [] h = tt
@@ -214,10 +204,6 @@ over_called : (at : ℕ) (parts : List (List ℕ)) (l : Lefts) (frames : List Fr
     → verdict size stray (state_of wants l frames) (called_token at parts ∷ behind) ≡ verdict size stray (state_of (opens (arguments at parts)) l frames) behind
 over_called at parts l frames behind size stray known =
     verdict_next size stray (state_of wants l frames) (state_of (opens (arguments at parts)) l frames) (called_token at parts) behind (step_called at parts l frames) (ap (λ (b : Bool). cond b None (Some (UnknownFunction at))) known)
-
-count_is : (es : List Expression) → count (expressions_of es) ≡ length es
-count_is [] = refl
-count_is (e ∷ es) = omega (arith, count_is es)
 
 count_last : (es front : List Expression) (last : Expression) → es ≡ front ++ last ∷ [] → length front + 1 ≡ count (expressions_of es)
 count_last es front last e = omega (arith, count_is es, ap length e, length-append front (last ∷ []))

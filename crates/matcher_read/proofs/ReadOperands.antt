@@ -1,5 +1,5 @@
 -- How operands are read: what stands in parentheses, behind signs, and alone.
-use Rattle.std.proofs.Common.{◌≡◌, ℕ, suc, ◌+◌, ◌<◌, ◌≤◌, nat_lt, pos, Bool, true, false, cond, List, [], ◌∷◌, ◌++◌, codes, Option, Some, None, option_map, option_and_then, Result, Ok, Err, refl, ap, sym, ◌∙◌, subst, arith, append_assoc, inl, inr}
+use Rattle.std.proofs.Common.{◌≡◌, ℕ, suc, ◌+◌, ◌<◌, ◌≤◌, nat_lt, pos, Bool, true, false, cond, List, [], ◌∷◌, ◌++◌, codes, Option, Some, None, option_map, Result, Ok, Err, refl, ap, sym, ◌∙◌, subst, arith, append_assoc, inl, inr}
 use Rattle.std.proofs.lemmas.Bool.{and_from, false≢true}
 use Rattle.std.specs.List.{list_all}
 use Rattle.std.specs.Option.{ok_or}
@@ -23,12 +23,12 @@ use Rattle.matcher_read.specs.declared.tree.Operator.{Operator}
 use Rattle.matcher_read.specs.declared.tree.Operator.TheVariants as op
 use Rattle.matcher_read.specs.declared.words.Sign.{Sign}
 use Rattle.matcher_read.specs.declared.words.Sign.TheVariants as sign
-use Rattle.matcher_read.proofs.Gives.{step_comma, step_called, step_parenthesis, step_negation, step_opposite, step_unclosed, step_number, closing_behind}
+use Rattle.matcher_read.proofs.Gives.{step_called, step_parenthesis, step_negation, step_opposite, step_unclosed, step_number, closing_behind}
 use Rattle.matcher_read.proofs.OpenSteps.{AreDerived, name_derived}
 use Rattle.matcher_read.proofs.Passes.{verdict_next, verdict_meets}
 use Rattle.matcher_read.proofs.ReadSteps.{verdict_stops, quiet, loud}
 use Rattle.matcher_read.proofs.ReadParts.{fails_in}
-use Rattle.matcher_read.proofs.ReadLists.{framed_final, no_comma, FailsOpening, opening_is}
+use Rattle.matcher_read.proofs.ReadLists.{framed_final, no_list_stops, FailsOpening, opening_is}
 use Rattle.matcher_read.proofs.ReadLevels.{list_frame, called_token, head_operand_stops, closed_end, unexpected_here}
 
 -- ---- parentheses
@@ -86,27 +86,10 @@ fails_in_parentheses {n} {inside} {at} {fault} {before} {opened} levels o f = re
 }
 
 -- behind an expression in parentheses, nothing but a closing parenthesis goes on
-comma_none : (at : ℕ) (l : Lefts) (frames : List Frame) (s : State) (e : Expression) → Gives or_rule no_lefts (list_frame parentheses l ∷ frames) s e → step s (placed at token.comma) ≡ None
-comma_none at l frames s e g =
-    ap (λ (n : State). step n (placed at token.comma)) g.2 ∙ step_comma at (list_frame parentheses l ∷ frames) (record g.1 { signs = [] }) g.0 ∙ ap (option_and_then (parts (list_frame parentheses l ∷ frames))) g.3
-
-inside_stops : (l : Lefts) (frames : List Frame) (s : State) (e : Expression) (at : ℕ) (t : Token) → Gives or_rule no_lefts (list_frame parentheses l ∷ frames) s e → is_closing t ≡ false → (may_follow or_rule t ≡ false → step s (placed at t) ≡ None)
-    → step s (placed at t) ≡ None
-inside_stops l frames s e at token.comma g p h = comma_none at l frames s e g
-inside_stops l frames s e at (token.operator o) g p h = h (no_comma (token.operator o) p refl)
-inside_stops l frames s e at (token.name parts) g p h = h (no_comma (token.name parts) p refl)
-inside_stops l frames s e at (token.called parts) g p h = h (no_comma (token.called parts) p refl)
-inside_stops l frames s e at (token.number digits) g p h = h (no_comma (token.number digits) p refl)
-inside_stops l frames s e at (token.text bytes) g p h = h (no_comma (token.text bytes) p refl)
-inside_stops l frames s e at (token.unclosed bytes) g p h = h (no_comma (token.unclosed bytes) p refl)
-inside_stops l frames s e at token.exclamation g p h = h (no_comma token.exclamation p refl)
-inside_stops l frames s e at token.opening g p h = h (no_comma token.opening p refl)
-inside_stops l frames s e at token.closing g p h = h (no_comma token.closing p refl)
-
 head_inside_stops : (l : Lefts) (frames : List Frame) (s : State) (e : Expression) (ts : List Placed) → Gives or_rule no_lefts (list_frame parentheses l ∷ frames) s e → head_is is_closing ts ≡ false
     → (head_is (may_follow or_rule) ts ≡ false → StopsAt s ts) → StopsAt s ts
 head_inside_stops l frames s e [] g p h = tt
-head_inside_stops l frames s e (t ∷ ts) g p h = inside_stops l frames s e t.at t.token g p h
+head_inside_stops l frames s e (t ∷ ts) g p h = no_list_stops (list_frame parentheses l ∷ frames) s e t.at t.token g refl (λ closing. absurd (false≢true (sym p ∙ closing))) h
 
 pub fails_behind_parentheses : {n inside at : ℕ} {e : Expression} {fault : MatcherFault} {before opened middle : TokenList} → n ≡ suc inside → Takes (placed at token.opening) before opened → Read inside or_rule or_rule e opened middle
     → IsUnexpected is_closing middle fault → Fails n prim_rule fault before
@@ -238,41 +221,12 @@ fails_at_call {n} {fault} {before} d = record {
 
     by_token : (at : ℕ) (k : Token) → is_strange k ≡ true → (parts : List (List ℕ)) × (placed at k ≡ called_token at parts) × (is_known (callee_of parts) ≡ false)
     by_token at (token.called parts) h = (parts, refl, unknown_is (is_known (callee_of parts)) h)
-    by_token at (token.name parts) h = absurd (false≢true h)
-    by_token at (operator o) h = absurd (false≢true h)
-    by_token at (token.number digits) h = absurd (false≢true h)
-    by_token at (token.text bytes) h = absurd (false≢true h)
-    by_token at (token.unclosed bytes) h = absurd (false≢true h)
-    by_token at token.exclamation h = absurd (false≢true h)
-    by_token at token.opening h = absurd (false≢true h)
-    by_token at token.closing h = absurd (false≢true h)
-    by_token at token.comma h = absurd (false≢true h)
+    by_token at _ h = absurd (false≢true h)
 
     strange_is : (t : Placed) → is_strange t.token ≡ true → (parts : List (List ℕ)) × (t ≡ called_token t.at parts) × (is_known (callee_of parts) ≡ false)
     strange_is t h = by_token t.at t.token h
 
 -- ---- literals and names
-
-step_operand : (at : ℕ) (t : Token) (e : Expression) (l : Lefts) (frames : List Frame) → operand_of at t ≡ Ok e → step (state_of wants l frames) (placed at t) ≡ Some (with_operand l frames e)
-unfolding step
-step_operand at (token.text bytes) e l frames h = ap (λ (r : Result Expression MatcherFault). option_map (with_operand l frames) (result_ok r)) h
-step_operand at (token.number digits) e l frames h = by_test (nat_lt (digits_value 10 digits) first_wide) h
-  where
-    by_test : (b : Bool) → cond b (Ok (whole at (pos (digits_value 10 digits)))) (Err (NumberTooWide at)) ≡ Ok e → Some (with_operand l frames (whole at (pos (digits_value 10 digits)))) ≡ Some (with_operand l frames e)
-    by_test true h = ap (λ (r : Result Expression MatcherFault). option_map (with_operand l frames) (result_ok r)) h
-    by_test false h = absurd cc
-step_operand at (token.name parts) e l frames h = ap (option_map (with_operand l frames)) (ok_is (name_operand at parts) h)
-  where
-    ok_is : (o : Option Expression) → ok_or o (Unexpected at) ≡ Ok e → o ≡ Some e
-    ok_is None h = absurd cc
-    ok_is (Some x) h = ap result_ok h
-step_operand at (token.unclosed bytes) e l frames h = absurd cc
-step_operand at (token.called parts) e l frames h = absurd cc
-step_operand at (operator o) e l frames h = absurd cc
-step_operand at token.exclamation e l frames h = absurd cc
-step_operand at token.opening e l frames h = absurd cc
-step_operand at token.closing e l frames h = absurd cc
-step_operand at token.comma e l frames h = absurd cc
 
 number_test : (at : ℕ) (digits : List ℕ) (e : Expression) → operand_of at (token.number digits) ≡ Ok e → (nat_lt (digits_value 10 digits) first_wide ≡ true) × (whole at (pos (digits_value 10 digits)) ≡ e)
 number_test at digits e h = by_test (nat_lt (digits_value 10 digits) first_wide) h
@@ -287,6 +241,13 @@ name_test at parts e h = ok_is (name_operand at parts) h
     ok_is : (o : Option Expression) → ok_or o (Unexpected at) ≡ Ok e → o ≡ Some e
     ok_is None h = absurd cc
     ok_is (Some x) h = ap result_ok h
+
+step_operand : (at : ℕ) (t : Token) (e : Expression) (l : Lefts) (frames : List Frame) → operand_of at t ≡ Ok e → step (state_of wants l frames) (placed at t) ≡ Some (with_operand l frames e)
+unfolding step
+step_operand at (token.text bytes) e l frames h = ap (λ (r : Result Expression MatcherFault). option_map (with_operand l frames) (result_ok r)) h
+step_operand at (token.number digits) e l frames h = ap (λ (x : Expression). Some (with_operand l frames x)) (number_test at digits e h).1
+step_operand at (token.name parts) e l frames h = ap (option_map (with_operand l frames)) (name_test at parts e h)
+step_operand at _ e l frames h = absurd cc
 
 abbrev sound_of : Option Expression → Bool
 sound_of None = true
@@ -338,13 +299,7 @@ operand_alone n at (token.name parts) e h = let p = name_test at parts e h in re
   closed = refl;
   quiet = λ s next small. quiet at (depth next) small;
 }
-operand_alone n at (token.unclosed bytes) e h = absurd cc
-operand_alone n at (token.called parts) e h = absurd cc
-operand_alone n at (operator o) e h = absurd cc
-operand_alone n at token.exclamation e h = absurd cc
-operand_alone n at token.opening e h = absurd cc
-operand_alone n at token.closing e h = absurd cc
-operand_alone n at token.comma e h = absurd cc
+operand_alone n at _ e h = absurd cc
 
 pub read_operand : {n : ℕ} {first : Placed} {e : Expression} {before after : TokenList} → Takes first before after → operand_of first.at first.token ≡ Ok e → Read n prim_rule prim_rule e before after
 read_operand {n} {first} {e} {before} {after} t h =
@@ -392,18 +347,7 @@ name_fault at parts fault h = by_name (name_operand at parts) h
 step_no_sign : (at : ℕ) (o : Operator) (l : Lefts) (frames : List Frame) → is_minus o ≡ false → step (state_of wants l frames) (placed at (operator o)) ≡ None
 unfolding step
 step_no_sign at op.Minus l frames h = absurd (false≢true (sym h))
-step_no_sign at op.Or l frames h = refl
-step_no_sign at op.And l frames h = refl
-step_no_sign at op.Equal l frames h = refl
-step_no_sign at op.NotEqual l frames h = refl
-step_no_sign at op.Less l frames h = refl
-step_no_sign at op.AtMost l frames h = refl
-step_no_sign at op.Greater l frames h = refl
-step_no_sign at op.AtLeast l frames h = refl
-step_no_sign at op.Plus l frames h = refl
-step_no_sign at op.Times l frames h = refl
-step_no_sign at op.Over l frames h = refl
-step_no_sign at op.Remainder l frames h = refl
+step_no_sign at _ l frames h = refl
 
 step_name : (at : ℕ) (names : List (List ℕ)) (l : Lefts) (frames : List Frame) → name_operand at names ≡ None → step (state_of wants l frames) (placed at (token.name names)) ≡ None
 unfolding step

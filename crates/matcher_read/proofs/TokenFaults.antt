@@ -8,7 +8,6 @@ use Rattle.matcher_read.specs.Faults.{IsOpen, IsOpenWithin, IsMet, unexpected, o
 use Rattle.matcher_read.specs.Grammar.{DerivesList}
 use Rattle.matcher_read.specs.Matcher.{first_wide, most_levels}
 use Rattle.matcher_read.specs.Tokens.{Placed, placed, Token, name, called, number, text, unclosed, operator, exclamation, opening, closing, comma}
-use Rattle.matcher_read.specs.declared.tree.Operator.{Operator}
 use Rattle.matcher_read.specs.declared.tree.Operator.TheVariants as op
 use Rattle.matcher_read.specs.declared.fault.MatcherFault.{MatcherFault}
 use Rattle.matcher_read.specs.declared.fault.MatcherFault.TheVariants as fault
@@ -16,7 +15,7 @@ use Rattle.matcher_read.proofs.Depths.{encloses, within_depth, open_within_here,
 use Rattle.matcher_read.specs.Helps.Machine.{State, Control, Lefts, Frame, Kind, state_of, wants, has, has_members, opens, arguments, members, parentheses, start, step, step_by, pushed, depth, goes, goes_within, call_fault, token_fault, after_fault, read_step, comparison_of}
 use Rattle.matcher_read.proofs.Opens.{open_by_goes, top_call}
 use Rattle.matcher_read.proofs.Gives.{step_opens}
-use Rattle.matcher_read.proofs.Passes.{cond_some, goes_behind, goes_one, read_fault, read_none, read_some, within_behind, within_goes}
+use Rattle.matcher_read.proofs.Passes.{cond_some, goes_one, read_fault, read_none, read_some, within_behind, within_goes}
 use Rattle.matcher_read.proofs.Runs.{derives_goes, list_goes}
 
 option_step : {A B : Type 0} (f : A → Option B) (o : Option A) (b : B) → option_and_then f o ≡ Some b → (a : A) × (o ≡ Some a) × (f a ≡ Some b)
@@ -134,20 +133,10 @@ ends_call (frame ∷ frames) f h = by_kind frame.kind frame.outer frame.before h
 
 -- a token that encloses opens a level
 encloses_opens : (tk : Token) → encloses tk ≡ true → OpensLevel tk
-encloses_opens (name names) h = absurd cc
-encloses_opens (called names) h = absurd cc
-encloses_opens (number digits) h = absurd cc
-encloses_opens (text bytes) h = absurd cc
-encloses_opens (unclosed bytes) h = absurd cc
-encloses_opens (operator o) h = by_operator o h
-  where
-    by_operator : (p : Operator) → encloses (operator p) ≡ true → OpensLevel (operator p)
-    by_operator op.Minus h = minus_opens
-    by_operator _ h = absurd cc
+encloses_opens (operator op.Minus) h = minus_opens
 encloses_opens exclamation h = exclamation_opens
 encloses_opens opening h = parenthesis_opens
-encloses_opens closing h = absurd cc
-encloses_opens comma h = absurd cc
+encloses_opens _ h = absurd cc
 
 opens_encloses : {tk : Token} → OpensLevel tk → encloses tk ≡ true
 opens_encloses exclamation_opens = refl

@@ -236,18 +236,7 @@ exact-unclosed quote bytes is none = token_at-text quote bytes is ∙ ap (λ (f 
 exact-operator : (o : Operator) → token_at (sign o) ≡ Some (found (operator o) (length (sign o)))
 unfolding token_at
 exact-operator op.Or = refl
-exact-operator op.And = refl
-exact-operator op.Equal = refl
-exact-operator op.NotEqual = refl
-exact-operator op.Less = refl
-exact-operator op.AtMost = refl
-exact-operator op.Greater = refl
-exact-operator op.AtLeast = refl
-exact-operator op.Plus = refl
-exact-operator op.Minus = refl
-exact-operator op.Times = refl
-exact-operator op.Over = refl
-exact-operator op.Remainder = refl
+exact-operator _ = refl
 
 pub token_at-exact : {token : Token} {spelling : List ℕ} → IsSpelling token spelling → token_at spelling ≡ Some (found token (length spelling))
 unfolding token_at
