@@ -1,20 +1,17 @@
 -- How far a front goes in a text, and that the text may be cut there.
-use Rattle.std.proofs.Common.{◌≡◌, ℕ, zero, suc, ◌+◌, ◌-◌, ◌<◌, ◌≤◌, ◌||◌, ◌&&◌, Bool, true, false, cond, List, [], ◌∷◌, ◌++◌, length, drop, get_or, eqb, codes, Option, Some, None, IfSome, IsUtf8, refl, sym, ap, ◌∙◌, subst, inl, inr, arith}
-use Rattle.std.proofs.lemmas.Bool.{both_ways, and_parts, cond-true, cond-false, eqb-true, eqb-false, or_cases, or_from, or_left, false_from_ne_true}
+use Rattle.std.proofs.Common.{◌≡◌, ℕ, zero, suc, ◌+◌, ◌-◌, ◌<◌, ◌≤◌, ◌&&◌, Bool, true, false, cond, List, [], ◌∷◌, ◌++◌, length, drop, get_or, eqb, Option, Some, None, IfSome, IsUtf8, refl, sym, ap, ◌∙◌, subst, inl, inr, arith}
+use Rattle.std.proofs.lemmas.Bool.{and_parts, cond-true, cond-false, eqb-true, eqb-false, or_cases, or_left}
 use Rattle.std.proofs.lemmas.Bool.Decides.{nat_tests}
 use Rattle.std.proofs.lemmas.List.{at_drop_more, at_drop_all, get_or_at, length-append}
-use Rattle.std.proofs.lemmas.List.Splits.{join_with_byte-slice_split, length-slice_split}
-use Rattle.std.proofs.lemmas.Slice.Eq.{bytes_eq-Decides}
 use Rattle.std.specs.Char.{is_ascii_digit}
-use Rattle.std.specs.List.{join_with_byte, prefix_len}
-use Rattle.std.specs.Str.{IsCharBoundary, bytes_eq}
+use Rattle.std.specs.List.{prefix_len}
+use Rattle.std.specs.Str.{IsCharBoundary}
 use Rattle.text_parts.specs.Lines.{has_byte}
 use Rattle.text_parts.specs.Names.{is_letter, is_word}
 use Rattle.matcher_read.specs.Tokens.{is_reserved}
 use Rattle.matcher_read.specs.Tokens as token
-use Rattle.matcher_read.specs.Helps.TokenLists.{pieces}
 use Rattle.matcher_read.specs.Helps.Cutting.{begins_name, found, goes_on, name_size, is_quote, name_at, number_at, text_at, sign_at, token_at}
-use Rattle.text_parts.proofs.CallerLemmas.{boundary-passing, boundary_behind, has_byte-here, word_ascii, word_from_letter}
+use Rattle.text_parts.proofs.CallerLemmas.{boundary-passing, boundary_behind, word_ascii, word_from_letter}
 use Rattle.matcher_read.proofs.NameLemmas.{name_size-le-length}
 use Rattle.matcher_read.proofs.TokenLemmas.{text_at-closed, text_at-open}
 
@@ -135,20 +132,3 @@ boundary-sign (Some front) bytes utf8 some ascii within =
     boundary_behind bytes front.1 utf8 within (λ k e.
     let last : k ≡ front.1 - 1 = omega arith in
     subst (λ (n : ℕ). get_or bytes n 0 < 128) (sym last) ascii)
-
--- a name without a dot is one piece
-undotted : (name word : List ℕ) → has_byte 46 name ≡ true → has_byte 46 word ≡ false → bytes_eq name word ≡ false
-undotted name word dot none = false_from_ne_true (bytes_eq name word) (λ e. both_ways (has_byte 46 word) none (subst (λ (t : List ℕ). has_byte 46 t ≡ true) ((bytes_eq-Decides name word).0 e) dot))
-
-reserved-by : (name : List ℕ) (parts : List (List ℕ)) → 0 < length parts → join_with_byte 46 parts ≡ name → is_reserved parts ≡ (bytes_eq name (codes "true") || bytes_eq name (codes "false") || bytes_eq name (codes "in"))
-reserved-by name [] some e = absurd (omega arith)
-reserved-by name (part ∷ []) some e = ap (λ (t : List ℕ). bytes_eq t (codes "true") || bytes_eq t (codes "false") || bytes_eq t (codes "in")) e
-reserved-by name (part ∷ next ∷ parts) some e =
-    let dot : has_byte 46 name ≡ true = subst (λ (t : List ℕ). has_byte 46 t ≡ true) e (has_byte-here 46 part (join_with_byte 46 (next ∷ parts))) in
-    sym (or_from (bytes_eq name (codes "true") || bytes_eq name (codes "false")) (bytes_eq name (codes "in")) (or_from (bytes_eq name (codes "true")) (bytes_eq name (codes "false")) (undotted name (codes "true") dot refl) (undotted name (codes "false") dot refl)) (undotted name (codes "in") dot refl))
-
-pub reserved-is : (name : List ℕ) → is_reserved (pieces name) ≡ (bytes_eq name (codes "true") || bytes_eq name (codes "false") || bytes_eq name (codes "in"))
-reserved-is name = reserved-by name (pieces name) (omega (arith, length-slice_split (λ (b : ℕ). eqb b 46) name)) (join_with_byte-slice_split 46 name)
-
-pub reserved-last : (name : List ℕ) → bytes_eq name (codes "true") ≡ false → bytes_eq name (codes "false") ≡ false → bytes_eq name (codes "in") ≡ is_reserved (pieces name)
-reserved-last name first second = sym (reserved-is name ∙ ap (λ (t : Bool). t || bytes_eq name (codes "false") || bytes_eq name (codes "in")) first ∙ ap (λ (t : Bool). t || bytes_eq name (codes "in")) second)

@@ -215,8 +215,7 @@ step_false at l frames = refl
 pub step_request : (at : ℕ) (column : List ℕ) (path : List (List ℕ)) (l : Lefts) (frames : List Frame)
     → step (state_of wants l frames) (placed at (token.name (codes "r" ∷ column ∷ path))) ≡ Some (with_operand l frames (request at column path))
 unfolding step
-step_request at column [] l frames = refl
-step_request at column (next ∷ path) l frames = refl
+step_request at column path l frames = refl
 
 pub step_policy : (at : ℕ) (column : List ℕ) (l : Lefts) (frames : List Frame)
     → step (state_of wants l frames) (placed at (token.name (codes "p" ∷ column ∷ []))) ≡ Some (with_operand l frames (policy at column))

@@ -7,7 +7,6 @@ mod Gives
 mod LawLemmas
 mod ListLemmas
 mod NameLemmas
-mod NamingLemmas
 mod OpenSteps
 mod Opens
 mod Passes

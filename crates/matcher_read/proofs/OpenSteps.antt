@@ -39,7 +39,8 @@ name_derived n at (first ∷ column ∷ []) =
     choose (AreDerived n (placed at (name (first ∷ column ∷ [])) ∷ [])) (bytes_eq first (codes "r")) (λ h. rw ((bytes_eq-Decides first (codes "r")).0 h) by_request)
     (choose (AreDerived n (placed at (name (first ∷ column ∷ [])) ∷ [])) (bytes_eq first (codes "p")) (λ h. rw ((bytes_eq-Decides first (codes "p")).0 h) by_policy) tt)
 name_derived n at (first ∷ column ∷ next ∷ path) =
-    choose (AreDerived n (placed at (name (first ∷ column ∷ next ∷ path)) ∷ [])) (bytes_eq first (codes "r")) (λ h. rw ((bytes_eq-Decides first (codes "r")).0 h) by_request) tt
+    choose (AreDerived n (placed at (name (first ∷ column ∷ next ∷ path)) ∷ [])) (bytes_eq first (codes "r")) (λ h. rw ((bytes_eq-Decides first (codes "r")).0 h) by_request)
+    (choose (AreDerived n (placed at (name (first ∷ column ∷ next ∷ path)) ∷ [])) (bytes_eq first (codes "p")) (λ h. tt) tt)
 
 is_in-tells : (names : List (List ℕ)) → is_in names ≡ true → names ≡ codes "in" ∷ []
 is_in-tells [] h = absurd cc

@@ -7,9 +7,10 @@ use Rattle.std.specs.Result.{result_ok}
 use Rattle.std.specs.Str.{bytes_eq}
 use Rattle.std.specs.Str.Parse.{digits_value}
 use Rattle.matcher_read.specs.Calls.{callee_of, is_known}
-use Rattle.matcher_read.specs.Expression.{Expression, text, whole, truth, request, policy}
+use Rattle.matcher_read.specs.Expression.{Expression, text, whole, truth, request}
 use Rattle.matcher_read.specs.Helps.Giving.{entry, Gives}
 use Rattle.matcher_read.specs.Grammar.{or_rule, unary_rule, prim_rule, Derives, by_parentheses, by_negation, by_opposite, by_text, by_number}
+use Rattle.matcher_read.specs.Helps.Naming.{policy_of}
 use Rattle.matcher_read.specs.Helps.Machine.{Lefts, Frame, parentheses, wants, opens, State, no_lefts, depth, step, token_fault, call_fault, verdict, state_of, with_operand, pushed, name_operand, final_value, arguments, parts}
 use Rattle.matcher_read.specs.Matcher.{most_levels, first_wide, is_sound, is_closed}
 use Rattle.matcher_read.specs.Helps.Parsing.{StopsAt, Read, Fails}
@@ -268,17 +269,16 @@ name_sound at (first ∷ []) e h = by_two (bytes_eq first (codes "true")) (bytes
     by_two true b h = ap (λ (o : Option Expression). sound_of o) (sym h)
     by_two false true h = ap (λ (o : Option Expression). sound_of o) (sym h)
     by_two false false h = absurd cc
-name_sound at (first ∷ column ∷ []) e h = by_two (bytes_eq first (codes "r")) (bytes_eq first (codes "p")) h
+name_sound at (first ∷ column ∷ names) e h = by_two (bytes_eq first (codes "r")) (bytes_eq first (codes "p")) h
   where
-    by_two : (a b : Bool) → cond a (Some (request at column [])) (cond b (Some (policy at column)) None) ≡ Some e → is_sound e ≡ true
+    policy_sound : (others : List (List ℕ)) → policy_of at (column ∷ others) ≡ Some e → is_sound e ≡ true
+    policy_sound [] h = ap (λ (o : Option Expression). sound_of o) (sym h)
+    policy_sound (next ∷ others) h = absurd cc
+
+    by_two : (a b : Bool) → cond a (Some (request at column names)) (cond b (policy_of at (column ∷ names)) None) ≡ Some e → is_sound e ≡ true
     by_two true b h = ap (λ (o : Option Expression). sound_of o) (sym h)
-    by_two false true h = ap (λ (o : Option Expression). sound_of o) (sym h)
+    by_two false true h = policy_sound names h
     by_two false false h = absurd cc
-name_sound at (first ∷ column ∷ next ∷ path) e h = by_one (bytes_eq first (codes "r")) h
-  where
-    by_one : (a : Bool) → cond a (Some (request at column (next ∷ path))) None ≡ Some e → is_sound e ≡ true
-    by_one true h = ap (λ (o : Option Expression). sound_of o) (sym h)
-    by_one false h = absurd cc
 
 operand_alone : (n at : ℕ) (t : Token) (e : Expression) → operand_of at t ≡ Ok e → Alone n (placed at t) e
 operand_alone n at (token.text bytes) e h = let same : text at bytes ≡ e = cc in record {
