@@ -7,7 +7,7 @@ ghost use Rattle.matcher_read.specs.Helps.TokenLists.{pieces};
 use crate::tree::Function;
 
 /// What is called: a function, or a role relation by its number.
-#[derive(Clone, Copy, Debug, PartialEq, Eq)]
+#[derive(Clone, Copy)]
 pub(crate) enum Called {
     Function(Function),
     Relation(u8),

@@ -177,11 +177,10 @@ fn goes_on(bytes: &[u8], at: usize) -> bool
 fn digits(bytes: &[u8]) -> usize
     ensures { result ≡ prefix_len is_ascii_digit bytes.now }
 {
-    let mut size = 0;
-    while size < bytes.len() && bytes[size].is_ascii_digit() {
-        size += 1;
-    }
-    size
+    bytes
+        .iter()
+        .take_while(|byte| byte.is_ascii_digit())
+        .count()
 }
 
 fn is_quote(byte: u8) -> bool
