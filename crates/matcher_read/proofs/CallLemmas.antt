@@ -2,8 +2,9 @@
 use Rattle.std.proofs.Common.{◌≡◌, ℕ, ◌+◌, Bool, false, cond, List, [], ◌∷◌, length, codes, Option, Some, None, option_map, refl, ap, sym, ◌∙◌, arith, find, position, map}
 use Rattle.std.specs.Str.{bytes_eq}
 use Rattle.matcher_read.specs.Calls.{callee_of, functions, function_or, is_known, name_of, relation_at, relation_names}
-use Rattle.matcher_read.specs.Expression.{function, relation, expression, expressions_of, count}
-use Rattle.matcher_read.specs.TokenLists.{pieces}
+use Rattle.std.proofs.lemmas.List.{length-map}
+use Rattle.matcher_read.specs.Expression.{Expression, function, relation, expression, expressions_of, count}
+use Rattle.matcher_read.specs.Helps.TokenLists.{pieces}
 use Rattle.matcher_read.specs.declared.tree.Function.{Function}
 use Rattle.matcher_read.specs.declared.tree.Function.TheVariants as f
 use Rattle.matcher_read.specs.declared.tree.Tree.{Tree}
@@ -12,16 +13,7 @@ use Rattle.matcher_read.proofs.PieceLemmas.{pieces_cases, other_text}
 -- no name of a function has a dot
 plain_name : (called : Function) → pieces (name_of called) ≡ name_of called ∷ []
 plain_name f.KeyMatch = refl
-plain_name f.KeyMatch2 = refl
-plain_name f.KeyMatch3 = refl
-plain_name f.KeyMatch4 = refl
-plain_name f.KeyMatch5 = refl
-plain_name f.RegexMatch = refl
-plain_name f.IpMatch = refl
-plain_name f.GlobMatch = refl
-plain_name f.KeyGet = refl
-plain_name f.KeyGet2 = refl
-plain_name f.KeyGet3 = refl
+plain_name _ = refl
 
 find_none : (test : Function → Bool) (fs : List Function) → ((x : Function) → test x ≡ false) → find test fs ≡ None
 find_none test [] h = refl
@@ -59,7 +51,10 @@ pub calls_nothing : (bs : List ℕ) → None ≡ find (λ (found : Function). by
 calls_nothing bs none e =
     pieces_cases (λ ps. is_known (callee_of ps) ≡ false) bs (ap (λ (o : Option Function). is_known (function_or bs o)) (sym none) ∙ unknown_is bs (position (bytes_eq bs) relation_names) e) (λ a b cs more. refl)
 
--- as many expressions as trees
+-- as many as the list has, and as there are trees
+pub count_is : (es : List Expression) → count (expressions_of es) ≡ length es
+count_is [] = refl
+count_is (e ∷ es) = omega (arith, count_is es)
+
 pub count_trees : (trees : List Tree) → count (expressions_of (map expression trees)) ≡ length trees
-count_trees [] = refl
-count_trees (tree ∷ trees) = omega (arith, count_trees trees)
+count_trees trees = count_is (map expression trees) ∙ length-map trees expression

@@ -1,8 +1,8 @@
 -- The nodes of what derives, by its tokens.
 use Rattle.std.proofs.Common.{◌≡◌, ℕ, ◌+◌, Bool, false, cond, List, [], ◌∷◌, ◌++◌, codes, refl, ap, ◌∙◌, arith}
-use Rattle.matcher_read.specs.Counting.{is_node, node_count}
+use Rattle.matcher_read.specs.Helps.Counting.{is_node, node_count}
 use Rattle.matcher_read.specs.Expression.{Expression, Expressions, nodes, all_nodes}
-use Rattle.matcher_read.specs.Grammar.{Rule, Derives, DerivesList, by_part, by_join, by_comparison, by_members, by_negation, by_opposite, by_text, by_unclosed, by_number, by_true, by_false, by_request, by_policy, by_call, by_parentheses, by_last, by_more}
+use Rattle.matcher_read.specs.Grammar.{Rule, Derives, DerivesList, by_part, by_join, by_comparison, by_members, by_negation, by_opposite, by_call, by_parentheses, by_last, by_more}
 use Rattle.matcher_read.specs.Tokens.{Placed, placed}
 use Rattle.matcher_read.specs.Tokens as token
 
@@ -27,17 +27,11 @@ mutual
       omega (arith, nodes_derived d, list_nodes_derived ds, count_last front ts (placed at_closing token.closing) same refl, node_count-append left (placed at (token.name (codes "in" ∷ [])) ∷ placed at_opening token.opening ∷ inside))
   nodes_derived (by_negation d) = omega (arith, nodes_derived d)
   nodes_derived (by_opposite d) = omega (arith, nodes_derived d)
-  nodes_derived by_text = refl
-  nodes_derived by_unclosed = refl
-  nodes_derived by_number = refl
-  nodes_derived by_true = refl
-  nodes_derived by_false = refl
-  nodes_derived by_request = refl
-  nodes_derived by_policy = refl
   nodes_derived (by_call at_opening at_closing {at = at} {parts = names} {tokens = ts} {arguments = inside} ds same) =
       omega (arith, list_nodes_derived ds, count_last (placed at (token.called names) ∷ placed at_opening token.opening ∷ inside) ts (placed at_closing token.closing) same refl)
   nodes_derived (by_parentheses at_opening at_closing {tokens = ts} {inside = inside} d same) =
       omega (arith, nodes_derived d, count_last (placed at_opening token.opening ∷ inside) ts (placed at_closing token.closing) same refl)
+  nodes_derived _ = refl
 
   pub list_nodes_derived : {n : ℕ} {ts : List Placed} {es : Expressions} → DerivesList n ts es → all_nodes es ≡ node_count ts
   list_nodes_derived (by_last d) = omega (arith, nodes_derived d)

@@ -4,14 +4,28 @@ use Rattle.std.proofs.lemmas.Bool.{cases_lt}
 use Rattle.std.proofs.lemmas.List.{append-nil, length-append, length-drop, length-take, nil_from_length, take-append-drop}
 use Rattle.std.proofs.lemmas.List.Sums.{prefix_len-drop_all, prefix_len-drop_no, prefix_len-le-length, prefix_len_stops}
 use Rattle.std.proofs.Math.Seq.{drop-append_seam}
-use Rattle.perm_base.specs.Fields.{is_blank}
-use Rattle.matcher_read.specs.Tokens.{Placed, placed, IsLongest, AreBlanks, IsCut, ended, strayed, one_token}
-use Rattle.matcher_read.specs.Cutting.{Found, found, token_at, Cut, onto_cut, cut_at_token, cut_full, blanks, cut_within, cut}
-use Rattle.matcher_read.proofs.NameLemmas.{prefix_len-passing, list_all-prefix}
+use Rattle.text_parts.specs.Blanks.{AreBlanks, behind_blanks, is_blank}
+use Rattle.matcher_read.specs.Tokens.{Placed, placed, IsLongest, IsCut, ended, strayed, one_token}
+use Rattle.matcher_read.specs.Helps.Cutting.{Found, found, token_at, Cut, onto_cut, cut_at_token, cut_full, blanks, cut_within, cut}
+use Rattle.text_parts.proofs.BlankLemmas.{behind_blanks-drop}
+use Rattle.text_parts.proofs.CallerLemmas.{prefix_len-passing, list_all-prefix}
 use Rattle.matcher_read.proofs.TokenLemmas.{token_at-spelled, token_at-longest, token_at-full, token_at-is, token_at-none, token_at-stray}
 
 abbrev pub the_cut : List Placed → Option ℕ → Cut
 the_cut tokens stray = record { tokens = tokens; stray = stray }
+
+-- the text behind its blanks
+pub record IsBehind (text front : List ℕ) : Type 0 where
+  pub rest : front ≡ drop (blanks text) text
+  pub size : blanks text + length front ≡ length text
+
+pub is_behind : (text front : List ℕ) → front ≡ behind_blanks text → IsBehind text front
+is_behind text front e =
+    let rest : front ≡ drop (blanks text) text = e ∙ behind_blanks-drop text in
+    record {
+      rest = rest;
+      size = omega (arith, ap length rest, length-drop (blanks text) text, prefix_len-le-length is_blank text);
+    }
 
 -- behind the blanks stands none
 pub blanks-behind : (bytes : List ℕ) → blanks (drop (blanks bytes) bytes) ≡ 0

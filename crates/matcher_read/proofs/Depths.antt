@@ -6,19 +6,9 @@ use Rattle.matcher_read.specs.Tokens.{Placed, Token, name, called, number, unclo
 use Rattle.matcher_read.specs.Tokens as token
 use Rattle.matcher_read.specs.declared.tree.Operator.{Operator}
 use Rattle.matcher_read.specs.declared.tree.Operator.TheVariants as op
-use Rattle.matcher_read.proofs.Machine.{Left, Lefts, Kind, parentheses, members, arguments, Frame, State, Control, wants, has, has_members, opens, start, with_operand, goes, goes_within, joined_left, sum_of, Rank, term_rank, sum_rank, comparing_rank, and_rank, or_rank, rank, joins, operates, asks, parts, closes, name_operand, is_in, step_wants, step_by, step, levels_of, depth}
-use Rattle.matcher_read.proofs.Opens.{awaited, open_within, within_more}
-
-pub within_goes : (most : ℕ) (ts : List Placed) (s final : State) → goes_within most s ts ≡ Some final → goes s ts ≡ Some final
-within_goes most [] s final e = e
-within_goes most (t ∷ ts) s final e = each (λ next. within_goes most ts next final) (step s t) e where
-  each : ((next : State) → goes_within most next ts ≡ Some final → goes next ts ≡ Some final) → (o : Option State)
-      → option_and_then (λ next. cond (nat_le (depth next) most) (goes_within most next ts) None) o ≡ Some final → option_and_then (λ next. goes next ts) o ≡ Some final
-  each further None k = absurd cc
-  each further (Some next) k = both (nat_le (depth next) most) k where
-    both : (b : Bool) → cond b (goes_within most next ts) None ≡ Some final → goes next ts ≡ Some final
-    both true f = further next f
-    both false f = absurd cc
+use Rattle.matcher_read.specs.Helps.Machine.{Left, Lefts, Kind, parentheses, members, arguments, Frame, State, Control, wants, has, has_members, opens, start, with_operand, goes_within, joined_left, sum_of, Rank, term_rank, sum_rank, comparing_rank, and_rank, or_rank, rank, joins, operates, asks, parts, closes, name_operand, is_in, step_wants, step_by, step, levels_of, depth}
+use Rattle.matcher_read.proofs.Opens.{awaited, open_within}
+use Rattle.matcher_read.proofs.Passes.{within_more}
 
 within_depth_from : (most : ℕ) (ts : List Placed) (s final : State) → depth s ≤ most → goes_within most s ts ≡ Some final → depth final ≤ most
 within_depth_from most [] s final few e =
@@ -48,7 +38,7 @@ awaited_few (opens kind) = omega arith
 
 pub open_within_one_more : (most : ℕ) (ts : List Placed) (s : State) → goes_within most start ts ≡ Some s → IsOpenWithin (suc most) ts
 open_within_one_more most ts s e =
-    open_within (suc most) ts s (within_more most (suc most) ts start s (omega arith) e) (omega (arith, awaited_few s.control, within_depth most ts s e))
+    open_within (suc most) ts s (within_more most (suc most) start s ts (omega arith) e) (omega (arith, awaited_few s.control, within_depth most ts s e))
 
 -- ---- the tokens that open a level
 

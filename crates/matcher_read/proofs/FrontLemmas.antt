@@ -1,49 +1,25 @@
 -- How far a front goes in a text, and that the text may be cut there.
-use Rattle.std.proofs.Common.{◌≡◌, ℕ, zero, suc, ◌+◌, ◌-◌, ◌<◌, ◌≤◌, ◌||◌, ◌&&◌, Bool, true, false, cond, List, [], ◌∷◌, ◌++◌, length, drop, get_or, eqb, codes, Option, Some, None, IfSome, IsUtf8, refl, sym, ap, ◌∙◌, subst, inl, inr, arith}
-use Rattle.std.proofs.lemmas.Bool.{both_ways, and_parts, cond-true, cond-false, eqb-true, eqb-false, or_cases, or_from, or_left, or_right, false_from_ne_true}
+use Rattle.std.proofs.Common.{◌≡◌, ℕ, zero, suc, ◌+◌, ◌-◌, ◌<◌, ◌≤◌, ◌&&◌, Bool, true, false, cond, List, [], ◌∷◌, ◌++◌, length, drop, get_or, eqb, Option, Some, None, IfSome, IsUtf8, refl, sym, ap, ◌∙◌, subst, inl, inr, arith}
+use Rattle.std.proofs.lemmas.Bool.{and_parts, cond-true, cond-false, eqb-true, eqb-false, or_cases, or_left}
 use Rattle.std.proofs.lemmas.Bool.Decides.{nat_tests}
-use Rattle.std.proofs.lemmas.List.{at_drop_more, at_drop_all}
-use Rattle.std.proofs.lemmas.List.Quantifiers.{position-Some}
-use Rattle.std.proofs.lemmas.List.Splits.{join_with_byte-slice_split, length-slice_split}
-use Rattle.std.proofs.lemmas.List.Sums.{prefix_len-le-length, prefix_len_passes}
-use Rattle.std.proofs.lemmas.Slice.Eq.{bytes_eq-Decides}
-use Rattle.std.proofs.lemmas.Str.{IsCharBoundary-start, IsCharBoundary-after_ascii}
+use Rattle.std.proofs.lemmas.List.{at_drop_more, at_drop_all, get_or_at, length-append}
 use Rattle.std.specs.Char.{is_ascii_digit}
-use Rattle.std.specs.List.{join_with_byte, prefix_len}
-use Rattle.std.specs.Prelude.{position}
-use Rattle.std.specs.Str.{IsCharBoundary, bytes_eq}
-use Rattle.perm_base.specs.Fields.{is_blank}
-use Rattle.perm_base.specs.Lines.{has_byte}
-use Rattle.matcher_read.specs.Names.{is_letter, is_word}
+use Rattle.std.specs.List.{prefix_len}
+use Rattle.std.specs.Str.{IsCharBoundary}
+use Rattle.text_parts.specs.Lines.{has_byte}
+use Rattle.text_parts.specs.Names.{is_letter, is_word}
 use Rattle.matcher_read.specs.Tokens.{is_reserved}
-use Rattle.matcher_read.specs.TokenLists.{pieces}
-use Rattle.matcher_read.specs.Cutting.{begins_name, goes_on, name_size, is_quote, name_at, number_at, quoted, text_at, sign_at, token_at, blanks}
-use Rattle.matcher_read.proofs.NameLemmas.{name_size-le-length, word_from_letter}
-
--- behind a byte of ASCII a text may be cut
-pub boundary_behind : (bytes : List ℕ) (n : ℕ) → IsUtf8 bytes → n ≤ length bytes → ((k : ℕ) → n ≡ k + 1 → get_or bytes k 0 < 128) → IsCharBoundary bytes n
-boundary_behind bytes zero utf8 within ascii = IsCharBoundary-start bytes utf8
-boundary_behind bytes (suc n) utf8 within ascii =
-    let e : n + 1 ≡ suc n = omega arith in
-    subst (λ (m : ℕ). IsCharBoundary bytes m) e (IsCharBoundary-after_ascii bytes n utf8 (omega arith) (ascii n (sym e)))
-
-pub boundary-passing : (p : ℕ → Bool) (bytes : List ℕ) → ((b : ℕ) → p b ≡ true → b < 128) → IsUtf8 bytes → IsCharBoundary bytes (prefix_len p bytes)
-boundary-passing p bytes ascii utf8 = boundary_behind bytes (prefix_len p bytes) utf8 (prefix_len-le-length p bytes) (λ k e. ascii (get_or bytes k 0) (prefix_len_passes p bytes k 0 (omega arith)))
+use Rattle.matcher_read.specs.Tokens as token
+use Rattle.matcher_read.specs.Helps.Cutting.{begins_name, found, goes_on, name_size, is_quote, name_at, number_at, text_at, sign_at, token_at}
+use Rattle.text_parts.proofs.CallerLemmas.{boundary-passing, boundary_behind, word_ascii, word_from_letter}
+use Rattle.matcher_read.proofs.NameLemmas.{name_size-le-length}
+use Rattle.matcher_read.proofs.TokenLemmas.{text_at-closed, text_at-open}
 
 digit_ascii : (b : ℕ) → is_ascii_digit b ≡ true → b < 128
 digit_ascii b h = grind (arith, nat_tests)
 
-blank_ascii : (b : ℕ) → is_blank b ≡ true → b < 128
-blank_ascii b h = grind (arith, nat_tests)
-
-word_ascii : (b : ℕ) → is_word b ≡ true → b < 128
-word_ascii b h = grind (arith, nat_tests)
-
 pub boundary-digits : (bytes : List ℕ) → IsUtf8 bytes → IsCharBoundary bytes (prefix_len is_ascii_digit bytes)
 boundary-digits bytes utf8 = boundary-passing is_ascii_digit bytes digit_ascii utf8
-
-pub boundary-blanks : (bytes : List ℕ) → IsUtf8 bytes → IsCharBoundary bytes (blanks bytes)
-boundary-blanks bytes utf8 = boundary-passing is_blank bytes blank_ascii utf8
 
 goes_ascii : (b : ℕ) (bytes : List ℕ) → goes_on b bytes ≡ true → b < 128
 goes_ascii b bytes goes =
@@ -121,14 +97,6 @@ unfolding token_at
 kind-sign text [] same some letter digit quote = absurd (eqb-false 0 0 some refl)
 kind-sign text (b ∷ bytes) same some letter digit quote = ap (λ (t : List ℕ). token_at t) (sym same) ∙ cond-false (is_letter b) _ _ letter ∙ cond-false (is_ascii_digit b) _ _ digit ∙ cond-false (is_quote b) _ _ quote
 
-pub text_at-is : (bytes rest : List ℕ) → 0 < length bytes → rest ≡ drop 1 bytes → text_at bytes ≡ quoted rest (position (λ b. eqb b (get_or bytes 0 0)) rest)
-text_at-is [] rest some e = absurd (omega arith)
-text_at-is (b ∷ bytes) rest some e = ap (λ (t : List ℕ). quoted t (position (λ n. eqb n b) t)) (sym e)
-
--- where the next quote stands
-pub quote_sought : (text bytes rest others : List ℕ) (at : Option ℕ) → bytes ≡ text → others ≡ rest → at ≡ position (λ b. eqb b (get_or bytes 0 0)) others → position (λ b. eqb b (get_or text 0 0)) rest ≡ at
-quote_sought text bytes rest others at same equal e = ap (λ (t : List ℕ). position (λ b. eqb b (get_or t 0 0)) rest) (sym same) ∙ ap (λ (t : List ℕ). position (λ b. eqb b (get_or bytes 0 0)) t) (sym equal) ∙ sym e
-
 -- behind a quote, and behind the next
 pub boundary-one : (bytes : List ℕ) → IsUtf8 bytes → 0 < length bytes → get_or bytes 0 0 < 128 → IsCharBoundary bytes 1
 boundary-one bytes utf8 some ascii =
@@ -136,14 +104,27 @@ boundary-one bytes utf8 some ascii =
     let first : k ≡ 0 = omega arith in
     subst (λ (n : ℕ). get_or bytes n 0 < 128) (sym first) ascii)
 
-pub boundary-closed : (bytes rest : List ℕ) (at : ℕ) → IsUtf8 bytes → 0 < length bytes → get_or bytes 0 0 < 128 → rest ≡ drop 1 bytes → position (λ b. eqb b (get_or bytes 0 0)) rest ≡ Some at → IsCharBoundary bytes (at + 2)
-boundary-closed [] rest at utf8 some ascii e found_at = absurd (omega arith)
-boundary-closed (b ∷ bytes) rest at utf8 some ascii e found_at =
-    let there = position-Some (λ n. eqb n b) bytes at 0 (ap (λ (t : List ℕ). position (λ n. eqb n b) t) (sym e) ∙ found_at) in
-    let same = eqb-true (get_or bytes at 0) b there.1 in
-    boundary_behind (b ∷ bytes) (at + 2) utf8 (omega (arith, there.0)) (λ k e.
-    let last : k ≡ suc at = omega arith in
-    subst (λ (n : ℕ). get_or (b ∷ bytes) n 0 < 128) (sym last) (omega (arith, same)))
+-- a text that is cut at its quote
+pub closed_text : (text bytes rest inside behind : List ℕ) → bytes ≡ text → 0 < length text → rest ≡ drop 1 text → rest ≡ inside ++ get_or bytes 0 0 ∷ behind → has_byte (get_or bytes 0 0) inside ≡ false → found (token.text inside) (length inside + 2) ≡ text_at text
+closed_text text [] rest inside behind same some e parts none = absurd (omega (arith, ap length same))
+closed_text text (quote ∷ bytes) rest inside behind same some e parts none =
+    let cut : bytes ≡ inside ++ quote ∷ behind = ap (λ (t : List ℕ). drop 1 t) same ∙ sym e ∙ parts in
+    sym (text_at-closed quote inside behind none) ∙ ap (λ (t : List ℕ). text_at (quote ∷ t)) (sym cut) ∙ ap text_at same
+
+pub open_text : (text bytes rest : List ℕ) → bytes ≡ text → 0 < length text → rest ≡ drop 1 text → has_byte (get_or bytes 0 0) rest ≡ false → found (token.unclosed rest) (length rest + 1) ≡ text_at text
+open_text text [] rest same some e none = absurd (omega (arith, ap length same))
+open_text text (quote ∷ bytes) rest same some e none =
+    let behind : bytes ≡ rest = ap (λ (t : List ℕ). drop 1 t) same ∙ sym e in
+    sym (text_at-open quote rest none) ∙ ap (λ (t : List ℕ). text_at (quote ∷ t)) (sym behind) ∙ ap text_at same
+
+-- behind the next quote
+pub boundary-closed : (text bytes rest inside behind : List ℕ) → IsUtf8 text → bytes ≡ text → 0 < length text → get_or text 0 0 < 128 → rest ≡ drop 1 text → rest ≡ inside ++ get_or bytes 0 0 ∷ behind → IsCharBoundary text (length inside + 2)
+boundary-closed [] bytes rest inside behind utf8 same some ascii e parts = absurd (omega arith)
+boundary-closed (quote ∷ text) bytes rest inside behind utf8 same some ascii e parts =
+    let cut : quote ∷ text ≡ (quote ∷ inside) ++ quote ∷ behind = ap (λ (t : List ℕ). quote ∷ t) (sym e ∙ parts ∙ ap (λ (t : List ℕ). inside ++ get_or t 0 0 ∷ behind) same) in
+    boundary_behind (quote ∷ text) (length inside + 2) utf8 (omega (arith, ap length cut, length-append (quote ∷ inside) (quote ∷ behind))) (λ k at.
+    let there : get_or (quote ∷ text) k 0 ≡ quote = ap (λ (t : List ℕ). get_or t k 0) cut ∙ get_or_at (quote ∷ inside) quote behind 0 k (omega (arith, at)) in
+    omega (arith, there, ascii))
 
 pub boundary-sign : {T : Type 0} (o : Option (T × ℕ)) (bytes : List ℕ) → IsUtf8 bytes → IfSome o (λ front. 0 < front.1) → IfSome o (λ front. get_or bytes (front.1 - 1) 0 < 128) → IfSome o (λ front. front.1 ≤ length bytes) → IfSome o (λ front. IsCharBoundary bytes front.1)
 boundary-sign None bytes utf8 some ascii within = tt
@@ -151,24 +132,3 @@ boundary-sign (Some front) bytes utf8 some ascii within =
     boundary_behind bytes front.1 utf8 within (λ k e.
     let last : k ≡ front.1 - 1 = omega arith in
     subst (λ (n : ℕ). get_or bytes n 0 < 128) (sym last) ascii)
-
--- a name without a dot is one piece
-dot_here : (front behind : List ℕ) → has_byte 46 (front ++ 46 ∷ behind) ≡ true
-dot_here [] behind = refl
-dot_here (b ∷ front) behind = or_right (eqb b 46) (has_byte 46 (front ++ 46 ∷ behind)) (dot_here front behind)
-
-undotted : (name word : List ℕ) → has_byte 46 name ≡ true → has_byte 46 word ≡ false → bytes_eq name word ≡ false
-undotted name word dot none = false_from_ne_true (bytes_eq name word) (λ e. both_ways (has_byte 46 word) none (subst (λ (t : List ℕ). has_byte 46 t ≡ true) ((bytes_eq-Decides name word).0 e) dot))
-
-reserved-by : (name : List ℕ) (parts : List (List ℕ)) → 0 < length parts → join_with_byte 46 parts ≡ name → is_reserved parts ≡ (bytes_eq name (codes "true") || bytes_eq name (codes "false") || bytes_eq name (codes "in"))
-reserved-by name [] some e = absurd (omega arith)
-reserved-by name (part ∷ []) some e = ap (λ (t : List ℕ). bytes_eq t (codes "true") || bytes_eq t (codes "false") || bytes_eq t (codes "in")) e
-reserved-by name (part ∷ next ∷ parts) some e =
-    let dot : has_byte 46 name ≡ true = subst (λ (t : List ℕ). has_byte 46 t ≡ true) e (dot_here part (join_with_byte 46 (next ∷ parts))) in
-    sym (or_from (bytes_eq name (codes "true") || bytes_eq name (codes "false")) (bytes_eq name (codes "in")) (or_from (bytes_eq name (codes "true")) (bytes_eq name (codes "false")) (undotted name (codes "true") dot refl) (undotted name (codes "false") dot refl)) (undotted name (codes "in") dot refl))
-
-pub reserved-is : (name : List ℕ) → is_reserved (pieces name) ≡ (bytes_eq name (codes "true") || bytes_eq name (codes "false") || bytes_eq name (codes "in"))
-reserved-is name = reserved-by name (pieces name) (omega (arith, length-slice_split (λ (b : ℕ). eqb b 46) name)) (join_with_byte-slice_split 46 name)
-
-pub reserved-last : (name : List ℕ) → bytes_eq name (codes "true") ≡ false → bytes_eq name (codes "false") ≡ false → bytes_eq name (codes "in") ≡ is_reserved (pieces name)
-reserved-last name first second = sym (reserved-is name ∙ ap (λ (t : Bool). t || bytes_eq name (codes "false") || bytes_eq name (codes "in")) first ∙ ap (λ (t : Bool). t || bytes_eq name (codes "in")) second)

@@ -3,13 +3,13 @@ use Rattle.std.proofs.Common.{◌≡◌, ℕ, true, false, List, [], ◌∷◌, 
 use Rattle.std.proofs.lemmas.Bool.{false≢true}
 use Rattle.std.specs.Str.Parse.{digits_value}
 use Rattle.matcher_read.specs.Expression.{Expression, text, whole, truth, request, policy, binary}
-use Rattle.matcher_read.specs.Grammar.{Rule, or_rule, and_rule, cmp_rule, sum_rule, term_rule, unary_rule, IsPartOf, and_or, cmp_and, sum_cmp, term_sum, unary_term, prim_unary, Joins, or_joins, and_joins, plus_joins, minus_joins, times_joins, over_joins, remainder_joins, Compares, equal_compares, not_equal_compares, less_compares, at_most_compares, greater_compares, at_least_compares}
+use Rattle.matcher_read.specs.Grammar.{Rule, or_rule, and_rule, cmp_rule, sum_rule, term_rule, unary_rule, IsPartOf, and_or, cmp_and, sum_cmp, term_sum, unary_term, prim_unary, Joins, or_joins, and_joins, plus_joins, minus_joins, times_joins, over_joins, remainder_joins}
 use Rattle.matcher_read.specs.Tokens.{Placed, placed, operator}
 use Rattle.matcher_read.specs.Tokens as token
 use Rattle.matcher_read.specs.declared.tree.Operator.{Operator}
 use Rattle.matcher_read.specs.declared.tree.Operator.TheVariants as op
-pub use Rattle.matcher_read.specs.Giving.{fresh, entry, Gives, holds_list}
-use Rattle.matcher_read.proofs.Machine.{Lefts, Kind, parentheses, members, arguments, Frame, Control, wants, has, has_members, opens, State, no_lefts, comparison_of, and_of, or_of, left_of, state_of, with_operand, pushed, Rank, term_rank, sum_rank, comparing_rank, rank, operates, parts, closes, step}
+use Rattle.matcher_read.specs.Helps.Giving.{fresh, entry, Gives, holds_list}
+use Rattle.matcher_read.specs.Helps.Machine.{Lefts, Kind, parentheses, members, arguments, Frame, Control, wants, has, opens, State, no_lefts, comparison_of, and_of, or_of, left_of, state_of, with_operand, pushed, Rank, term_rank, sum_rank, comparing_rank, rank, operates, parts, closes, step}
 
 -- what a part gives, the rule gives
 pub gives_part : {part rule : Rule} (l : Lefts) (frames : List Frame) (s : State) (e : Expression) → IsPartOf part rule → Gives part (fresh rule l) frames s e → Gives rule l frames s e
@@ -23,11 +23,7 @@ gives_part l frames s e prim_unary g = g
 -- the entry of a part is that of the rule
 pub same_entry : {part rule : Rule} (l : Lefts) (frames : List Frame) → IsPartOf part rule → entry part (fresh rule l) frames ≡ entry rule l frames
 same_entry l frames and_or = refl
-same_entry l frames cmp_and = refl
-same_entry l frames sum_cmp = refl
-same_entry l frames term_sum = refl
-same_entry l frames unary_term = refl
-same_entry l frames prim_unary = refl
+same_entry l frames _ = refl
 
 -- ---- how the machine goes on
 
@@ -43,34 +39,26 @@ pub step_or : (at : ℕ) (frames : List Frame) (l : Lefts) (c : Control)
     → step (state_of c l frames) (placed at (operator op.Or)) ≡ option_map (λ (e : Expression). entry and_rule (record no_lefts { ors = left_of at op.Or e }) frames) (option_map (or_of l) (comparison_of l c))
 unfolding step
 step_or at frames l wants = refl
-step_or at frames l (has x) = refl
-step_or at frames l (has_members x) = refl
-step_or at frames l (opens kind) = refl
+step_or at frames l _ = refl
 
 pub step_and : (at : ℕ) (frames : List Frame) (l : Lefts) (c : Control)
     → step (state_of c l frames) (placed at (operator op.And)) ≡ option_map (λ (e : Expression). entry cmp_rule (record no_lefts { ors = l.ors; ands = left_of at op.And e }) frames) (option_map (and_of l) (comparison_of l c))
 unfolding step
 step_and at frames l wants = refl
-step_and at frames l (has x) = refl
-step_and at frames l (has_members x) = refl
-step_and at frames l (opens kind) = refl
+step_and at frames l _ = refl
 
 pub step_comma : (at : ℕ) (frames : List Frame) (l : Lefts) (c : Control) → step (state_of c l frames) (placed at token.comma) ≡ option_and_then (parts frames) (option_map (or_of l) (comparison_of l c))
 unfolding step
 step_comma at frames l wants = refl
-step_comma at frames l (has x) = refl
-step_comma at frames l (has_members x) = refl
-step_comma at frames l (opens kind) = refl
+step_comma at frames l _ = refl
 
 pub step_closing : (at : ℕ) (frames : List Frame) (l : Lefts) (c : Control) → step (state_of c l frames) (placed at token.closing) ≡ option_and_then (closes frames) (option_map (or_of l) (comparison_of l c))
 unfolding step
 step_closing at frames l wants = refl
-step_closing at frames l (has x) = refl
-step_closing at frames l (has_members x) = refl
-step_closing at frames l (opens kind) = refl
+step_closing at frames l _ = refl
 
 -- behind the operators of terms, of sums and of comparisons
-step_operates : (at : ℕ) (o : Operator) (frames : List Frame) (l : Lefts) (x : Expression) (r : Rank) → rank o ≡ r → step (state_of (has x) l frames) (placed at (operator o)) ≡ operates r at o l frames x
+pub step_operates : (at : ℕ) (o : Operator) (frames : List Frame) (l : Lefts) (x : Expression) (r : Rank) → rank o ≡ r → step (state_of (has x) l frames) (placed at (operator o)) ≡ operates r at o l frames x
 unfolding step
 step_operates at o frames l x r e = ap (λ (k : Rank). operates k at o l frames x) e
 
@@ -132,25 +120,19 @@ join_continues at l frames s e times_joins unary_term g = term_continues at op.T
 join_continues at l frames s e over_joins unary_term g = term_continues at op.Over l frames s e refl g
 join_continues at l frames s e remainder_joins unary_term g = term_continues at op.Remainder l frames s e refl g
 
-comparing : {o : Operator} → Compares o → rank o ≡ comparing_rank
-comparing equal_compares = refl
-comparing not_equal_compares = refl
-comparing less_compares = refl
-comparing at_most_compares = refl
-comparing greater_compares = refl
-comparing at_least_compares = refl
+-- behind an operator that compares
+abbrev pub compared_with : ℕ → Operator → Expression → Lefts → Lefts
+compared_with at o e l = record (fresh cmp_rule l) { compared = left_of at o e }
 
-pub comparison_continues : {o : Operator} (at : ℕ) (l : Lefts) (frames : List Frame) (s : State) (e : Expression) → Compares o → Gives sum_rule (fresh cmp_rule l) frames s e
+abbrev pub comparison_continues : (at : ℕ) (o : Operator) (l : Lefts) (frames : List Frame) (s : State) (e : Expression) → rank o ≡ comparing_rank → Gives sum_rule (fresh cmp_rule l) frames s e
     → Continues cmp_rule sum_rule l frames s (placed at (operator o)) (binary at o e)
-comparison_continues {o} at l frames s e c g =
-    let behind : Lefts = record (fresh cmp_rule l) { compared = left_of at o e } in
-    record {
-      lefts = behind;
-      unsigned = refl;
-      steps = ap (λ (n : State). step n (placed at (operator o))) g.2 ∙ step_operates at o frames (record (fresh cmp_rule l) { sums = g.1.sums; terms = g.1.terms }) g.0 comparing_rank (comparing c)
-          ∙ ap (λ (f : Expression). Some (entry sum_rule (record (fresh cmp_rule l) { compared = left_of at o f }) frames)) g.3;
-      gives = λ later f h. (has h.0, record h.1 { compared = left_of at o e }, h.2, ap (λ (y : Expression). Some (binary at o e y)) h.3);
-    }
+comparison_continues at o l frames s e r g = record {
+  lefts = compared_with at o e l;
+  unsigned = refl;
+  steps = ap (λ (n : State). step n (placed at (operator o))) g.2 ∙ step_operates at o frames (record (fresh cmp_rule l) { sums = g.1.sums; terms = g.1.terms }) g.0 comparing_rank r
+      ∙ ap (λ (f : Expression). Some (entry sum_rule (compared_with at o f l) frames)) g.3;
+  gives = λ later f h. (has h.0, record h.1 { compared = left_of at o e }, h.2, ap (λ (y : Expression). Some (binary at o e y)) h.3);
+}
 
 -- ---- `in`, lists and parentheses
 
@@ -176,11 +158,15 @@ list_parts parentheses outer before frames e h = absurd (false≢true h)
 list_parts (members at left) outer before frames e h = refl
 list_parts (arguments at names) outer before frames e h = refl
 
+-- a comma and a closing parenthesis, behind what is complete
+pub comma_at : (at : ℕ) (l : Lefts) (frames : List Frame) (s : State) (e : Expression) → Gives or_rule l frames s e → step s (placed at token.comma) ≡ parts frames e
+comma_at at l frames s e g =
+    ap (λ (n : State). step n (placed at token.comma)) g.2 ∙ step_comma at frames (record g.1 { signs = [] }) g.0
+    ∙ ap (option_and_then (parts frames)) g.3
+
 pub comma_behind : (at : ℕ) (l : Lefts) (frame : Frame) (frames : List Frame) (s : State) (e : Expression) → holds_list frame.kind ≡ true → Gives or_rule l (frame ∷ frames) s e
     → step s (placed at token.comma) ≡ Some (state_of wants no_lefts (with_one frame e ∷ frames))
-comma_behind at l frame frames s e h g =
-    ap (λ (n : State). step n (placed at token.comma)) g.2 ∙ step_comma at (frame ∷ frames) (record g.1 { signs = [] }) g.0
-    ∙ ap (option_and_then (parts (frame ∷ frames))) g.3 ∙ list_parts frame.kind frame.outer frame.before frames e h
+comma_behind at l frame frames s e h g = comma_at at l (frame ∷ frames) s e g ∙ list_parts frame.kind frame.outer frame.before frames e h
 
 pub closing_behind : (at : ℕ) (l : Lefts) (frames : List Frame) (s : State) (e : Expression) → Gives or_rule l frames s e → step s (placed at token.closing) ≡ closes frames e
 closing_behind at l frames s e g =
@@ -229,8 +215,7 @@ step_false at l frames = refl
 pub step_request : (at : ℕ) (column : List ℕ) (path : List (List ℕ)) (l : Lefts) (frames : List Frame)
     → step (state_of wants l frames) (placed at (token.name (codes "r" ∷ column ∷ path))) ≡ Some (with_operand l frames (request at column path))
 unfolding step
-step_request at column [] l frames = refl
-step_request at column (next ∷ path) l frames = refl
+step_request at column path l frames = refl
 
 pub step_policy : (at : ℕ) (column : List ℕ) (l : Lefts) (frames : List Frame)
     → step (state_of wants l frames) (placed at (token.name (codes "p" ∷ column ∷ []))) ≡ Some (with_operand l frames (policy at column))

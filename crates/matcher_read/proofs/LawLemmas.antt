@@ -5,10 +5,10 @@ use Rattle.matcher_read.specs.Expression.{Expression, nodes}
 use Rattle.matcher_read.specs.Faults.{IsFirst, IsFault, too_long, within}
 use Rattle.matcher_read.specs.Grammar.{Derives, or_rule}
 use Rattle.matcher_read.specs.Matcher.{IsMatcher, is_closed, most_levels, most_nodes}
-use Rattle.matcher_read.specs.Tokens.{Placed, Token, name, called, number, text, unclosed, operator, exclamation, opening, closing, comma, is_reserved, name_before, token_before, with_calls}
+use Rattle.matcher_read.specs.Tokens.{Placed, Token, name, called, opening, is_reserved, name_before, token_before, with_calls}
 use Rattle.matcher_read.specs.declared.fault.MatcherFault.{MatcherFault}
 use Rattle.matcher_read.proofs.CuttingLemmas.{cut_is_one}
-use Rattle.matcher_read.proofs.Machine.{start, verdict}
+use Rattle.matcher_read.specs.Helps.Machine.{start, verdict}
 use Rattle.matcher_read.proofs.Runs.{derives_one, whole_reads}
 use Rattle.matcher_read.proofs.Verdicts.{Shows, first_verdict}
 
@@ -21,29 +21,13 @@ name_closed parts opening = by_word (is_reserved parts)
     by_word : (b : Bool) → is_closed (cond b (name parts) (called parts)) ≡ true
     by_word true = refl
     by_word false = refl
-name_closed parts (name names) = refl
-name_closed parts (called names) = refl
-name_closed parts (number digits) = refl
-name_closed parts (text bytes) = refl
-name_closed parts (unclosed bytes) = refl
-name_closed parts (operator o) = refl
-name_closed parts exclamation = refl
-name_closed parts closing = refl
-name_closed parts comma = refl
+name_closed parts _ = refl
 
 -- a call is as closed as its name
 before_closed : (t : Token) (behind : List Placed) → is_closed (token_before t behind) ≡ is_closed t
 before_closed (name parts) [] = refl
 before_closed (name parts) (next ∷ behind) = name_closed parts next.token
-before_closed (called parts) behind = refl
-before_closed (number digits) behind = refl
-before_closed (text bytes) behind = refl
-before_closed (unclosed bytes) behind = refl
-before_closed (operator o) behind = refl
-before_closed exclamation behind = refl
-before_closed opening behind = refl
-before_closed closing behind = refl
-before_closed comma behind = refl
+before_closed _ behind = refl
 
 pub calls_closed : (ts : List Placed) → are_closed (with_calls ts) ≡ are_closed ts
 calls_closed [] = refl

@@ -6,13 +6,12 @@ mod FrontLemmas
 mod Gives
 mod LawLemmas
 mod ListLemmas
-mod Machine
 mod NameLemmas
-mod NamingLemmas
 mod OpenSteps
 mod Opens
 mod Passes
 mod PieceLemmas
+mod Ranks
 mod ReadLevels
 mod ReadLists
 mod ReadOperands

@@ -2,11 +2,11 @@
 use Rattle.std.proofs.Common.{◌≡◌, ◌≢◌, ℕ, suc, ◌+◌, ◌-◌, ◌<◌, ◌≤◌, Bool, true, false, cond, List, [], ◌∷◌, length, take, drop, get_or, eqb, Option, Some, None, IfSome, MatchOption, refl, sym, ap, ◌∙◌, subst, arith}
 use Rattle.std.proofs.lemmas.Bool.{eqb-true, eqb-false}
 use Rattle.std.proofs.lemmas.List.{get_or-take, length-drop}
-use Rattle.matcher_read.specs.Tokens.{Token, Placed, placed, name, called, number, text, unclosed, operator, exclamation, opening, closing, comma, IsSpelling, as_name, as_number, as_text, as_unclosed, as_operator, as_exclamation, as_opening, as_closing, as_comma, name_before, token_before, with_calls, is_reserved}
+use Rattle.matcher_read.specs.Tokens.{Token, Placed, placed, name, called, number, opening, IsSpelling, as_number, as_opening, name_before, token_before, with_calls, is_reserved}
 use Rattle.std.specs.Prelude.{option_map}
-use Rattle.matcher_read.specs.TokenLists.{TokenList, HasDigits, end_of, placed_of, token_of}
+use Rattle.matcher_read.specs.Helps.TokenLists.{TokenList, HasDigits, end_of, placed_of, token_of}
 use Rattle.matcher_read.specs.declared.token.PlacedToken.{PlacedToken}
-use Rattle.matcher_read.specs.Cutting.{Found, found, token_at, or_one, Cut, onto_cut, cut_full, blanks, cut_within, cut, listed, IsAtEnd, IsLeft, begins_opening, name_by, marked}
+use Rattle.matcher_read.specs.Helps.Cutting.{Found, found, token_at, or_one, Cut, onto_cut, cut_full, blanks, cut_within, cut, listed, IsAtEnd, IsLeft, begins_opening, name_by, marked}
 use Rattle.matcher_read.proofs.TokenLemmas.{token_at-spelled, token_at-full}
 use Rattle.matcher_read.proofs.CuttingLemmas.{blanks-behind, cut_within-front, cut_full-at, cut_full-token, cut_within-one, cut-is}
 
@@ -50,15 +50,8 @@ opening_found [] = refl
 opening_found (b ∷ bytes) = open_sign (eqb b 61)
 
 opening_spelled : (t : Token) (spelling : List ℕ) → IsSpelling t spelling → t ≡ opening → spelling ≡ 40 ∷ []
-opening_spelled t spelling (as_name some all) e = absurd cc
-opening_spelled t spelling (as_number some all) e = absurd cc
-opening_spelled t spelling (as_text is none) e = absurd cc
-opening_spelled t spelling (as_unclosed is none) e = absurd cc
-opening_spelled t spelling as_operator e = absurd cc
-opening_spelled t spelling as_exclamation e = absurd cc
 opening_spelled t spelling as_opening e = refl
-opening_spelled t spelling as_closing e = absurd cc
-opening_spelled t spelling as_comma e = absurd cc
+opening_spelled t spelling _ e = absurd cc
 
 opening_first : (b : ℕ) (bytes : List ℕ) (front : Found) → token_at (b ∷ bytes) ≡ Some front → front.token ≡ opening → b ≡ 40
 opening_first b bytes front e is =
@@ -67,16 +60,8 @@ opening_first b bytes front e is =
     sym (get_or-take front.size (b ∷ bytes) 0 0 there.some) ∙ ap (λ (t : List ℕ). get_or t 0 0) spelling
 
 name_before-other : (parts : List (List ℕ)) (t : Token) → t ≢ opening → name_before parts t ≡ name parts
-name_before-other parts (name others) other = refl
-name_before-other parts (called others) other = refl
-name_before-other parts (number digits) other = refl
-name_before-other parts (text bytes) other = refl
-name_before-other parts (unclosed bytes) other = refl
-name_before-other parts (operator o) other = refl
-name_before-other parts exclamation other = refl
 name_before-other parts opening other = absurd (other refl)
-name_before-other parts closing other = refl
-name_before-other parts comma other = refl
+name_before-other parts _ other = refl
 
 -- a name by the tokens behind it, and by the byte behind it
 mark-at : (test : Bool) (b : ℕ) (bytes : List ℕ) (parts : List (List ℕ)) (o : Option Found) (place : ℕ) → eqb b 40 ≡ test → token_at (b ∷ bytes) ≡ o → blanks (b ∷ bytes) ≡ 0 → token_before (name parts) (cut place (b ∷ bytes)).tokens ≡ name_by parts test
@@ -103,15 +88,7 @@ mark-name place (b ∷ bytes) parts full = mark-at (eqb b 40) b bytes parts (tok
 -- a token by the tokens behind it
 pub mark-is : (place : ℕ) (bytes : List ℕ) (token : Token) → blanks bytes ≡ 0 → token_before token (cut place bytes).tokens ≡ marked token (begins_opening bytes)
 mark-is place bytes (name parts) full = mark-name place bytes parts full
-mark-is place bytes (called parts) full = refl
-mark-is place bytes (number digits) full = refl
-mark-is place bytes (text others) full = refl
-mark-is place bytes (unclosed others) full = refl
-mark-is place bytes (operator o) full = refl
-mark-is place bytes exclamation full = refl
-mark-is place bytes opening full = refl
-mark-is place bytes closing full = refl
-mark-is place bytes comma full = refl
+mark-is place bytes _ full = refl
 
 -- the list is that of a text
 pub record IsListed (place : ℕ) (bytes : List ℕ) (list : TokenList) : Type 0 where
@@ -154,15 +131,8 @@ at_end bytes front is e = record {
 
 -- a number that is spelled is digits, also where a name may be called
 digits_spelled : {token : Token} {spelling : List ℕ} → IsSpelling token spelling → HasDigits token
-digits_spelled (as_name some all) = tt
 digits_spelled (as_number some all) = (some, all)
-digits_spelled (as_text is none) = tt
-digits_spelled (as_unclosed is none) = tt
-digits_spelled as_operator = tt
-digits_spelled as_exclamation = tt
-digits_spelled as_opening = tt
-digits_spelled as_closing = tt
-digits_spelled as_comma = tt
+digits_spelled _ = tt
 
 digits_called : (t : Bool) (parts : List (List ℕ)) → HasDigits (cond t (name parts) (called parts))
 digits_called true parts = tt
@@ -174,15 +144,8 @@ digits_name false parts = tt
 
 digits_marked : (token : Token) (opens : Bool) → HasDigits token → HasDigits (marked token opens)
 digits_marked (name parts) opens h = digits_name opens parts
-digits_marked (called parts) opens h = tt
 digits_marked (number digits) opens h = h
-digits_marked (text bytes) opens h = tt
-digits_marked (unclosed bytes) opens h = tt
-digits_marked (operator o) opens h = tt
-digits_marked exclamation opens h = tt
-digits_marked opening opens h = tt
-digits_marked closing opens h = tt
-digits_marked comma opens h = tt
+digits_marked _ opens h = tt
 
 pub has_digits : (bytes : List ℕ) (token : Token) (size : ℕ) (opens : Bool) → token_at bytes ≡ Some (found token size) → HasDigits (marked token opens)
 has_digits bytes token size opens e = digits_marked token opens (digits_spelled (token_at-spelled bytes (found token size) e).spelled)

@@ -1,48 +1,22 @@
 -- Names: identifiers joined by dots, and how far one goes.
 use Rattle.std.proofs.Common.{◌≡◌, ℕ, suc, ◌+◌, ◌<◌, ◌≤◌, ◌||◌, ◌&&◌, inl, inr, Bool, true, false, cond, List, [], ◌∷◌, ◌++◌, length, take, get_or, eqb, All, IsTrue, refl, ap, ◌∙◌, subst, arith}
 use Rattle.std.proofs.lemmas.Bool.{and_parts, and_from, or_parts, or_left, or_cases, both_ways, eqb-true, ne_eqb, cond-true}
-use Rattle.std.proofs.lemmas.Bool.Decides.{nat_tests}
-use Rattle.std.proofs.lemmas.List.{append_assoc, length-append, length-take, get_or-take}
+use Rattle.std.proofs.lemmas.List.{append_assoc, length-append}
 use Rattle.std.proofs.lemmas.List.Elements.{All-from_recursion}
-use Rattle.std.proofs.lemmas.List.Sums.{AllPass-from_list_all, list_all-from_AllPass, prefix_len_passes}
+use Rattle.std.proofs.lemmas.List.Sums.{AllPass-from_list_all}
 use Rattle.std.proofs.lemmas.List.Splits.{join_with_byte-slice_split, slice_split_at, slice_split_none}
-use Rattle.std.specs.Char.{is_ascii_digit}
-use Rattle.std.specs.List.{AllByRecursion, join_with_byte, list_all, onto_first, prefix_len}
-use Rattle.matcher_read.specs.Names.{is_identifier, is_letter, is_word}
+use Rattle.std.specs.List.{AllByRecursion, join_with_byte, list_all, onto_first}
+use Rattle.text_parts.specs.Names.{is_identifier, is_letter, is_word}
 use Rattle.matcher_read.specs.Tokens.{name, IsSpelling, as_name}
-use Rattle.matcher_read.specs.TokenLists.{pieces}
-use Rattle.matcher_read.specs.Cutting.{begins_name, goes_on, name_size}
-
--- bytes that pass, before others
-pub prefix_len-passing : (p : ℕ → Bool) (front rest : List ℕ) → list_all p front ≡ true → prefix_len p (front ++ rest) ≡ length front + prefix_len p rest
-prefix_len-passing p [] rest all = omega arith
-prefix_len-passing p (b ∷ front) rest all =
-    let both = and_parts (p b) (list_all p front) all in
-    cond-true (p b) (1 + prefix_len p (front ++ rest)) 0 both.0 ∙ omega (arith, prefix_len-passing p front rest both.1)
-
-pub list_all-prefix : (p : ℕ → Bool) (bytes : List ℕ) → list_all p (take (prefix_len p bytes) bytes) ≡ true
-list_all-prefix p bytes =
-    list_all-from_AllPass p (take (prefix_len p bytes) bytes) (λ k d inside.
-    let before : k < prefix_len p bytes = omega (arith, length-take (prefix_len p bytes) bytes) in
-    rw (get_or-take (prefix_len p bytes) bytes k d before) (prefix_len_passes p bytes k d before))
+use Rattle.matcher_read.specs.Helps.TokenLists.{pieces}
+use Rattle.matcher_read.specs.Helps.Cutting.{begins_name, goes_on, name_size}
+use Rattle.text_parts.proofs.CallerLemmas.{word_from_letter, words_of}
 
 -- what a byte is
-pub word_from_letter : (b : ℕ) → is_letter b ≡ true → is_word b ≡ true
-word_from_letter b letter = grind (arith, nat_tests)
-
-pub digit_is_no_letter : (b : ℕ) → is_ascii_digit b ≡ true → is_letter b ≡ false
-digit_is_no_letter b digit = grind (arith, nat_tests)
-
 word_is_no_dot : (b : ℕ) → is_word b ≡ true → eqb b 46 ≡ false
 word_is_no_dot b word = ne_eqb b 46 (λ e. both_ways (is_word 46) refl (subst (λ (n : ℕ). is_word n ≡ true) e word))
 
 -- identifiers
-words_of : (part : List ℕ) → is_identifier part ≡ true → list_all is_word part ≡ true
-words_of [] is = absurd cc
-words_of (b ∷ part) is =
-    let both = and_parts (is_letter b) (list_all is_word part) is in
-    and_from (is_word b) (list_all is_word part) (word_from_letter b both.0) both.1
-
 no_dots : (part : List ℕ) → list_all is_word part ≡ true → All (λ (b : ℕ). eqb b 46 ≡ false) part
 no_dots part all = λ k d inside. word_is_no_dot (get_or part k d) (AllPass-from_list_all is_word part all k d inside)
 

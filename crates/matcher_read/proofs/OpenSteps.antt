@@ -3,12 +3,15 @@ use Rattle.std.proofs.Common.{◌≡◌, ℕ, suc, ◌+◌, ◌-◌, ◌≤◌, 
 use Rattle.std.proofs.lemmas.Slice.Eq.{bytes_eq-Decides}
 use Rattle.std.specs.Str.{bytes_eq}
 use Rattle.matcher_read.specs.Expression.{Expression}
-use Rattle.matcher_read.specs.Grammar.{Derives, by_text, by_unclosed, by_number, by_true, by_false, by_request, by_policy, by_negation, by_opposite, or_rule, and_rule, sum_rule, term_rule, prim_rule, Joins, or_joins, and_joins, plus_joins, minus_joins, times_joins, over_joins, remainder_joins, Compares, equal_compares, not_equal_compares, less_compares, at_most_compares, greater_compares, at_least_compares}
+use Rattle.matcher_read.specs.Grammar.{Derives, by_text, by_unclosed, by_number, by_true, by_false, by_request, by_policy, by_negation, by_opposite, or_rule, and_rule, cmp_rule, sum_rule, term_rule, prim_rule}
 use Rattle.matcher_read.specs.Tokens.{Placed, Token, placed, name, called, number, unclosed, operator, exclamation, opening, closing, comma}
 use Rattle.matcher_read.specs.Tokens as token
 use Rattle.matcher_read.specs.declared.tree.Operator.{Operator}
 use Rattle.matcher_read.specs.declared.tree.Operator.TheVariants as op
-use Rattle.matcher_read.proofs.Machine.{Left, Lefts, Kind, parentheses, members, arguments, Frame, State, Control, wants, has, has_members, opens, start, state_of, with_operand, pushed, goes, left_of, or_of, sum_of, Rank, term_rank, sum_rank, comparing_rank, and_rank, or_rank, rank, joins, operates, parts, closes, name_operand, is_in, step_wants, step_has, step_members, step_opens, step_by, step, levels_of, depth}
+use Rattle.matcher_read.specs.Helps.Machine.{Left, Lefts, Kind, parentheses, members, arguments, Frame, State, Control, wants, has, has_members, opens, start, state_of, with_operand, pushed, goes, left_of, or_of, sum_of, Rank, term_rank, sum_rank, comparing_rank, and_rank, or_rank, rank, joins, operates, parts, closes, name_operand, is_in, step_wants, step_has, step_members, step_opens, step_by, step, levels_of, depth}
+use Rattle.matcher_read.specs.Helps.Taking.{joins_by}
+use Rattle.matcher_read.specs.declared.words.Chain.TheVariants as chain
+use Rattle.matcher_read.proofs.Ranks.{compares_is, joins_is}
 use Rattle.matcher_read.proofs.Standing.{Wanting, Having, Compared, Awaits, Complete, Outside, Stands, Holds}
 use Rattle.matcher_read.proofs.StandingSteps.{operand_stands, having_compared, compared_complete, term_stands, sum_stands, comparison_stands, or_stands, and_stands, in_stands, positive, sign_stands, opening_stands, comma_stands, closing_parentheses, closing_call, closing_members}
 
@@ -36,42 +39,13 @@ name_derived n at (first ∷ column ∷ []) =
     choose (AreDerived n (placed at (name (first ∷ column ∷ [])) ∷ [])) (bytes_eq first (codes "r")) (λ h. rw ((bytes_eq-Decides first (codes "r")).0 h) by_request)
     (choose (AreDerived n (placed at (name (first ∷ column ∷ [])) ∷ [])) (bytes_eq first (codes "p")) (λ h. rw ((bytes_eq-Decides first (codes "p")).0 h) by_policy) tt)
 name_derived n at (first ∷ column ∷ next ∷ path) =
-    choose (AreDerived n (placed at (name (first ∷ column ∷ next ∷ path)) ∷ [])) (bytes_eq first (codes "r")) (λ h. rw ((bytes_eq-Decides first (codes "r")).0 h) by_request) tt
+    choose (AreDerived n (placed at (name (first ∷ column ∷ next ∷ path)) ∷ [])) (bytes_eq first (codes "r")) (λ h. rw ((bytes_eq-Decides first (codes "r")).0 h) by_request)
+    (choose (AreDerived n (placed at (name (first ∷ column ∷ next ∷ path)) ∷ [])) (bytes_eq first (codes "p")) (λ h. tt) tt)
 
 is_in-tells : (names : List (List ℕ)) → is_in names ≡ true → names ≡ codes "in" ∷ []
 is_in-tells [] h = absurd cc
 is_in-tells (first ∷ []) h = ap (λ part. part ∷ []) ((bytes_eq-Decides first (codes "in")).0 h)
 is_in-tells (first ∷ next ∷ rest) h = absurd cc
-
--- ---- the rules of operators
-
-joins_term : (o : Operator) → rank o ≡ term_rank → Joins o term_rule
-joins_term op.Times h = times_joins
-joins_term op.Over h = over_joins
-joins_term op.Remainder h = remainder_joins
-joins_term _ h = absurd cc
-
-joins_sum : (o : Operator) → rank o ≡ sum_rank → Joins o sum_rule
-joins_sum op.Plus h = plus_joins
-joins_sum op.Minus h = minus_joins
-joins_sum _ h = absurd cc
-
-joins_and : (o : Operator) → rank o ≡ and_rank → Joins o and_rule
-joins_and op.And h = and_joins
-joins_and _ h = absurd cc
-
-joins_or : (o : Operator) → rank o ≡ or_rank → Joins o or_rule
-joins_or op.Or h = or_joins
-joins_or _ h = absurd cc
-
-compares : (o : Operator) → rank o ≡ comparing_rank → Compares o
-compares op.Equal h = equal_compares
-compares op.NotEqual h = not_equal_compares
-compares op.Less h = less_compares
-compares op.AtMost h = at_most_compares
-compares op.Greater h = greater_compares
-compares op.AtLeast h = at_least_compares
-compares _ h = absurd cc
 
 -- ---- where an operand is expected
 
@@ -143,8 +117,8 @@ module _ (most n : ℕ) (ts : List Placed) (at : ℕ) (e : Expression) where
 
 module _ (most n : ℕ) (lefts : Lefts) (frames : List Frame) (ts : List Placed) (levels : n + levels_of frames ≡ most) (at : ℕ) where
   joins_after : (r : Rank) (o : Operator) → rank o ≡ r → (e : Expression) → Compared (Outside frames n) n e lefts ts → AfterStep most (ts ++ placed at (operator o) ∷ []) (joins r at o lefts frames e)
-  joins_after or_rank o h e c = λ few. record { levels_left = n; levels = levels; stands = or_stands _ n lefts ts at o e (joins_or o h) c }
-  joins_after and_rank o h e c = λ few. record { levels_left = n; levels = levels; stands = and_stands _ n lefts ts at o e (joins_and o h) c }
+  joins_after or_rank o h e c = λ few. record { levels_left = n; levels = levels; stands = or_stands _ n lefts ts at o e (joins_is chain.Or o (ap (joins_by or_rule) h)) c }
+  joins_after and_rank o h e c = λ few. record { levels_left = n; levels = levels; stands = and_stands _ n lefts ts at o e (joins_is chain.And o (ap (joins_by and_rule) h)) c }
   joins_after comparing_rank o h e c = tt
   joins_after sum_rank o h e c = tt
   joins_after term_rank o h e c = tt
@@ -160,7 +134,7 @@ module _ (most n : ℕ) (lefts : Lefts) (frames : List Frame) (ts : List Placed)
       | None ↦ Some (state_of wants (record lefts { compared = left_of at o (sum_of lefts e); sums = None; terms = None }) frames)
       | Some left ↦ None
     ])
-    comparison_after o j None none = λ few. record { levels_left = n; levels = levels; stands = comparison_stands _ n lefts ts at o e (compares o j) none h }
+    comparison_after o j None none = λ few. record { levels_left = n; levels = levels; stands = comparison_stands _ n lefts ts at o e (compares_is o (ap (joins_by cmp_rule) j)) none h }
     comparison_after o j (Some left) some = tt
 
     in_after : (names : List (List ℕ)) → names ≡ codes "in" ∷ [] → (compared : Option Left) → lefts.compared ≡ compared → AfterStep most (ts ++ placed at (name names) ∷ []) (elim compared [
@@ -171,8 +145,8 @@ module _ (most n : ℕ) (lefts : Lefts) (frames : List Frame) (ts : List Placed)
     in_after names same (Some left) some = tt
 
     operates_after : (r : Rank) (o : Operator) → rank o ≡ r → AfterStep most (ts ++ placed at (operator o) ∷ []) (operates r at o lefts frames e)
-    operates_after term_rank o j = λ few. record { levels_left = n; levels = levels; stands = term_stands _ n lefts ts at o e (joins_term o j) h }
-    operates_after sum_rank o j = λ few. record { levels_left = n; levels = levels; stands = sum_stands _ n lefts ts at o e (joins_sum o j) h }
+    operates_after term_rank o j = λ few. record { levels_left = n; levels = levels; stands = term_stands _ n lefts ts at o e (joins_is chain.Term o (ap (joins_by term_rule) j)) h }
+    operates_after sum_rank o j = λ few. record { levels_left = n; levels = levels; stands = sum_stands _ n lefts ts at o e (joins_is chain.Sum o (ap (joins_by sum_rule) j)) h }
     operates_after comparing_rank o j = comparison_after o j lefts.compared refl
     operates_after and_rank o j = joins_after and_rank o j _ (having_compared _ n lefts ts e h)
     operates_after or_rank o j = joins_after or_rank o j _ (having_compared _ n lefts ts e h)

@@ -1,27 +1,17 @@
 -- What the machine goes through can be completed to a matcher, and what it has gone through whole is one.
-use Rattle.std.proofs.Common.{◌≡◌, ℕ, suc, ◌+◌, ◌≤◌, nat_le, Bool, true, false, cond, List, [], ◌∷◌, ◌++◌, length, Option, Some, None, option_and_then, option_map, refl, sym, ap, ◌∙◌, subst, arith, append_assoc, append-nil, le_trans, leb-true, le-leb}
+use Rattle.std.proofs.Common.{◌≡◌, ℕ, suc, ◌+◌, ◌≤◌, nat_le, Bool, true, false, cond, List, [], ◌∷◌, ◌++◌, length, Option, Some, None, option_and_then, option_map, refl, sym, ap, ◌∙◌, subst, arith, append_assoc, append-nil, leb-true}
 use Rattle.matcher_read.specs.Expression.{Expression, Expressions, one_more, no_more, count}
 use Rattle.matcher_read.specs.Faults.{IsOpenWithin, IsOpen}
 use Rattle.matcher_read.specs.Grammar.{Derives, by_text, DerivesList, by_last, or_rule}
 use Rattle.matcher_read.specs.Tokens.{Placed, placed, called, opening, closing}
 use Rattle.matcher_read.specs.Tokens as token
-use Rattle.matcher_read.proofs.Machine.{Lefts, no_lefts, Kind, parentheses, members, arguments, Frame, Control, wants, has, has_members, opens, State, start, state_of, pushed, or_of, comparison_of, final_value, step, levels_of, depth, goes, goes_within}
+use Rattle.matcher_read.specs.Helps.Machine.{Lefts, no_lefts, Kind, parentheses, members, arguments, Frame, Control, wants, has, has_members, opens, State, start, state_of, pushed, or_of, comparison_of, final_value, step, levels_of, depth, goes, goes_within}
 use Rattle.matcher_read.proofs.Standing.{Wanting, Having, expressions_before, Outside, Stands, Holds, Complete}
 use Rattle.matcher_read.proofs.StandingSteps.{start_stands, operand_stands, having_compared, compared_complete, closing_parentheses, closing_call, closing_members}
+use Rattle.matcher_read.proofs.Passes.{goes_levels, goes_one, within_more}
 use Rattle.matcher_read.proofs.OpenSteps.{AfterStep, step_after, opening_after}
 
 -- ---- the tokens that are gone through
-
-pub goes-append : (s : State) (ts us : List Placed) → goes s (ts ++ us) ≡ option_and_then (λ next. goes next us) (goes s ts)
-goes-append s [] us = refl
-goes-append s (t ∷ ts) us = each (λ next. goes-append next ts us) (step s t) where
-  each : ((next : State) → goes next (ts ++ us) ≡ option_and_then (λ next. goes next us) (goes next ts)) → (o : Option State)
-      → option_and_then (λ next. goes next (ts ++ us)) o ≡ option_and_then (λ next. goes next us) (option_and_then (λ next. goes next ts) o)
-  each more None = refl
-  each more (Some next) = more next
-
-goes_one : (ts : List Placed) (t : Placed) (s next : State) → goes start ts ≡ Some s → step s t ≡ Some next → goes start (ts ++ t ∷ []) ≡ Some next
-goes_one ts t s next h k = rw (goes-append, h, k) refl
 
 -- one token further
 holds_one : (most : ℕ) (ts rest : List Placed) (t : Placed) (s final : State) → Holds most s ts → goes start ts ≡ Some s
@@ -31,7 +21,7 @@ holds_one : (most : ℕ) (ts rest : List Placed) (t : Placed) (s final : State) 
 holds_one most ts rest t s final h reached later None k after e = absurd cc
 holds_one most ts rest t s final h reached later (Some next) k after e = each (nat_le (depth next) most) refl e where
   each : (b : Bool) → nat_le (depth next) most ≡ b → cond b (goes_within most next rest) None ≡ Some final → Holds most final ((ts ++ t ∷ []) ++ rest)
-  each true few f = later next (after (leb-true _ _ few)) (goes_one ts t s next reached k) f
+  each true few f = later next (after (leb-true _ _ few)) (goes_one start s ts t reached ∙ k) f
   each false few f = absurd cc
 
 holds_goes : (most : ℕ) (rest ts : List Placed) (s final : State) → Holds most s ts → goes start ts ≡ Some s → goes_within most s rest ≡ Some final → Holds most final (ts ++ rest)
@@ -48,33 +38,6 @@ holds_start most = record { levels_left = most; levels = omega arith; stands = s
 -- what stands before the state behind tokens that the machine goes through
 pub holds_within : (most : ℕ) (ts : List Placed) (s : State) → goes_within most start ts ≡ Some s → Holds most s ts
 holds_within most ts s e = holds_goes most ts [] start s (holds_start most) refl e
-
--- ---- levels
-
--- with more levels
-pub within_more : (most more : ℕ) (ts : List Placed) (s final : State) → most ≤ more → goes_within most s ts ≡ Some final → goes_within more s ts ≡ Some final
-within_more most more [] s final l e = e
-within_more most more (t ∷ ts) s final l e = each (λ next. within_more most more ts next final l) (step s t) e where
-  each : ((next : State) → goes_within most next ts ≡ Some final → goes_within more next ts ≡ Some final) → (o : Option State)
-      → option_and_then (λ next. cond (nat_le (depth next) most) (goes_within most next ts) None) o ≡ Some final
-      → option_and_then (λ next. cond (nat_le (depth next) more) (goes_within more next ts) None) o ≡ Some final
-  each further None k = absurd cc
-  each further (Some next) k = both (nat_le (depth next) most) refl k where
-    both : (b : Bool) → nat_le (depth next) most ≡ b → cond b (goes_within most next ts) None ≡ Some final → cond (nat_le (depth next) more) (goes_within more next ts) None ≡ Some final
-    both true few f = rw (le-leb (depth next) more (le_trans (leb-true _ _ few) l)) (further next f)
-    both false few f = absurd cc
-
--- what the machine goes through, it goes through with some levels at most
-pub some_levels : (ts : List Placed) (s final : State) → goes s ts ≡ Some final → (most : ℕ) × (goes_within most s ts ≡ Some final)
-some_levels [] s final e = (0, e)
-some_levels (t ∷ ts) s final e = each (λ next. some_levels ts next final) (step s t) e where
-  each : ((next : State) → goes next ts ≡ Some final → (most : ℕ) × (goes_within most next ts ≡ Some final)) → (o : Option State)
-      → option_and_then (λ next. goes next ts) o ≡ Some final
-      → (most : ℕ) × (option_and_then (λ next. cond (nat_le (depth next) most) (goes_within most next ts) None) o ≡ Some final)
-  each further None k = absurd cc
-  each further (Some next) k =
-      let m = further next k in
-      (depth next + m.0, rw (le-leb (depth next) (depth next + m.0) (omega arith)) (within_more m.0 (depth next + m.0) ts next final (omega arith) m.1))
 
 -- ---- completing
 
@@ -132,9 +95,9 @@ open_within most ts s e few =
 
 pub open_by_goes : (ts : List Placed) (s : State) → goes start ts ≡ Some s → IsOpen ts
 open_by_goes ts s e =
-    let m = some_levels ts start s e in
+    let m = goes_levels start s ts e in
     let most = m.0 + depth s + awaited s.control in
-    (most, open_within most ts s (within_more m.0 most ts start s (omega arith) m.1) (omega arith))
+    (most, open_within most ts s (within_more m.0 most start s ts (omega arith) m.1) (omega arith))
 
 -- ---- what is whole
 
@@ -170,7 +133,7 @@ whole_within most ts s e g f =
 
 pub whole_by_goes : (ts : List Placed) (s : State) (e : Expression) → goes start ts ≡ Some s → final_value s ≡ Some e → (levels : ℕ) × Derives levels or_rule ts e
 whole_by_goes ts s e g f =
-    let m = some_levels ts start s g in
+    let m = goes_levels start s ts g in
     (m.0, whole_within m.0 ts s e m.1 f)
 
 -- ---- the call that a closing parenthesis ends
@@ -216,7 +179,7 @@ top_frame n kind lefts before frames ts e at names same c =
 pub top_call : (ts : List Placed) (s : State) (frame : Frame) (frames : List Frame) (at : ℕ) (names : List (List ℕ)) (e : Expression) → goes start ts ≡ Some s → s.frames ≡ frame ∷ frames
     → frame.kind ≡ arguments at names → comparison_of s.lefts s.control ≡ Some e → TopCall at names (state_of wants frame.outer frames) (length frame.before + 1) ts
 top_call ts s frame frames at names e g top kind done =
-    let m = some_levels ts start s g in
+    let m = goes_levels start s ts g in
     let h = holds_within m.0 ts s m.1 in
     let stands : Stands s.control h.levels_left s.lefts (frame ∷ frames) ts = subst (λ fs. Stands s.control h.levels_left s.lefts fs ts) top h.stands in
     top_frame h.levels_left frame.kind frame.outer frame.before frames ts _ at names kind (complete_stands s.control h.levels_left s.lefts (frame ∷ frames) ts e stands done)

@@ -5,7 +5,7 @@ use Rattle.std.proofs.lemmas.Option.{none-some}
 use Rattle.matcher_read.specs.Tokens.{Placed}
 use Rattle.matcher_read.specs.declared.fault.MatcherFault.{MatcherFault}
 use Rattle.matcher_read.specs.declared.fault.MatcherFault.TheVariants.{Unexpected}
-use Rattle.matcher_read.proofs.Machine.{State, step, goes, goes_within, depth, token_fault, after_fault, read_step, verdict}
+use Rattle.matcher_read.specs.Helps.Machine.{State, step, goes, goes_within, depth, token_fault, after_fault, read_step, verdict}
 
 -- ---- two fronts of the tokens
 
@@ -40,14 +40,22 @@ within-append most s (t ∷ ts) us = by_next (λ next. within-append most next t
 pub goes_behind : (s next : State) (ts us : List Placed) → goes s ts ≡ Some next → goes s (ts ++ us) ≡ goes next us
 goes_behind s next ts us e = goes-append s ts us ∙ ap (option_and_then (λ (later : State). goes later us)) e
 
+-- one token more
+pub goes_one : (s next : State) (ts : List Placed) (t : Placed) → goes s ts ≡ Some next → goes s (ts ++ t ∷ []) ≡ step next t
+goes_one s next ts t h = goes_behind s next ts (t ∷ []) h ∙ and_some (step next t)
+  where
+    and_some : (o : Option State) → option_and_then (λ (m : State). Some m) o ≡ o
+    and_some None = refl
+    and_some (Some m) = refl
+
 pub within_behind : (most : ℕ) (s next : State) (ts us : List Placed) → goes_within most s ts ≡ Some next → goes_within most s (ts ++ us) ≡ goes_within most next us
 within_behind most s next ts us e = within-append most s ts us ∙ ap (option_and_then (λ (later : State). goes_within most later us)) e
 
 -- ---- with levels and without
 
-cond_some : (b : Bool) (o : Option State) (s : State) → cond b o None ≡ Some s → (b ≡ true) × (o ≡ Some s)
-cond_some true o s e = (refl, e)
-cond_some false o s e = absurd (none-some s e)
+pub cond_some : {A : Type 0} (b : Bool) (o : Option A) (x : A) → cond b o None ≡ Some x → (b ≡ true) × (o ≡ Some x)
+cond_some true o x e = (refl, e)
+cond_some false o x e = absurd (none-some x e)
 
 pub within_goes : (most : ℕ) (s later : State) (ts : List Placed) → goes_within most s ts ≡ Some later → goes s ts ≡ Some later
 within_goes most s later [] e = e
@@ -111,6 +119,10 @@ reads-append s (t ∷ ts) us = by_read (λ next. reads-append next ts us) (read_
     by_read more (Ok next) = more next
     by_read more (Err fault) = refl
 
+-- reading goes on from the state behind tokens that are read
+pub reads_behind : (s next : State) (ts us : List Placed) → reads s ts ≡ Ok next → reads s (ts ++ us) ≡ reads next us
+reads_behind s next ts us e = reads-append s ts us ∙ ap (read_on (λ (later : State). reads later us)) e
+
 pub verdict-append : (size : ℕ) (stray : Option ℕ) (s : State) (ts us : List Placed) → verdict size stray s (ts ++ us) ≡ read_on (λ (next : State). verdict size stray next us) (reads s ts)
 verdict-append size stray s [] us = refl
 verdict-append size stray s (t ∷ ts) us = by_read (λ next. verdict-append size stray next ts us) (read_step s t)
@@ -127,25 +139,34 @@ verdict_behind size stray s next ts us e = verdict-append size stray s ts us ∙
 pub verdict_fault : (size : ℕ) (stray : Option ℕ) (s : State) (ts us : List Placed) (fault : MatcherFault) → reads s ts ≡ Err fault → verdict size stray s (ts ++ us) ≡ Err fault
 verdict_fault size stray s ts us fault e = verdict-append size stray s ts us ∙ ap (read_on (λ (later : State). verdict size stray later us)) e
 
--- one token that may stand there and meets no fault
+-- one token: it is read, it meets a fault, or it may not stand there
 abbrev read_by : State → Placed → Option State → Result State MatcherFault
 read_by s t o = elim o [
   | None ↦ Err (Unexpected t.at)
   | Some later ↦ after_fault later (token_fault s later t.at t.token)
 ]
 
-pub reads_one : (s next : State) (t : Placed) → step s t ≡ Some next → token_fault s next t.at t.token ≡ None → read_step s t ≡ Ok next
-reads_one s next t e f = ap (read_by s t) e ∙ ap (after_fault next) f
+pub read_some : (s next : State) (t : Placed) → step s t ≡ Some next → read_step s t ≡ after_fault next (token_fault s next t.at t.token)
+read_some s next t e = ap (read_by s t) e
 
--- the verdict over one token: it is read, it meets a fault, or it may not stand there
+pub read_one : (s next : State) (t : Placed) → step s t ≡ Some next → token_fault s next t.at t.token ≡ None → read_step s t ≡ Ok next
+read_one s next t e f = read_some s next t e ∙ ap (after_fault next) f
+
+pub read_fault : (s next : State) (t : Placed) (fault : MatcherFault) → step s t ≡ Some next → token_fault s next t.at t.token ≡ Some fault → read_step s t ≡ Err fault
+read_fault s next t fault e f = read_some s next t e ∙ ap (after_fault next) f
+
+pub read_none : (s : State) (t : Placed) → step s t ≡ None → read_step s t ≡ Err (Unexpected t.at)
+read_none s t e = ap (read_by s t) e
+
+-- the verdict over it
 pub verdict_next : (size : ℕ) (stray : Option ℕ) (s next : State) (t : Placed) (us : List Placed) → step s t ≡ Some next → token_fault s next t.at t.token ≡ None → verdict size stray s (t ∷ us) ≡ verdict size stray next us
-verdict_next size stray s next t us e f = ap (read_on (λ (later : State). verdict size stray later us)) (reads_one s next t e f)
+verdict_next size stray s next t us e f = ap (read_on (λ (later : State). verdict size stray later us)) (read_one s next t e f)
 
 pub verdict_meets : (size : ℕ) (stray : Option ℕ) (s next : State) (t : Placed) (us : List Placed) (fault : MatcherFault) → step s t ≡ Some next → token_fault s next t.at t.token ≡ Some fault → verdict size stray s (t ∷ us) ≡ Err fault
-verdict_meets size stray s next t us fault e f = ap (read_on (λ (later : State). verdict size stray later us)) (ap (read_by s t) e ∙ ap (after_fault next) f)
+verdict_meets size stray s next t us fault e f = ap (read_on (λ (later : State). verdict size stray later us)) (read_fault s next t fault e f)
 
-pub verdict_stops : (size : ℕ) (stray : Option ℕ) (s : State) (t : Placed) (us : List Placed) → step s t ≡ None → verdict size stray s (t ∷ us) ≡ Err (Unexpected t.at)
-verdict_stops size stray s t us e = ap (read_on (λ (later : State). verdict size stray later us)) (ap (read_by s t) e)
+pub verdict_none : (size : ℕ) (stray : Option ℕ) (s : State) (t : Placed) (us : List Placed) → step s t ≡ None → verdict size stray s (t ∷ us) ≡ Err (Unexpected t.at)
+verdict_none size stray s t us e = ap (read_on (λ (later : State). verdict size stray later us)) (read_none s t e)
 
 -- ---- both together
 
@@ -157,14 +178,14 @@ pub record Passes (most : ℕ) (fine : Type 0) (s : State) (ts : List Placed) (n
 pub passes_both : {most : ℕ} {fine : Type 0} (s next later : State) (ts us : List Placed) → Passes most fine s ts next → Passes most fine next us later → Passes most fine s (ts ++ us) later
 passes_both {most} s next later ts us p q = record {
   within = within_behind most s next ts us p.within ∙ q.within;
-  without_fault = λ h. reads-append s ts us ∙ ap (read_on (λ (n : State). reads n us)) (p.without_fault h) ∙ q.without_fault h;
+  without_fault = λ h. reads_behind s next ts us (p.without_fault h) ∙ q.without_fault h;
 }
 
 pub passes_more : {most : ℕ} {fine : Type 0} (s next later : State) (t : Placed) (ts : List Placed) → step s t ≡ Some next → depth next ≤ most → (fine → token_fault s next t.at t.token ≡ None)
     → Passes most fine next ts later → Passes most fine s (t ∷ ts) later
 passes_more {most} s next later t ts e small sound p = record {
   within = ap (option_and_then (within_then most (λ (n : State). goes_within most n ts))) e ∙ ap (λ (b : Bool). cond b (goes_within most next ts) None) (le-leb (depth next) most small) ∙ p.within;
-  without_fault = λ h. ap (read_on (λ (n : State). reads n ts)) (reads_one s next t e (sound h)) ∙ p.without_fault h;
+  without_fault = λ h. ap (read_on (λ (n : State). reads n ts)) (read_one s next t e (sound h)) ∙ p.without_fault h;
 }
 
 pub passes_none : {most : ℕ} {fine : Type 0} (s : State) → Passes most fine s [] s

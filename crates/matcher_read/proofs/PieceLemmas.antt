@@ -1,25 +1,21 @@
 -- The pieces of a name between its dots, and what they say.
-use Rattle.std.proofs.Common.{◌≡◌, ℕ, ◌+◌, ◌<◌, Bool, true, false, cond, not, eqb, List, [], ◌∷◌, length, codes, Option, Some, None, MatchOption, refl, ap, sym, subst, ◌∙◌, arith, lit<}
+use Rattle.std.proofs.Common.{◌||◌, ◌≡◌, ℕ, ◌<◌, Bool, true, false, cond, eqb, List, [], ◌∷◌, length, codes, Option, Some, None, MatchOption, refl, ap, sym, subst, ◌∙◌, arith, lit<}
 use Rattle.std.proofs.lemmas.Slice.Eq.{bytes_eq-Decides}
-use Rattle.std.proofs.lemmas.List.Splits.{slice_split_first, length-slice_split, join_with_byte-slice_split}
+use Rattle.std.proofs.lemmas.List.Splits.{slice_split_first, slice_split_none, length-slice_split, join_with_byte-slice_split}
+use Rattle.std.proofs.lemmas.Bool.{or_from}
+use Rattle.std.proofs.lemmas.List.Sums.{fails_before_first}
 use Rattle.std.proofs.lemmas.Str.Pattern.{IsSplitOnceResult, split_once_first}
-use Rattle.std.specs.List.{position_or_len, after_first, slice_split, onto_first, join_with_byte}
+use Rattle.std.specs.List.{position_or_len, after_first, slice_split, join_with_byte}
 use Rattle.std.specs.Str.{bytes_eq}
-use Rattle.matcher_read.specs.Machine.{name_operand, is_in}
-use Rattle.matcher_read.specs.Naming.{request_of, policy_of}
-use Rattle.matcher_read.specs.TokenLists.{pieces}
+use Rattle.matcher_read.specs.Helps.Machine.{name_operand, is_in}
+use Rattle.matcher_read.specs.Helps.Naming.{request_of, policy_of}
+use Rattle.matcher_read.specs.Helps.TokenLists.{pieces}
+use Rattle.matcher_read.specs.Tokens.{is_reserved}
 use denote.Ref.{Bor}
 
 -- no byte passes: one piece
 one_part : (p : ℕ → Bool) (bs : List ℕ) → position_or_len p bs ≡ length bs → slice_split p bs ≡ bs ∷ []
-one_part p [] h = refl
-one_part p (b ∷ bs) h = by_test (one_part p bs) (p b) refl
-  where
-    by_test : (position_or_len p bs ≡ length bs → slice_split p bs ≡ bs ∷ []) → (t : Bool) → p b ≡ t → slice_split p (b ∷ bs) ≡ (b ∷ bs) ∷ []
-    by_test rest true e = absurd (let none : 0 ≡ length (b ∷ bs) = sym (ap (λ (t : Bool). cond (not t) (1 + position_or_len p bs) 0) e) ∙ h in omega (arith, none))
-    by_test rest false e =
-        let more : 1 + position_or_len p bs ≡ length (b ∷ bs) = sym (ap (λ (t : Bool). cond (not t) (1 + position_or_len p bs) 0) e) ∙ h in
-        ap (λ (t : Bool). cond t ([] ∷ slice_split p bs) (onto_first b (slice_split p bs))) e ∙ ap (onto_first b) (rest (omega (arith, more)))
+one_part p bs h = slice_split_none p bs (λ k d inside. fails_before_first p bs k d (omega (arith, h)))
 
 -- cut once at a dot
 pub pieces_cut : (bs : List ℕ) (r : Option (Bor (List ℕ) × Bor (List ℕ))) → IsSplitOnceResult 46 bs r → MatchOption r (pieces bs ≡ bs ∷ []) (λ cut. pieces bs ≡ cut.0.now ∷ pieces cut.1.now)
@@ -40,13 +36,12 @@ pieces_one bs piece h = sym (ap (join_with_byte 46) h) ∙ join_with_byte-slice_
 pub operand_behind : (at : ℕ) (first : List ℕ) (parts : List (List ℕ)) → 0 < length parts
     → name_operand at (first ∷ parts) ≡ cond (bytes_eq first (codes "r")) (Some (request_of at parts)) (cond (bytes_eq first (codes "p")) (policy_of at parts) None)
 operand_behind at first [] h = absurd (omega (arith, h))
-operand_behind at first (column ∷ []) h = refl
-operand_behind at first (column ∷ next ∷ path) h = by_tests (bytes_eq first (codes "r")) (bytes_eq first (codes "p"))
-  where
-    by_tests : (a b : Bool) → cond a (Some (request_of at (column ∷ next ∷ path))) None ≡ cond a (Some (request_of at (column ∷ next ∷ path))) (cond b None None)
-    by_tests true b = refl
-    by_tests false true = refl
-    by_tests false false = refl
+operand_behind at first (column ∷ names) h = refl
+
+-- a column of the policy stands alone
+pub policy_of_more : (at : ℕ) (first : List ℕ) (names : List (List ℕ)) → 0 < length names → None ≡ policy_of at (first ∷ names)
+policy_of_more at first [] h = absurd (omega (arith, h))
+policy_of_more at first (next ∷ names) h = refl
 
 -- one piece or more
 pub pieces_cases : (P : List (List ℕ) → Type 0) (bs : List ℕ) → P (bs ∷ []) → ((a b : List ℕ) (cs : List (List ℕ)) → pieces bs ≡ a ∷ b ∷ cs → P (a ∷ b ∷ cs)) → P (pieces bs)
@@ -68,3 +63,12 @@ other_text bs text a b cs one more = by_test (bytes_eq bs text) refl
 -- the word `in`
 pub in_word : (bs : List ℕ) → is_in (pieces bs) ≡ bytes_eq bs (codes "in")
 in_word bs = pieces_cases (λ ps. is_in ps ≡ bytes_eq bs (codes "in")) bs refl (λ a b cs e. sym (other_text bs (codes "in") a b cs refl e))
+
+-- the words that are no names of calls
+pub reserved-is : (bs : List ℕ) → is_reserved (pieces bs) ≡ (bytes_eq bs (codes "true") || bytes_eq bs (codes "false") || bytes_eq bs (codes "in"))
+reserved-is bs = pieces_cases (λ ps. is_reserved ps ≡ (bytes_eq bs (codes "true") || bytes_eq bs (codes "false") || bytes_eq bs (codes "in"))) bs refl (λ a b cs e.
+    let other : (text : List ℕ) → pieces text ≡ text ∷ [] → bytes_eq bs text ≡ false = λ text one. other_text bs text a b cs one e in
+    sym (or_from (bytes_eq bs (codes "true") || bytes_eq bs (codes "false")) (bytes_eq bs (codes "in")) (or_from (bytes_eq bs (codes "true")) (bytes_eq bs (codes "false")) (other (codes "true") refl) (other (codes "false") refl)) (other (codes "in") refl)))
+
+pub reserved-last : (bs : List ℕ) → bytes_eq bs (codes "true") ≡ false → bytes_eq bs (codes "false") ≡ false → bytes_eq bs (codes "in") ≡ is_reserved (pieces bs)
+reserved-last bs first second = sym (reserved-is bs ∙ ap (λ (t : Bool). t || bytes_eq bs (codes "false") || bytes_eq bs (codes "in")) first ∙ ap (λ (t : Bool). t || bytes_eq bs (codes "in")) second)

@@ -1,24 +1,26 @@
 -- How what opens a level is read: members, calls, parentheses and signs.
 use Rattle.std.proofs.Common.{◌≡◌, ℕ, suc, ◌+◌, Bool, true, false, cond, List, [], ◌∷◌, ◌++◌, length, codes, Option, Some, None, Err, refl, ap, sym, ◌∙◌, subst, arith, append_assoc, length-append}
-use Rattle.std.proofs.lemmas.Bool.{false≢true}
+use Rattle.std.proofs.lemmas.Bool.{and_from, false≢true}
 use Rattle.std.specs.List.{list_all}
 use Rattle.matcher_read.specs.Calls.{callee_of, is_known, takes}
 use Rattle.matcher_read.specs.Expression.{Expression, among, call, expressions_of, count}
-use Rattle.matcher_read.specs.Giving.{fresh, entry, Gives, holds_list}
+use Rattle.matcher_read.specs.Helps.Giving.{fresh, entry, Gives, holds_list}
 use Rattle.matcher_read.specs.Grammar.{cmp_rule, sum_rule, prim_rule, Derives, by_members, by_call}
-use Rattle.matcher_read.specs.Machine.{Lefts, Frame, Kind, members, arguments, wants, has, has_members, opens, State, Rank, term_rank, sum_rank, comparing_rank, and_rank, or_rank, rank, is_in, joins, asks, no_lefts, levels_of, depth, step, call_fault, verdict, state_of, with_operand, pushed, closes, final_value}
+use Rattle.matcher_read.specs.Helps.Machine.{Lefts, Frame, Kind, members, arguments, wants, has, has_members, opens, State, Rank, term_rank, sum_rank, comparing_rank, and_rank, or_rank, rank, is_in, joins, asks, no_lefts, levels_of, depth, step, call_fault, verdict, state_of, with_operand, pushed, closes, final_value}
 use Rattle.matcher_read.specs.Matcher.{most_levels, is_sound, are_sound, is_closed}
-use Rattle.matcher_read.specs.Parsing.{StopsAt, Read, Fails, ReachesList, ReadList, FailsList}
-use Rattle.matcher_read.specs.Taking.{may_follow, follows, head_is, is_closing, Takes, IsUnexpected}
-use Rattle.matcher_read.specs.TokenLists.{TokenList}
+use Rattle.matcher_read.specs.Helps.Parsing.{StopsAt, Read, Fails, ReachesList, ReadList, FailsList}
+use Rattle.matcher_read.specs.Helps.Taking.{may_follow, follows, head_is, is_closing, Takes, IsUnexpected}
+use Rattle.matcher_read.specs.Helps.TokenLists.{TokenList}
 use Rattle.matcher_read.specs.Tokens.{Placed, placed, Token, operator}
 use Rattle.matcher_read.specs.Tokens as token
 use Rattle.matcher_read.specs.declared.fault.MatcherFault.{MatcherFault}
 use Rattle.matcher_read.specs.declared.fault.MatcherFault.TheVariants.{UnknownFunction, WrongArguments}
+use Rattle.matcher_read.proofs.CallLemmas.{count_is}
 use Rattle.matcher_read.proofs.Gives.{step_in, step_called, closing_behind}
 use Rattle.matcher_read.proofs.RunLists.{takes_known}
-use Rattle.matcher_read.proofs.ReadSteps.{verdict_more, verdict_told, verdict_stops, quiet}
-use Rattle.matcher_read.proofs.ReadParts.{both, closed_join, small_depth}
+use Rattle.matcher_read.proofs.Passes.{verdict_next, verdict_meets}
+use Rattle.matcher_read.proofs.ReadSteps.{verdict_stops, quiet}
+use Rattle.matcher_read.proofs.ReadParts.{closed_join, small_depth}
 use Rattle.matcher_read.proofs.ReadLists.{framed_final, over_opening, FailsOpening, opening_fails}
 
 -- ---- a list in parentheses, behind what opens it
@@ -73,7 +75,7 @@ over_enclosed {n} {inside} {es} {before} {after} p kind l frames next size stray
     let k = enclosed_reaches p kind l frames holds h in
     ap (verdict size stray (state_of (opens kind) l frames)) p.opening.tokens ∙ over_opening n inside p.first_at kind l frames p.opened.tokens size stray p.levels h ∙ k.same size stray
     ∙ ap (verdict size stray k.state) p.closing.tokens
-    ∙ verdict_more size stray k.state next (placed p.last_at token.closing) after.tokens (closing_behind p.last_at no_lefts (last_frame kind l k.front ∷ frames) k.state k.last k.gives ∙ closed k.front k.last k.whole)
+    ∙ verdict_next size stray k.state next (placed p.last_at token.closing) after.tokens (closing_behind p.last_at no_lefts (last_frame kind l k.front ∷ frames) k.state k.last k.gives ∙ closed k.front k.last k.whole)
     (ap (λ (s : State). call_fault s.frames) k.gives.2 ∙ fine k.front k.last k.whole)
 
 -- ---- members
@@ -88,15 +90,9 @@ members_stop e l frames at (token.operator o) h = by_rank (rank o) h
     by_rank comparing_rank h = refl
     by_rank and_rank h = absurd (false≢true (sym h))
     by_rank or_rank h = absurd (false≢true (sym h))
-members_stop e l frames at (token.name parts) h = refl
-members_stop e l frames at (token.called parts) h = refl
-members_stop e l frames at (token.number digits) h = refl
-members_stop e l frames at (token.text bytes) h = refl
-members_stop e l frames at (token.unclosed bytes) h = refl
-members_stop e l frames at token.exclamation h = refl
-members_stop e l frames at token.opening h = refl
 members_stop e l frames at token.closing h = absurd (false≢true (sym h))
 members_stop e l frames at token.comma h = absurd (false≢true (sym h))
+members_stop e l frames at _ h = refl
 
 head_members_stop : (e : Expression) (l : Lefts) (frames : List Frame) (ts : List Placed) → head_is (may_follow cmp_rule) ts ≡ false → StopsAt (state_of (has_members e) l frames) ts
 head_members_stop e l frames [] h = tt
@@ -110,7 +106,7 @@ over_in : (n at : ℕ) (l : Lefts) (frames : List Frame) (s : State) (e : Expres
     → verdict size stray s (in_token at ∷ behind) ≡ verdict size stray (state_of (opens (members at e)) (fresh cmp_rule l) frames) behind
 over_in n at l frames s e behind size stray h g =
     let next = state_of (opens (members at e)) (fresh cmp_rule l) frames in
-    verdict_more size stray s next (in_token at) behind (step_in at l frames s e g) (quiet at (depth next) (small_depth (depth next) n h))
+    verdict_next size stray s next (in_token at) behind (step_in at l frames s e g) (quiet at (depth next) (small_depth (depth next) n h))
 
 pub read_members : {n inside at : ℕ} {e : Expression} {es : List Expression} {before middle behind after : TokenList} → Read n sum_rule sum_rule e before middle → Takes (in_token at) middle behind → Enclosed n inside es behind after
     → Read n cmp_rule cmp_rule (among at e (expressions_of es)) before after
@@ -122,7 +118,7 @@ read_members {n} {inside} {at} {e} {es} {before} {middle} {behind} {after} r t p
   derived = subst (λ (levels : ℕ). Derives levels cmp_rule (r.front ++ (in_token at ∷ enclosed_tokens p)) (among at e (expressions_of es))) (sym p.levels)
       (by_members p.first_at p.last_at (subst (λ (levels : ℕ). Derives levels sum_rule r.front e) p.levels r.derived) p.list.derived
       (sym (append_assoc r.front (in_token at ∷ placed p.first_at token.opening ∷ p.list.front) (placed p.last_at token.closing ∷ []))));
-  sound = both (is_sound e) (are_sound (expressions_of es)) r.sound p.list.sound;
+  sound = and_from (is_sound e) (are_sound (expressions_of es)) r.sound p.list.sound;
   closed = closed_join r.front (enclosed_tokens p) (in_token at) refl r.closed (closed_end p.list.front (placed p.last_at token.closing) refl p.list.closed);
   reaches = λ l frames h.
       let first = r.reaches (fresh cmp_rule l) frames h in
@@ -191,14 +187,9 @@ operand_stops x l frames at (token.name parts) h = by_word (is_in parts) h
     by_word : (b : Bool) → cond b true false ≡ false → cond b (asks at l frames x) None ≡ None
     by_word true h = absurd (false≢true (sym h))
     by_word false h = refl
-operand_stops x l frames at (token.called parts) h = refl
-operand_stops x l frames at (token.number digits) h = refl
-operand_stops x l frames at (token.text bytes) h = refl
-operand_stops x l frames at (token.unclosed bytes) h = refl
-operand_stops x l frames at token.exclamation h = refl
-operand_stops x l frames at token.opening h = refl
 operand_stops x l frames at token.closing h = absurd (false≢true (sym h))
 operand_stops x l frames at token.comma h = absurd (false≢true (sym h))
+operand_stops x l frames at _ h = refl
 
 pub head_operand_stops : (x : Expression) (l : Lefts) (frames : List Frame) (ts : List Placed) → head_is (may_follow prim_rule) ts ≡ false → StopsAt (state_of (has x) l frames) ts
 head_operand_stops x l frames [] h = tt
@@ -212,11 +203,7 @@ called_token at parts = placed at (token.called parts)
 over_called : (at : ℕ) (parts : List (List ℕ)) (l : Lefts) (frames : List Frame) (behind : List Placed) (size : ℕ) (stray : Option ℕ) → is_known (callee_of parts) ≡ true
     → verdict size stray (state_of wants l frames) (called_token at parts ∷ behind) ≡ verdict size stray (state_of (opens (arguments at parts)) l frames) behind
 over_called at parts l frames behind size stray known =
-    verdict_more size stray (state_of wants l frames) (state_of (opens (arguments at parts)) l frames) (called_token at parts) behind (step_called at parts l frames) (ap (λ (b : Bool). cond b None (Some (UnknownFunction at))) known)
-
-count_is : (es : List Expression) → count (expressions_of es) ≡ length es
-count_is [] = refl
-count_is (e ∷ es) = omega (arith, count_is es)
+    verdict_next size stray (state_of wants l frames) (state_of (opens (arguments at parts)) l frames) (called_token at parts) behind (step_called at parts l frames) (ap (λ (b : Bool). cond b None (Some (UnknownFunction at))) known)
 
 count_last : (es front : List Expression) (last : Expression) → es ≡ front ++ last ∷ [] → length front + 1 ≡ count (expressions_of es)
 count_last es front last e = omega (arith, count_is es, ap length e, length-append front (last ∷ []))
@@ -229,7 +216,7 @@ read_call {n} {inside} {at} {parts} {es} {before} {behind} {after} t p right = r
   stray = p.closing.stray ∙ p.list.stray ∙ p.opening.stray ∙ t.stray;
   size = p.closing.size ∙ p.list.size ∙ p.opening.size ∙ t.size;
   derived = subst (λ (levels : ℕ). Derives levels prim_rule (called_token at parts ∷ enclosed_tokens p) (call at (callee_of parts) (expressions_of es))) (sym p.levels) (by_call p.first_at p.last_at p.list.derived refl);
-  sound = both (takes (callee_of parts) (count (expressions_of es))) (are_sound (expressions_of es)) right p.list.sound;
+  sound = and_from (takes (callee_of parts) (count (expressions_of es))) (are_sound (expressions_of es)) right p.list.sound;
   closed = closed_end p.list.front (placed p.last_at token.closing) refl p.list.closed;
   reaches = λ l frames h.
       let made = call at (callee_of parts) (expressions_of es) in
@@ -267,7 +254,7 @@ fails_arguments {n} {inside} {at} {parts} {es} {before} {behind} {after} t known
       ap (verdict size stray (state_of wants l frames)) t.tokens ∙ over_called at parts l frames behind.tokens size stray known
       ∙ ap (verdict size stray (state_of (opens kind) l frames)) p.opening.tokens ∙ over_opening n inside p.first_at kind l frames p.opened.tokens size stray p.levels h ∙ k.same size stray
       ∙ ap (verdict size stray k.state) p.closing.tokens
-      ∙ verdict_told size stray k.state next (placed p.last_at token.closing) after.tokens (WrongArguments at) (closing_behind p.last_at no_lefts (last_frame kind l k.front ∷ frames) k.state k.last k.gives)
+      ∙ verdict_meets size stray k.state next (placed p.last_at token.closing) after.tokens (WrongArguments at) (closing_behind p.last_at no_lefts (last_frame kind l k.front ∷ frames) k.state k.last k.gives)
       (ap (λ (s : State). call_fault s.frames) k.gives.2
       ∙ ap (λ (m : ℕ). cond (takes (callee_of parts) m) None (Some (WrongArguments at))) (count_last es k.front k.last k.whole) ∙ ap (λ (b : Bool). cond b None (Some (WrongArguments at))) wrong);
 }

@@ -1,22 +1,22 @@
 -- How lists, and what stands in parentheses, are read.
 use Rattle.std.proofs.Common.{◌≡◌, ℕ, suc, ◌+◌, Bool, true, false, cond, List, [], ◌∷◌, ◌++◌, Option, None, Err, refl, ap, sym, ◌∙◌, subst, arith, append_assoc, append-nil, inl, inr, ◌⊎◌}
-use Rattle.std.proofs.lemmas.Bool.{false≢true}
+use Rattle.std.proofs.lemmas.Bool.{and_from, and_parts, false≢true}
 use Rattle.matcher_read.specs.Expression.{Expression, Expressions, no_more, one_more, expressions_of}
-use Rattle.matcher_read.specs.Giving.{Gives, holds_list}
+use Rattle.matcher_read.specs.Helps.Giving.{Gives, holds_list}
 use Rattle.matcher_read.specs.Grammar.{or_rule, Derives, DerivesList, by_last, by_more}
-use Rattle.matcher_read.specs.Machine.{is_in, Lefts, Frame, Kind, Control, wants, opens, State, no_lefts, levels_of, depth, step, verdict, state_of, pushed, final_value}
+use Rattle.matcher_read.specs.Helps.Machine.{is_in, parts, Lefts, Frame, Kind, Control, wants, opens, State, no_lefts, levels_of, depth, step, verdict, state_of, pushed, final_value}
 use Rattle.matcher_read.specs.Matcher.{most_levels, is_sound, are_sound}
-use Rattle.matcher_read.specs.Parsing.{StopsAt, Read, Fails, ReadList, FailsList}
-use Rattle.matcher_read.specs.Taking.{may_follow, head_is, is_closing, is_opening, is_comma, Takes, Stays, IsUnexpected, ToldAt}
-use Rattle.matcher_read.specs.TokenLists.{TokenList}
+use Rattle.matcher_read.specs.Helps.Parsing.{StopsAt, Read, Fails, ReadList, FailsList}
+use Rattle.matcher_read.specs.Helps.Taking.{may_follow, head_is, is_closing, is_opening, is_comma, Takes, Stays, IsUnexpected, ToldAt}
+use Rattle.matcher_read.specs.Helps.TokenLists.{TokenList}
 use Rattle.matcher_read.specs.Tokens.{Placed, placed, Token, operator}
 use Rattle.matcher_read.specs.Tokens as token
 use Rattle.matcher_read.specs.declared.fault.MatcherFault.{MatcherFault}
 use Rattle.matcher_read.specs.declared.fault.MatcherFault.TheVariants.{TooDeep}
-use Rattle.matcher_read.proofs.Gives.{step_opens, comma_behind, with_one}
-use Rattle.matcher_read.proofs.RunParts.{both_parts}
-use Rattle.matcher_read.proofs.ReadSteps.{verdict_more, verdict_told, verdict_stops, quiet, loud}
-use Rattle.matcher_read.proofs.ReadParts.{both, closed_join, tokens_join, fails_in}
+use Rattle.matcher_read.proofs.Gives.{step_opens, comma_at, comma_behind, with_one}
+use Rattle.matcher_read.proofs.Passes.{verdict_next, verdict_meets}
+use Rattle.matcher_read.proofs.ReadSteps.{verdict_stops, quiet, loud}
+use Rattle.matcher_read.proofs.ReadParts.{closed_join, tokens_join, fails_in}
 
 -- ---- a list as tokens
 
@@ -35,8 +35,8 @@ derives_last at {n} {ts} {us} {e} (by_more there {first = first} {others = other
     by_more there d (derives_last at ds k) (ap (λ (xs : List Placed). xs ++ placed at token.comma ∷ us) same ∙ append_assoc first (placed there token.comma ∷ others) (placed at token.comma ∷ us))
 
 sound_last : (es : Expressions) (e : Expression) → are_sound es ≡ true → is_sound e ≡ true → are_sound (and_last es e) ≡ true
-sound_last no_more e p q = both (is_sound e) true q refl
-sound_last (one_more x es) e p q = let parts = both_parts (is_sound x) (are_sound es) p in both (is_sound x) (are_sound (and_last es e)) parts.0 (sound_last es e parts.1 q)
+sound_last no_more e p q = and_from (is_sound e) true q refl
+sound_last (one_more x es) e p q = let parts = and_parts (is_sound x) (are_sound es) p in and_from (is_sound x) (are_sound (and_last es e)) parts.0 (sound_last es e parts.1 q)
 
 -- ---- the machine in a list
 
@@ -51,7 +51,7 @@ list_first {n} {e} {before} {after} r = record {
   stray = r.stray;
   size = r.size;
   derived = by_last r.derived;
-  sound = both (is_sound e) true r.sound refl;
+  sound = and_from (is_sound e) true r.sound refl;
   closed = r.closed;
   reaches = λ frame frames kind h.
       let k = r.reaches no_lefts (frame ∷ frames) (omega (arith, h)) in
@@ -74,7 +74,7 @@ over_comma : (n at : ℕ) (frame : Frame) (frames : List Frame) (s : State) (las
     → Gives or_rule no_lefts (frame ∷ frames) s last → verdict size stray s (placed at token.comma ∷ behind) ≡ verdict size stray (state_of wants no_lefts (with_one frame last ∷ frames)) behind
 over_comma n at frame frames s last behind size stray kind h g =
     let next = state_of wants no_lefts (with_one frame last ∷ frames) in
-    verdict_more size stray s next (placed at token.comma) behind (comma_behind at no_lefts frame frames s last kind g) (quiet at (depth next) (omega (arith, h)))
+    verdict_next size stray s next (placed at token.comma) behind (comma_behind at no_lefts frame frames s last kind g) (quiet at (depth next) (omega (arith, h)))
 
 pub list_more : {n at : ℕ} {es : List Expression} {e : Expression} {before middle behind after : TokenList} → ReadList n (may_follow or_rule) es before middle → Takes (placed at token.comma) middle behind
     → Read n or_rule or_rule e behind after → ReadList n (may_follow or_rule) (es ++ e ∷ []) before after
@@ -117,20 +117,22 @@ list_fails_behind {n} {at} {es} {fault} {before} {middle} {behind} r t k = recor
 
 -- where no comma stands next, nothing but a closing parenthesis goes on
 pub no_comma : (t : Token) → is_closing t ≡ false → is_comma t ≡ false → may_follow or_rule t ≡ false
-no_comma (token.operator o) p q = refl
 no_comma (token.name parts) p q = neither_way (is_in parts)
   where
     neither_way : (b : Bool) → cond b false false ≡ false
     neither_way true = refl
     neither_way false = refl
-no_comma (token.called parts) p q = refl
-no_comma (token.number digits) p q = refl
-no_comma (token.text bytes) p q = refl
-no_comma (token.unclosed bytes) p q = refl
-no_comma token.exclamation p q = refl
-no_comma token.opening p q = refl
 no_comma token.closing p q = p
 no_comma token.comma p q = q
+no_comma _ p q = refl
+
+-- nor does a comma where no list is open
+pub no_list_stops : (frames : List Frame) (s : State) (e : Expression) (at : ℕ) (t : Token) → Gives or_rule no_lefts frames s e → parts frames e ≡ None
+    → (is_closing t ≡ true → step s (placed at token.closing) ≡ None) → (may_follow or_rule t ≡ false → step s (placed at t) ≡ None) → step s (placed at t) ≡ None
+no_list_stops frames s e at token.comma g none p h = comma_at at no_lefts frames s e g ∙ none
+no_list_stops frames s e at token.closing g none p h = p refl
+no_list_stops frames s e at (token.name names) g none p h = h (no_comma (token.name names) refl refl)
+no_list_stops frames s e at _ g none p h = h refl
 
 head_no_comma : (ts : List Placed) → head_is is_closing ts ≡ false → head_is is_comma ts ≡ false → head_is (may_follow or_rule) ts ≡ false
 head_no_comma [] p q = refl
@@ -162,16 +164,8 @@ framed_final s c l frame frames e = ap final_value e
 
 no_opening : (kind : Kind) (l : Lefts) (frames : List Frame) (at : ℕ) (t : Token) → is_opening t ≡ false → step (state_of (opens kind) l frames) (placed at t) ≡ None
 unfolding step
-no_opening kind l frames at (token.name parts) h = refl
-no_opening kind l frames at (token.called parts) h = refl
-no_opening kind l frames at (token.number digits) h = refl
-no_opening kind l frames at (token.text bytes) h = refl
-no_opening kind l frames at (token.unclosed bytes) h = refl
-no_opening kind l frames at (operator o) h = refl
-no_opening kind l frames at token.exclamation h = refl
 no_opening kind l frames at token.opening h = absurd (false≢true (sym h))
-no_opening kind l frames at token.closing h = refl
-no_opening kind l frames at token.comma h = refl
+no_opening kind l frames at _ h = refl
 
 head_no_opening : (kind : Kind) (l : Lefts) (frames : List Frame) (ts : List Placed) → head_is is_opening ts ≡ false → StopsAt (state_of (opens kind) l frames) ts
 head_no_opening kind l frames [] h = tt
@@ -181,7 +175,7 @@ head_no_opening kind l frames (t ∷ ts) h = no_opening kind l frames t.at t.tok
 pub over_opening : (n inside at : ℕ) (kind : Kind) (l : Lefts) (frames : List Frame) (behind : List Placed) (size : ℕ) (stray : Option ℕ) → n ≡ suc inside → depth (state_of (opens kind) l frames) + n ≡ most_levels
     → verdict size stray (state_of (opens kind) l frames) (placed at token.opening ∷ behind) ≡ verdict size stray (pushed kind l frames) behind
 over_opening n inside at kind l frames behind size stray e h =
-    verdict_more size stray (state_of (opens kind) l frames) (pushed kind l frames) (placed at token.opening) behind (step_opens at kind l frames) (quiet at (depth (pushed kind l frames)) (omega (arith, h, e)))
+    verdict_next size stray (state_of (opens kind) l frames) (pushed kind l frames) (placed at token.opening) behind (step_opens at kind l frames) (quiet at (depth (pushed kind l frames)) (omega (arith, h, e)))
 
 -- a fault where a parenthesis has to open
 abbrev pub FailsOpening : ℕ → TokenList → MatcherFault → Type 0
@@ -192,15 +186,7 @@ opening_is t h = ap (placed t.at) (by_token t.token h)
   where
     by_token : (t : Token) → is_opening t ≡ true → t ≡ token.opening
     by_token token.opening h = refl
-    by_token (token.name parts) h = absurd (false≢true h)
-    by_token (token.called parts) h = absurd (false≢true h)
-    by_token (token.number digits) h = absurd (false≢true h)
-    by_token (token.text bytes) h = absurd (false≢true h)
-    by_token (token.unclosed bytes) h = absurd (false≢true h)
-    by_token (operator o) h = absurd (false≢true h)
-    by_token token.exclamation h = absurd (false≢true h)
-    by_token token.closing h = absurd (false≢true h)
-    by_token token.comma h = absurd (false≢true h)
+    by_token _ h = absurd (false≢true h)
 
 pub opening_fails : (n : ℕ) (kind : Kind) (l : Lefts) (frames : List Frame) (before : TokenList) (fault : MatcherFault) → depth (state_of (opens kind) l frames) + n ≡ most_levels → FailsOpening n before fault
     → verdict before.size before.stray (state_of (opens kind) l frames) before.tokens ≡ Err fault
@@ -208,6 +194,6 @@ opening_fails n kind l frames before fault h (inl u) =
     verdict_stops before.size before.stray (state_of (opens kind) l frames) before.tokens (head_no_opening kind l frames before.tokens u.head) (opens_final kind l frames) ∙ ap (λ (f : MatcherFault). Err f) (sym u.told_there)
 opening_fails n kind l frames before fault h (inr (d, none)) =
     ap (verdict before.size before.stray (state_of (opens kind) l frames)) (d.tokens ∙ ap (λ (t : Placed). t ∷ d.others) (opening_is d.first d.passes))
-    ∙ verdict_told before.size before.stray (state_of (opens kind) l frames) (pushed kind l frames) (placed d.first.at token.opening) d.others (TooDeep d.first.at) (step_opens d.first.at kind l frames)
+    ∙ verdict_meets before.size before.stray (state_of (opens kind) l frames) (pushed kind l frames) (placed d.first.at token.opening) d.others (TooDeep d.first.at) (step_opens d.first.at kind l frames)
     (loud d.first.at (depth (pushed kind l frames)) (omega (arith, h, none)))
     ∙ ap (λ (f : MatcherFault). Err f) (sym d.told_there)

@@ -1,20 +1,21 @@
 -- How operands are read: what stands in parentheses, behind signs, and alone.
-use Rattle.std.proofs.Common.{◌≡◌, ℕ, suc, ◌+◌, ◌<◌, ◌≤◌, nat_lt, pos, Bool, true, false, cond, List, [], ◌∷◌, ◌++◌, codes, Option, Some, None, option_map, option_and_then, Result, Ok, Err, refl, ap, sym, ◌∙◌, subst, arith, append_assoc, inl, inr}
-use Rattle.std.proofs.lemmas.Bool.{false≢true}
+use Rattle.std.proofs.Common.{◌≡◌, ℕ, suc, ◌+◌, ◌<◌, ◌≤◌, nat_lt, pos, Bool, true, false, cond, List, [], ◌∷◌, ◌++◌, codes, Option, Some, None, option_map, Result, Ok, Err, refl, ap, sym, ◌∙◌, subst, arith, append_assoc, inl, inr}
+use Rattle.std.proofs.lemmas.Bool.{and_from, false≢true}
 use Rattle.std.specs.List.{list_all}
 use Rattle.std.specs.Option.{ok_or}
 use Rattle.std.specs.Result.{result_ok}
 use Rattle.std.specs.Str.{bytes_eq}
 use Rattle.std.specs.Str.Parse.{digits_value}
 use Rattle.matcher_read.specs.Calls.{callee_of, is_known}
-use Rattle.matcher_read.specs.Expression.{Expression, text, whole, truth, request, policy}
-use Rattle.matcher_read.specs.Giving.{entry, Gives}
+use Rattle.matcher_read.specs.Expression.{Expression, text, whole, truth, request}
+use Rattle.matcher_read.specs.Helps.Giving.{entry, Gives}
 use Rattle.matcher_read.specs.Grammar.{or_rule, unary_rule, prim_rule, Derives, by_parentheses, by_negation, by_opposite, by_text, by_number}
-use Rattle.matcher_read.specs.Machine.{Lefts, Frame, parentheses, wants, opens, State, no_lefts, depth, step, token_fault, call_fault, verdict, state_of, with_operand, pushed, name_operand, final_value, arguments, parts}
+use Rattle.matcher_read.specs.Helps.Naming.{policy_of}
+use Rattle.matcher_read.specs.Helps.Machine.{Lefts, Frame, parentheses, wants, opens, State, no_lefts, depth, step, token_fault, call_fault, verdict, state_of, with_operand, pushed, name_operand, final_value, arguments, parts}
 use Rattle.matcher_read.specs.Matcher.{most_levels, first_wide, is_sound, is_closed}
-use Rattle.matcher_read.specs.Parsing.{StopsAt, Read, Fails}
-use Rattle.matcher_read.specs.Taking.{may_follow, head_is, is_closing, is_opening, is_sign, is_minus, is_called, is_strange, Takes, IsUnexpected, ToldAt, sign_token, signed_by, operand_of, first_operand}
-use Rattle.matcher_read.specs.TokenLists.{TokenList, end_of}
+use Rattle.matcher_read.specs.Helps.Parsing.{StopsAt, Read, Fails}
+use Rattle.matcher_read.specs.Helps.Taking.{may_follow, head_is, is_closing, is_opening, is_sign, is_minus, is_called, is_strange, Takes, IsUnexpected, ToldAt, sign_token, signed_by, operand_of, first_operand}
+use Rattle.matcher_read.specs.Helps.TokenLists.{TokenList, end_of}
 use Rattle.matcher_read.specs.Tokens.{Placed, placed, Token, operator}
 use Rattle.matcher_read.specs.Tokens as token
 use Rattle.matcher_read.specs.declared.fault.MatcherFault.{MatcherFault}
@@ -23,11 +24,12 @@ use Rattle.matcher_read.specs.declared.tree.Operator.{Operator}
 use Rattle.matcher_read.specs.declared.tree.Operator.TheVariants as op
 use Rattle.matcher_read.specs.declared.words.Sign.{Sign}
 use Rattle.matcher_read.specs.declared.words.Sign.TheVariants as sign
-use Rattle.matcher_read.proofs.Gives.{step_comma, step_called, step_parenthesis, step_negation, step_opposite, step_unclosed, step_number, closing_behind}
+use Rattle.matcher_read.proofs.Gives.{step_called, step_parenthesis, step_negation, step_opposite, step_unclosed, step_number, closing_behind}
 use Rattle.matcher_read.proofs.OpenSteps.{AreDerived, name_derived}
-use Rattle.matcher_read.proofs.ReadSteps.{verdict_more, verdict_told, verdict_stops, quiet, loud}
-use Rattle.matcher_read.proofs.ReadParts.{both, fails_in}
-use Rattle.matcher_read.proofs.ReadLists.{framed_final, no_comma, FailsOpening, opening_is}
+use Rattle.matcher_read.proofs.Passes.{verdict_next, verdict_meets}
+use Rattle.matcher_read.proofs.ReadSteps.{verdict_stops, quiet, loud}
+use Rattle.matcher_read.proofs.ReadParts.{fails_in}
+use Rattle.matcher_read.proofs.ReadLists.{framed_final, no_list_stops, FailsOpening, opening_is}
 use Rattle.matcher_read.proofs.ReadLevels.{list_frame, called_token, head_operand_stops, closed_end, unexpected_here}
 
 -- ---- parentheses
@@ -35,7 +37,7 @@ use Rattle.matcher_read.proofs.ReadLevels.{list_frame, called_token, head_operan
 over_parenthesis : (n inside at : ℕ) (l : Lefts) (frames : List Frame) (behind : List Placed) (size : ℕ) (stray : Option ℕ) → n ≡ suc inside → depth (state_of wants l frames) + n ≡ most_levels
     → verdict size stray (state_of wants l frames) (placed at token.opening ∷ behind) ≡ verdict size stray (pushed parentheses l frames) behind
 over_parenthesis n inside at l frames behind size stray e h =
-    verdict_more size stray (state_of wants l frames) (pushed parentheses l frames) (placed at token.opening) behind (step_parenthesis at l frames) (quiet at (depth (pushed parentheses l frames)) (omega (arith, h, e)))
+    verdict_next size stray (state_of wants l frames) (pushed parentheses l frames) (placed at token.opening) behind (step_parenthesis at l frames) (quiet at (depth (pushed parentheses l frames)) (omega (arith, h, e)))
 
 inner_depth : (inside n : ℕ) (l : Lefts) (frames : List Frame) → n ≡ suc inside → depth (state_of wants l frames) + n ≡ most_levels → depth (entry or_rule no_lefts (list_frame parentheses l ∷ frames)) + inside ≡ most_levels
 inner_depth inside n l frames e h = omega (arith, e, h)
@@ -58,7 +60,7 @@ read_parentheses {n} {inside} {first_at} {last_at} {e} {before} {opened} {middle
         gives = refl;
         same = λ size stray.
             ap (verdict size stray (state_of wants l frames)) o.tokens ∙ over_parenthesis n inside first_at l frames opened.tokens size stray levels h ∙ k.same size stray ∙ ap (verdict size stray k.state) c.tokens
-            ∙ verdict_more size stray k.state (with_operand l frames e) (placed last_at token.closing) after.tokens (closing_behind last_at no_lefts (list_frame parentheses l ∷ frames) k.state e k.gives)
+            ∙ verdict_next size stray k.state (with_operand l frames e) (placed last_at token.closing) after.tokens (closing_behind last_at no_lefts (list_frame parentheses l ∷ frames) k.state e k.gives)
             (ap (λ (s : State). call_fault s.frames) k.gives.2);
         stops = head_operand_stops _ _ frames after.tokens;
       };
@@ -72,7 +74,7 @@ fails_at_parenthesis {n} {fault} {before} here (inl u) = not_unexpected before.t
 fails_at_parenthesis {n} {fault} {before} here (inr (d, none)) = record {
   told = λ l frames h.
       ap (verdict before.size before.stray (state_of wants l frames)) (d.tokens ∙ ap (λ (t : Placed). t ∷ d.others) (opening_is d.first d.passes))
-      ∙ verdict_told before.size before.stray (state_of wants l frames) (pushed parentheses l frames) (placed d.first.at token.opening) d.others (TooDeep d.first.at) (step_parenthesis d.first.at l frames)
+      ∙ verdict_meets before.size before.stray (state_of wants l frames) (pushed parentheses l frames) (placed d.first.at token.opening) d.others (TooDeep d.first.at) (step_parenthesis d.first.at l frames)
       (loud d.first.at (depth (pushed parentheses l frames)) (omega (arith, h, none)))
       ∙ ap (λ (f : MatcherFault). Err f) (sym d.told_there);
 }
@@ -85,27 +87,10 @@ fails_in_parentheses {n} {inside} {at} {fault} {before} {opened} levels o f = re
 }
 
 -- behind an expression in parentheses, nothing but a closing parenthesis goes on
-comma_none : (at : ℕ) (l : Lefts) (frames : List Frame) (s : State) (e : Expression) → Gives or_rule no_lefts (list_frame parentheses l ∷ frames) s e → step s (placed at token.comma) ≡ None
-comma_none at l frames s e g =
-    ap (λ (n : State). step n (placed at token.comma)) g.2 ∙ step_comma at (list_frame parentheses l ∷ frames) (record g.1 { signs = [] }) g.0 ∙ ap (option_and_then (parts (list_frame parentheses l ∷ frames))) g.3
-
-inside_stops : (l : Lefts) (frames : List Frame) (s : State) (e : Expression) (at : ℕ) (t : Token) → Gives or_rule no_lefts (list_frame parentheses l ∷ frames) s e → is_closing t ≡ false → (may_follow or_rule t ≡ false → step s (placed at t) ≡ None)
-    → step s (placed at t) ≡ None
-inside_stops l frames s e at token.comma g p h = comma_none at l frames s e g
-inside_stops l frames s e at (token.operator o) g p h = h (no_comma (token.operator o) p refl)
-inside_stops l frames s e at (token.name parts) g p h = h (no_comma (token.name parts) p refl)
-inside_stops l frames s e at (token.called parts) g p h = h (no_comma (token.called parts) p refl)
-inside_stops l frames s e at (token.number digits) g p h = h (no_comma (token.number digits) p refl)
-inside_stops l frames s e at (token.text bytes) g p h = h (no_comma (token.text bytes) p refl)
-inside_stops l frames s e at (token.unclosed bytes) g p h = h (no_comma (token.unclosed bytes) p refl)
-inside_stops l frames s e at token.exclamation g p h = h (no_comma token.exclamation p refl)
-inside_stops l frames s e at token.opening g p h = h (no_comma token.opening p refl)
-inside_stops l frames s e at token.closing g p h = h (no_comma token.closing p refl)
-
 head_inside_stops : (l : Lefts) (frames : List Frame) (s : State) (e : Expression) (ts : List Placed) → Gives or_rule no_lefts (list_frame parentheses l ∷ frames) s e → head_is is_closing ts ≡ false
     → (head_is (may_follow or_rule) ts ≡ false → StopsAt s ts) → StopsAt s ts
 head_inside_stops l frames s e [] g p h = tt
-head_inside_stops l frames s e (t ∷ ts) g p h = inside_stops l frames s e t.at t.token g p h
+head_inside_stops l frames s e (t ∷ ts) g p h = no_list_stops (list_frame parentheses l ∷ frames) s e t.at t.token g refl (λ closing. absurd (false≢true (sym p ∙ closing))) h
 
 pub fails_behind_parentheses : {n inside at : ℕ} {e : Expression} {fault : MatcherFault} {before opened middle : TokenList} → n ≡ suc inside → Takes (placed at token.opening) before opened → Read inside or_rule or_rule e opened middle
     → IsUnexpected is_closing middle fault → Fails n prim_rule fault before
@@ -139,7 +124,7 @@ over_sign : (s : Sign) (n inside : ℕ) (l : Lefts) (frames : List Frame) (behin
     → verdict size stray (state_of wants l frames) (sign_token s ∷ behind) ≡ verdict size stray (state_of wants (with_sign s l) frames) behind
 over_sign s n inside l frames behind size stray e h =
     let next = state_of wants (with_sign s l) frames in
-    verdict_more size stray (state_of wants l frames) next (sign_token s) behind (step_sign s l frames) (sign_quiet s (state_of wants l frames) next (omega (arith, h, e)))
+    verdict_next size stray (state_of wants l frames) next (sign_token s) behind (step_sign s l frames) (sign_quiet s (state_of wants l frames) next (omega (arith, h, e)))
 
 sign_derives : (s : Sign) (n : ℕ) (ts : List Placed) (e : Expression) → Derives n unary_rule ts e → Derives (suc n) unary_rule (sign_token s ∷ ts) (signed_by s e)
 sign_derives (sign.Not at) n ts e d = by_negation d
@@ -214,7 +199,7 @@ fails_at_sign {n} {fault} {before} d none = record {
       let s = sign_is d.first d.passes in
       let next = state_of wants (with_sign s.0 l) frames in
       ap (verdict before.size before.stray (state_of wants l frames)) (d.tokens ∙ ap (λ (t : Placed). t ∷ d.others) s.1)
-      ∙ verdict_told before.size before.stray (state_of wants l frames) next (sign_token s.0) d.others (TooDeep (sign_token s.0).at) (step_sign s.0 l frames)
+      ∙ verdict_meets before.size before.stray (state_of wants l frames) next (sign_token s.0) d.others (TooDeep (sign_token s.0).at) (step_sign s.0 l frames)
       (sign_loud s.0 (state_of wants l frames) next (omega (arith, h, none)))
       ∙ ap (λ (t : Placed). Err (TooDeep t.at)) (sym s.1) ∙ ap (λ (f : MatcherFault). Err f) (sym d.told_there);
 }
@@ -226,7 +211,7 @@ fails_at_call {n} {fault} {before} d = record {
   told = λ l frames h.
       let c = strange_is d.first d.passes in
       ap (verdict before.size before.stray (state_of wants l frames)) (d.tokens ∙ ap (λ (t : Placed). t ∷ d.others) c.1)
-      ∙ verdict_told before.size before.stray (state_of wants l frames) (state_of (opens (arguments d.first.at c.0)) l frames) (called_token d.first.at c.0) d.others (UnknownFunction d.first.at) (step_called d.first.at c.0 l frames)
+      ∙ verdict_meets before.size before.stray (state_of wants l frames) (state_of (opens (arguments d.first.at c.0)) l frames) (called_token d.first.at c.0) d.others (UnknownFunction d.first.at) (step_called d.first.at c.0 l frames)
       (ap (λ (b : Bool). cond b None (Some (UnknownFunction d.first.at))) c.2)
       ∙ ap (λ (f : MatcherFault). Err f) (sym d.told_there);
 }
@@ -237,41 +222,12 @@ fails_at_call {n} {fault} {before} d = record {
 
     by_token : (at : ℕ) (k : Token) → is_strange k ≡ true → (parts : List (List ℕ)) × (placed at k ≡ called_token at parts) × (is_known (callee_of parts) ≡ false)
     by_token at (token.called parts) h = (parts, refl, unknown_is (is_known (callee_of parts)) h)
-    by_token at (token.name parts) h = absurd (false≢true h)
-    by_token at (operator o) h = absurd (false≢true h)
-    by_token at (token.number digits) h = absurd (false≢true h)
-    by_token at (token.text bytes) h = absurd (false≢true h)
-    by_token at (token.unclosed bytes) h = absurd (false≢true h)
-    by_token at token.exclamation h = absurd (false≢true h)
-    by_token at token.opening h = absurd (false≢true h)
-    by_token at token.closing h = absurd (false≢true h)
-    by_token at token.comma h = absurd (false≢true h)
+    by_token at _ h = absurd (false≢true h)
 
     strange_is : (t : Placed) → is_strange t.token ≡ true → (parts : List (List ℕ)) × (t ≡ called_token t.at parts) × (is_known (callee_of parts) ≡ false)
     strange_is t h = by_token t.at t.token h
 
 -- ---- literals and names
-
-step_operand : (at : ℕ) (t : Token) (e : Expression) (l : Lefts) (frames : List Frame) → operand_of at t ≡ Ok e → step (state_of wants l frames) (placed at t) ≡ Some (with_operand l frames e)
-unfolding step
-step_operand at (token.text bytes) e l frames h = ap (λ (r : Result Expression MatcherFault). option_map (with_operand l frames) (result_ok r)) h
-step_operand at (token.number digits) e l frames h = by_test (nat_lt (digits_value 10 digits) first_wide) h
-  where
-    by_test : (b : Bool) → cond b (Ok (whole at (pos (digits_value 10 digits)))) (Err (NumberTooWide at)) ≡ Ok e → Some (with_operand l frames (whole at (pos (digits_value 10 digits)))) ≡ Some (with_operand l frames e)
-    by_test true h = ap (λ (r : Result Expression MatcherFault). option_map (with_operand l frames) (result_ok r)) h
-    by_test false h = absurd cc
-step_operand at (token.name parts) e l frames h = ap (option_map (with_operand l frames)) (ok_is (name_operand at parts) h)
-  where
-    ok_is : (o : Option Expression) → ok_or o (Unexpected at) ≡ Ok e → o ≡ Some e
-    ok_is None h = absurd cc
-    ok_is (Some x) h = ap result_ok h
-step_operand at (token.unclosed bytes) e l frames h = absurd cc
-step_operand at (token.called parts) e l frames h = absurd cc
-step_operand at (operator o) e l frames h = absurd cc
-step_operand at token.exclamation e l frames h = absurd cc
-step_operand at token.opening e l frames h = absurd cc
-step_operand at token.closing e l frames h = absurd cc
-step_operand at token.comma e l frames h = absurd cc
 
 number_test : (at : ℕ) (digits : List ℕ) (e : Expression) → operand_of at (token.number digits) ≡ Ok e → (nat_lt (digits_value 10 digits) first_wide ≡ true) × (whole at (pos (digits_value 10 digits)) ≡ e)
 number_test at digits e h = by_test (nat_lt (digits_value 10 digits) first_wide) h
@@ -286,6 +242,13 @@ name_test at parts e h = ok_is (name_operand at parts) h
     ok_is : (o : Option Expression) → ok_or o (Unexpected at) ≡ Ok e → o ≡ Some e
     ok_is None h = absurd cc
     ok_is (Some x) h = ap result_ok h
+
+step_operand : (at : ℕ) (t : Token) (e : Expression) (l : Lefts) (frames : List Frame) → operand_of at t ≡ Ok e → step (state_of wants l frames) (placed at t) ≡ Some (with_operand l frames e)
+unfolding step
+step_operand at (token.text bytes) e l frames h = ap (λ (r : Result Expression MatcherFault). option_map (with_operand l frames) (result_ok r)) h
+step_operand at (token.number digits) e l frames h = ap (λ (x : Expression). Some (with_operand l frames x)) (number_test at digits e h).1
+step_operand at (token.name parts) e l frames h = ap (option_map (with_operand l frames)) (name_test at parts e h)
+step_operand at _ e l frames h = absurd cc
 
 abbrev sound_of : Option Expression → Bool
 sound_of None = true
@@ -306,17 +269,16 @@ name_sound at (first ∷ []) e h = by_two (bytes_eq first (codes "true")) (bytes
     by_two true b h = ap (λ (o : Option Expression). sound_of o) (sym h)
     by_two false true h = ap (λ (o : Option Expression). sound_of o) (sym h)
     by_two false false h = absurd cc
-name_sound at (first ∷ column ∷ []) e h = by_two (bytes_eq first (codes "r")) (bytes_eq first (codes "p")) h
+name_sound at (first ∷ column ∷ names) e h = by_two (bytes_eq first (codes "r")) (bytes_eq first (codes "p")) h
   where
-    by_two : (a b : Bool) → cond a (Some (request at column [])) (cond b (Some (policy at column)) None) ≡ Some e → is_sound e ≡ true
+    policy_sound : (others : List (List ℕ)) → policy_of at (column ∷ others) ≡ Some e → is_sound e ≡ true
+    policy_sound [] h = ap (λ (o : Option Expression). sound_of o) (sym h)
+    policy_sound (next ∷ others) h = absurd cc
+
+    by_two : (a b : Bool) → cond a (Some (request at column names)) (cond b (policy_of at (column ∷ names)) None) ≡ Some e → is_sound e ≡ true
     by_two true b h = ap (λ (o : Option Expression). sound_of o) (sym h)
-    by_two false true h = ap (λ (o : Option Expression). sound_of o) (sym h)
+    by_two false true h = policy_sound names h
     by_two false false h = absurd cc
-name_sound at (first ∷ column ∷ next ∷ path) e h = by_one (bytes_eq first (codes "r")) h
-  where
-    by_one : (a : Bool) → cond a (Some (request at column (next ∷ path))) None ≡ Some e → is_sound e ≡ true
-    by_one true h = ap (λ (o : Option Expression). sound_of o) (sym h)
-    by_one false h = absurd cc
 
 operand_alone : (n at : ℕ) (t : Token) (e : Expression) → operand_of at t ≡ Ok e → Alone n (placed at t) e
 operand_alone n at (token.text bytes) e h = let same : text at bytes ≡ e = cc in record {
@@ -337,13 +299,7 @@ operand_alone n at (token.name parts) e h = let p = name_test at parts e h in re
   closed = refl;
   quiet = λ s next small. quiet at (depth next) small;
 }
-operand_alone n at (token.unclosed bytes) e h = absurd cc
-operand_alone n at (token.called parts) e h = absurd cc
-operand_alone n at (operator o) e h = absurd cc
-operand_alone n at token.exclamation e h = absurd cc
-operand_alone n at token.opening e h = absurd cc
-operand_alone n at token.closing e h = absurd cc
-operand_alone n at token.comma e h = absurd cc
+operand_alone n at _ e h = absurd cc
 
 pub read_operand : {n : ℕ} {first : Placed} {e : Expression} {before after : TokenList} → Takes first before after → operand_of first.at first.token ≡ Ok e → Read n prim_rule prim_rule e before after
 read_operand {n} {first} {e} {before} {after} t h =
@@ -355,13 +311,13 @@ read_operand {n} {first} {e} {before} {after} t h =
       size = t.size;
       derived = alone.derived;
       sound = alone.sound;
-      closed = both (is_closed first.token) true alone.closed refl;
+      closed = and_from (is_closed first.token) true alone.closed refl;
       reaches = λ l frames small. record {
         state = with_operand l frames e;
         gives = refl;
         same = λ size stray.
             ap (verdict size stray (state_of wants l frames)) t.tokens
-            ∙ verdict_more size stray (state_of wants l frames) (with_operand l frames e) first after.tokens (step_operand first.at first.token e l frames h)
+            ∙ verdict_next size stray (state_of wants l frames) (with_operand l frames e) first after.tokens (step_operand first.at first.token e l frames h)
             (alone.quiet (state_of wants l frames) (with_operand l frames e) (omega (arith, small)));
         stops = head_operand_stops _ _ frames after.tokens;
       };
@@ -391,18 +347,7 @@ name_fault at parts fault h = by_name (name_operand at parts) h
 step_no_sign : (at : ℕ) (o : Operator) (l : Lefts) (frames : List Frame) → is_minus o ≡ false → step (state_of wants l frames) (placed at (operator o)) ≡ None
 unfolding step
 step_no_sign at op.Minus l frames h = absurd (false≢true (sym h))
-step_no_sign at op.Or l frames h = refl
-step_no_sign at op.And l frames h = refl
-step_no_sign at op.Equal l frames h = refl
-step_no_sign at op.NotEqual l frames h = refl
-step_no_sign at op.Less l frames h = refl
-step_no_sign at op.AtMost l frames h = refl
-step_no_sign at op.Greater l frames h = refl
-step_no_sign at op.AtLeast l frames h = refl
-step_no_sign at op.Plus l frames h = refl
-step_no_sign at op.Times l frames h = refl
-step_no_sign at op.Over l frames h = refl
-step_no_sign at op.Remainder l frames h = refl
+step_no_sign at _ l frames h = refl
 
 step_name : (at : ℕ) (names : List (List ℕ)) (l : Lefts) (frames : List Frame) → name_operand at names ≡ None → step (state_of wants l frames) (placed at (token.name names)) ≡ None
 unfolding step
@@ -419,10 +364,10 @@ step_comma_none at l frames = refl
 told_at : (at : ℕ) (t : Token) (fault : MatcherFault) (behind : List Placed) (size : ℕ) (stray : Option ℕ) (l : Lefts) (frames : List Frame) → is_sign t ≡ false → is_opening t ≡ false → is_called t ≡ false → operand_of at t ≡ Err fault
     → verdict size stray (state_of wants l frames) (placed at t ∷ behind) ≡ Err fault
 told_at at (token.unclosed bytes) fault behind size stray l frames a b c h =
-    verdict_told size stray (state_of wants l frames) (with_operand l frames (text at bytes)) (placed at (token.unclosed bytes)) behind (OpenText at) (step_unclosed at bytes l frames) refl ∙ ap (λ (f : MatcherFault). Err f) (let same : OpenText at ≡ fault = cc in same)
+    verdict_meets size stray (state_of wants l frames) (with_operand l frames (text at bytes)) (placed at (token.unclosed bytes)) behind (OpenText at) (step_unclosed at bytes l frames) refl ∙ ap (λ (f : MatcherFault). Err f) (let same : OpenText at ≡ fault = cc in same)
 told_at at (token.number digits) fault behind size stray l frames a b c h =
     let p = number_fault at digits fault h in
-    verdict_told size stray (state_of wants l frames) (with_operand l frames (whole at (pos (digits_value 10 digits)))) (placed at (token.number digits)) behind (NumberTooWide at) (step_number at digits l frames)
+    verdict_meets size stray (state_of wants l frames) (with_operand l frames (whole at (pos (digits_value 10 digits)))) (placed at (token.number digits)) behind (NumberTooWide at) (step_number at digits l frames)
     (ap (λ (b : Bool). cond b None (Some (NumberTooWide at))) p.0)
     ∙ ap (λ (f : MatcherFault). Err f) p.1
 told_at at (token.name names) fault behind size stray l frames a b c h =

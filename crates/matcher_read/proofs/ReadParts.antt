@@ -1,25 +1,24 @@
 -- How parts of an expression that were read make the whole, by a rule with operators.
-use Rattle.std.proofs.Common.{◌≡◌, ℕ, ◌+◌, ◌≤◌, Bool, true, false, cond, ◌&&◌, List, [], ◌∷◌, ◌++◌, length, Option, Some, None, Err, refl, ap, sym, ◌∙◌, subst, arith, append_assoc}
-use Rattle.std.proofs.lemmas.Bool.{false≢true}
+use Rattle.std.proofs.Common.{◌≡◌, ℕ, ◌+◌, ◌≤◌, Bool, true, false, cond, List, [], ◌∷◌, ◌++◌, length, Option, Some, None, Err, refl, ap, sym, ◌∙◌, subst, arith, append_assoc}
+use Rattle.std.proofs.lemmas.Bool.{and_from, false≢true}
 use Rattle.std.proofs.lemmas.List.Folds.{list_all-append}
 use Rattle.std.specs.List.{list_all}
 use Rattle.matcher_read.specs.Expression.{Expression, binary}
-use Rattle.matcher_read.specs.Giving.{fresh, entry, Gives}
-use Rattle.matcher_read.specs.Grammar.{Rule, cmp_rule, sum_rule, IsPartOf, and_or, cmp_and, sum_cmp, term_sum, unary_term, prim_unary, Joins, or_joins, and_joins, plus_joins, minus_joins, times_joins, over_joins, remainder_joins, Compares, equal_compares, not_equal_compares, less_compares, at_most_compares, greater_compares, at_least_compares, by_part, by_join, by_comparison}
-use Rattle.matcher_read.specs.Machine.{Lefts, Left, Frame, State, Rank, term_rank, sum_rank, comparing_rank, and_rank, or_rank, rank, is_in, levels_of, depth, step, verdict, left_of, has, operates, state_of}
+use Rattle.matcher_read.specs.Helps.Giving.{fresh, entry, Gives}
+use Rattle.matcher_read.specs.Grammar.{Rule, cmp_rule, sum_rule, IsPartOf, and_or, cmp_and, sum_cmp, term_sum, unary_term, prim_unary, Joins, or_joins, and_joins, plus_joins, minus_joins, times_joins, over_joins, remainder_joins, by_part, by_join, by_comparison}
+use Rattle.matcher_read.specs.Helps.Machine.{Lefts, Left, Frame, State, Rank, term_rank, sum_rank, comparing_rank, and_rank, or_rank, rank, is_in, levels_of, depth, step, verdict, has, state_of}
 use Rattle.matcher_read.specs.Matcher.{most_levels, is_sound, is_closed}
-use Rattle.matcher_read.specs.Parsing.{StopsAt, Read, Fails}
-use Rattle.matcher_read.specs.Taking.{joins_by, follows, may_follow, goes_on_by, head_is, Takes, Stays, rule_of, part_of}
-use Rattle.matcher_read.specs.TokenLists.{TokenList}
+use Rattle.matcher_read.specs.Helps.Parsing.{StopsAt, Read, Fails}
+use Rattle.matcher_read.specs.Helps.Taking.{joins_by, follows, may_follow, goes_on_by, head_is, Takes, Stays}
+use Rattle.matcher_read.specs.Helps.TokenLists.{TokenList}
 use Rattle.matcher_read.specs.Tokens.{Placed, placed, Token, operator}
 use Rattle.matcher_read.specs.Tokens as token
 use Rattle.matcher_read.specs.declared.fault.MatcherFault.{MatcherFault}
 use Rattle.matcher_read.specs.declared.tree.Operator.{Operator}
-use Rattle.matcher_read.specs.declared.tree.Operator.TheVariants as op
-use Rattle.matcher_read.specs.declared.words.Chain.{Chain}
-use Rattle.matcher_read.specs.declared.words.Chain.TheVariants as chain
-use Rattle.matcher_read.proofs.Gives.{gives_part, same_entry, Continues, join_continues}
-use Rattle.matcher_read.proofs.ReadSteps.{verdict_more, quiet}
+use Rattle.matcher_read.proofs.Gives.{gives_part, same_entry, Continues, join_continues, step_operates, compared_with, comparison_continues}
+use Rattle.matcher_read.proofs.Ranks.{comparing_is, compares_is}
+use Rattle.matcher_read.proofs.Passes.{verdict_next}
+use Rattle.matcher_read.proofs.ReadSteps.{quiet}
 
 -- ---- a part of a rule
 
@@ -52,13 +51,9 @@ fails_part {n} {part} {rule} {fault} {before} i f = record {
 
 -- ---- an operator and another part
 
--- what is sound and closed, of two sides
-pub both : (a b : Bool) → a ≡ true → b ≡ true → (a && b) ≡ true
-both a b p q = ap (λ (x : Bool). x && b) p ∙ q
-
 pub closed_join : (left right : List Placed) (t : Placed) → is_closed t.token ≡ true → list_all (λ (t : Placed). is_closed t.token) left ≡ true → list_all (λ (t : Placed). is_closed t.token) right ≡ true
     → list_all (λ (t : Placed). is_closed t.token) (left ++ t ∷ right) ≡ true
-closed_join left right t c p q = list_all-append (λ (t : Placed). is_closed t.token) left (t ∷ right) ∙ both _ _ p (both (is_closed t.token) _ c q)
+closed_join left right t c p q = list_all-append (λ (t : Placed). is_closed t.token) left (t ∷ right) ∙ and_from _ _ p (and_from (is_closed t.token) _ c q)
 
 pub tokens_join : (before left right middle behind after : List Placed) (t : Placed) → before ≡ left ++ middle → middle ≡ t ∷ behind → behind ≡ right ++ after → before ≡ (left ++ t ∷ right) ++ after
 tokens_join before left right middle behind after t p q r = p ∙ ap (λ (xs : List Placed). left ++ xs) (q ∙ ap (λ (xs : List Placed). t ∷ xs) r) ∙ sym (append_assoc left (t ∷ right) after)
@@ -79,7 +74,7 @@ over : {rule part : Rule} (n : ℕ) (at : ℕ) (o : Operator) (l : Lefts) (frame
     → verdict size stray s (placed at (operator o) ∷ behind) ≡ verdict size stray (entry part c.lefts frames) behind
 over {rule} {part} n at o l frames s build behind size stray u c h =
     let next = entry part c.lefts frames in
-    verdict_more size stray s next (placed at (operator o)) behind c.steps (quiet at (depth next) (small_depth (depth next) n (part_depth rule part n l c.lefts frames u c.unsigned h)))
+    verdict_next size stray s next (placed at (operator o)) behind c.steps (quiet at (depth next) (small_depth (depth next) n (part_depth rule part n l c.lefts frames u c.unsigned h)))
 
 -- the rules that have operators between their parts, or compare
 unsigned_cmp : Unsigned cmp_rule
@@ -103,7 +98,7 @@ read_joined {n} {at} {rule} {part} {stop} {o} {e} {f} {before} {middle} {behind}
   stray = k.stray ∙ t.stray ∙ r.stray;
   size = k.size ∙ t.size ∙ r.size;
   derived = by_join j i r.derived k.derived refl;
-  sound = both (is_sound e) (is_sound f) r.sound k.sound;
+  sound = and_from (is_sound e) (is_sound f) r.sound k.sound;
   closed = closed_join r.front k.front (placed at (operator o)) refl r.closed k.closed;
   reaches = λ l frames h.
       let first = r.reaches l frames h in
@@ -162,14 +157,9 @@ name_follows_part prim_unary parts p q = p
 not_following : {part rule : Rule} → IsPartOf part rule → (t : Token) → may_follow rule t ≡ false → goes_on_by rule t ≡ false → may_follow part t ≡ false
 not_following i (token.operator o) p q = follows_part i (rank o) p q
 not_following i (token.name parts) p q = name_follows_part i parts p q
-not_following i (token.called parts) p q = refl
-not_following i (token.number digits) p q = refl
-not_following i (token.text bytes) p q = refl
-not_following i (token.unclosed bytes) p q = refl
-not_following i token.exclamation p q = refl
-not_following i token.opening p q = refl
 not_following i token.closing p q = p
 not_following i token.comma p q = p
+not_following i _ p q = refl
 
 head_not_following : {part rule : Rule} → IsPartOf part rule → (ts : List Placed) → head_is (may_follow rule) ts ≡ false → head_is (goes_on_by rule) ts ≡ false → head_is (may_follow part) ts ≡ false
 head_not_following i [] p q = refl
@@ -187,56 +177,6 @@ read_end {n} {rule} {part} {e} {before} {after} i r q = record {
   reaches = λ l frames h. let k = r.reaches l frames h in record { state = k.state; gives = k.gives; same = k.same; stops = λ p. k.stops (head_not_following i after.tokens p q) };
 }
 
--- ---- chains, by their rule and its part
-
-pub part_is : (c : Chain) → IsPartOf (part_of c) (rule_of c)
-part_is chain.Or = and_or
-part_is chain.And = cmp_and
-part_is chain.Sum = term_sum
-part_is chain.Term = unary_term
-
-pub joins_is : (c : Chain) (o : Operator) → joins_by (rule_of c) (rank o) ≡ true → Joins o (rule_of c)
-joins_is chain.Or op.Or h = or_joins
-joins_is chain.And op.And h = and_joins
-joins_is chain.Sum op.Plus h = plus_joins
-joins_is chain.Sum op.Minus h = minus_joins
-joins_is chain.Term op.Times h = times_joins
-joins_is chain.Term op.Over h = over_joins
-joins_is chain.Term op.Remainder h = remainder_joins
-joins_is _ _ h = absurd (false≢true h)
-
--- ---- comparisons
-
-compares_is : (o : Operator) → joins_by cmp_rule (rank o) ≡ true → Compares o
-compares_is op.Equal h = equal_compares
-compares_is op.NotEqual h = not_equal_compares
-compares_is op.Less h = less_compares
-compares_is op.AtMost h = at_most_compares
-compares_is op.Greater h = greater_compares
-compares_is op.AtLeast h = at_least_compares
-compares_is _ h = absurd (false≢true h)
-
-comparing_is : (r : Rank) → joins_by cmp_rule r ≡ true → r ≡ comparing_rank
-comparing_is comparing_rank h = refl
-comparing_is _ h = absurd (false≢true h)
-
-step_by_rank : (at : ℕ) (o : Operator) (frames : List Frame) (l : Lefts) (x : Expression) (r : Rank) → rank o ≡ r → step (state_of (has x) l frames) (placed at (operator o)) ≡ operates r at o l frames x
-unfolding step
-step_by_rank at o frames l x r e = ap (λ (k : Rank). operates k at o l frames x) e
-
-abbrev pub compared_with : ℕ → Operator → Expression → Lefts → Lefts
-compared_with at o e l = record (fresh cmp_rule l) { compared = left_of at o e }
-
-abbrev comparison_on : (at : ℕ) (o : Operator) (l : Lefts) (frames : List Frame) (s : State) (e : Expression) → rank o ≡ comparing_rank → Gives sum_rule (fresh cmp_rule l) frames s e
-    → Continues cmp_rule sum_rule l frames s (placed at (operator o)) (binary at o e)
-comparison_on at o l frames s e r g = record {
-  lefts = compared_with at o e l;
-  unsigned = refl;
-  steps = ap (λ (n : State). step n (placed at (operator o))) g.2 ∙ step_by_rank at o frames (record (fresh cmp_rule l) { sums = g.1.sums; terms = g.1.terms }) g.0 comparing_rank r
-      ∙ ap (λ (f : Expression). Some (entry sum_rule (compared_with at o f l) frames)) g.3;
-  gives = λ later f h. (has h.0, record h.1 { compared = left_of at o e }, h.2, ap (λ (y : Expression). Some (binary at o e y)) h.3);
-}
-
 -- no second comparison goes on
 abbrev no_state : Option State
 no_state = None
@@ -247,16 +187,11 @@ neither false = refl
 
 once_compared : (at : ℕ) (left : Left) (l : Lefts) (frames : List Frame) (x : Expression) (t : Token) → goes_on_by cmp_rule t ≡ true → step (state_of (has x) (record l { compared = Some left }) frames) (placed at t) ≡ None
 unfolding step
-once_compared at left l frames x (token.operator o) h = step_by_rank at o frames (record l { compared = Some left }) x comparing_rank (comparing_is (rank o) h)
+once_compared at left l frames x (token.operator o) h = step_operates at o frames (record l { compared = Some left }) x comparing_rank (comparing_is (rank o) h)
 once_compared at left l frames x (token.name parts) h = neither (is_in parts)
-once_compared at left l frames x (token.called parts) h = refl
-once_compared at left l frames x (token.number digits) h = refl
-once_compared at left l frames x (token.text bytes) h = refl
-once_compared at left l frames x (token.unclosed bytes) h = refl
-once_compared at left l frames x token.exclamation h = refl
-once_compared at left l frames x token.opening h = refl
 once_compared at left l frames x token.closing h = absurd (false≢true h)
 once_compared at left l frames x token.comma h = absurd (false≢true h)
+once_compared at left l frames x _ h = refl
 
 compared_stops : (at : ℕ) (o : Operator) (e f : Expression) (l : Lefts) (frames : List Frame) (s : State) (ts : List Placed) → Gives sum_rule (compared_with at o e l) frames s f
     → (head_is (may_follow sum_rule) ts ≡ false → StopsAt s ts) → head_is (may_follow cmp_rule) ts ≡ false → StopsAt s ts
@@ -275,11 +210,11 @@ read_compared {n} {at} {o} {e} {f} {before} {middle} {behind} {after} j r t k = 
   stray = k.stray ∙ t.stray ∙ r.stray;
   size = k.size ∙ t.size ∙ r.size;
   derived = by_comparison (compares_is o j) r.derived k.derived refl;
-  sound = both (is_sound e) (is_sound f) r.sound k.sound;
+  sound = and_from (is_sound e) (is_sound f) r.sound k.sound;
   closed = closed_join r.front k.front (placed at (operator o)) refl r.closed k.closed;
   reaches = λ l frames h.
       let first = r.reaches (fresh cmp_rule l) frames h in
-      let c = comparison_on at o l frames first.state e (comparing_is (rank o) j) first.gives in
+      let c = comparison_continues at o l frames first.state e (comparing_is (rank o) j) first.gives in
       let second = k.reaches (compared_with at o e l) frames h in
       record {
         state = second.state;
@@ -295,7 +230,7 @@ pub fails_compared : {n at : ℕ} {o : Operator} {e : Expression} {fault : Match
 fails_compared {n} {at} {o} {e} {fault} {before} {middle} {behind} j r t k = record {
   told = λ l frames h.
       let first = r.reaches (fresh cmp_rule l) frames h in
-      let c = comparison_on at o l frames first.state e (comparing_is (rank o) j) first.gives in
+      let c = comparison_continues at o l frames first.state e (comparing_is (rank o) j) first.gives in
       first.same before.size before.stray ∙ ap (verdict before.size before.stray first.state) t.tokens
       ∙ over n at o l frames first.state (binary at o e) behind.tokens before.size before.stray unsigned_cmp c h
       ∙ fails_in n sum_rule fault before behind (compared_with at o e l) frames (t.stray ∙ r.stray) (t.size ∙ r.size) h k;

@@ -6,10 +6,10 @@ use Rattle.std.specs.Result.{IsErrAnd}
 use Rattle.matcher_read.specs.Calls.{callee_of, is_known, takes}
 use Rattle.matcher_read.specs.Expression.{Callee, Expression, call, count, expression, expressions_of}
 use Rattle.matcher_read.specs.Grammar.{Rule, or_rule, unary_rule, prim_rule, prim_unary}
-use Rattle.matcher_read.specs.Machine.{Rank, term_rank, sum_rank, comparing_rank, and_rank, or_rank, rank}
-use Rattle.matcher_read.specs.Parsing.{Read, Fails, ReadsBy, ReadList, FailsList, ReadsList}
-use Rattle.matcher_read.specs.Taking.{callee, first_operand, goes_on_by, head_is, joins_by, is_called, is_opening, is_sign, may_follow, operand_of, part_of, rule_of, Stays, Takes}
-use Rattle.matcher_read.specs.TokenLists.{TokenList, end_of}
+use Rattle.matcher_read.specs.Helps.Machine.{Rank, term_rank, rank}
+use Rattle.matcher_read.specs.Helps.Parsing.{Read, Fails, ReadsBy, ReadList, FailsList, ReadsList}
+use Rattle.matcher_read.specs.Helps.Taking.{callee, first_operand, goes_on_by, head_is, joins_by, is_called, is_opening, is_sign, may_follow, operand_of, part_of, rule_of, Stays, Takes}
+use Rattle.matcher_read.specs.Helps.TokenLists.{TokenList, end_of}
 use Rattle.matcher_read.specs.Tokens.{Placed, placed}
 use Rattle.matcher_read.specs.Tokens as token
 use Rattle.matcher_read.specs.declared.calls.Called.{Called}
@@ -21,7 +21,8 @@ use Rattle.matcher_read.specs.declared.words.Chain.{Chain}
 use Rattle.matcher_read.proofs.ReadLevels.{called_token, Enclosed, fails_arguments, read_call}
 use Rattle.matcher_read.proofs.ReadLists.{list_first, list_more}
 use Rattle.matcher_read.proofs.ReadOperands.{fails_operand, read_operand}
-use Rattle.matcher_read.proofs.ReadParts.{fails_part, part_is, read_end, read_part}
+use Rattle.matcher_read.proofs.ReadParts.{fails_part, read_end, read_part}
+use Rattle.matcher_read.proofs.Ranks.{part_is}
 
 -- a fault is passed on
 pub fails_up : (n : ℕ) (rule : Rule) (before after : TokenList) (r : Result Tree MatcherFault) (e : MatcherFault) → IsErrAnd r (λ y. y ≡ e) → (e ≢ NoMemory → Fails n rule e before) → ReadsBy n rule before after r
@@ -50,10 +51,7 @@ fails_same {n} {rule} {fault} {middle} {before} same f = let P : TokenList → T
 -- no operator stands between operands without signs
 no_joins : (r : Rank) → joins_by unary_rule r ≡ false
 no_joins term_rank = refl
-no_joins sum_rank = refl
-no_joins comparing_rank = refl
-no_joins and_rank = refl
-no_joins or_rank = refl
+no_joins _ = refl
 
 head_no_joins : (ts : List Placed) → head_is (goes_on_by unary_rule) ts ≡ false
 head_no_joins [] = refl
@@ -61,15 +59,7 @@ head_no_joins (t ∷ ts) = by_token t.token
   where
     by_token : (k : token.Token) → goes_on_by unary_rule k ≡ false
     by_token (token.operator o) = no_joins (rank o)
-    by_token (token.name parts) = refl
-    by_token (token.called parts) = refl
-    by_token (token.number digits) = refl
-    by_token (token.text bytes) = refl
-    by_token (token.unclosed bytes) = refl
-    by_token token.exclamation = refl
-    by_token token.opening = refl
-    by_token token.closing = refl
-    by_token token.comma = refl
+    by_token _ = refl
 
 -- an operand without a sign
 pub primary_reads : (n : ℕ) (before middle after : TokenList) (r : Result Tree MatcherFault) → Stays is_sign before middle → ReadsBy n prim_rule middle after r → ReadsBy n unary_rule before after r

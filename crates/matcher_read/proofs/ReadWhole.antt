@@ -1,27 +1,26 @@
 -- What reading a whole text comes to.
-use Rattle.std.proofs.Common.{◌≡◌, ◌≢◌, ℕ, ◌+◌, ◌<◌, ◌≤◌, nat_lt, true, false, List, [], ◌∷◌, ◌++◌, length, Option, Some, None, Result, Ok, Err, IfErr, IfOk, MatchResult, refl, ap, sym, ◌∙◌, subst, option_and_then, arith, append-nil, ltb-true, ltb-false, length-append}
+use Rattle.std.proofs.Common.{◌≡◌, ◌≢◌, ℕ, ◌+◌, ◌<◌, ◌≤◌, nat_lt, true, false, List, [], ◌∷◌, ◌++◌, length, Option, Some, None, Result, Ok, Err, IfErr, IfOk, MatchResult, refl, ap, sym, ◌∙◌, subst, arith, append-nil, ltb-true, ltb-false, length-append}
 use Rattle.std.specs.List.{list_all}
 use Rattle.std.specs.Result.{IsErrAnd}
-use Rattle.matcher_read.specs.Counting.{IsWithin, is_ended, node_count}
+use Rattle.matcher_read.specs.Helps.Counting.{IsWithin, is_ended, node_count}
 use Rattle.matcher_read.specs.Expression.{Expression, expression}
 use Rattle.matcher_read.specs.Faults.{AreFine, IsFault, too_many_nodes, within}
-use Rattle.matcher_read.specs.Giving.{Gives}
+use Rattle.matcher_read.specs.Helps.Giving.{Gives}
 use Rattle.matcher_read.specs.Grammar.{Derives, or_rule}
-use Rattle.matcher_read.specs.Machine.{State, no_lefts, start, step, verdict, parts}
+use Rattle.matcher_read.specs.Helps.Machine.{State, no_lefts, start, step, verdict}
 use Rattle.matcher_read.specs.Matcher.{IsMatcher, is_closed, is_sound, most_bytes, most_levels, most_nodes}
-use Rattle.matcher_read.specs.Parsing.{Fails, Read, StopsAt}
-use Rattle.matcher_read.specs.Taking.{head_is, may_follow, place_of_next, place_of_first}
-use Rattle.matcher_read.specs.TokenLists.{TokenList, end_of}
+use Rattle.matcher_read.specs.Helps.Parsing.{Fails, Read, StopsAt}
+use Rattle.matcher_read.specs.Helps.Taking.{head_is, may_follow, place_of_next, place_of_first}
+use Rattle.matcher_read.specs.Helps.TokenLists.{TokenList, end_of}
 use Rattle.matcher_read.specs.Tokens.{IsCut, ended, strayed, one_token, Placed, placed, Token, with_calls}
-use Rattle.matcher_read.specs.Tokens as token
 use Rattle.matcher_read.specs.declared.fault.MatcherFault.{MatcherFault}
 use Rattle.matcher_read.specs.declared.fault.MatcherFault.TheVariants as fault
 use Rattle.matcher_read.specs.declared.tree.Tree.{Tree}
 use Rattle.matcher_read.proofs.CountLemmas.{nodes_derived}
-use Rattle.matcher_read.proofs.Gives.{closing_behind, step_comma}
+use Rattle.matcher_read.proofs.Gives.{closing_behind}
 use Rattle.matcher_read.proofs.LawLemmas.{calls_closed, no_matcher_with_fault, one_fault, one_matcher}
-use Rattle.matcher_read.proofs.ReadLists.{no_comma}
-use Rattle.matcher_read.proofs.ReadSteps.{verdict_none}
+use Rattle.matcher_read.proofs.ReadLists.{no_list_stops}
+use Rattle.matcher_read.proofs.Passes.{verdict_none}
 use Rattle.matcher_read.proofs.Runs.{reads_through}
 use Rattle.matcher_read.proofs.Verdicts.{read_fine, verdict_first}
 
@@ -31,20 +30,8 @@ pub whole_fails : {fault : MatcherFault} {list : TokenList} → Fails most_level
 whole_fails f = f.told no_lefts [] (omega arith)
 
 -- behind a whole expression nothing goes on
-comma_none : (at : ℕ) (s : State) (e : Expression) → Gives or_rule no_lefts [] s e → step s (placed at token.comma) ≡ None
-comma_none at s e g = ap (λ (n : State). step n (placed at token.comma)) g.2 ∙ step_comma at [] (record g.1 { signs = [] }) g.0 ∙ ap (option_and_then (parts [])) g.3
-
 whole_stops : (s : State) (e : Expression) (at : ℕ) (t : Token) → Gives or_rule no_lefts [] s e → (may_follow or_rule t ≡ false → step s (placed at t) ≡ None) → step s (placed at t) ≡ None
-whole_stops s e at token.comma g h = comma_none at s e g
-whole_stops s e at token.closing g h = closing_behind at no_lefts [] s e g
-whole_stops s e at (token.operator o) g h = h refl
-whole_stops s e at (token.name names) g h = h (no_comma (token.name names) refl refl)
-whole_stops s e at (token.called names) g h = h refl
-whole_stops s e at (token.number digits) g h = h refl
-whole_stops s e at (token.text bytes) g h = h refl
-whole_stops s e at (token.unclosed bytes) g h = h refl
-whole_stops s e at token.exclamation g h = h refl
-whole_stops s e at token.opening g h = h refl
+whole_stops s e at t g h = no_list_stops [] s e at t g refl (λ closing. closing_behind at no_lefts [] s e g) h
 
 pub whole_unended : {e : Expression} {before after : TokenList} → Read most_levels or_rule or_rule e before after → is_ended after.tokens after.stray ≡ false
     → verdict before.size before.stray start before.tokens ≡ Err (fault.Unexpected (place_of_next after))

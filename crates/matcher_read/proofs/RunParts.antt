@@ -1,18 +1,21 @@
 -- A run for each of the grammar's operators, from the runs of the operands.
-use Rattle.std.proofs.Common.{◌≡◌, ℕ, ◌+◌, ◌≤◌, nat_le, Bool, true, false, cond, ◌&&◌, List, [], ◌∷◌, ◌++◌, Some, None, refl, ap, sym, ◌∙◌, arith, suc, length}
-use Rattle.std.proofs.lemmas.Bool.{le-leb, false≢true}
+use Rattle.std.proofs.Common.{subst, ◌≡◌, ℕ, ◌+◌, ◌≤◌, nat_le, Bool, true, cond, ◌&&◌, List, [], ◌∷◌, ◌++◌, Some, None, refl, ap, sym, ◌∙◌, arith, suc, length}
+use Rattle.std.proofs.lemmas.Bool.{and_parts}
 use Rattle.std.proofs.lemmas.List.Folds.{list_all-append}
 use Rattle.std.specs.List.{list_all}
 use Rattle.matcher_read.specs.Tokens.{Placed, placed, operator}
 use Rattle.matcher_read.specs.Tokens as token
 use Rattle.matcher_read.specs.Expression.{Expression, binary, Expressions, no_more, one_more, expressions_of, count}
-use Rattle.matcher_read.specs.Grammar.{Rule, or_rule, and_rule, cmp_rule, sum_rule, term_rule, unary_rule, prim_rule, IsPartOf, and_or, cmp_and, sum_cmp, term_sum, unary_term, prim_unary, Joins, Compares}
+use Rattle.matcher_read.specs.Grammar.{Rule, or_rule, cmp_rule, sum_rule, unary_rule, prim_rule, IsPartOf, Joins, Compares}
 use Rattle.matcher_read.specs.Matcher.{is_sound, are_sound, is_closed, most_levels}
 use Rattle.matcher_read.specs.declared.fault.MatcherFault.TheVariants.{TooDeep}
 use Rattle.matcher_read.specs.declared.tree.Operator.{Operator}
-use Rattle.matcher_read.proofs.Machine.{State, step, depth, token_fault, Lefts, Frame, wants, no_lefts, state_of, with_operand, levels_of}
+use Rattle.matcher_read.specs.Helps.Machine.{State, step, depth, token_fault, Lefts, Frame, wants, no_lefts, state_of, with_operand, levels_of}
+use Rattle.matcher_read.proofs.Ranks.{comparing}
+use Rattle.matcher_read.proofs.ReadSteps.{quiet}
 use Rattle.matcher_read.proofs.Passes.{Passes, passes_both, passes_more, passes_none, passes_weaker}
-use Rattle.matcher_read.proofs.Gives.{fresh, entry, Gives, gives_part, Continues, join_continues, comparison_continues, holds_list}
+use Rattle.matcher_read.specs.Helps.Giving.{fresh, entry, Gives, holds_list}
+use Rattle.matcher_read.proofs.Gives.{gives_part, same_entry, Continues, join_continues, comparison_continues}
 
 -- ---- expressions as lists
 
@@ -40,25 +43,21 @@ pub record Fine (most : ℕ) (ts : List Placed) (test : Bool) : Type 0 where
   pub closed : are_closed ts ≡ true
   pub shallow : most ≤ most_levels
 
-pub both_parts : (a b : Bool) → (a && b) ≡ true → (a ≡ true) × (b ≡ true)
-both_parts true b h = (refl, h)
-both_parts false b h = absurd (false≢true h)
-
 pub closed-append : (ts us : List Placed) → are_closed (ts ++ us) ≡ true → (are_closed ts ≡ true) × (are_closed us ≡ true)
-closed-append ts us h = both_parts (are_closed ts) (are_closed us) (sym (list_all-append (λ (t : Placed). is_closed t.token) ts us) ∙ h)
+closed-append ts us h = and_parts (are_closed ts) (are_closed us) (sym (list_all-append (λ (t : Placed). is_closed t.token) ts us) ∙ h)
 
 -- with the whole its parts are fine
 pub fine_front : {most : ℕ} {test : Bool} (ts us : List Placed) → Fine most (ts ++ us) test → Fine most ts test
 fine_front ts us q = record { sound = q.sound; closed = (closed-append ts us q.closed).0; shallow = q.shallow }
 
 pub fine_behind : {most : ℕ} {test : Bool} (ts : List Placed) (t : Placed) (us : List Placed) → Fine most (ts ++ t ∷ us) test → Fine most us test
-fine_behind ts t us q = record { sound = q.sound; closed = (both_parts (is_closed t.token) (are_closed us) (closed-append ts (t ∷ us) q.closed).1).1; shallow = q.shallow }
+fine_behind ts t us q = record { sound = q.sound; closed = (and_parts (is_closed t.token) (are_closed us) (closed-append ts (t ∷ us) q.closed).1).1; shallow = q.shallow }
 
 pub fine_first : {most : ℕ} {ts : List Placed} (a b : Bool) → Fine most ts (a && b) → Fine most ts a
-fine_first a b q = record { sound = (both_parts a b q.sound).0; closed = q.closed; shallow = q.shallow }
+fine_first a b q = record { sound = (and_parts a b q.sound).0; closed = q.closed; shallow = q.shallow }
 
 pub fine_second : {most : ℕ} {ts : List Placed} (a b : Bool) → Fine most ts (a && b) → Fine most ts b
-fine_second a b q = record { sound = (both_parts a b q.sound).1; closed = q.closed; shallow = q.shallow }
+fine_second a b q = record { sound = (and_parts a b q.sound).1; closed = q.closed; shallow = q.shallow }
 
 -- ---- what runs
 
@@ -87,7 +86,7 @@ RunsList n ts es = (most : ℕ) (frame : Frame) (frames : List Frame) → holds_
 -- ---- levels
 
 pub shallow_fault : (next : State) (at most : ℕ) → depth next ≤ most → most ≤ most_levels → cond (nat_le (depth next) most_levels) None (Some (TooDeep at)) ≡ None
-shallow_fault next at most h k = ap (λ (b : Bool). cond b None (Some (TooDeep at))) (le-leb (depth next) most_levels (omega arith))
+shallow_fault next at most h k = quiet at (depth next) (omega arith)
 
 pub unsigned_depth : (l : Lefts) (frames : List Frame) → l.signs ≡ [] → depth (state_of wants l frames) ≡ levels_of frames
 unsigned_depth l frames e = ap (λ (signs : List (ℕ × Bool)). length signs + levels_of frames) e ∙ omega arith
@@ -95,12 +94,10 @@ unsigned_depth l frames e = ap (λ (signs : List (ℕ × Bool)). length signs + 
 -- ---- a run for each constructor
 
 pub runs_part : {rule part : Rule} (n : ℕ) (ts : List Placed) (e : Expression) → IsPartOf part rule → Runs n part ts e → Runs n rule ts e
-runs_part n ts e and_or r most l frames h = let k = r most (fresh or_rule l) frames h in record { state = k.state; gives = gives_part l frames k.state e and_or k.gives; passes = k.passes }
-runs_part n ts e cmp_and r most l frames h = let k = r most (fresh and_rule l) frames h in record { state = k.state; gives = gives_part l frames k.state e cmp_and k.gives; passes = k.passes }
-runs_part n ts e sum_cmp r most l frames h = let k = r most (fresh cmp_rule l) frames h in record { state = k.state; gives = gives_part l frames k.state e sum_cmp k.gives; passes = k.passes }
-runs_part n ts e term_sum r most l frames h = let k = r most (fresh sum_rule l) frames h in record { state = k.state; gives = gives_part l frames k.state e term_sum k.gives; passes = k.passes }
-runs_part n ts e unary_term r most l frames h = let k = r most (fresh term_rule l) frames h in record { state = k.state; gives = gives_part l frames k.state e unary_term k.gives; passes = k.passes }
-runs_part n ts e prim_unary r most l frames h = let k = r most l frames h in record { state = k.state; gives = k.gives; passes = k.passes }
+runs_part {rule} n ts e i r most l frames h =
+    let same = same_entry l frames i in
+    let k = r most (fresh rule l) frames (subst (λ (s : State). depth s + n ≤ most) (sym same) h) in
+    record { state = k.state; gives = gives_part l frames k.state e i k.gives; passes = subst (λ (s : State). Passes most (Fine most ts (is_sound e)) s ts k.state) same k.passes }
 
 -- a part behind an operator
 pub runs_behind : {rule part : Rule} (n at : ℕ) (o : Operator) (most : ℕ) (l : Lefts) (frames : List Frame) (before : State) (first : State) (left right : List Placed) (e f : Expression)
@@ -131,7 +128,7 @@ pub runs_comparison : {o : Operator} (n at : ℕ) (left right : List Placed) (e 
     → Runs n cmp_rule (left ++ placed at (operator o) ∷ right) (binary at o e f)
 runs_comparison {o} n at left right e f c r q most l frames h =
     let p = r most (fresh cmp_rule l) frames h in
-    let b = runs_behind n at o most l frames (entry cmp_rule l frames) p.state left right e f p.passes (comparison_continues at l frames p.state e c p.gives) q (omega (arith, h)) in
+    let b = runs_behind n at o most l frames (entry cmp_rule l frames) p.state left right e f p.passes (comparison_continues at o l frames p.state e (comparing c) p.gives) q (omega (arith, h)) in
     record { state = b.0; gives = b.1; passes = b.2 }
 
 -- an operator before its operand

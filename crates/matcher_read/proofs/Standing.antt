@@ -3,7 +3,7 @@ use Rattle.std.proofs.Common.{◌≡◌, ℕ, suc, ◌+◌, List, [], ◌∷◌,
 use Rattle.matcher_read.specs.Expression.{Expression, Expressions, one_more}
 use Rattle.matcher_read.specs.Grammar.{Derives, DerivesList, Rule, or_rule, and_rule, cmp_rule, sum_rule, term_rule, unary_rule}
 use Rattle.matcher_read.specs.Tokens.{Placed, placed, name, called, opening}
-use Rattle.matcher_read.proofs.Machine.{Left, Lefts, Kind, parentheses, members, arguments, Frame, Control, wants, has, has_members, opens, State, start, state_of, goes, joined_left, signed, levels_of}
+use Rattle.matcher_read.specs.Helps.Machine.{Left, Lefts, Kind, parentheses, members, arguments, Frame, Control, wants, has, has_members, opens, State, start, state_of, goes, joined_left, signed, levels_of}
 
 -- behind this front what derives the part derives the rule, as the right side of what waits
 abbrev pub Leads : ℕ → Rule → Rule → Option Left → List Placed → Type 0

@@ -5,7 +5,7 @@ use Rattle.matcher_read.specs.Calls.{callee_of}
 use Rattle.matcher_read.specs.Grammar.{Derives, by_part, by_join, by_comparison, by_members, by_call, by_parentheses, DerivesList, by_last, by_more, Rule, or_rule, and_rule, cmp_rule, sum_rule, term_rule, unary_rule, prim_rule, IsPartOf, and_or, cmp_and, sum_cmp, term_sum, unary_term, prim_unary, Joins, Compares}
 use Rattle.matcher_read.specs.Tokens.{Placed, Token, placed, name, called, operator, opening, closing, comma}
 use Rattle.matcher_read.specs.declared.tree.Operator.{Operator}
-use Rattle.matcher_read.proofs.Machine.{Lefts, no_lefts, Kind, parentheses, members, arguments, Frame, joined_left, left_of, signed, and_of, or_of, term_of, sum_of}
+use Rattle.matcher_read.specs.Helps.Machine.{Lefts, no_lefts, Kind, parentheses, members, arguments, Frame, joined_left, left_of, signed, and_of, or_of, term_of, sum_of}
 use Rattle.matcher_read.proofs.Standing.{Leads, Upper, under, Lower, behind, Within, Wanting, Having, Compared, Asking, Awaits, expressions_before, Outside, Complete}
 
 nothing_leads : {n : ℕ} {part rule : Rule} → IsPartOf part rule → Leads n part rule None []

@@ -8,14 +8,14 @@ use Rattle.matcher_read.specs.Faults.{IsOpen, IsOpenWithin, IsMet, unexpected, o
 use Rattle.matcher_read.specs.Grammar.{DerivesList}
 use Rattle.matcher_read.specs.Matcher.{first_wide, most_levels}
 use Rattle.matcher_read.specs.Tokens.{Placed, placed, Token, name, called, number, text, unclosed, operator, exclamation, opening, closing, comma}
-use Rattle.matcher_read.specs.declared.tree.Operator.{Operator}
 use Rattle.matcher_read.specs.declared.tree.Operator.TheVariants as op
 use Rattle.matcher_read.specs.declared.fault.MatcherFault.{MatcherFault}
 use Rattle.matcher_read.specs.declared.fault.MatcherFault.TheVariants as fault
 use Rattle.matcher_read.proofs.Depths.{encloses, within_depth, open_within_here, enclosing_settles, deeper_encloses}
-use Rattle.matcher_read.proofs.Machine.{State, Control, Lefts, Frame, Kind, state_of, wants, has, has_members, opens, arguments, members, parentheses, start, step, step_by, pushed, depth, goes, goes_within, call_fault, token_fault, after_fault, read_step, comparison_of}
+use Rattle.matcher_read.specs.Helps.Machine.{State, Control, Lefts, Frame, Kind, state_of, wants, has, has_members, opens, arguments, members, parentheses, start, step, step_by, pushed, depth, goes, goes_within, call_fault, token_fault, after_fault, read_step, comparison_of}
 use Rattle.matcher_read.proofs.Opens.{open_by_goes, top_call}
-use Rattle.matcher_read.proofs.Passes.{goes_behind, within_behind, within_goes}
+use Rattle.matcher_read.proofs.Gives.{step_opens}
+use Rattle.matcher_read.proofs.Passes.{cond_some, goes_one, read_fault, read_none, read_some, within_behind, within_goes}
 use Rattle.matcher_read.proofs.Runs.{derives_goes, list_goes}
 
 option_step : {A B : Type 0} (f : A → Option B) (o : Option A) (b : B) → option_and_then f o ≡ Some b → (a : A) × (o ≡ Some a) × (f a ≡ Some b)
@@ -30,14 +30,6 @@ goes_front s last (t ∷ ts) us h =
     let rest = goes_front cut.0 last ts us cut.2 in
     (rest.0, ap (option_and_then (λ m. goes m ts)) cut.1 ∙ rest.1, rest.2)
 
--- one token more
-pub goes_one : (s next : State) (ts : List Placed) (t : Placed) → goes s ts ≡ Some next → goes s (ts ++ t ∷ []) ≡ step next t
-goes_one s next ts t h = goes_behind s next ts (t ∷ []) h ∙ and_some (step next t)
-  where
-    and_some : (o : Option State) → option_and_then (λ m. Some m) o ≡ o
-    and_some None = refl
-    and_some (Some m) = refl
-
 -- an open list goes through the machine
 pub goes_open : (ts : List Placed) → IsOpen ts → (s : State) × (goes start ts ≡ Some s)
 goes_open ts (levels, (further, e, derived)) =
@@ -45,10 +37,6 @@ goes_open ts (levels, (further, e, derived)) =
     let all = within_goes levels start _ (ts ++ further) run.2 in
     let cut = goes_front start _ ts further all in
     (cut.0, cut.1)
-
-cond_some : {A : Type 0} (b : Bool) (o : Option A) (x : A) → cond b o None ≡ Some x → (b ≡ true) × (o ≡ Some x)
-cond_some true o x h = (refl, h)
-cond_some false o x h = absurd cc
 
 -- a test that fails gives the other side
 cond_fault : {A : Type 0} (b : Bool) (x y : A) → cond b None (Some x) ≡ Some y → (b ≡ false) × (y ≡ x)
@@ -145,20 +133,10 @@ ends_call (frame ∷ frames) f h = by_kind frame.kind frame.outer frame.before h
 
 -- a token that encloses opens a level
 encloses_opens : (tk : Token) → encloses tk ≡ true → OpensLevel tk
-encloses_opens (name names) h = absurd cc
-encloses_opens (called names) h = absurd cc
-encloses_opens (number digits) h = absurd cc
-encloses_opens (text bytes) h = absurd cc
-encloses_opens (unclosed bytes) h = absurd cc
-encloses_opens (operator o) h = by_operator o h
-  where
-    by_operator : (p : Operator) → encloses (operator p) ≡ true → OpensLevel (operator p)
-    by_operator op.Minus h = minus_opens
-    by_operator _ h = absurd cc
+encloses_opens (operator op.Minus) h = minus_opens
 encloses_opens exclamation h = exclamation_opens
 encloses_opens opening h = parenthesis_opens
-encloses_opens closing h = absurd cc
-encloses_opens comma h = absurd cc
+encloses_opens _ h = absurd cc
 
 opens_encloses : {tk : Token} → OpensLevel tk → encloses tk ≡ true
 opens_encloses exclamation_opens = refl
@@ -210,12 +188,6 @@ token_met before s next at tk f h stepped = by_token tk stepped
     by_token opening stepped' found = deep opening stepped' found
     by_token comma stepped' found = deep comma stepped' found
 
-pub read_none : (s : State) (t : Placed) → step s t ≡ None → read_step s t ≡ Err (fault.Unexpected t.at)
-read_none s t h = rw (h, read_step) refl
-
-pub read_some : (s next : State) (t : Placed) → step s t ≡ Some next → read_step s t ≡ after_fault next (token_fault s next t.at t.token)
-read_some s next t h = rw (h, read_step) refl
-
 -- the fault of a step is met behind the tokens that lead to its state
 pub step_met : (before : List Placed) (s : State) (t : Placed) (f : MatcherFault) → goes_within most_levels start before ≡ Some s → read_step s t ≡ Err f → IsMet before t f
 step_met before s t f h failed = by_step (step s t) refl
@@ -234,9 +206,6 @@ open_steps before s t gone opened =
     let run = goes_open (before ++ t ∷ []) opened in
     (run.0, sym (goes_one start s before t gone) ∙ run.1)
 
-read_fault : (s next : State) (t : Placed) (f : MatcherFault) → step s t ≡ Some next → token_fault s next t.at t.token ≡ Some f → read_step s t ≡ Err f
-read_fault s next t f stepped found = read_some s next t stepped ∙ ap (after_fault next) found
-
 called_opens : (s next : State) (at : ℕ) (names : List (List ℕ)) → step s (placed at (called names)) ≡ Some next → next ≡ state_of (opens (arguments at names)) s.lefts s.frames
 unfolding step
 called_opens s next at names h = by_control s.control h
@@ -247,10 +216,6 @@ called_opens s next at names h = by_control s.control h
     by_control (has_members e) h = absurd cc
     by_control (opens kind) h = absurd cc
 
-opening_pushes : (kind : Kind) (lefts : Lefts) (frames : List Frame) (at : ℕ) → step (state_of (opens kind) lefts frames) (placed at opening) ≡ Some (pushed kind lefts frames)
-unfolding step
-opening_pushes kind lefts frames at = refl
-
 -- the state behind the arguments of a call
 arguments_state : (front inside : List Placed) (at at_opening : ℕ) (names : List (List ℕ)) (s : State) {n : ℕ} {es : Expressions} → goes start (front ++ placed at (called names) ∷ placed at_opening opening ∷ inside) ≡ Some s
     → DerivesList n inside es → (outer : Lefts) × (frames : List Frame) × (before : List Expression) × (s.frames ≡ record { kind = arguments at names; outer = outer; before = before } ∷ frames) × (length before + 1 ≡ count es)
@@ -259,7 +224,7 @@ arguments_state front inside at at_opening names s gone derived =
     let behind_call = option_step (λ m. goes m (placed at_opening opening ∷ inside)) (step cut.0 (placed at (called names))) s cut.2 in
     let behind_opening = option_step (λ m. goes m inside) (step behind_call.0 (placed at_opening opening)) s behind_call.2 in
     let opened : Some behind_opening.0 ≡ Some (pushed (arguments at names) cut.0.lefts cut.0.frames) =
-    sym behind_opening.1 ∙ (ap (λ m. step m (placed at_opening opening)) (called_opens cut.0 behind_call.0 at names behind_call.1) ∙ opening_pushes (arguments at names) cut.0.lefts cut.0.frames at_opening) in
+    sym behind_opening.1 ∙ (ap (λ m. step m (placed at_opening opening)) (called_opens cut.0 behind_call.0 at names behind_call.1) ∙ step_opens at_opening (arguments at names) cut.0.lefts cut.0.frames) in
     let there : behind_opening.0 ≡ pushed (arguments at names) cut.0.lefts cut.0.frames = cc in
     let run = list_goes derived (arguments at names) cut.0.lefts cut.0.frames refl in
     let same : Some s ≡ Some (state_of run.0 run.1 (record { kind = arguments at names; outer = cut.0.lefts; before = run.2 } ∷ cut.0.frames)) =

@@ -1,26 +1,27 @@
 -- The longest token at the front of bytes, as it is computed.
 use Rattle.std.proofs.Common.{◌≡◌, ℕ, suc, ◌+◌, ◌<◌, ◌≤◌, not, ◌⊎◌, inl, inr, Bool, true, false, cond, List, [], ◌∷◌, ◌++◌, length, take, drop, get_or, eqb, ltb, Option, Some, None, IsTrue, refl, sym, ap, ◌∙◌, subst, arith}
-use Rattle.std.proofs.lemmas.Bool.{and_parts, and_from, or_parts, or_cases, both_ways, eqb-true, eq-eqb, cond-true, cond-false, lt-ltb, ltb-false, ltb-true, cases_lt, not-true, not_from_false}
+use Rattle.std.proofs.lemmas.Bool.{and_parts, and_from, or_parts, or_cases, both_ways, eqb-true, eq-eqb, cond-true, cond-false, lt-ltb, cases_lt, not_from_false}
 use Rattle.std.proofs.lemmas.Bool.Decides.{nat_tests}
 use Rattle.std.proofs.lemmas.Option.{none-some, same_Some}
-use Rattle.std.proofs.lemmas.List.{append_assoc, append-nil, drop_more, length-append, length-take, get_or-take, get_or_append_left, take-append-drop, take_all, take_more}
+use Rattle.std.proofs.lemmas.List.{append_assoc, append-nil, length-append, length-take, get_or_append_left, take-append-drop, take_all, take_more}
 use Rattle.std.proofs.lemmas.List.Elements.{recursion_from_All}
-use Rattle.std.proofs.lemmas.List.Folds.{list_any_at, list_any_none}
+use Rattle.std.proofs.lemmas.List.Folds.{list_any_at}
 use Rattle.std.proofs.lemmas.List.Quantifiers.{position-Some}
-use Rattle.std.proofs.lemmas.List.Sums.{prefix_len-le-length, prefix_len_passes}
+use Rattle.std.proofs.lemmas.List.Sums.{prefix_len-le-length}
 use Rattle.std.proofs.Math.Seq.{take-append_seam}
 use Rattle.std.specs.Prelude.{position, option_map}
 use Rattle.std.specs.Char.{is_ascii_digit}
 use Rattle.std.specs.List.{join_with_byte, list_all, position_or_len, prefix_len}
-use Rattle.perm_base.specs.Fields.{is_blank}
-use Rattle.perm_base.specs.Lines.{has_byte}
-use Rattle.matcher_read.specs.Names.{is_identifier, is_letter, is_word}
+use Rattle.text_parts.specs.Blanks.{is_blank}
+use Rattle.text_parts.specs.Lines.{has_byte}
+use Rattle.text_parts.specs.Names.{is_identifier, is_letter, is_word}
 use Rattle.matcher_read.specs.Tokens.{Token, name, number, text, unclosed, operator, exclamation, opening, closing, comma, sign, IsQuote, IsSpelling, as_name, as_number, as_text, as_unclosed, as_operator, as_exclamation, as_opening, as_closing, as_comma, IsFront, IsLongest, BeginsNoToken}
-use Rattle.matcher_read.specs.TokenLists.{pieces}
-use Rattle.matcher_read.specs.Cutting.{Found, found, begins_name, name_size, is_quote, sign_of_two, operator_of, mark_of, sign_of_one, or_mark, or_one, sign_at, name_at, number_at, quoted, text_at, token_at}
+use Rattle.matcher_read.specs.Helps.TokenLists.{pieces}
+use Rattle.matcher_read.specs.Helps.Cutting.{Found, found, begins_name, name_size, is_quote, sign_of_two, operator_of, mark_of, sign_of_one, or_mark, or_one, sign_at, name_at, number_at, quoted, text_at, token_at}
 use Rattle.matcher_read.specs.declared.tree.Operator.{Operator}
 use Rattle.matcher_read.specs.declared.tree.Operator.TheVariants as op
-use Rattle.matcher_read.proofs.NameLemmas.{prefix_len-passing, list_all-prefix, word_from_letter, digit_is_no_letter, AreIdentifiers, begins-join, pieces-join, name_size-word, name_size-join, name_size-le-length, name_spelled}
+use Rattle.text_parts.proofs.CallerLemmas.{digit_is_no_letter, list_all-prefix, position-None, position-none_before, prefix_len-passing, word_from_letter}
+use Rattle.matcher_read.proofs.NameLemmas.{AreIdentifiers, begins-join, pieces-join, name_size-word, name_size-join, name_size-le-length, name_spelled}
 
 -- a front of the bytes that spells the token
 pub record IsSpelled (bytes : List ℕ) (front : Found) : Type 0 where
@@ -47,44 +48,22 @@ closed quote bytes rest none =
     let within : ltb (position_or_len (λ b. eqb b quote) (bytes ++ quote ∷ rest)) (length (bytes ++ quote ∷ rest)) ≡ true = lt-ltb _ _ (omega (arith, at, length-append bytes (quote ∷ rest))) in
     cond-true _ _ _ within ∙ ap (λ (n : ℕ). Some n) at
 
-none_before : (quote : ℕ) (bytes : List ℕ) (at : ℕ) → at ≤ position_or_len (λ b. eqb b quote) bytes → has_byte quote (take at bytes) ≡ false
-none_before quote bytes at h =
-    list_any_none (λ b. eqb b quote) (take at bytes) (λ k d inside.
-    let before : k < at = omega (arith, length-take at bytes) in
-    let within : k < position_or_len (λ b. eqb b quote) bytes = omega arith in
-    rw (get_or-take at bytes k d before) (not-true (eqb (get_or bytes k d) quote) (prefix_len_passes (λ b. not (eqb b quote)) bytes k d within)))
-
-position_within : (t : Bool) (n m at : ℕ) → ltb n m ≡ t → cond t (Some n) None ≡ Some at → (at ≡ n) × (at < m)
-position_within true n m at within e =
-    let same : n ≡ at = cc in
-    let below = ltb-true n m within in
-    (sym same, omega arith)
-position_within false n m at within e = absurd cc
-
-position_past : (t : Bool) (n m : ℕ) → ltb n m ≡ t → cond t (Some n) None ≡ None → m ≤ n
-position_past true n m within e = absurd cc
-position_past false n m within e = ltb-false n m within
-
 -- a text up to its next quote, or to the end
 quoted_spelled : (quote : ℕ) (bytes : List ℕ) (at : Option ℕ) → IsQuote quote → position (λ b. eqb b quote) bytes ≡ at → IsSpelled (quote ∷ bytes) (quoted bytes at)
 quoted_spelled quote bytes (Some at) is e =
-    let place = position_within (ltb (position_or_len (λ b. eqb b quote) bytes) (length bytes)) _ _ at refl e in
     let there = position-Some (λ b. eqb b quote) bytes at 0 e in
-    let next : drop at bytes ≡ quote ∷ drop (at + 1) bytes = drop_more bytes at 0 place.1 ∙ ap (λ (b : ℕ). b ∷ drop (at + 1) bytes) (eqb-true _ quote there.1) in
-    let front : take (at + 1) bytes ≡ take at bytes ++ quote ∷ [] = take_more bytes at 0 place.1 ∙ ap (λ (b : ℕ). take at bytes ++ b ∷ []) (eqb-true _ quote there.1) in
+    let next : get_or bytes at 0 ≡ quote = eqb-true _ quote there.1 in
+    let front : take (at + 1) bytes ≡ take at bytes ++ quote ∷ [] = take_more bytes at 0 there.0 ∙ ap (λ (b : ℕ). take at bytes ++ b ∷ []) next in
     record {
       some = omega arith;
-      within = omega arith;
-      spelled = subst (λ (spelling : List ℕ). IsSpelling (text (take at bytes)) spelling) (ap (λ (t : List ℕ). quote ∷ t) (sym front) ∙ sym (take-two quote bytes at)) (as_text is (none_before quote bytes at (omega arith)));
+      within = omega (arith, there.0);
+      spelled = subst (λ (spelling : List ℕ). IsSpelling (text (take at bytes)) spelling) (ap (λ (t : List ℕ). quote ∷ t) (sym front) ∙ sym (take-two quote bytes at)) (as_text is (position-none_before (λ b. eqb b quote) bytes at e));
     }
-quoted_spelled quote bytes None is e =
-    let past = position_past (ltb (position_or_len (λ b. eqb b quote) bytes) (length bytes)) _ _ refl e in
-    let none = none_before quote bytes (length bytes) past in
-    record {
-      some = omega arith;
-      within = omega arith;
-      spelled = subst (λ (spelling : List ℕ). IsSpelling (unclosed bytes) spelling) (sym (take-whole quote bytes)) (as_unclosed is (subst (λ (t : List ℕ). has_byte quote t ≡ false) (take_all (length bytes) bytes (omega arith)) none));
-    }
+quoted_spelled quote bytes None is e = record {
+  some = omega arith;
+  within = omega arith;
+  spelled = subst (λ (spelling : List ℕ). IsSpelling (unclosed bytes) spelling) (sym (take-whole quote bytes)) (as_unclosed is (position-None (λ b. eqb b quote) bytes e));
+}
 
 -- signs
 sign_of_two-is : (a b : ℕ) (o : Operator) → sign_of_two a b ≡ Some o → sign o ≡ a ∷ b ∷ []
@@ -235,8 +214,9 @@ exact-number (b ∷ digits) some all =
     let size : prefix_len is_ascii_digit (b ∷ digits) ≡ length (b ∷ digits) = omega (arith, whole, ap (λ (t : List ℕ). prefix_len is_ascii_digit t) (append-nil (b ∷ digits))) in
     token_at-number b digits (and_parts (is_ascii_digit b) (list_all is_ascii_digit digits) all).0 ∙ same_found (ap (λ (t : List ℕ). number t) (take_all (prefix_len is_ascii_digit (b ∷ digits)) (b ∷ digits) (omega arith))) size
 
-exact-text : (quote : ℕ) (bytes rest : List ℕ) → IsQuote quote → has_byte quote bytes ≡ false → token_at (quote ∷ bytes ++ quote ∷ rest) ≡ Some (found (text bytes) (length bytes + 2))
-exact-text quote bytes rest is none = token_at-text quote (bytes ++ quote ∷ rest) is ∙ ap (λ (at : Option ℕ). Some (quoted (bytes ++ quote ∷ rest) at)) (closed quote bytes rest none) ∙ same_found (ap (λ (t : List ℕ). text t) (take-append_seam bytes (quote ∷ rest))) refl
+-- a text that is cut at its quote, and one without
+pub text_at-closed : (quote : ℕ) (bytes rest : List ℕ) → has_byte quote bytes ≡ false → text_at (quote ∷ bytes ++ quote ∷ rest) ≡ found (text bytes) (length bytes + 2)
+text_at-closed quote bytes rest none = ap (λ (at : Option ℕ). quoted (bytes ++ quote ∷ rest) at) (closed quote bytes rest none) ∙ ap (λ (t : List ℕ). found (text t) (length bytes + 2)) (take-append_seam bytes (quote ∷ rest))
 
 no_quote_at : (quote : ℕ) (bytes : List ℕ) (at : Option ℕ) → has_byte quote bytes ≡ false → position (λ b. eqb b quote) bytes ≡ at → at ≡ None
 no_quote_at quote bytes (Some at) none e =
@@ -244,24 +224,19 @@ no_quote_at quote bytes (Some at) none e =
     absurd (both_ways (has_byte quote bytes) none (list_any_at (λ b. eqb b quote) bytes at 0 there.0 there.1))
 no_quote_at quote bytes None none e = refl
 
+pub text_at-open : (quote : ℕ) (bytes : List ℕ) → has_byte quote bytes ≡ false → text_at (quote ∷ bytes) ≡ found (unclosed bytes) (length bytes + 1)
+text_at-open quote bytes none = ap (λ (at : Option ℕ). quoted bytes at) (no_quote_at quote bytes (position (λ b. eqb b quote) bytes) none refl)
+
+exact-text : (quote : ℕ) (bytes rest : List ℕ) → IsQuote quote → has_byte quote bytes ≡ false → token_at (quote ∷ bytes ++ quote ∷ rest) ≡ Some (found (text bytes) (length bytes + 2))
+exact-text quote bytes rest is none = token_at-text quote (bytes ++ quote ∷ rest) is ∙ ap (λ (f : Found). Some f) (text_at-closed quote bytes rest none)
+
 exact-unclosed : (quote : ℕ) (bytes : List ℕ) → IsQuote quote → has_byte quote bytes ≡ false → token_at (quote ∷ bytes) ≡ Some (found (unclosed bytes) (length (quote ∷ bytes)))
-exact-unclosed quote bytes is none = token_at-text quote bytes is ∙ ap (λ (at : Option ℕ). Some (quoted bytes at)) (no_quote_at quote bytes (position (λ b. eqb b quote) bytes) none refl) ∙ same_found refl (omega arith)
+exact-unclosed quote bytes is none = token_at-text quote bytes is ∙ ap (λ (f : Found). Some f) (text_at-open quote bytes none) ∙ same_found refl (omega arith)
 
 exact-operator : (o : Operator) → token_at (sign o) ≡ Some (found (operator o) (length (sign o)))
 unfolding token_at
 exact-operator op.Or = refl
-exact-operator op.And = refl
-exact-operator op.Equal = refl
-exact-operator op.NotEqual = refl
-exact-operator op.Less = refl
-exact-operator op.AtMost = refl
-exact-operator op.Greater = refl
-exact-operator op.AtLeast = refl
-exact-operator op.Plus = refl
-exact-operator op.Minus = refl
-exact-operator op.Times = refl
-exact-operator op.Over = refl
-exact-operator op.Remainder = refl
+exact-operator _ = refl
 
 pub token_at-exact : {token : Token} {spelling : List ℕ} → IsSpelling token spelling → token_at spelling ≡ Some (found token (length spelling))
 unfolding token_at

@@ -7,10 +7,10 @@ use Rattle.matcher_read.specs.Matcher.{most_levels, most_nodes}
 use Rattle.matcher_read.specs.Tokens.{Placed}
 use Rattle.matcher_read.specs.declared.fault.MatcherFault.{MatcherFault}
 use Rattle.matcher_read.specs.declared.fault.MatcherFault.TheVariants as fault
-use Rattle.matcher_read.proofs.Machine.{State, start, step, depth, goes, goes_within, token_fault, after_fault, read_step, final_value, finish, verdict}
-use Rattle.matcher_read.proofs.TokenFaults.{deep_fault, deep_opens, met_step, read_none, read_some, shallow, step_met}
+use Rattle.matcher_read.specs.Helps.Machine.{State, start, step, depth, goes, goes_within, token_fault, after_fault, read_step, final_value, finish, verdict}
+use Rattle.matcher_read.proofs.TokenFaults.{deep_fault, deep_opens, met_step, shallow, step_met}
 use Rattle.matcher_read.proofs.Opens.{whole_within}
-use Rattle.matcher_read.proofs.Passes.{reads, read_on, within_goes}
+use Rattle.matcher_read.proofs.Passes.{read_none, read_on, read_some, reads, reads_behind, within_goes}
 use Rattle.matcher_read.proofs.Runs.{derives_final}
 
 then_ok : {B : Type 0} (f : State → Result B MatcherFault) (r : Result State MatcherFault) (b : B) → read_on f r ≡ Ok b → (s : State) × (r ≡ Ok s) × (f s ≡ Ok b)
@@ -51,12 +51,6 @@ reads_within s last (t ∷ ts) h read =
     let one = read_steps s cut.0 t h cut.1 in
     let rest = reads_within cut.0 last ts (leb-true (depth cut.0) most_levels one.1) cut.2 in
     ap (option_and_then (λ m. shallow most_levels m (goes_within most_levels m ts))) one.0 ∙ (ap (λ b. cond b (goes_within most_levels cut.0 ts) None) one.1 ∙ rest)
-
-reads_append : (s m : State) (ts us : List Placed) → reads s ts ≡ Ok m → reads s (ts ++ us) ≡ reads m us
-reads_append s m [] us h = ap (λ x. reads x us) (let e : s ≡ m = cc in e)
-reads_append s m (t ∷ ts) us h =
-    let cut = then_ok (λ next. reads next ts) (read_step s t) m h in
-    ap (read_on (λ next. reads next (ts ++ us))) cut.1 ∙ reads_append cut.0 m ts us cut.2
 
 reads_front : (s last : State) (ts us : List Placed) → reads s (ts ++ us) ≡ Ok last → (m : State) × (reads s ts ≡ Ok m) × (reads m us ≡ Ok last)
 reads_front s last [] us h = (s, refl, h)
@@ -144,7 +138,7 @@ pub first_verdict : {size : ℕ} {stray : Option ℕ} {ts : List Placed} {f : Ma
 first_verdict {size} {stray} {ts} {f} (at_token before behind {t = t} split fine met) =
     let read = fine_read before fine in
     let failed = met_step before read.0 (reads_within start read.0 before (omega arith) read.1) met in
-    inl (verdict_reads size stray start ts ∙ ap (read_on (finish size stray)) (ap (reads start) split ∙ (reads_append start read.0 before (t ∷ behind) read.1 ∙ ap (read_on (λ next. reads next behind)) failed)))
+    inl (verdict_reads size stray start ts ∙ ap (read_on (finish size stray)) (ap (reads start) split ∙ (reads_behind start read.0 before (t ∷ behind) read.1 ∙ ap (read_on (λ next. reads next behind)) failed)))
 first_verdict {size} {ts = ts} (at_stray {place = place} fine) =
     let read = fine_read ts fine in
     inl (verdict_reads size (Some place) start ts ∙ ap (read_on (finish size (Some place))) read.1)

@@ -1,15 +1,7 @@
-pub mod Names
 pub mod Expression
 pub mod Tokens
 pub mod Grammar
 pub mod Calls
 pub mod Matcher
 pub mod Faults
-pub mod Machine
-pub mod TokenLists
-pub mod Cutting
-pub mod Giving
-pub mod Naming
-pub mod Taking
-pub mod Parsing
-pub mod Counting
+pub mod Helps

@@ -1,11 +1,11 @@
 -- The tokens of a matcher: the longest that fit, one behind the other, with blanks between them (Casbin, syntax for models: matchers).
-use Rattle.std.specs.Prelude.{◌≡◌, ℕ, ◌+◌, ◌<◌, ◌≤◌, ◌||◌, ◌⊎◌, Bool, true, false, if◌then◌else◌, List, [], ◌∷◌, ◌++◌, length, codes, All, IsTrue, Option, Some, None}
+use Rattle.std.specs.Prelude.{◌≡◌, ℕ, ◌+◌, ◌<◌, ◌≤◌, ◌||◌, ◌⊎◌, Bool, false, if◌then◌else◌, List, [], ◌∷◌, ◌++◌, length, codes, All, IsTrue, Option, Some, None}
 use Rattle.std.specs.Char.{is_ascii_digit}
 use Rattle.std.specs.List.{join_with_byte, list_all}
 use Rattle.std.specs.Str.{bytes_eq}
-use Rattle.perm_base.specs.Fields.{is_blank}
-use Rattle.perm_base.specs.Lines.{has_byte}
-use Rattle.matcher_read.specs.Names.{is_identifier}
+use Rattle.text_parts.specs.Blanks.{AreBlanks, is_blank}
+use Rattle.text_parts.specs.Lines.{has_byte}
+use Rattle.text_parts.specs.Names.{is_identifier}
 use Rattle.matcher_read.specs.declared.tree.Operator.{Operator}
 use Rattle.matcher_read.specs.declared.tree.Operator.TheVariants as op
 
@@ -77,10 +77,6 @@ pub record IsLongest (token : Token) (spelling bytes : List ℕ) : Type 0 where
 pub record BeginsNoToken (bytes : List ℕ) : Type 0 where
   pub some : (byte : ℕ) × (behind : List ℕ) × (bytes ≡ byte ∷ behind) × (is_blank byte ≡ false)
   pub none : (token : Token) (spelling : List ℕ) → IsSpelling token spelling → ¬ (IsFront spelling bytes)
-
--- these bytes are blanks
-abbrev pub AreBlanks : List ℕ → Type 0
-AreBlanks bytes = list_all is_blank bytes ≡ true
 
 -- the text, whose first byte stands at a place, is cut into these tokens, up to its end, or to the place of a byte that begins no token
 pub data IsCut : ℕ → List ℕ → List Placed → Option ℕ → Type 0 where

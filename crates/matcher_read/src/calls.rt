@@ -1,13 +1,13 @@
 ghost use Rattle.std.specs.Prelude.{◌≡◌, ◌+◌, option_map, position, find, MatchOption, false};
 ghost use Rattle.std.specs.Str.{bytes_eq};
 ghost use Rattle.matcher_read.specs.Calls.{callee_of, functions, is_known, name_of, relation_names, takes as accepts};
-ghost use Rattle.matcher_read.specs.Taking.{callee};
-ghost use Rattle.matcher_read.specs.TokenLists.{pieces};
+ghost use Rattle.matcher_read.specs.Helps.Taking.{callee};
+ghost use Rattle.matcher_read.specs.Helps.TokenLists.{pieces};
 
 use crate::tree::Function;
 
 /// What is called: a function, or a role relation by its number.
-#[derive(Clone, Copy, Debug, PartialEq, Eq)]
+#[derive(Clone, Copy)]
 pub(crate) enum Called {
     Function(Function),
     Relation(u8),
@@ -27,7 +27,7 @@ pub(crate) fn called_by(name: &str) -> Option<Called>
     None
 }
 
-/// The function of a name.
+// The function of a name.
 fn function_by(name: &str) -> Option<Function>
     ensures { result ≡ find (λ found. bytes_eq name.now (name_of found)) functions }
 {
@@ -47,9 +47,10 @@ fn function_by(name: &str) -> Option<Function>
     }
 }
 
-/// The number of a role relation.
+// The number of a role relation.
 fn relation_by(name: &str) -> Option<u8>
-    ensures { result ≡ option_map (λ place. place + 1) (position (bytes_eq name.now) relation_names) }
+    ensures { result
+        ≡ option_map (λ place. place + 1) (position (bytes_eq name.now) relation_names) }
 {
     match name {
         "g" => Some(1),

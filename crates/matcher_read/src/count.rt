@@ -1,12 +1,12 @@
 ghost use Rattle.std.specs.Prelude.{◌≡◌, nat_lt};
-ghost use Rattle.matcher_read.specs.Counting.{is_node as is_node_token, node_count};
+ghost use Rattle.matcher_read.specs.Helps.Counting.{is_node as is_node_token, node_count};
 ghost use Rattle.matcher_read.specs.Matcher.{most_nodes};
-ghost use Rattle.matcher_read.specs.TokenLists.{token_of};
+ghost use Rattle.matcher_read.specs.Helps.TokenLists.{token_of};
 
 use crate::token::Token;
 use crate::tokens::Tokens;
 
-/// The greatest number of nodes.
+// The greatest number of nodes.
 const MOST_NODES: u32 = 1024;
 
 /// Whether the tokens of a matcher make more nodes than it may have.
@@ -26,7 +26,7 @@ pub(crate) fn has_too_many_nodes(mut tokens: Tokens) -> bool
     false
 }
 
-/// Whether a token is a node: each but a parenthesis or a comma is one.
+// Whether a token is a node: each but a parenthesis or a comma is one.
 fn is_node(token: Token) -> bool
     ensures { result ≡ is_node_token (token_of token.entry) }
 {

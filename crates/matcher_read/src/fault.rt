@@ -1,4 +1,4 @@
-use perm_base::NoMemory;
+use outside::NoMemory;
 
 /// Why a text is no matcher. Places count bytes of the text from 1; of several faults the one that is met first from
 /// the left is told, and of those met at one place of the text the one that stands first here.

@@ -6,15 +6,18 @@ ghost use Rattle.matcher_read.specs.declared.fault.MatcherFault.{MatcherFault};
 
 /// The law that a text says one matcher at most.
 pub fn text_says_one_matcher()
-    ensures { (bytes : List ℕ) (first second : Expression) → IsMatcher bytes first → IsMatcher bytes second → first ≡ second }
+    ensures { (bytes : List ℕ) (first second : Expression)
+        → IsMatcher bytes first → IsMatcher bytes second → first ≡ second }
 {}
 
 /// The law that a text has one first fault at most.
 pub fn text_has_one_fault()
-    ensures { (bytes : List ℕ) (first second : MatcherFault) → IsFault bytes first → IsFault bytes second → first ≡ second }
+    ensures { (bytes : List ℕ) (first second : MatcherFault)
+        → IsFault bytes first → IsFault bytes second → first ≡ second }
 {}
 
 /// The law that a text with a fault is no matcher.
 pub fn faulty_text_is_no_matcher()
-    ensures { (bytes : List ℕ) (fault : MatcherFault) (e : Expression) → IsFault bytes fault → ¬ (IsMatcher bytes e) }
+    ensures { (bytes : List ℕ) (fault : MatcherFault) (e : Expression)
+        → IsFault bytes fault → ¬ (IsMatcher bytes e) }
 {}

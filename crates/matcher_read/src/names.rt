@@ -1,17 +1,18 @@
 ghost use Rattle.std.specs.Prelude.{◌≡◌, IfOk, map, option_map};
 ghost use Rattle.matcher_read.specs.Expression as tree;
 ghost use Rattle.matcher_read.specs.Expression.{expression};
-ghost use Rattle.matcher_read.specs.Machine.{name_operand};
-ghost use Rattle.matcher_read.specs.TokenLists.{pieces};
-ghost use Rattle.matcher_read.specs.Naming.{policy_of, request_of, truth_of};
+ghost use Rattle.matcher_read.specs.Helps.Machine.{name_operand};
+ghost use Rattle.matcher_read.specs.Helps.TokenLists.{pieces};
+ghost use Rattle.matcher_read.specs.Helps.Naming.{policy_of, request_of, truth_of};
 
 use crate::tree::Tree;
-use perm_base::{NoMemory, Text};
+use outside::{NoMemory, Text};
 use std::alloc::Global;
 
 /// The operand that a name is: `true`, `false`, a column of the request with attributes, or a column of the policy.
 pub(crate) fn operand_by(alloc: Global, at: u32, name: &str) -> Result<Option<Tree>, NoMemory>
-    ensures { IfOk result (λ found. option_map expression found ≡ name_operand at (pieces name.now)) }
+    ensures { IfOk result
+        (λ found. option_map expression found ≡ name_operand at (pieces name.now)) }
 {
     let Some((first, rest)) = name.split_once('.') else {
         return Ok(truth_by(at, name));
@@ -25,7 +26,7 @@ pub(crate) fn operand_by(alloc: Global, at: u32, name: &str) -> Result<Option<Tr
     Ok(None)
 }
 
-/// The truth that a word says.
+// The truth that a word says.
 fn truth_by(at: u32, name: &str) -> Option<Tree>
     ensures { option_map expression result ≡ truth_of at name.now }
 {
@@ -36,7 +37,7 @@ fn truth_by(at: u32, name: &str) -> Option<Tree>
     }
 }
 
-/// The column of the request and the attributes that the names behind `r.` say.
+// The column of the request and the attributes that the names behind `r.` say.
 fn request_by(alloc: Global, at: u32, names: &str) -> Result<Tree, NoMemory>
     ensures { IfOk result (λ made. expression made ≡ request_of at (pieces names.now)) }
 {
@@ -47,7 +48,7 @@ fn request_by(alloc: Global, at: u32, names: &str) -> Result<Tree, NoMemory>
     request(alloc, at, column, path)
 }
 
-/// The attributes that names joined by dots say.
+// The attributes that names joined by dots say.
 fn path_by(alloc: Global, names: &str) -> Result<Vec<Text>, NoMemory>
     ensures { IfOk result (λ path. path.items ≡ pieces names.now) }
 {
@@ -58,7 +59,7 @@ fn path_by(alloc: Global, names: &str) -> Result<Vec<Text>, NoMemory>
     Ok(path)
 }
 
-/// The column of the policy that the name behind `p.` says, where it stands alone.
+// The column of the policy that the name behind `p.` says, where it stands alone.
 fn policy_by(alloc: Global, at: u32, names: &str) -> Result<Option<Tree>, NoMemory>
     ensures { IfOk result (λ found. option_map expression found ≡ policy_of at (pieces names.now)) }
 {
@@ -68,7 +69,7 @@ fn policy_by(alloc: Global, at: u32, names: &str) -> Result<Option<Tree>, NoMemo
     Ok(Some(policy(alloc, at, names)?))
 }
 
-/// A column of the request with attributes.
+// A column of the request with attributes.
 fn request(alloc: Global, at: u32, column: &str, path: Vec<Text>) -> Result<Tree, NoMemory>
     ensures { IfOk result (λ made. expression made ≡ tree.request at column.now path.items) }
 {
@@ -79,7 +80,7 @@ fn request(alloc: Global, at: u32, column: &str, path: Vec<Text>) -> Result<Tree
     })
 }
 
-/// A column of the policy.
+// A column of the policy.
 fn policy(alloc: Global, at: u32, column: &str) -> Result<Tree, NoMemory>
     ensures { IfOk result (λ made. expression made ≡ tree.policy at column.now) }
 {

@@ -2,8 +2,8 @@ ghost use Rattle.std.specs.Prelude.{◌≡◌, ◌≢◌, Err, false, IfOk, Matc
 ghost use Rattle.matcher_read.specs.Calls.{takes as accepts};
 ghost use Rattle.matcher_read.specs.Expression as tree;
 ghost use Rattle.matcher_read.specs.Expression.{count, expression, expressions_of};
-ghost use Rattle.matcher_read.specs.Taking.{callee, operand_of, signed_by};
-ghost use Rattle.matcher_read.specs.TokenLists.{HasDigits, token_of};
+ghost use Rattle.matcher_read.specs.Helps.Taking.{callee, operand_of, signed_by};
+ghost use Rattle.matcher_read.specs.Helps.TokenLists.{HasDigits, token_of};
 
 use crate::calls::{Called, takes};
 use crate::fault::MatcherFault;
@@ -12,7 +12,7 @@ use crate::number::number_by;
 use crate::token::{PlacedToken, Token};
 use crate::tree::{Operator, Tree};
 use crate::words::Sign;
-use perm_base::{NoMemory, Text};
+use outside::{NoMemory, Text};
 use std::alloc::Global;
 
 /// An operator between two sides.
@@ -64,9 +64,10 @@ pub(crate) fn signed(alloc: Global, sign: Sign, operand: Tree) -> Result<Tree, N
 
 /// A call with its arguments.
 pub(crate) fn call(at: u32, called: Called, arguments: Vec<Tree>) -> Result<Tree, MatcherFault>
-    ensures { let given = expressions_of (map expression arguments.items) in MatchResult result
-        (λ made. (accepts (callee called) (count given) ≡ true) × (expression made ≡ tree.call at (callee called) given))
-        (λ fault. (accepts (callee called) (count given) ≡ false) × (fault ≡ MatcherFault.WrongArguments at)) }
+    ensures { let given = expressions_of (map expression arguments.items) in
+        let right = accepts (callee called) (count given) in MatchResult result
+        (λ made. (right ≡ true) × (expression made ≡ tree.call at (callee called) given))
+        (λ fault. (right ≡ false) × (fault ≡ MatcherFault.WrongArguments at)) }
 {
     if !takes(called, arguments.len()) {
         return Err(MatcherFault::WrongArguments { at });
@@ -74,9 +75,10 @@ pub(crate) fn call(at: u32, called: Called, arguments: Vec<Tree>) -> Result<Tree
     Ok(call_of(at, called, arguments))
 }
 
-/// A call with its arguments, however many they are.
+// A call with its arguments, however many they are.
 fn call_of(at: u32, called: Called, arguments: Vec<Tree>) -> Tree
-    ensures { expression result ≡ tree.call at (callee called) (expressions_of (map expression arguments.items)) }
+    ensures { expression result
+        ≡ tree.call at (callee called) (expressions_of (map expression arguments.items)) }
 {
     match called {
         Called::Function(function) => Tree::Call {
@@ -95,8 +97,9 @@ fn call_of(at: u32, called: Called, arguments: Vec<Tree>) -> Tree
 /// The literal or the name that a token is.
 pub(crate) fn literal(alloc: Global, next: PlacedToken) -> Result<Tree, MatcherFault>
     requires { HasDigits (token_of next.token) }
-    ensures { let operand = operand_of next.entry.at (token_of next.entry.token) in MatchResult result
-        (λ made. operand ≡ Ok (expression made)) (λ fault. fault ≢ MatcherFault.NoMemory → operand ≡ Err fault) }
+    ensures { let operand = operand_of next.entry.at (token_of next.entry.token) in
+        MatchResult result (λ made. operand ≡ Ok (expression made))
+        (λ fault. fault ≢ MatcherFault.NoMemory → operand ≡ Err fault) }
 {
     let at = next.at;
     match next.token {

@@ -8,7 +8,8 @@ ghost use Rattle.matcher_read.specs.Matcher.{first_wide};
 pub(crate) fn number_by(digits: &str) -> Option<i64>
     requires some { 0 < length digits.now }
     requires digits { IsTrue (list_all is_ascii_digit digits.now) }
-    ensures { SomeIff result (digits_value 10 digits.now < first_wide) (pos (digits_value 10 digits.now)) }
+    ensures { let value = digits_value 10 digits.now in
+        SomeIff result (value < first_wide) (pos value) }
 {
     digits.parse().ok()
 }

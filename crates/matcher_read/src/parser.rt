@@ -1,9 +1,9 @@
 ghost use Rattle.std.specs.Prelude.{◌≡◌, ◌≢◌, Err, false, true, IfErr, MatchBool, MatchResult, Ok, ℕ};
-ghost use Rattle.matcher_read.specs.Counting.{IsWithin, is_ended};
+ghost use Rattle.matcher_read.specs.Helps.Counting.{IsWithin, is_ended};
 ghost use Rattle.matcher_read.specs.Expression.{expression};
 ghost use Rattle.matcher_read.specs.Grammar.{cmp_rule, prim_rule, unary_rule};
-ghost use Rattle.matcher_read.specs.Parsing.{ReadsBy, ReadsList};
-ghost use Rattle.matcher_read.specs.Taking.{
+ghost use Rattle.matcher_read.specs.Helps.Parsing.{ReadsBy, ReadsList};
+ghost use Rattle.matcher_read.specs.Helps.Taking.{
   Stays,
   Takes,
   TakesClosing,
@@ -23,7 +23,7 @@ ghost use Rattle.matcher_read.specs.Taking.{
   place_of_next,
   rule_of,
 };
-ghost use Rattle.matcher_read.specs.TokenLists.{end_of};
+ghost use Rattle.matcher_read.specs.Helps.TokenLists.{end_of};
 ghost use Rattle.matcher_read.specs.Tokens.{Placed, placed, comma};
 
 use crate::calls::called_by;
@@ -33,7 +33,7 @@ use crate::token::Token;
 use crate::tokens::Tokens;
 use crate::tree::{Operator, Tree};
 use crate::words::{Chain, Comparing, Opener, Sign, compares, is_in, joins};
-use perm_base::NoMemory;
+use outside::NoMemory;
 use std::alloc::Global;
 
 /// Reads expressions from the tokens of a text. What opens a level is read with one level fewer.
@@ -57,7 +57,7 @@ impl<'a> Parser<'a> {
         Ok(left)
     }
 
-    /// Reads a part of a rule.
+    // Reads a part of a rule.
     #[cycle(parse)]
     fn part(&mut self, chain: Chain, levels: u8) -> Result<Tree, MatcherFault>
         ensures { ReadsBy levels (part_of chain) self.old.tokens self.new.tokens result }
@@ -70,7 +70,7 @@ impl<'a> Parser<'a> {
         }
     }
 
-    /// Reads a sum, and what it is compared with or looked up in.
+    // Reads a sum, and what it is compared with or looked up in.
     #[cycle(parse)]
     fn comparison(&mut self, levels: u8) -> Result<Tree, MatcherFault>
         ensures { ReadsBy levels cmp_rule self.old.tokens self.new.tokens result }
@@ -91,7 +91,7 @@ impl<'a> Parser<'a> {
         }
     }
 
-    /// Reads an operand with the signs before it.
+    // Reads an operand with the signs before it.
     #[cycle(parse)]
     fn unary(&mut self, levels: u8) -> Result<Tree, MatcherFault>
         ensures { ReadsBy levels unary_rule self.old.tokens self.new.tokens result }
@@ -105,7 +105,7 @@ impl<'a> Parser<'a> {
         }
     }
 
-    /// Reads an operand without a sign.
+    // Reads an operand without a sign.
     #[cycle(parse)]
     fn primary(&mut self, levels: u8) -> Result<Tree, MatcherFault>
         requires { head_is is_sign self.old.tokens.tokens ≡ false }
@@ -128,7 +128,7 @@ impl<'a> Parser<'a> {
         }
     }
 
-    /// Reads one expression or more, with commas between them.
+    // Reads one expression or more, with commas between them.
     #[cycle(parse)]
     fn list(&mut self, levels: u8) -> Result<Vec<Tree>, MatcherFault>
         ensures { ReadsList levels self.old.tokens self.new.tokens result }
@@ -147,9 +147,9 @@ impl<'a> Parser<'a> {
     pub(crate) fn end(&self, size: usize) -> Result<(), MatcherFault>
         requires size { size ≡ self.now.tokens.size }
         requires stray { IsWithin self.now.tokens.stray self.now.tokens.size }
-        ensures { let ended = is_ended self.now.tokens.tokens self.now.tokens.stray in MatchResult result
-            (λ done. ended ≡ true)
-            (λ fault. (ended ≡ false) × (fault ≡ MatcherFault.Unexpected (place_of_next self.now.tokens))) }
+        ensures { let tokens = self.now.tokens in let ended = is_ended tokens.tokens tokens.stray in
+            MatchResult result (λ done. ended ≡ true)
+            (λ fault. (ended ≡ false) × (fault ≡ MatcherFault.Unexpected (place_of_next tokens))) }
     {
         if self.tokens.peek().is_some() || self.tokens.end() as usize <= size {
             return Err(self.unexpected());
@@ -157,12 +157,13 @@ impl<'a> Parser<'a> {
         Ok(())
     }
 
-    /// Reads a literal or a name.
+    // Reads a literal or a name.
     fn literal(&mut self) -> Result<Tree, MatcherFault>
-        ensures { MatchResult result
-            (λ tree. (first : Placed) × Takes first self.old.tokens self.new.tokens
+        ensures { let old = self.old.tokens in MatchResult result
+            (λ tree. (first : Placed) × Takes first old self.new.tokens
             × (operand_of first.at first.token ≡ Ok (expression tree)))
-            (λ fault. fault ≢ MatcherFault.NoMemory → first_operand self.old.tokens.tokens (end_of self.old.tokens.stray self.old.tokens.size) ≡ Err fault) }
+            (λ fault. fault ≢ MatcherFault.NoMemory
+            → first_operand old.tokens (end_of old.stray old.size) ≡ Err fault) }
     {
         let Some(next) = self.tokens.peek() else {
             return Err(self.unexpected());
@@ -172,8 +173,8 @@ impl<'a> Parser<'a> {
         Ok(tree)
     }
 
-    /// The fault of what stands next, where it may not.
-    pub(crate) fn unexpected(&self) -> MatcherFault
+    // The fault of what stands next, where it may not.
+    fn unexpected(&self) -> MatcherFault
         ensures { result ≡ MatcherFault.Unexpected (place_of_next self.now.tokens) }
     {
         match self.tokens.peek() {
@@ -184,7 +185,7 @@ impl<'a> Parser<'a> {
         }
     }
 
-    /// Takes an operator of a rule.
+    // Takes an operator of a rule.
     fn take_joining(&mut self, chain: Chain) -> Option<(u32, Operator)>
         ensures { TakesJoining (rule_of chain) self.old.tokens self.new.tokens result }
     {
@@ -199,7 +200,7 @@ impl<'a> Parser<'a> {
         Some((next.at, operator))
     }
 
-    /// Takes an operator that compares, or the word `in`.
+    // Takes an operator that compares, or the word `in`.
     fn take_comparing(&mut self) -> Comparing
         ensures { TakesComparing result self.old.tokens self.new.tokens }
     {
@@ -222,7 +223,7 @@ impl<'a> Parser<'a> {
         }
     }
 
-    /// Takes a sign, which opens a level.
+    // Takes a sign, which opens a level.
     fn take_sign(&mut self, levels: u8) -> Result<Option<Sign>, MatcherFault>
         ensures { TakesSign levels self.old.tokens self.new.tokens result }
     {
@@ -242,7 +243,7 @@ impl<'a> Parser<'a> {
         Ok(Some(sign))
     }
 
-    /// Takes the name of a call, or finds that a parenthesis stands next.
+    // Takes the name of a call, or finds that a parenthesis stands next.
     fn take_opener(&mut self) -> Result<Opener, MatcherFault>
         ensures { MatchResult result (TakesOpener self.old.tokens self.new.tokens)
             (ToldAt is_strange MatcherFault.UnknownFunction self.old.tokens) }
@@ -266,7 +267,7 @@ impl<'a> Parser<'a> {
         }
     }
 
-    /// Takes an opening parenthesis, and gives the levels that are left inside.
+    // Takes an opening parenthesis, and gives the levels that are left inside.
     fn take_opening(&mut self, levels: u8) -> Result<u8, MatcherFault>
         ensures { TakesOpening levels self.old.tokens self.new.tokens result }
     {
@@ -283,7 +284,7 @@ impl<'a> Parser<'a> {
         Ok(levels - 1)
     }
 
-    /// Takes a closing parenthesis.
+    // Takes a closing parenthesis.
     fn take_closing(&mut self) -> Result<(), MatcherFault>
         ensures { TakesClosing self.old.tokens self.new.tokens result }
     {
@@ -297,9 +298,10 @@ impl<'a> Parser<'a> {
         Ok(())
     }
 
-    /// Takes a comma, if one stands next.
+    // Takes a comma, if one stands next.
     fn take_comma(&mut self) -> bool
-        ensures { MatchBool result ((at : ℕ) × Takes (placed at comma) self.old.tokens self.new.tokens)
+        ensures { MatchBool result
+            ((at : ℕ) × Takes (placed at comma) self.old.tokens self.new.tokens)
             (Stays is_comma self.old.tokens self.new.tokens) }
     {
         let Some(next) = self.tokens.peek() else {

@@ -11,7 +11,7 @@ use crate::tree::Tree;
 use crate::words::Chain;
 use std::alloc::Global;
 
-/// The greatest number of bytes, and of levels.
+// The greatest number of bytes, and of levels.
 const MOST_BYTES: usize = 8192;
 
 const MOST_LEVELS: u8 = 64;
@@ -20,7 +20,8 @@ const MOST_LEVELS: u8 = 64;
 pub fn read_matcher(alloc: Global, text: &str) -> Result<Tree, MatcherFault>
     ensures found { IfOk result (λ tree. IsMatcher text.now (expression tree)) }
     ensures only { (e : Expression) → IsMatcher text.now e
-        → MatchResult result (λ tree. expression tree ≡ e) (λ fault. fault ≡ MatcherFault.NoMemory) }
+        → MatchResult result (λ tree. expression tree ≡ e)
+        (λ fault. fault ≡ MatcherFault.NoMemory) }
     ensures fault { IfErr result (λ fault. fault ≢ MatcherFault.NoMemory → IsFault text.now fault) }
     ensures only_fault { (first : MatcherFault) → IsFault text.now first
         → MatchResult result (λ tree. ⊥) (λ fault. fault ≢ MatcherFault.NoMemory → fault ≡ first) }

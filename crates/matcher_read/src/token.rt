@@ -2,11 +2,11 @@ ghost use Rattle.std.specs.Prelude.{◌≡◌, ◌<◌, ◌≤◌, ◌+◌, ◌-
 ghost use Rattle.std.specs.Char.{is_ascii_digit};
 ghost use Rattle.std.specs.List.{prefix_len};
 ghost use Rattle.std.specs.Str.{IsCharBoundary};
-ghost use Rattle.matcher_read.specs.Names.{is_letter, is_word};
-ghost use Rattle.matcher_read.specs.Cutting.{begins_name, found, goes_on, is_quote, name_at, name_size, number_at, sign_at, sign_of_one, sign_of_two, text_at, token_at};
-ghost use Rattle.matcher_read.specs.TokenLists.{token_of};
+ghost use Rattle.matcher_read.specs.Helps.Cutting.{begins_name, found, goes_on, is_quote, name_at, name_size, number_at, sign_at, sign_of_one, sign_of_two, text_at, token_at};
+ghost use Rattle.matcher_read.specs.Helps.TokenLists.{token_of};
 
 use crate::tree::Operator;
+use text_parts::{cut_at, is_letter, is_word};
 
 /// A token of a matcher (Casbin, syntax for models: matchers).
 #[derive(Clone, Copy)]
@@ -40,9 +40,10 @@ pub(crate) struct PlacedToken<'a> {
     pub(crate) token: Token<'a>,
 }
 
-// The longest token at the front of a text, and how many bytes spell it.
+/// The longest token at the front of a text, and how many bytes spell it.
 pub(crate) fn first_token(text: &str) -> Option<(Token<'_>, usize)>
-    ensures value { token_at text.now ≡ option_map (λ front. found (token_of front.0) front.1) result }
+    ensures value { token_at text.now
+        ≡ option_map (λ front. found (token_of front.0) front.1) result }
     ensures some { IfSome result (λ front. 0 < front.1) }
     ensures boundary { IfSome result (λ front. IsCharBoundary text.now front.1) }
 {
@@ -94,8 +95,8 @@ fn first_text(text: &str) -> (Token<'_>, usize)
 {
     let quote = text.as_bytes()[0];
     let rest = &text[1..];
-    match rest.as_bytes().iter().position(|byte| *byte == quote) {
-        Some(at) => (Token::Text(&rest[..at]), at + 2),
+    match cut_at(rest, quote) {
+        Some((inside, _)) => (Token::Text(inside), inside.len() + 2),
         None => (Token::Unclosed(rest), rest.len() + 1),
     }
 }
@@ -103,7 +104,8 @@ fn first_text(text: &str) -> (Token<'_>, usize)
 // The sign at the front of bytes; where one of two bytes fits, it is taken.
 fn first_sign(bytes: &[u8]) -> Option<(Token<'static>, usize)>
     requires { 0 < length bytes.now }
-    ensures value { option_map (λ front. found (token_of front.0) front.1) result ≡ sign_at bytes.now }
+    ensures value { option_map (λ front. found (token_of front.0) front.1) result
+        ≡ sign_at bytes.now }
     ensures some { IfSome result (λ front. 0 < front.1) }
     ensures ascii { IfSome result (λ front. slice_index bytes.now (front.1 - 1) < 128) }
     ensures within { IfSome result (λ front. front.1 ≤ length bytes.now) }
@@ -117,6 +119,7 @@ fn first_sign(bytes: &[u8]) -> Option<(Token<'static>, usize)>
     Some((token, 1))
 }
 
+// The sign of two bytes.
 fn sign_of_two(first: u8, second: u8) -> Option<Operator>
     ensures { result ≡ sign_of_two first second }
 {
@@ -131,6 +134,7 @@ fn sign_of_two(first: u8, second: u8) -> Option<Operator>
     }
 }
 
+// The sign of one byte.
 fn sign_of_one(byte: u8) -> Option<Token<'static>>
     ensures { option_map token_of result ≡ sign_of_one byte }
 {
@@ -173,23 +177,10 @@ fn goes_on(bytes: &[u8], at: usize) -> bool
 fn digits(bytes: &[u8]) -> usize
     ensures { result ≡ prefix_len is_ascii_digit bytes.now }
 {
-    let mut size = 0;
-    while size < bytes.len() && bytes[size].is_ascii_digit() {
-        size += 1;
-    }
-    size
-}
-
-fn is_letter(byte: u8) -> bool
-    ensures { result ≡ is_letter byte }
-{
-    byte.is_ascii_alphabetic() || byte == b'_'
-}
-
-fn is_word(byte: u8) -> bool
-    ensures { result ≡ is_word byte }
-{
-    byte.is_ascii_alphanumeric() || byte == b'_'
+    bytes
+        .iter()
+        .take_while(|byte| byte.is_ascii_digit())
+        .count()
 }
 
 fn is_quote(byte: u8) -> bool

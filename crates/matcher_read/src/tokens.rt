@@ -1,12 +1,12 @@
 ghost use Rattle.std.specs.Prelude.{◌≡◌, ℕ, ◌+◌, ◌<◌, ◌≤◌, List, [], ◌∷◌, Option, IfSome, MatchOption, drop, length};
-ghost use Rattle.perm_base.specs.Fields.{is_blank};
-ghost use Rattle.matcher_read.specs.Cutting.{begins_opening, blanks, cut, marked};
+ghost use Rattle.matcher_read.specs.Helps.Cutting.{begins_opening, blanks, cut, marked};
 ghost use Rattle.matcher_read.specs.Matcher.{most_bytes};
-ghost use Rattle.matcher_read.specs.TokenLists.{HasDigits, end_of, pieces, placed_of, token_of};
+ghost use Rattle.matcher_read.specs.Helps.TokenLists.{HasDigits, end_of, pieces, placed_of, token_of};
 ghost use Rattle.matcher_read.specs.Tokens.{IsCut, Placed, is_reserved, with_calls};
 
 use crate::token::{PlacedToken, Token, first_token};
 use std::marker::Model;
+use text_parts::behind_blanks;
 
 /// The tokens of a text that are left, the first of them read.
 #[derive(Drop)]
@@ -20,8 +20,8 @@ pub(crate) struct Tokens<'a> {
 
 impl<'a> Model for Tokens<'a> {
     ghost use Rattle.std.specs.Prelude.{option_map};
-    ghost use Rattle.matcher_read.specs.Cutting.{IsLeft, listed};
-    ghost use Rattle.matcher_read.specs.TokenLists.{TokenList, placed_of};
+    ghost use Rattle.matcher_read.specs.Helps.Cutting.{IsLeft, listed};
+    ghost use Rattle.matcher_read.specs.Helps.TokenLists.{TokenList, placed_of};
 
     ghost Value = { TokenList };
 
@@ -79,8 +79,7 @@ fn tokens_from(text: &str, place: u32) -> Tokens<'_>
     ensures stray { result.stray ≡ (cut place text.now).stray }
     ensures size { result.size + 1 ≡ place + length text.now }
 {
-    let front = without_blanks(text);
-    let at = place + (text.len() - front.len()) as u32;
+    let (front, at) = past_blanks(text, place);
     let Some((token, size)) = first_token(front) else {
         return Tokens {
             current: None,
@@ -88,15 +87,26 @@ fn tokens_from(text: &str, place: u32) -> Tokens<'_>
             place: at,
         };
     };
-    let rest = without_blanks(&front[size..]);
+    let (rest, next) = past_blanks(&front[size..], at + size as u32);
     Tokens {
         current: Some(PlacedToken {
             at,
             token: before(token, rest),
         }),
         rest,
-        place: at + (front.len() - rest.len()) as u32,
+        place: next,
     }
+}
+
+// What stands behind the blanks at the front, and its place.
+fn past_blanks(text: &str, place: u32) -> (&str, u32)
+    requires { place + length text.now ≤ most_bytes + 1 }
+    ensures front { result.0.now ≡ drop (blanks text.now) text.now }
+    ensures place { result.1 ≡ place + blanks text.now }
+    ensures few { result.1 + length result.0.now ≡ place + length text.now }
+{
+    let front = behind_blanks(text);
+    (front, place + (text.len() - front.len()) as u32)
 }
 
 // A token by what stands behind it and its blanks: a name before `(` is called, unless it is a word.
@@ -119,29 +129,4 @@ fn is_reserved(name: &str) -> bool
     ensures { result ≡ is_reserved (pieces name.now) }
 {
     name == "true" || name == "false" || name == "in"
-}
-
-// What stands behind the blanks at the front.
-fn without_blanks(text: &str) -> &str
-    ensures value { result.now ≡ drop (blanks text.now) text.now }
-    ensures len { blanks text.now + length result.now ≡ length text.now }
-{
-    &text[blanks(text.as_bytes())..]
-}
-
-// How many blanks stand at the front.
-fn blanks(bytes: &[u8]) -> usize
-    ensures { result ≡ blanks bytes.now }
-{
-    let mut size = 0;
-    while size < bytes.len() && is_blank(bytes[size]) {
-        size += 1;
-    }
-    size
-}
-
-fn is_blank(byte: u8) -> bool
-    ensures { result ≡ is_blank byte }
-{
-    byte == b' ' || byte == b'\t'
 }

@@ -1,4 +1,4 @@
-use perm_base::Text;
+use outside::Text;
 
 /// An operator between two sides.
 #[derive(Clone, Copy, Debug, PartialEq, Eq)]

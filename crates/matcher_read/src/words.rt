@@ -1,8 +1,8 @@
 ghost use Rattle.std.specs.Prelude.{◌≡◌, ◌∷◌, MatchBool, [], codes, false};
 ghost use Rattle.matcher_read.specs.Grammar.{cmp_rule};
-ghost use Rattle.matcher_read.specs.Machine.{is_in as is_in_word, rank};
-ghost use Rattle.matcher_read.specs.Taking.{joins_by, rule_of};
-ghost use Rattle.matcher_read.specs.TokenLists.{pieces};
+ghost use Rattle.matcher_read.specs.Helps.Machine.{is_in as is_in_word, rank};
+ghost use Rattle.matcher_read.specs.Helps.Taking.{joins_by, rule_of};
+ghost use Rattle.matcher_read.specs.Helps.TokenLists.{pieces};
 
 use crate::calls::Called;
 use crate::tree::Operator;
@@ -71,7 +71,8 @@ pub(crate) fn compares(operator: Operator) -> bool
 
 /// Whether a name is the word `in`.
 pub(crate) fn is_in(name: &str) -> bool
-    ensures { MatchBool result (pieces name.now ≡ codes "in" ∷ []) (is_in_word (pieces name.now) ≡ false) }
+    ensures { MatchBool result (pieces name.now ≡ codes "in" ∷ [])
+        (is_in_word (pieces name.now) ≡ false) }
 {
     name == "in"
 }

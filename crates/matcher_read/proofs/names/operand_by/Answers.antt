@@ -1,5 +1,5 @@
 use Rattle.std.proofs.Common.{None, Some, refl}
-use Rattle.matcher_read.specs.TokenLists.{pieces}
+use Rattle.matcher_read.specs.Helps.TokenLists.{pieces}
 use Rattle.matcher_read.proofs.PieceLemmas.{operand_behind, pieces_cut, pieces_some}
 use Rattle.matcher_read.proofs.names.operand_by.Goals as goal
 

@@ -1,6 +1,5 @@
 use Rattle.std.proofs.Common.{None, Some, ap}
-use Rattle.matcher_read.proofs.PieceLemmas.{pieces_cut, pieces_some}
-use Rattle.matcher_read.proofs.NamingLemmas.{policy_of_more}
+use Rattle.matcher_read.proofs.PieceLemmas.{pieces_cut, pieces_some, policy_of_more}
 use Rattle.matcher_read.proofs.names.policy_by.Goals as goal
 
 pub returns-in_default : goal.returns-in_default

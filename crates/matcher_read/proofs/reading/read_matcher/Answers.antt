@@ -1,5 +1,5 @@
 use Rattle.std.proofs.Common.{◌≢◌, Ok, Err, ap, sym, ◌∙◌, nat_lt}
-use Rattle.matcher_read.specs.Counting.{node_count}
+use Rattle.matcher_read.specs.Helps.Counting.{node_count}
 use Rattle.matcher_read.specs.Faults.{IsFault, too_long}
 use Rattle.matcher_read.specs.Matcher.{most_nodes}
 use Rattle.matcher_read.specs.declared.fault.MatcherFault.TheVariants.{NoMemory, TooLong, TooManyNodes}

@@ -1,6 +1,6 @@
 use Rattle.std.proofs.Common.{sym, ◌∙◌}
 use Rattle.std.proofs.lemmas.Bool.{both_ways}
-use Rattle.matcher_read.proofs.FrontLemmas.{reserved-last}
+use Rattle.matcher_read.proofs.PieceLemmas.{reserved-last}
 use Rattle.matcher_read.proofs.tokens.is_reserved.Goals as goal
 use Rattle.matcher_read.proofs.tokens.is_reserved.Goals.{then-eq, else-eq}
 

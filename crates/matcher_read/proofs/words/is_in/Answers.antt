@@ -1,8 +1,8 @@
 use Rattle.std.proofs.Common.{◌≡◌, ℕ, Bool, true, false, List, [], ◌∷◌, codes, MatchBool, ap, ◌∙◌, sym}
 use Rattle.std.proofs.lemmas.Slice.Eq.{bytes_eq-Decides}
 use Rattle.std.specs.Str.{bytes_eq}
-use Rattle.matcher_read.specs.Machine.{is_in}
-use Rattle.matcher_read.specs.TokenLists.{pieces}
+use Rattle.matcher_read.specs.Helps.Machine.{is_in}
+use Rattle.matcher_read.specs.Helps.TokenLists.{pieces}
 use Rattle.matcher_read.proofs.PieceLemmas.{in_word}
 use Rattle.matcher_read.proofs.words.is_in.Goals as goal
 

@@ -1,6 +1,6 @@
 use Rattle.std.proofs.Common.{ap, ◌∙◌}
 use Rattle.std.specs.Prelude.{option_map}
-use Rattle.matcher_read.specs.TokenLists.{TokenList, placed_of}
+use Rattle.matcher_read.specs.Helps.TokenLists.{TokenList, placed_of}
 use Rattle.matcher_read.proofs.ListLemmas.{advance-is}
 use Rattle.matcher_read.proofs.tokens.Tokens.advance.Goals as goal
 

@@ -1,5 +1,5 @@
 use Rattle.std.specs.Prelude.{option_map}
-use Rattle.matcher_read.specs.TokenLists.{placed_of}
+use Rattle.matcher_read.specs.Helps.TokenLists.{placed_of}
 use Rattle.matcher_read.proofs.ListLemmas.{end-is}
 use Rattle.matcher_read.proofs.tokens.Tokens.end.Goals as goal
 

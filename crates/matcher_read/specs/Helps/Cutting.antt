@@ -1,13 +1,13 @@
--- A help for the proofs, which no public clause cites: the cut of a text, computed from its front.
+-- The cut of a text, computed from its front.
 use Rattle.std.specs.Prelude.{◌≡◌, ℕ, zero, suc, ◌+◌, ◌-◌, ◌==◌, ◌<◌, ◌≤◌, ◌||◌, ◌&&◌, Bool, true, false, if◌then◌else◌, List, [], ◌∷◌, ◌++◌, length, take, drop, Option, Some, None, option_map, position}
 use Rattle.std.specs.Char.{is_ascii_digit}
 use Rattle.std.specs.List.{prefix_len}
 use Rattle.std.specs.Option.{option_to_list}
-use Rattle.perm_base.specs.Fields.{is_blank}
-use Rattle.matcher_read.specs.Names.{is_letter, is_word}
+use Rattle.text_parts.specs.Blanks.{is_blank}
+use Rattle.text_parts.specs.Names.{is_letter, is_word}
 use Rattle.matcher_read.specs.Tokens.{Token, Placed, placed, with_calls, is_reserved, name, called, number, text, unclosed, operator, exclamation, opening, closing, comma}
 use Rattle.matcher_read.specs.Matcher.{most_bytes}
-use Rattle.matcher_read.specs.TokenLists.{TokenList, HasDigits, pieces}
+use Rattle.matcher_read.specs.Helps.TokenLists.{TokenList, HasDigits, pieces}
 use Rattle.matcher_read.specs.declared.tree.Operator.{Operator}
 use Rattle.matcher_read.specs.declared.tree.Operator.TheVariants as op
 

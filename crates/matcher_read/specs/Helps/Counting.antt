@@ -1,4 +1,4 @@
--- A help for the proofs, which no public clause cites: how many nodes tokens make, and where they end.
+-- How many nodes tokens make, and where they end.
 use Rattle.std.specs.Prelude.{ℕ, ◌+◌, ◌≤◌, Bool, true, false, cond, List, [], ◌∷◌, Option, Some, None}
 use Rattle.matcher_read.specs.Tokens.{Placed, Token, opening, closing, comma}
 

@@ -1,9 +1,10 @@
--- A help for the proofs, which no public clause cites: a machine that reads tokens from the left, one at a time, with what stands open round it.
+-- A machine that reads tokens from the left, one at a time, with what stands open round it.
 use Rattle.std.specs.Prelude.{ℕ, suc, ◌+◌, nat_le, nat_lt, pos, Bool, true, false, cond, List, [], ◌∷◌, ◌++◌, length, codes, Option, Some, None, option_and_then, option_map, Result, Ok, Err}
 use Rattle.std.specs.Str.{bytes_eq}
 use Rattle.std.specs.Str.Parse.{digits_value}
 use Rattle.matcher_read.specs.Calls.{callee_of, is_known, takes}
-use Rattle.matcher_read.specs.Expression.{Expression, text, whole, truth, request, policy, negation, opposite, binary, among, call, expressions_of}
+use Rattle.matcher_read.specs.Expression.{Expression, text, whole, negation, opposite, binary, among, call, expressions_of}
+use Rattle.matcher_read.specs.Helps.Naming.{policy_of, request_of, truth_of}
 use Rattle.matcher_read.specs.Matcher.{first_wide, most_levels}
 use Rattle.matcher_read.specs.Tokens.{Placed, Token, name, called, number, unclosed, operator, exclamation, opening, closing, comma}
 use Rattle.matcher_read.specs.Tokens as token
@@ -165,12 +166,11 @@ closes (frame ∷ frames) e = Some (elim frame.kind [
   | arguments at names ↦ with_operand frame.outer frames (call at (callee_of names) (expressions_of (frame.before ++ e ∷ [])))
 ])
 
--- the literal or the name that a token is, as an operand
+-- the name that a token is, as an operand
 abbrev pub name_operand : ℕ → List (List ℕ) → Option Expression
 name_operand at [] = None
-name_operand at (first ∷ []) = cond (bytes_eq first (codes "true")) (Some (truth at true)) (cond (bytes_eq first (codes "false")) (Some (truth at false)) None)
-name_operand at (first ∷ column ∷ []) = cond (bytes_eq first (codes "r")) (Some (request at column [])) (cond (bytes_eq first (codes "p")) (Some (policy at column)) None)
-name_operand at (first ∷ column ∷ next ∷ path) = cond (bytes_eq first (codes "r")) (Some (request at column (next ∷ path))) None
+name_operand at (first ∷ []) = truth_of at first
+name_operand at (first ∷ column ∷ names) = cond (bytes_eq first (codes "r")) (Some (request_of at (column ∷ names))) (cond (bytes_eq first (codes "p")) (policy_of at (column ∷ names)) None)
 
 -- it is the word `in`
 abbrev pub is_in : List (List ℕ) → Bool

@@ -1,12 +1,12 @@
--- A help for the proofs, which no public clause cites: which tokens the parser takes.
+-- Which tokens the parser takes.
 use Rattle.std.specs.Prelude.{◌≡◌, ℕ, suc, ◌<◌, ◌⊎◌, pos, Bool, true, false, nat_lt, cond, List, [], ◌∷◌, codes, Option, Result, Ok, Err, MatchOption, MatchResult, ok_or}
 use Rattle.std.specs.Str.Parse.{digits_value}
 use Rattle.matcher_read.specs.Calls.{callee_of, is_known}
 use Rattle.matcher_read.specs.Expression.{Expression, text, whole, negation, opposite, Callee, function, relation}
 use Rattle.matcher_read.specs.Grammar.{Rule, or_rule, and_rule, cmp_rule, sum_rule, term_rule, unary_rule, prim_rule}
-use Rattle.matcher_read.specs.Machine.{Rank, term_rank, sum_rank, comparing_rank, and_rank, or_rank, rank, is_in, name_operand}
+use Rattle.matcher_read.specs.Helps.Machine.{Rank, term_rank, sum_rank, comparing_rank, and_rank, or_rank, rank, is_in, name_operand}
 use Rattle.matcher_read.specs.Matcher.{first_wide}
-use Rattle.matcher_read.specs.TokenLists.{TokenList, end_of}
+use Rattle.matcher_read.specs.Helps.TokenLists.{TokenList, end_of}
 use Rattle.matcher_read.specs.Tokens.{Placed, Token, placed}
 use Rattle.matcher_read.specs.Tokens as token
 use Rattle.matcher_read.specs.declared.calls.Called.{Called}

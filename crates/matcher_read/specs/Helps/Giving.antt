@@ -1,8 +1,8 @@
--- A help for the proofs, which no public clause cites: what a run of the machine by a rule of the grammar begins and ends in.
+-- What a run of the machine by a rule of the grammar begins and ends in.
 use Rattle.std.specs.Prelude.{◌≡◌, Bool, true, false, List, [], Some, None, option_map}
 use Rattle.matcher_read.specs.Expression.{Expression}
 use Rattle.matcher_read.specs.Grammar.{Rule, or_rule, and_rule, cmp_rule, sum_rule, term_rule, unary_rule, prim_rule}
-use Rattle.matcher_read.specs.Machine.{Lefts, Kind, parentheses, members, arguments, Frame, Control, wants, has, State, no_lefts, term_of, sum_of, comparison_of, and_of, or_of, state_of, with_operand}
+use Rattle.matcher_read.specs.Helps.Machine.{Lefts, Kind, parentheses, members, arguments, Frame, Control, wants, has, State, no_lefts, term_of, sum_of, comparison_of, and_of, or_of, state_of, with_operand}
 
 -- nothing waits at the rule or below it
 abbrev pub fresh : Rule → Lefts → Lefts

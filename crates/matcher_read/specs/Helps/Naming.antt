@@ -1,4 +1,4 @@
--- A help for the proofs, which no public clause cites: what parts of names say.
+-- What parts of names say.
 use Rattle.std.specs.Prelude.{ℕ, true, false, cond, List, [], ◌∷◌, codes, Option, Some, None}
 use Rattle.std.specs.Str.{bytes_eq}
 use Rattle.matcher_read.specs.Expression.{Expression, truth, request, policy}

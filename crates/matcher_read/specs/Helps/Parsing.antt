@@ -1,14 +1,14 @@
--- A help for the proofs, which no public clause cites: what reading a part of an expression comes to.
+-- What reading a part of an expression comes to.
 use Rattle.std.specs.Prelude.{◌≡◌, ◌≢◌, ℕ, ◌+◌, Bool, true, false, List, [], ◌∷◌, ◌++◌, Option, None, Result, Err, MatchResult, map}
 use Rattle.std.specs.Global.{Vec}
 use Rattle.std.specs.List.{list_all}
 use Rattle.matcher_read.specs.Expression.{Expression, expression, expressions_of}
-use Rattle.matcher_read.specs.Giving.{entry, Gives, holds_list}
+use Rattle.matcher_read.specs.Helps.Giving.{entry, Gives, holds_list}
 use Rattle.matcher_read.specs.Grammar.{Rule, or_rule, Derives, DerivesList}
-use Rattle.matcher_read.specs.Machine.{Lefts, Frame, State, no_lefts, wants, state_of, step, levels_of, depth, verdict}
+use Rattle.matcher_read.specs.Helps.Machine.{Lefts, Frame, State, no_lefts, wants, state_of, step, levels_of, depth, verdict}
 use Rattle.matcher_read.specs.Matcher.{most_levels, is_sound, are_sound, is_closed}
-use Rattle.matcher_read.specs.Taking.{may_follow, head_is, is_closing}
-use Rattle.matcher_read.specs.TokenLists.{TokenList}
+use Rattle.matcher_read.specs.Helps.Taking.{may_follow, head_is, is_closing}
+use Rattle.matcher_read.specs.Helps.TokenLists.{TokenList}
 use Rattle.matcher_read.specs.Tokens.{Placed, Token}
 use Rattle.matcher_read.specs.declared.fault.MatcherFault.{MatcherFault}
 use Rattle.matcher_read.specs.declared.fault.MatcherFault.TheVariants.{NoMemory}
