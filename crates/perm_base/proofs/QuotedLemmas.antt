@@ -1,9 +1,8 @@
 -- Fields in double quotes.
-use Rattle.std.proofs.Common.{◌≡◌, ◌≢◌, ℕ, suc, ◌+◌, ◌-◌, ◌<◌, ◌≤◌, ◌||◌, Bool, true, false, List, [], ◌∷◌, ◌++◌, length, get_or, eqb, Option, Some, None, Result, Ok, Err, Bor, refl, sym, ap, ◌∙◌, arith, reverse, add-one}
+use Rattle.std.proofs.Common.{◌≡◌, ◌≢◌, ℕ, ◌+◌, ◌-◌, ◌<◌, ◌≤◌, true, false, List, [], ◌∷◌, ◌++◌, length, eqb, Option, Some, None, Result, Ok, Err, refl, sym, ap, ◌∙◌, arith, add-one}
 use Rattle.std.proofs.lemmas.Bool.{ne_eqb, or_parts}
-use Rattle.std.specs.Prelude.{position, MatchOption, IfSome, IfNone}
-use Rattle.std.proofs.lemmas.Bool.Decides.{nat_tests}
-use Rattle.std.proofs.lemmas.List.{append_assoc, append-nil, reverse-append, reverse-reverse}
+use Rattle.std.specs.Prelude.{position}
+use Rattle.std.proofs.lemmas.List.{append_assoc, append-nil}
 use Rattle.text_parts.specs.Lines.{has_byte}
 use Rattle.text_parts.specs.Blanks.{before_blanks, behind_blanks}
 use Rattle.perm_base.specs.declared.quoted.FieldFault.{FieldFault}

@@ -1,11 +1,12 @@
 -- Texts in the parts that the fields of a line are spelled in: blanks, commas, line ends.
-use Rattle.std.proofs.Common.{◌≡◌, ℕ, ◌-◌, ◌<◌, ◌||◌, ◌&&◌, not, Bool, true, false, cond, List, [], ◌∷◌, ◌++◌, length, eqb, reverse, Option, Some, None, refl, sym, ap, ◌∙◌, arith, rules, tests}
+use Rattle.std.proofs.Common.{◌≡◌, ℕ, ◌-◌, ◌<◌, ◌||◌, not, Bool, true, false, cond, List, [], ◌∷◌, ◌++◌, length, eqb, reverse, Option, Some, None, refl, sym, ap, ◌∙◌, arith, rules, tests}
 use Rattle.std.proofs.lemmas.Bool.{and_parts, or_parts}
 use Rattle.std.specs.List.{list_all, list_any, prefix_len}
 use Rattle.std.specs.Prelude.{position}
 use Rattle.std.proofs.lemmas.Bool.Decides.{nat_tests}
 use Rattle.std.proofs.lemmas.List.{length-append, reverse-append, reverse-reverse}
 use Rattle.std.proofs.lemmas.List.Folds.{list_all-append, list_any-append}
+use Rattle.text_parts.proofs.CallerLemmas.{passing_is_other}
 use Rattle.text_parts.proofs.BlankLemmas.{before_blanks-reverse}
 use Rattle.text_parts.specs.Blanks.{AreBlanks, before_blanks, behind_blanks, is_blank}
 use Rattle.perm_base.specs.LineEnds.{has_line_end, is_line_end}
@@ -30,40 +31,18 @@ quote_is byte e = grind (arith, nat_tests)
 pub comma_is : (byte : ℕ) → is_comma byte ≡ true → byte ≡ 44
 comma_is byte e = grind (arith, nat_tests)
 
-blank_by : (byte : ℕ) (test : Bool) → is_quote byte ≡ test → is_blank byte ≡ true → test ≡ false
-blank_by byte true e blank =
-    let here : is_blank 34 ≡ true = ap is_blank (sym (quote_is byte e)) ∙ blank in
-    absurd cc
-blank_by byte false e blank = refl
-
-line_end_by : (byte : ℕ) (test : Bool) → is_quote byte ≡ test → is_line_end byte ≡ true → test ≡ false
-line_end_by byte true e ends =
-    let here : is_line_end 34 ≡ true = ap is_line_end (sym (quote_is byte e)) ∙ ends in
-    absurd cc
-line_end_by byte false e ends = refl
-
 pub line_end_no_quote : (byte : ℕ) → is_line_end byte ≡ true → is_quote byte ≡ false
-line_end_no_quote byte ends = line_end_by byte (is_quote byte) refl ends
-
-line_end_by_comma : (byte : ℕ) (test : Bool) → is_comma byte ≡ test → is_line_end byte ≡ true → test ≡ false
-line_end_by_comma byte true e ends =
-    let here : is_line_end 44 ≡ true = ap is_line_end (sym (comma_is byte e)) ∙ ends in
-    absurd cc
-line_end_by_comma byte false e ends = refl
+line_end_no_quote byte ends = passing_is_other is_line_end byte 34 ends refl
 
 pub line_end_no_comma : (byte : ℕ) → is_line_end byte ≡ true → is_comma byte ≡ false
-line_end_no_comma byte ends = line_end_by_comma byte (is_comma byte) refl ends
-
-line_end_by_blank : (byte : ℕ) (test : Bool) → is_blank byte ≡ test → is_line_end byte ≡ true → test ≡ false
-line_end_by_blank byte true blank ends = absurd (grind (arith, nat_tests))
-line_end_by_blank byte false blank ends = refl
+line_end_no_comma byte ends = passing_is_other is_line_end byte 44 ends refl
 
 pub line_end_no_blank : (byte : ℕ) → is_line_end byte ≡ true → is_blank byte ≡ false
-line_end_no_blank byte ends = line_end_by_blank byte (is_blank byte) refl ends
+line_end_no_blank byte ends = rw (passing_is_other is_line_end byte 32 ends refl, passing_is_other is_line_end byte 9 ends refl) refl
 
 pub blanks_no_quote : (blanks : List ℕ) → AreBlanks blanks → begins_with is_quote blanks ≡ false
 blanks_no_quote [] all = refl
-blanks_no_quote (byte ∷ blanks) all = blank_by byte (is_quote byte) refl (and_parts (is_blank byte) (list_all is_blank blanks) all).0
+blanks_no_quote (byte ∷ blanks) all = passing_is_other is_blank byte 34 (and_parts (is_blank byte) (list_all is_blank blanks) all).0 refl
 
 -- a text that holds no such byte, in its parts
 pub lacks_front : (test : ℕ → Bool) (front back : List ℕ) → list_any test (front ++ back) ≡ false → list_any test front ≡ false

@@ -2,8 +2,9 @@
 use Rattle.std.proofs.Common.{◌≡◌, ◌≢◌, ℕ, ◌-◌, ◌≤◌, Bool, true, false, List, [], ◌∷◌, ◌++◌, length, eqb, reverse, Option, Some, None, Result, Ok, Err, refl, sym, ap, ◌∙◌, arith, rules, tests}
 use Rattle.std.proofs.lemmas.Bool.{and_parts, or_parts}
 use Rattle.std.specs.List.{list_all, list_any}
-use Rattle.std.proofs.lemmas.List.{append_assoc, append-nil, length-append, reverse-append, reverse-reverse}
+use Rattle.std.proofs.lemmas.List.{append_assoc, append-nil, length-append, reverse-reverse}
 use Rattle.std.proofs.lemmas.List.Folds.{list_any-append}
+use Rattle.text_parts.proofs.CallerLemmas.{passing_is_other}
 use Rattle.text_parts.proofs.BlankLemmas.{before_blanks-blanks, before_blanks-reverse, behind_blanks-blanks}
 use Rattle.text_parts.specs.Blanks.{AreBlanks, before_blanks, behind_blanks, is_blank}
 use Rattle.perm_base.specs.LineEnds.{has_line_end, is_line_end}
@@ -16,7 +17,7 @@ use Rattle.perm_base.specs.FieldFaults.{IsBad, IsBareLineEnd, IsNeverClosed, IsN
 use Rattle.perm_base.specs.FieldFaults.IsBad.{never_closed, not_ended, bare_line_end, quoted_line_end}
 use Rattle.perm_base.specs.Helps.FieldSteps.{Read, before_comma, behind_comma, closed_field, column_of, first_field, full_field, line_end_column, more_quoted, plain_field, quoted_field, quoted_text}
 use Rattle.perm_base.proofs.QuotedLemmas.{at_comma, before_comma-none, closed_other, closing, first_plain, first_quoted, more_byte, plain_fault, plain_read, quoted_closed, quoted_fault, quoted_open, twice}
-use Rattle.perm_base.proofs.SpellingLemmas.{begins_both, blank_reverse, blanks_no_quote, column_first, line_end_no_blank, line_end_no_comma, line_end_no_quote, quote_is, tail_of}
+use Rattle.perm_base.proofs.SpellingLemmas.{begins_both, blanks_no_quote, column_first, line_end_no_blank, line_end_no_comma, line_end_no_quote, quote_is, tail_of}
 use Rattle.perm_base.proofs.ReadLemmas.{doubled_append, doubled_other, doubled_whole}
 
 -- a text that has no blanks at an end
@@ -40,27 +41,17 @@ drops size blanks text all = ap (full_field size) (behind_blanks-blanks blanks t
 lacks_both : (test : ℕ → Bool) (front back : List ℕ) → list_any test front ≡ false → list_any test back ≡ false → list_any test (front ++ back) ≡ false
 lacks_both test front back one other = list_any-append test front back ∙ rw (one, other) refl
 
-blank_whole : (byte : ℕ) (test : Bool) → is_line_end byte ≡ test → is_blank byte ≡ true → test ≡ false
-blank_whole byte true e blank =
-    let none = line_end_no_blank byte e in
-    absurd cc
-blank_whole byte false e blank = refl
-
 blanks_whole : (blanks : List ℕ) → AreBlanks blanks → has_line_end blanks ≡ false
 blanks_whole [] all = refl
 blanks_whole (byte ∷ blanks) all =
     let here = and_parts (is_blank byte) (list_all is_blank blanks) all in
-    rw (blank_whole byte (is_line_end byte) refl here.0) (blanks_whole blanks here.1)
-
-blank_comma : (byte : ℕ) (test : Bool) → eqb byte 44 ≡ test → is_blank byte ≡ true → test ≡ false
-blank_comma byte true e blank = absurd (grind (arith, tests))
-blank_comma byte false e blank = refl
+    rw (passing_is_other is_blank byte 13 here.0 refl, passing_is_other is_blank byte 10 here.0 refl) (blanks_whole blanks here.1)
 
 blanks_no_comma : (blanks : List ℕ) → AreBlanks blanks → has_byte 44 blanks ≡ false
 blanks_no_comma [] all = refl
 blanks_no_comma (byte ∷ blanks) all =
     let here = and_parts (is_blank byte) (list_all is_blank blanks) all in
-    rw (blank_comma byte (eqb byte 44) refl here.0) (blanks_no_comma blanks here.1)
+    rw (passing_is_other is_blank byte 44 here.0 refl) (blanks_no_comma blanks here.1)
 
 -- a field as it is
 empty_read : (size : ℕ) (behind : Option (List ℕ)) → first_field size (tail_of behind) ≡ Ok ([], behind)

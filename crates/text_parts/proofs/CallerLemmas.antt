@@ -1,5 +1,5 @@
 -- What proofs here and in the crates above cite of bytes, lines, lines that are passed over, and identifiers.
-use Rattle.std.proofs.Common.{◌≡◌, ◌≢◌, ℕ, zero, suc, ◌+◌, ◌-◌, ◌<◌, ◌≤◌, ◌||◌, ◌&&◌, Bool, true, false, cond, not, List, [], ◌∷◌, ◌++◌, length, take, drop, get_or, eqb, Option, Some, None, IsUtf8, refl, sym, ap, ◌∙◌, subst, arith, rules, tests}
+use Rattle.std.proofs.Common.{◌≡◌, ◌≢◌, ℕ, zero, suc, ◌+◌, ◌-◌, ◌<◌, ◌≤◌, ◌||◌, ◌&&◌, Bool, true, false, cond, List, [], ◌∷◌, ◌++◌, length, take, drop, get_or, eqb, Some, None, IsUtf8, refl, sym, ap, ◌∙◌, subst, arith, rules, tests}
 use Rattle.std.specs.Prelude.{position}
 use Rattle.std.specs.Char.{is_ascii_digit}
 use Rattle.std.specs.List.{onto_first, list_any, list_all, position_from, prefix_len, AllByRecursion}
@@ -37,6 +37,13 @@ position-none_before p xs at e =
     list_any_none p (take at xs) (λ k f inside.
     let before : k < at = omega (arith, length-take at xs) in
     rw (get_or-take at xs k f before) ((position-Some p xs at f e).2 k before))
+
+-- what passes a test is no element that fails it
+pub passing_is_other : (test : ℕ → Bool) (byte other : ℕ) → test byte ≡ true → test other ≡ false → eqb byte other ≡ false
+passing_is_other test byte other is fails =
+    ne_eqb byte other (λ e.
+    let here : test other ≡ true = ap test (sym e) ∙ is in
+    absurd cc)
 
 -- ---- bytes that pass a test, at the front
 

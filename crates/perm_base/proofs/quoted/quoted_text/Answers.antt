@@ -1,4 +1,4 @@
-use Rattle.std.proofs.Common.{rules, ◌∙◌}
+use Rattle.std.proofs.Common.{rules}
 use Rattle.perm_base.proofs.QuotedLemmas.{quoted_end, quoted_next, quoted_never}
 use Rattle.perm_base.proofs.quoted.quoted_text.Goals as goal
 

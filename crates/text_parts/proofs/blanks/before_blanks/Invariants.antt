@@ -1,4 +1,4 @@
-use Rattle.std.proofs.Common.{◌≡◌, ◌≤◌, length, take}
+use Rattle.std.proofs.Common.{◌≡◌, take}
 use Rattle.std.specs.Str.{IsCharBoundary}
 use Rattle.text_parts.specs.Blanks.{before_blanks}
 use Rattle.text_parts.proofs.blanks.before_blanks.Given as goal

@@ -1,4 +1,4 @@
-use Rattle.std.proofs.Common.{◌≡◌, ◌-◌, ◌≤◌, length, drop}
+use Rattle.std.proofs.Common.{◌≡◌, ◌-◌, length, drop}
 use Rattle.std.specs.Str.{IsCharBoundary}
 use Rattle.text_parts.specs.Blanks.{behind_blanks}
 use Rattle.text_parts.proofs.blanks.behind_blanks.Given as goal

@@ -1,5 +1,4 @@
-use Rattle.std.proofs.Common.{◌∙◌, ap, sym, eqb, arith}
-use Rattle.text_parts.specs.Blanks.{behind_blanks}
+use Rattle.std.proofs.Common.{◌∙◌, sym, eqb, arith}
 use Rattle.text_parts.proofs.CallerLemmas.{is_passed_by-none, is_passed_by-some}
 use Rattle.text_parts.proofs.passed.is_passed.Goals as goal
 
