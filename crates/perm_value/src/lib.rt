@@ -6,11 +6,9 @@ mod copy;
 mod fields;
 mod json;
 mod request;
-mod shared;
 mod value;
 
 pub use fields::request_of_fields;
 pub use json::request_of_json;
 pub use request::{Request, RequestFault};
-pub use shared::values_may_be_shared;
 pub use value::{Value, View};

@@ -5,7 +5,7 @@ ghost use Rattle.perm_value.specs.Seen.{datum, datum_of_view};
 
 use crate::copy::copy_values;
 use crate::value::{Value, View};
-use perm_base::{FieldFault, NoMemory};
+use perm_base::{FieldFault, NoMemory, Share};
 use std::alloc::Global;
 use std::marker::Model;
 
@@ -48,6 +48,8 @@ pub enum RequestFault {
     /// Memory ran out.
     NoMemory,
 }
+
+impl Share for Request {}
 
 impl From<NoMemory> for RequestFault {
     ghost use Rattle.std.specs.Prelude.{◌≡◌};
