@@ -20,7 +20,7 @@ use Rattle.casbin_run.specs.Helps.Reading.{ModelStops, PolicyStops, InputStops}
 use Rattle.casbin_run.specs.Script.{requests_of}
 use Rattle.casbin_run.specs.Words.{Command, command_of}
 use Rattle.casbin_run.proofs.AnswerLemmas.{Rules, answers_more}
-use Rattle.casbin_run.proofs.GatheredLemmas.{rose_later}
+use Rattle.outside.proofs.CallerLemmas.{rose_later}
 
 pub words_end : (words : List (List ℕ)) (files : Option Files) (input : Option (List ℕ)) (s : Searches) (out out_now : Option (List ℕ)) (shelf source sink : Type 0) → command_of words ≡ None → EndsBy words files input s out out_now shelf source sink Words
 unfolding EndsBy

@@ -2,8 +2,8 @@
 use Rattle.std.proofs.Common.{◌≡◌, ℕ, ◌≤◌, List, [], ◌++◌, refl, sym, ap, append_assoc, arith}
 use Rattle.std.specs.Prelude.{Option, Some, None}
 use Rattle.std.proofs.lemmas.List.{append-nil}
-use Rattle.outside.specs.Faults.{Rose}
 use Rattle.outside.specs.Told.{with_back, TookFront}
+use Rattle.outside.proofs.CallerLemmas.{with_back-append, with_back-nothing}
 
 -- what was pushed and what is gathered are the text so far
 pub record IsGathered (before now : Option (List ℕ)) (gathered so_far : List ℕ) (faults_before faults_now : ℕ) : Type 0 where
@@ -11,14 +11,6 @@ pub record IsGathered (before now : Option (List ℕ)) (gathered so_far : List �
   pub took : now ≡ with_back before pushed
   pub parts : pushed ++ gathered ≡ so_far
   pub counted : faults_before ≤ faults_now
-
-with_back-nothing : (told : Option (List ℕ)) → told ≡ with_back told []
-with_back-nothing None = refl
-with_back-nothing (Some had) = ap (λ (x : List ℕ). Some x) (sym (append-nil had))
-
-pub with_back-append : (told : Option (List ℕ)) (a b : List ℕ) → with_back (with_back told a) b ≡ with_back told (a ++ b)
-with_back-append None a b = refl
-with_back-append (Some had) a b = ap (λ (x : List ℕ). Some x) (append_assoc had a b)
 
 pub gathered_none : (before : Option (List ℕ)) (gathered : List ℕ) (faults : ℕ) → gathered ≡ [] → IsGathered before before gathered [] faults faults
 gathered_none before gathered faults none = record { pushed = []; took = with_back-nothing before; parts = rw none refl; counted = omega arith }
@@ -52,7 +44,3 @@ stopped_front before mid now gathered so_far more a b so front = record {
   parts = rw (← so.parts, front.parts) (simp append_assoc);
   took = rw (front.took, so.took) (with_back-append before so.pushed front.front);
 }
-
--- a count that rose has risen since an earlier moment too
-pub rose_later : (before mid now : ℕ) → before ≤ mid → Rose mid now → Rose before now
-rose_later before mid now earlier rose = omega arith

@@ -1,7 +1,6 @@
 pub mod WordLemmas
 pub mod RequestLemmas
 pub mod ReplyLemmas
-pub mod TellingLemmas
 pub mod GatheredLemmas
 pub mod AnswerLemmas
 pub mod FinderLemmas

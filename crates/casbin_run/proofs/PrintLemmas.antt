@@ -6,11 +6,12 @@ use Rattle.outside.specs.Faults.{Rose}
 use Rattle.outside.specs.Told.{with_back, TookFront}
 use Rattle.regex_gate.specs.Refusals.{Refusals, IsRefused, IsUsed}
 use Rattle.regex_gate.proofs.CallerLemmas.{refused_since, refused_still, used_none, used_then}
+use Rattle.outside.proofs.CallerLemmas.{rose_later}
 use Rattle.casbin_run.specs.Answer.{IsAnswer, Reply, is_refused_search, line_text, refusals_in, shown, text_of_replies}
 use Rattle.casbin_run.specs.Helps.Print.{Answering, PrintStops, RoseTo}
 use Rattle.casbin_run.specs.declared.stop.Stop.TheVariants.{CannotWrite, NoMemory}
 use Rattle.casbin_run.proofs.AnswerLemmas.{AreSoFar, HasAnswers, IsCounted, Rules, answer_more, answered_all, refusals-append, so_far_later, so_far_more, so_far_none, text-append, text_more, whole_answers}
-use Rattle.casbin_run.proofs.GatheredLemmas.{IsGathered, all_pushed, gathered_more, gathered_none, gathered_pushed, rose_later, stopped_front, stopped_quiet}
+use Rattle.casbin_run.proofs.GatheredLemmas.{IsGathered, all_pushed, gathered_more, gathered_none, gathered_pushed, stopped_front, stopped_quiet}
 
 -- the requests up to those that are left are answered; the answers were pushed or are gathered, and the finder refused as often as they tell at least
 pub record IsPrinted (model : ModelParts) (rules : Rules) (json : Bool) (all left : List (List ℕ)) (number : ℕ) (before now : Option (List ℕ)) (gathered : List ℕ) (a b : ℕ) (c d : Refusals) : Type 0 where

@@ -1,5 +1,6 @@
-ghost use Rattle.std.specs.Prelude.{◌≡◌, ◌≤◌, ◌⊎◌, OnOk, OnErr};
+ghost use Rattle.std.specs.Prelude.{◌≡◌, ◌⊎◌};
 ghost use Rattle.outside.specs.Faults.{Rose};
+ghost use Rattle.outside.specs.Pushes.{PushesAll};
 ghost use Rattle.outside.specs.Told.{TookFront, with_back};
 ghost use Rattle.casbin_run.specs.Message.{line_of};
 ghost use Rattle.casbin_run.specs.Helps.Pieces.{number_text, text_of};
@@ -20,11 +21,8 @@ pub(crate) fn tell<E: Sink>(err: &mut E, stop: Stop)
 
 // Pushes the pieces of a message.
 fn push_message<E: Sink>(err: &mut E, message: Message) -> Result<(), Failed>
-    ensures took { OnOk result (E.taken err.new ≡ with_back (E.taken err.old) (text_of message)) }
-    ensures stopped { OnErr result
-        (TookFront (E.taken err.old) (E.taken err.new) (text_of message)) }
-    ensures counted { E.faults err.old ≤ E.faults err.new }
-    ensures failed { OnErr result (Rose (E.faults err.old) (E.faults err.new)) }
+    ensures { PushesAll (E.taken err.old) (E.taken err.new)
+        (E.faults err.old) (E.faults err.new) (text_of message) result }
 {
     push_all(err, message.head)?;
     push_number(err, message.number)?;
@@ -33,12 +31,8 @@ fn push_message<E: Sink>(err: &mut E, message: Message) -> Result<(), Failed>
 
 // Pushes a number, where there is one.
 fn push_number<E: Sink>(err: &mut E, number: Option<u32>) -> Result<(), Failed>
-    ensures took { OnOk result
-        (E.taken err.new ≡ with_back (E.taken err.old) (number_text number)) }
-    ensures stopped { OnErr result
-        (TookFront (E.taken err.old) (E.taken err.new) (number_text number)) }
-    ensures counted { E.faults err.old ≤ E.faults err.new }
-    ensures failed { OnErr result (Rose (E.faults err.old) (E.faults err.new)) }
+    ensures { PushesAll (E.taken err.old) (E.taken err.new)
+        (E.faults err.old) (E.faults err.new) (number_text number) result }
 {
     let Some(number) = number else {
         return push_all(err, b"");
