@@ -31,9 +31,7 @@ impl std::marker::Model for Model {
 
     ghost Value = { ModelParts };
 
-    ghost coded = {
-        let s : Coded Sign = Prim.hlevel codes in Prim.hlevel (codes, expression_code s)
-    };
+    ghost coded = { let s : Coded Sign = Prim.hlevel codes in Prim.hlevel (codes, expression_code s) };
 
     ghost view = { λ m. parts_of
         m.request m.policy m.relations.items m.effect m.matcher_text (expression m.matcher) };
