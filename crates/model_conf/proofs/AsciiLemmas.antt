@@ -1,6 +1,6 @@
 -- The printed text of a model is UTF-8.
-use Rattle.std.proofs.Common.{◌≡◌, ℕ, zero, suc, ◌+◌, ◌-◌, ◌<◌, ◌≤◌, ◌&&◌, Bool, true, false, List, [], ◌∷◌, ◌++◌, length, get_or, ltb, map, codes, refl, sym, ap, ◌∙◌, subst, arith, lit<}
-use Rattle.std.specs.Prelude.{All, IsTrue, IsUtf8}
+use Rattle.std.proofs.Common.{◌≡◌, ℕ, zero, suc, ◌-◌, ◌<◌, Bool, true, false, List, [], ◌∷◌, ◌++◌, get_or, ltb, map, codes, refl, sym, subst, lit<}
+use Rattle.std.specs.Prelude.{IsTrue, IsUtf8}
 use Rattle.std.specs.List.{list_all, flat_map, AllByRecursion}
 use Rattle.std.proofs.lemmas.Bool.{ltb-true, lt-ltb, and_parts}
 use Rattle.std.proofs.lemmas.List.Elements.{recursion_from_All}
@@ -17,7 +17,7 @@ use Rattle.model_conf.specs.Effects.{effect_text}
 use Rattle.model_conf.specs.ModelText.{ModelParts}
 use Rattle.model_conf.specs.Printed.{key_line, printed, relation_entry, role_lines}
 use Rattle.text_parts.proofs.CallerLemmas.{word_ascii, words_of}
-use Rattle.model_conf.proofs.PrintLemmas.{parts_text, printed-parts}
+use Rattle.model_conf.proofs.PrintLemmas.{printed-parts}
 
 abbrev pub is_ascii : List ℕ → Bool
 is_ascii text = list_all (λ (byte : ℕ). ltb byte 128) text

@@ -1,5 +1,5 @@
 -- Identifiers, and columns by their places.
-use Rattle.std.proofs.Common.{◌≡◌, ◌≢◌, ℕ, zero, suc, ◌+◌, ◌-◌, ◌<◌, ◌≤◌, ◌&&◌, Bool, true, false, Bor, List, [], ◌∷◌, ◌++◌, length, take, drop, map, get_or, eqb, Option, Some, None, Contains, IsTrue, refl, sym, ap, ◌∙◌, subst, arith}
+use Rattle.std.proofs.Common.{◌≡◌, ◌≢◌, ℕ, zero, suc, ◌+◌, ◌<◌, ◌≤◌, Bool, true, false, Bor, List, [], ◌∷◌, ◌++◌, length, take, map, get_or, eqb, Option, Some, None, Contains, IsTrue, refl, sym, ap, ◌∙◌, subst, arith}
 use Rattle.std.specs.Prelude.{slice_get, option_map, MatchOption, IfSome, IfNone, is_some}
 use Rattle.std.specs.List.{list_all, list_any, position, AllWithin, HoldsAt, All}
 use Rattle.std.proofs.lemmas.Bool.{and_parts, false≢true, or_parts}

@@ -1,10 +1,9 @@
 -- What the reading of a whole text comes to.
-use Rattle.std.proofs.Common.{◌≡◌, ◌≢◌, ℕ, ◌≤◌, ◌⊎◌, inl, inr, Bool, true, false, cond, List, [], ◌∷◌, ◌++◌, length, Option, Some, None, Result, Ok, Err, refl, sym, ap, ◌∙◌, subst}
-use Rattle.std.specs.Prelude.{MatchResult, IfOk, IfErr, IsErrOf, IsTrue, IsUtf8}
+use Rattle.std.proofs.Common.{◌≡◌, ◌≢◌, ℕ, ◌≤◌, ◌⊎◌, inl, inr, Bool, true, false, cond, List, [], ◌∷◌, ◌++◌, length, Option, Some, None, Result, Ok, Err, refl, ap, ◌∙◌, subst}
+use Rattle.std.specs.Prelude.{MatchResult, IfOk, IfErr, IsUtf8}
 use Rattle.effect_fold.specs.declared.effect.Effect.{Effect}
 use Rattle.std.specs.Option.{option_or}
 use Rattle.model_conf.specs.Faults.{IsModelFault, too_long, not_utf8, at_line, behind_lines, IsEntryFault, missing, request_columns, policy_columns, role_shape, unknown_effect, matcher, undeclared, fault_of}
-use Rattle.model_conf.specs.Later.{is_later}
 use Rattle.model_conf.specs.ModelText.{ModelParts, Values, IsText, IsModel, SayModel, HasEffect, most_bytes}
 use Rattle.model_conf.specs.Helps.Outlines.{IsSettled}
 use Rattle.model_conf.specs.Sections.{Entry, entries_of, fault_behind, first_fault, has_key, is_key_of, is_section, key_fault, said_fault, section_behind}

@@ -1,9 +1,9 @@
 -- The first key that no entry has.
-use Rattle.std.proofs.Common.{◌≡◌, ℕ, List, codes, Option, Some, None, refl, sym, ◌∙◌}
+use Rattle.std.proofs.Common.{◌≡◌, ℕ, List, codes, Some, None, refl, sym, ◌∙◌}
 use Rattle.effect_fold.specs.declared.effect.Effect.{Effect}
 use Rattle.model_conf.specs.Columns.{AreColumns, columns_in}
 use Rattle.model_conf.specs.Effects.{effect_of}
-use Rattle.model_conf.specs.Faults.{first_missing, IsEntryFault, missing, request_columns, policy_columns, role_shape, unknown_effect, matcher, undeclared}
+use Rattle.model_conf.specs.Faults.{first_missing, IsEntryFault, request_columns, policy_columns, role_shape, unknown_effect}
 use Rattle.model_conf.specs.ModelText.{Values, HasValues, HasColumns, HasEffect}
 use Rattle.model_conf.specs.Relations.{value_of, first_bad_shape}
 use Rattle.model_conf.specs.declared.fault.ModelFault.TheVariants as fault

@@ -1,6 +1,5 @@
 -- A text says one model, or has one fault, and not both.
-use Rattle.std.proofs.Common.{◌≡◌, ℕ, ◌<◌, ◌≤◌, ◌⊎◌, inl, inr, List, [], length, codes, Option, Some, None, refl, sym, ap, ◌∙◌, subst, arith}
-use Rattle.std.specs.Prelude.{IsUtf8}
+use Rattle.std.proofs.Common.{◌≡◌, ℕ, ◌⊎◌, inl, inr, List, [], Option, Some, None, refl, sym, ap, ◌∙◌, subst, arith}
 use Rattle.effect_fold.specs.declared.effect.Effect.{Effect}
 use Rattle.matcher_read.specs.Expression.{Expression}
 use Rattle.matcher_read.specs.Faults.{IsFault}
@@ -10,9 +9,9 @@ use Rattle.perm_base.specs.declared.shapes.RoleShape.{RoleShape}
 use Rattle.model_conf.specs.Columns.{AreColumns, columns_in}
 use Rattle.model_conf.specs.Effects.{effect_of}
 use Rattle.model_conf.specs.Faults.{IsEntryFault, missing, request_columns, policy_columns, role_shape, unknown_effect, matcher, undeclared, IsModelFault, too_long, not_utf8, at_line, behind_lines, first_missing, fault_of}
-use Rattle.model_conf.specs.ModelText.{ModelParts, parts_of, Values, IsText, HasValues, HasColumns, HasEffect, SayModel, IsModel}
+use Rattle.model_conf.specs.ModelText.{ModelParts, parts_of, Values, IsText, HasValues, HasEffect, SayModel, IsModel}
 use Rattle.model_conf.specs.Helps.Outlines.{IsSettled}
-use Rattle.model_conf.specs.Relations.{value_of, relations_of, first_bad_shape}
+use Rattle.model_conf.specs.Relations.{relations_of, first_bad_shape}
 use Rattle.model_conf.specs.Sections.{Entry, entries_of, first_fault}
 use Rattle.model_conf.specs.Statements.{Statement}
 use Rattle.model_conf.specs.Uses.{Use, uses, first_undeclared}

@@ -1,28 +1,25 @@
 -- What the reader of matchers tells, as a model's own.
-use Rattle.std.proofs.Common.{◌≡◌, ◌≢◌, ℕ, ◌⊎◌, inl, inr, List, Option, Some, None, Result, Ok, Err, refl, sym, ap, ◌∙◌, subst}
-use Rattle.std.specs.Prelude.{MatchResult, IfOk, IfErr, option_map}
+use Rattle.std.proofs.Common.{◌≡◌, ◌≢◌, ℕ, List, Option, Some, None, refl, sym, ap, ◌∙◌, subst}
+use Rattle.std.specs.Prelude.{option_map}
 use Rattle.effect_fold.specs.declared.effect.Effect.{Effect}
 use Rattle.matcher_read.specs.Expression.{Expression}
 use Rattle.matcher_read.specs.Faults.{IsFault}
 use Rattle.matcher_read.specs.Matcher.{IsMatcher}
 use Rattle.matcher_read.specs.declared.fault.MatcherFault.{MatcherFault}
 use Rattle.matcher_read.specs.declared.fault.MatcherFault.TheVariants as m
-use Rattle.model_conf.specs.Columns.{AreColumns, columns_in}
-use Rattle.model_conf.specs.Faults.{IsEntryFault, missing, matcher, undeclared, fault_of, first_missing}
-use Rattle.model_conf.specs.Kept.{AreRelations, IsKept, IsPartOfLine}
+use Rattle.model_conf.specs.Columns.{columns_in}
+use Rattle.model_conf.specs.Faults.{IsEntryFault, missing, matcher, undeclared, fault_of}
 use Rattle.model_conf.specs.Helps.MatcherStops.{fault_of_matcher}
 use Rattle.model_conf.specs.Helps.Misuses.{misuse_fault, misuse_of}
-use Rattle.model_conf.specs.ModelText.{ModelParts, parts_of, Values, HasValues, HasEffect}
-use Rattle.model_conf.specs.Helps.Outlines.{HasTextOfMatcher, IsMissingIn, IsOutline, IsSettled}
+use Rattle.model_conf.specs.ModelText.{Values, HasEffect}
+use Rattle.model_conf.specs.Helps.Outlines.{IsMissingIn, IsOutline, IsSettled}
 use Rattle.model_conf.specs.Relations.{relations_of}
 use Rattle.model_conf.specs.Sections.{Entry}
 use Rattle.model_conf.specs.Uses.{Use, of_request, of_policy, of_relation, uses, first_undeclared}
 use Rattle.model_conf.specs.declared.fault.ModelFault.{ModelFault}
 use Rattle.model_conf.specs.declared.fault.ModelFault.TheVariants as fault
-use Rattle.model_conf.specs.declared.key.Key.{Key}
 use Rattle.model_conf.specs.declared.outline.Outline.{Outline}
 use Rattle.model_conf.specs.declared.uses.Misuse.{Misuse}
-use Rattle.model_conf.proofs.FaultLemmas.{none_missing}
 use Rattle.model_conf.proofs.LawLemmas.{has_all, same_values}
 
 -- ---- one matcher, or one fault

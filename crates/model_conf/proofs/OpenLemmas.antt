@@ -1,5 +1,5 @@
 -- A text that ends in `\`, and the lines that continue it.
-use Rattle.std.proofs.Common.{◌≡◌, ◌≢◌, ℕ, ◌+◌, ◌<◌, Bool, true, false, Bor, Option, Some, None, List, [], ◌∷◌, ◌++◌, length, take, get_or, refl, sym, ap, ◌∙◌, subst, arith}
+use Rattle.std.proofs.Common.{◌≡◌, ◌≢◌, ℕ, ◌<◌, Bool, true, false, Bor, Option, Some, None, List, [], ◌∷◌, ◌++◌, length, take, get_or, refl, sym, ap, ◌∙◌, subst, arith}
 use Rattle.std.specs.Prelude.{MatchBool, MatchOption}
 use Rattle.std.specs.Str.{IsCharBoundary}
 use Rattle.std.proofs.lemmas.Bool.{MatchBool-at_true, MatchBool-at_false}

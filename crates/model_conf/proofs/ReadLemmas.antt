@@ -1,16 +1,15 @@
 -- Reading the lines of a text, one logical line after the other.
 use Rattle.std.proofs.Common.{◌≡◌, ◌≢◌, ℕ, ◌+◌, true, false, List, [], ◌∷◌, ◌++◌, Bor, Option, Some, None, Ok, Err, refl, sym, ap, ◌∙◌, subst}
-use Rattle.std.specs.List.{filter_map}
 use Rattle.std.specs.Option.{option_or}
 use Rattle.std.proofs.lemmas.List.{append_assoc, append-nil}
 use Rattle.std.proofs.lemmas.List.Elements.{filter_map-append}
 use Rattle.model_conf.specs.Lines.{Line, line, model_lines, numbered}
 use Rattle.text_parts.specs.Passed.{is_passed_in_model}
-use Rattle.model_conf.specs.Logical.{IsWhole, AreLogical, no_line, passed, begun}
-use Rattle.model_conf.specs.Sections.{Entry, entry, entry_of, entries_of, fault_behind, first_fault, name_of, said_fault, section_behind}
+use Rattle.model_conf.specs.Logical.{IsWhole, no_line, passed, begun}
+use Rattle.model_conf.specs.Sections.{Entry, entry_of, entries_of, fault_behind, first_fault, name_of, said_fault, section_behind}
 use Rattle.model_conf.specs.Helps.Seen.{TakesLines, ReadsEntries}
 use Rattle.model_conf.specs.declared.entries.Entries.{Entries}
-use Rattle.model_conf.specs.Statements.{Said, header, pair, nothing, Statement, statement, LineSays, AllSay, no_more, one_more, AreStatements, HasStatements}
+use Rattle.model_conf.specs.Statements.{Said, header, pair, nothing, Statement, statement, LineSays, no_more, one_more, AreStatements, HasStatements}
 use Rattle.model_conf.specs.Helps.Steps.{Standing, standing, behind}
 use Rattle.model_conf.specs.declared.fault.ModelFault.{ModelFault}
 use Rattle.model_conf.specs.declared.fault.ModelFault.TheVariants as fault

@@ -1,7 +1,7 @@
 -- The values of a text are parts of one line, without blanks at their ends.
-use Rattle.std.proofs.Common.{◌≡◌, ℕ, ◌+◌, ◌||◌, Bool, true, false, cond, List, [], ◌∷◌, ◌++◌, map, eqb, Option, Some, None, codes, refl, sym, ap, ◌∙◌, subst}
+use Rattle.std.proofs.Common.{◌≡◌, ℕ, ◌+◌, Bool, true, false, cond, List, [], ◌∷◌, ◌++◌, map, eqb, Some, codes, refl, sym, ap, ◌∙◌, subst}
 use Rattle.std.specs.Prelude.{find, option_map}
-use Rattle.std.specs.List.{list_any, list_all, onto_first, AllByRecursion}
+use Rattle.std.specs.List.{list_all, onto_first, AllByRecursion}
 use Rattle.std.specs.Str.{bytes_eq}
 use Rattle.std.proofs.lemmas.Bool.{and_parts, or_parts}
 use Rattle.std.proofs.lemmas.List.Folds.{list_any-append}
@@ -11,11 +11,11 @@ use Rattle.text_parts.proofs.BlankLemmas.{back}
 use Rattle.model_conf.specs.Comments.{IsUncommented, ended, comment, plain, quoted, unclosed}
 use Rattle.model_conf.specs.Helps.Outlines.{HasTextOfMatcher}
 use Rattle.model_conf.specs.Kept.{IsPartOfLine}
-use Rattle.model_conf.specs.Lines.{Line, line, model_lines, numbered}
+use Rattle.model_conf.specs.Lines.{Line, model_lines, numbered}
 use Rattle.model_conf.specs.Logical as l
 use Rattle.model_conf.specs.Relations.{value_of}
-use Rattle.model_conf.specs.Sections.{Entry, entry, entries_of, entry_of}
-use Rattle.model_conf.specs.Statements.{Said, header, pair, nothing, Says, as_header, as_pair, as_nothing, LineSays, Statement, AllSay, no_more, one_more, AreStatements, HasStatements}
+use Rattle.model_conf.specs.Sections.{Entry, entries_of}
+use Rattle.model_conf.specs.Statements.{Said, Says, as_header, as_pair, as_nothing, Statement, AllSay, no_more, one_more, HasStatements}
 
 -- it holds no LF
 abbrev IsLine : List ℕ → Type 0

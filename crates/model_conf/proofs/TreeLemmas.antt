@@ -1,6 +1,6 @@
 -- The expressions of trees, one level at a time.
 use Rattle.std.proofs.Common.{◌≡◌, ℕ, ℤ, ◌⊎◌, inl, inr, Bool, List, [], map, Vec, Box, Global, sym, ap, ◌∙◌}
-use Rattle.matcher_read.specs.Expression.{Expression, expression, expression_step, expressions_of, text, whole, truth, request, policy, negation, opposite, binary, among, call, function, relation}
+use Rattle.matcher_read.specs.Expression.{Expression, expression, expression_step, expressions_of, text, whole, truth, request, policy, binary, among, call, function, relation}
 use Rattle.matcher_read.specs.declared.tree.Function.{Function}
 use Rattle.matcher_read.specs.declared.tree.Operator.{Operator}
 use Rattle.matcher_read.specs.declared.tree.Tree.{Tree, Tree-F, fold-roll-Tree}

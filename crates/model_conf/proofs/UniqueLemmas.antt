@@ -1,13 +1,12 @@
 -- A text says one thing, and its lines are joined in one way.
-use Rattle.std.proofs.Common.{◌≡◌, ℕ, true, false, List, [], ◌∷◌, ◌++◌, None, refl, sym, ap, ◌∙◌, subst}
+use Rattle.std.proofs.Common.{◌≡◌, ℕ, false, List, [], ◌∷◌, ◌++◌, refl, sym, ap, ◌∙◌, subst}
 use Rattle.std.proofs.lemmas.Bool.{false≢true}
 use Rattle.std.proofs.lemmas.List.{append_cancel_right}
 use Rattle.text_parts.specs.Lines.{has_byte}
 use Rattle.text_parts.specs.Blanks.{trimmed}
 use Rattle.model_conf.specs.Lines.{Line, line}
-use Rattle.text_parts.specs.Passed.{is_passed_in_model}
-use Rattle.model_conf.specs.Logical.{EndsOpen, IsWhole, ended, continued, dropped, AreLogical, no_line, passed, begun}
-use Rattle.model_conf.specs.Statements.{Said, header, pair, nothing, Says, as_header, as_pair, as_nothing, LineSays, Statement, statement, AllSay, no_more, one_more, AreStatements}
+use Rattle.model_conf.specs.Logical.{IsWhole, ended, continued, dropped, AreLogical, no_line, passed, begun}
+use Rattle.model_conf.specs.Statements.{Said, header, pair, Says, as_header, as_pair, as_nothing, LineSays, Statement, statement, AllSay, no_more, one_more, AreStatements}
 use Rattle.model_conf.proofs.OpenLemmas.{EndsOpen-once}
 use Rattle.text_parts.proofs.CallerLemmas.{cut_once, has_byte-here}
 use Rattle.model_conf.proofs.CommentLemmas.{uncommented_only}

@@ -1,5 +1,5 @@
 -- The text of a model (Casbin, model syntax).
-use Rattle.std.specs.Prelude.{◌≡◌, ℕ, ◌<◌, ◌≤◌, List, [], length, codes, Option, Some, None, IsUtf8}
+use Rattle.std.specs.Prelude.{◌≡◌, ℕ, ◌≤◌, List, [], length, codes, Some, None, IsUtf8}
 use Rattle.effect_fold.specs.declared.effect.Effect.{Effect}
 use Rattle.matcher_read.specs.Expression.{Expression}
 use Rattle.matcher_read.specs.Matcher.{IsMatcher}

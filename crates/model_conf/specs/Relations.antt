@@ -1,6 +1,5 @@
 -- Role relations `g`, `g2` to `g8`, and their shapes `_, _` and `_, _, _` (Casbin, role definitions).
 use Rattle.std.specs.Prelude.{ℕ, ◌+◌, Bool, true, false, if◌then◌else◌, List, [], ◌∷◌, codes, Option, Some, None, find, position, option_map, option_and_then}
-use Rattle.std.specs.List.{filter_map}
 use Rattle.std.specs.Option.{option_or}
 use Rattle.std.specs.Str.{bytes_eq}
 use Rattle.matcher_read.specs.Calls.{relation_names}

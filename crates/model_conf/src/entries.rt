@@ -25,13 +25,13 @@ pub(crate) struct Entry {
 /// The key lines so far, and the section that stands open.
 #[derive(Drop)]
 pub(crate) struct Entries {
-    pub(crate) section: Option<Section>,
+    section: Option<Section>,
     pub(crate) entries: Vec<Entry>,
 }
 
 impl Entries {
-    /// Takes a logical line, whose first line has this number. After want of memory the entries are not to be used.
-    pub(crate) fn take(&mut self, alloc: Global, number: u32, line: &str) -> Result<(), ModelFault>
+    // Takes a logical line, whose first line has this number. After want of memory the entries are not to be used.
+    fn take(&mut self, alloc: Global, number: u32, line: &str) -> Result<(), ModelFault>
         ensures { (said : statements.Said) × statements.LineSays line.now said
             × Takes (standing_seen self.old) (standing_seen self.new) number said result }
     {

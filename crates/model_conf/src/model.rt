@@ -8,7 +8,7 @@ ghost use Rattle.model_conf.specs.Uses.{first_undeclared, uses};
 
 use effect_fold::Effect;
 use matcher_read::Tree;
-use outside::Text;
+use outside::{Share, Text};
 use perm_base::{RoleShape, Rule};
 
 /// A model: the columns of a request and of a policy, the role relations, the effect and the matcher.
@@ -31,9 +31,7 @@ impl std::marker::Model for Model {
 
     ghost Value = { ModelParts };
 
-    ghost coded = {
-        let s : Coded Sign = Prim.hlevel codes in Prim.hlevel (codes, expression_code s)
-    };
+    ghost coded = { let s : Coded Sign = Prim.hlevel codes in Prim.hlevel (codes, expression_code s) };
 
     ghost view = { λ m. parts_of
         m.request m.policy m.relations.items m.effect m.matcher_text (expression m.matcher) };
@@ -42,8 +40,10 @@ impl std::marker::Model for Model {
         m.request m.policy m.relations.items m.effect m.matcher_text (expression m.matcher)) };
 }
 
+impl Share for Model {}
+
 impl Model {
-    // The model of these parts.
+    /// The model of these parts.
     pub(crate) fn from_parts(
         request: Rule,
         policy: Rule,

@@ -50,8 +50,8 @@ pub fn shapes_of(
         ↔ (first_absent model.now.relations names.now domains.now ≡ Some relation) }
     ensures only { first_absent model.now.relations names.now domains.now ≡ None
         → MatchResult result
-            (λ shapes. shapes ≡ shapes_of model.now names.now domains.now limit)
-            (λ fault. fault ≡ ShapeFault.NoMemory) }
+        (λ shapes. shapes ≡ shapes_of model.now names.now domains.now limit)
+        (λ fault. fault ≡ ShapeFault.NoMemory) }
 {
     let relations = model.relations();
     if let Some(relation) = first_absent(relations, names, domains) {

@@ -1,5 +1,5 @@
 -- Entries in memory, seen as keys and values; only private functions cite this.
-use Rattle.std.specs.Prelude.{◌≡◌, ◌≢◌, ℕ, List, [], map, Option, Some, None, option_map, Result, Ok, Err, string_bytes}
+use Rattle.std.specs.Prelude.{◌≡◌, ◌≢◌, ℕ, List, [], map, Some, None, option_map, Result, Ok, Err, string_bytes}
 use Rattle.std.specs.Borrow.{Bor}
 use Rattle.model_conf.specs.Lines.{Line, model_lines, numbered}
 use Rattle.model_conf.specs.Logical.{IsWhole}

@@ -1,10 +1,7 @@
 -- What the steps of reading give; only private functions cite this.
-use Rattle.std.specs.Prelude.{◌≡◌, ◌≢◌, ℕ, ◌==◌, ◌||◌, Bool, if◌then◌else◌, List, [], ◌∷◌, ◌++◌, codes, Option, Some, None, option_map, Result, Ok, Err, map}
-use Rattle.model_conf.specs.Faults.{IsEntryFault}
-use Rattle.model_conf.specs.Lines.{model_lines, numbered}
-use Rattle.model_conf.specs.ModelText.{ModelParts, SayModel, Values, HasEffect}
-use Rattle.model_conf.specs.Sections.{Entry, entry, said_fault, entry_of, name_of}
-use Rattle.model_conf.specs.Statements.{Said, header, pair, nothing, Statement, statement, LineSays, AreStatements}
+use Rattle.std.specs.Prelude.{◌≡◌, ◌≢◌, ℕ, ◌==◌, ◌||◌, if◌then◌else◌, List, [], ◌∷◌, ◌++◌, codes, Option, Some, None, Result, Ok, Err}
+use Rattle.model_conf.specs.Sections.{Entry, entry, said_fault}
+use Rattle.model_conf.specs.Statements.{Said, header, pair, nothing}
 use Rattle.model_conf.specs.declared.fault.ModelFault.{ModelFault}
 use Rattle.model_conf.specs.declared.fault.ModelFault.TheVariants as fault
 use Rattle.model_conf.specs.declared.saying.Said.{Said as SaidBytes}

@@ -1,4 +1,3 @@
-use Rattle.std.proofs.Common.{sym, ◌∙◌}
 use Rattle.model_conf.specs.Effects.{effect_of}
 use Rattle.model_conf.proofs.effects.read_effect.Goals as goal
 

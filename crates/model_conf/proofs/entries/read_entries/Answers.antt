@@ -1,4 +1,4 @@
-use Rattle.std.proofs.Common.{◌≡◌, refl, ap, ◌∙◌, true, false, sym, rules, arith}
+use Rattle.std.proofs.Common.{◌∙◌, sym, rules, arith}
 use Rattle.std.proofs.lemmas.Result.{err_from_is_err_and}
 use Rattle.model_conf.specs.Helps.Seen.{standing_seen}
 use Rattle.model_conf.proofs.ReadLemmas.{read_all, read_passed, read_stopped, read_taken}

@@ -1,6 +1,4 @@
 use Rattle.std.proofs.Common.{[]}
-use Rattle.std.specs.Prelude.{string_bytes}
-use Rattle.model_conf.specs.Logical.{IsWhole, ended, dropped}
 use Rattle.model_conf.proofs.OpenLemmas.{drop_first, none_open}
 use Rattle.model_conf.proofs.joining.drop_all_open.Goals as goal
 

@@ -1,4 +1,4 @@
-use Rattle.std.proofs.Common.{refl, ◌∙◌}
+use Rattle.std.proofs.Common.{refl}
 use Rattle.model_conf.proofs.OpenLemmas.{closed_as}
 use Rattle.model_conf.proofs.joining.drop_open.Goals as goal
 

@@ -1,7 +1,6 @@
 use Rattle.std.proofs.Common.{ℕ, ◌+◌, List, ◌++◌, ap, ◌∙◌, arith, rules}
 use Rattle.std.specs.Prelude.{string_bytes}
 use Rattle.model_conf.specs.Lines.{line, model_lines, numbered}
-use Rattle.model_conf.specs.Logical.{IsWhole}
 use Rattle.model_conf.proofs.OpenLemmas.{drop_first, join_next, none_open}
 use Rattle.model_conf.proofs.joining.join_lines.Goals as goal
 

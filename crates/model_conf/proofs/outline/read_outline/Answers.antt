@@ -1,4 +1,4 @@
-use Rattle.std.proofs.Common.{sym, ◌∙◌, ap}
+use Rattle.std.proofs.Common.{sym, ◌∙◌}
 use Rattle.model_conf.proofs.FaultLemmas.{columns_are, no_columns, no_effect, no_policy, no_shape}
 use Rattle.model_conf.proofs.OptionLemmas.{found_at, none_at}
 use Rattle.model_conf.proofs.outline.read_outline.Goals as goal

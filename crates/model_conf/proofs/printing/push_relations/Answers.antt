@@ -1,4 +1,4 @@
-use Rattle.std.proofs.Common.{sym, ◌∙◌, arith, rules}
+use Rattle.std.proofs.Common.{sym, ◌∙◌, arith}
 use Rattle.std.specs.Prelude.{string_bytes}
 use Rattle.model_conf.proofs.PrintLemmas.{roles_whole}
 use Rattle.model_conf.proofs.printing.push_relations.Goals as goal

@@ -1,13 +1,12 @@
-use Rattle.std.proofs.Common.{◌≡◌, refl, sym, ap, ◌∙◌, subst}
+use Rattle.std.proofs.Common.{sym, ap, ◌∙◌, subst}
 use Rattle.std.proofs.lemmas.Result.{err_from_is_err_and}
 use Rattle.model_conf.specs.Columns.{AreColumns}
 use Rattle.model_conf.specs.Kept.{AreRelations, IsPartOfLine}
 use Rattle.matcher_read.specs.Matcher.{IsMatcher}
 use Rattle.matcher_read.specs.Expression.{expression}
 use Rattle.std.specs.Prelude.{option_map, IsUtf8}
-use Rattle.matcher_read.specs.Faults.{IsFault}
 use Rattle.model_conf.specs.Helps.Misuses.{misuse_of}
-use Rattle.model_conf.specs.Helps.Outlines.{IsSettled, values_seen}
+use Rattle.model_conf.specs.Helps.Outlines.{values_seen}
 use Rattle.model_conf.specs.Uses.{first_undeclared, uses}
 use Rattle.model_conf.proofs.KeptLemmas.{relations_kept}
 use Rattle.model_conf.proofs.MatcherLemmas.{all_declared, missing_settled, no_memory_of, settled_by_fault, settled_by_tree, settled_for, stops_matcher, stops_misuse, stops_missing}

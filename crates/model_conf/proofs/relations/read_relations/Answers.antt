@@ -1,8 +1,7 @@
-use Rattle.std.proofs.Common.{◌≡◌, ◌+◌, ◌-◌, ◌<◌, ◌≤◌, ◌++◌, ◌∷◌, [], List, Some, None, drop, refl, sym, ap, ◌∙◌, arith}
-use Rattle.std.proofs.lemmas.List.{append_assoc}
+use Rattle.std.proofs.Common.{◌++◌, List, sym, ap, ◌∙◌, arith}
 use Rattle.matcher_read.specs.Calls.{relation_names}
 use Rattle.perm_base.specs.declared.shapes.RoleShape.{RoleShape}
-use Rattle.model_conf.specs.Relations.{relations_from, relations_of, shape}
+use Rattle.model_conf.specs.Relations.{relations_from, relations_of}
 use Rattle.model_conf.specs.Helps.Seen.{entries_seen}
 use Rattle.model_conf.proofs.EntryLemmas.{relation_declared, relation_none}
 use Rattle.model_conf.proofs.relations.read_relations.Goals as goal

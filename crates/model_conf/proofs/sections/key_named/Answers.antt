@@ -1,7 +1,4 @@
-use Rattle.std.proofs.Common.{ap, sym, ◌∙◌, refl}
-use Rattle.std.specs.List.{list_any}
-use Rattle.std.specs.Str.{bytes_eq}
-use Rattle.matcher_read.specs.Calls.{relation_names}
+use Rattle.std.proofs.Common.{sym, ◌∙◌}
 use Rattle.model_conf.proofs.SectionLemmas.{has_key-request, has_key-policy, has_key-roles, has_key-effect, has_key-matchers, is_relation}
 use Rattle.model_conf.proofs.sections.key_named.Goals as goal
 

@@ -1,4 +1,4 @@
-use Rattle.std.proofs.Common.{◌≡◌, ℕ, ◌-◌, ◌<◌, List, false, [], get_or}
+use Rattle.std.proofs.Common.{◌≡◌, ℕ, ◌-◌, ◌<◌, false, [], get_or}
 use Rattle.std.specs.Str.{bytes_eq}
 use Rattle.matcher_read.specs.Calls.{relation_names}
 use Rattle.model_conf.proofs.sections.relation_named.Given as goal
