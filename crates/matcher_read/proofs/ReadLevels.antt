@@ -48,12 +48,12 @@ enclosed {n} {inside} {first_at} {last_at} {es} {before} {opened} {listed} {afte
 
 -- its tokens
 abbrev pub enclosed_tokens : {n inside : ℕ} {es : List Expression} {before after : TokenList} → Enclosed n inside es before after → List Placed
-enclosed_tokens p = placed p.first_at token.opening ∷ p.list.front ++ placed p.last_at token.closing ∷ []
+enclosed_tokens p = placed p.first_at token.opening ∷ p.list.read.front ++ placed p.last_at token.closing ∷ []
 
 enclosed_are : {n inside : ℕ} {es : List Expression} {before after : TokenList} (p : Enclosed n inside es before after) → before.tokens ≡ enclosed_tokens p ++ after.tokens
 enclosed_are {n} {inside} {es} {before} {after} p =
     p.opening.tokens
-    ∙ ap (λ (ts : List Placed). placed p.first_at token.opening ∷ ts) (p.list.tokens ∙ ap (λ (ts : List Placed). p.list.front ++ ts) p.closing.tokens ∙ sym (append_assoc p.list.front (placed p.last_at token.closing ∷ []) after.tokens))
+    ∙ ap (λ (ts : List Placed). placed p.first_at token.opening ∷ ts) (p.list.read.tokens ∙ ap (λ (ts : List Placed). p.list.read.front ++ ts) p.closing.tokens ∙ sym (append_assoc p.list.read.front (placed p.last_at token.closing ∷ []) after.tokens))
 
 pub closed_end : (ts : List Placed) (t : Placed) → is_closed t.token ≡ true → list_all (λ (t : Placed). is_closed t.token) ts ≡ true → list_all (λ (t : Placed). is_closed t.token) (ts ++ t ∷ []) ≡ true
 closed_end ts t h k = closed_join ts [] t h k refl
@@ -111,15 +111,17 @@ over_in n at l frames s e behind size stray h g =
 pub read_members : {n inside at : ℕ} {e : Expression} {es : List Expression} {before middle behind after : TokenList} → Read n sum_rule sum_rule e before middle → Takes (in_token at) middle behind → Enclosed n inside es behind after
     → Read n cmp_rule cmp_rule (among at e (expressions_of es)) before after
 read_members {n} {inside} {at} {e} {es} {before} {middle} {behind} {after} r t p = record {
-  front = r.front ++ (in_token at ∷ enclosed_tokens p);
-  tokens = r.tokens ∙ ap (λ (ts : List Placed). r.front ++ ts) (t.tokens ∙ ap (λ (ts : List Placed). in_token at ∷ ts) (enclosed_are p)) ∙ sym (append_assoc r.front (in_token at ∷ enclosed_tokens p) after.tokens);
-  stray = p.closing.stray ∙ p.list.stray ∙ p.opening.stray ∙ t.stray ∙ r.stray;
-  size = p.closing.size ∙ p.list.size ∙ p.opening.size ∙ t.size ∙ r.size;
-  derived = subst (λ (levels : ℕ). Derives levels cmp_rule (r.front ++ (in_token at ∷ enclosed_tokens p)) (among at e (expressions_of es))) (sym p.levels)
-      (by_members p.first_at p.last_at (subst (λ (levels : ℕ). Derives levels sum_rule r.front e) p.levels r.derived) p.list.derived
-      (sym (append_assoc r.front (in_token at ∷ placed p.first_at token.opening ∷ p.list.front) (placed p.last_at token.closing ∷ []))));
-  sound = and_from (is_sound e) (are_sound (expressions_of es)) r.sound p.list.sound;
-  closed = closed_join r.front (enclosed_tokens p) (in_token at) refl r.closed (closed_end p.list.front (placed p.last_at token.closing) refl p.list.closed);
+  read = record {
+    front = r.read.front ++ (in_token at ∷ enclosed_tokens p);
+    tokens = r.read.tokens ∙ ap (λ (ts : List Placed). r.read.front ++ ts) (t.tokens ∙ ap (λ (ts : List Placed). in_token at ∷ ts) (enclosed_are p)) ∙ sym (append_assoc r.read.front (in_token at ∷ enclosed_tokens p) after.tokens);
+    stray = p.closing.stray ∙ p.list.read.stray ∙ p.opening.stray ∙ t.stray ∙ r.read.stray;
+    size = p.closing.size ∙ p.list.read.size ∙ p.opening.size ∙ t.size ∙ r.read.size;
+    derived = subst (λ (levels : ℕ). Derives levels cmp_rule (r.read.front ++ (in_token at ∷ enclosed_tokens p)) (among at e (expressions_of es))) (sym p.levels)
+        (by_members p.first_at p.last_at (subst (λ (levels : ℕ). Derives levels sum_rule r.read.front e) p.levels r.read.derived) p.list.read.derived
+        (sym (append_assoc r.read.front (in_token at ∷ placed p.first_at token.opening ∷ p.list.read.front) (placed p.last_at token.closing ∷ []))));
+    sound = and_from (is_sound e) (are_sound (expressions_of es)) r.read.sound p.list.read.sound;
+    closed = closed_join r.read.front (enclosed_tokens p) (in_token at) refl r.read.closed (closed_end p.list.read.front (placed p.last_at token.closing) refl p.list.read.closed);
+  };
   reaches = λ l frames h.
       let first = r.reaches (fresh cmp_rule l) frames h in
       let next = state_of (has_members (among at e (expressions_of es))) (fresh cmp_rule l) frames in
@@ -164,7 +166,7 @@ closing_fails_enclosed {n} {inside} {at} {es} {fault} {before} {opened} {listed}
   told = λ kind l frames holds h.
       let k = ls.reaches (list_frame kind l) frames holds (enclosed_depth inside n (length l.signs + levels_of frames) e h) in
       ap (verdict before.size before.stray (state_of (opens kind) l frames)) o.tokens ∙ over_opening n inside at kind l frames opened.tokens before.size before.stray e h ∙ k.same before.size before.stray
-      ∙ unexpected_here before listed fault k.state (ls.stray ∙ o.stray) (ls.size ∙ o.size) (k.stops u.head) (framed_final k.state k.gives.0 (record k.gives.1 { signs = [] }) (last_frame kind l k.front) frames k.gives.2) u;
+      ∙ unexpected_here before listed fault k.state (ls.read.stray ∙ o.stray) (ls.read.size ∙ o.size) (k.stops u.head) (framed_final k.state k.gives.0 (record k.gives.1 { signs = [] }) (last_frame kind l k.front) frames k.gives.2) u;
 }
 
 pub fails_members : {n at : ℕ} {e : Expression} {fault : MatcherFault} {before middle behind : TokenList} → Read n sum_rule sum_rule e before middle → Takes (in_token at) middle behind → FailsEnclosed n fault behind → Fails n cmp_rule fault before
@@ -173,7 +175,7 @@ fails_members {n} {at} {e} {fault} {before} {middle} {behind} r t f = record {
       let first = r.reaches (fresh cmp_rule l) frames h in
       let next = state_of (opens (members at e)) (fresh cmp_rule l) frames in
       first.same before.size before.stray ∙ ap (verdict before.size before.stray first.state) t.tokens ∙ over_in n at l frames first.state e behind.tokens before.size before.stray h first.gives
-      ∙ ap (λ (size : ℕ). verdict size before.stray next behind.tokens) (sym (t.size ∙ r.size)) ∙ ap (λ (stray : Option ℕ). verdict behind.size stray next behind.tokens) (sym (t.stray ∙ r.stray))
+      ∙ ap (λ (size : ℕ). verdict size before.stray next behind.tokens) (sym (t.size ∙ r.read.size)) ∙ ap (λ (stray : Option ℕ). verdict behind.size stray next behind.tokens) (sym (t.stray ∙ r.read.stray))
       ∙ f.told (members at e) (fresh cmp_rule l) frames refl h;
 }
 
@@ -211,13 +213,15 @@ count_last es front last e = omega (arith, count_is es, ap length e, length-appe
 pub read_call : {n inside at : ℕ} {parts : List (List ℕ)} {es : List Expression} {before behind after : TokenList} → Takes (called_token at parts) before behind → Enclosed n inside es behind after → takes (callee_of parts) (count (expressions_of es)) ≡ true
     → Read n prim_rule prim_rule (call at (callee_of parts) (expressions_of es)) before after
 read_call {n} {inside} {at} {parts} {es} {before} {behind} {after} t p right = record {
-  front = called_token at parts ∷ enclosed_tokens p;
-  tokens = t.tokens ∙ ap (λ (ts : List Placed). called_token at parts ∷ ts) (enclosed_are p);
-  stray = p.closing.stray ∙ p.list.stray ∙ p.opening.stray ∙ t.stray;
-  size = p.closing.size ∙ p.list.size ∙ p.opening.size ∙ t.size;
-  derived = subst (λ (levels : ℕ). Derives levels prim_rule (called_token at parts ∷ enclosed_tokens p) (call at (callee_of parts) (expressions_of es))) (sym p.levels) (by_call p.first_at p.last_at p.list.derived refl);
-  sound = and_from (takes (callee_of parts) (count (expressions_of es))) (are_sound (expressions_of es)) right p.list.sound;
-  closed = closed_end p.list.front (placed p.last_at token.closing) refl p.list.closed;
+  read = record {
+    front = called_token at parts ∷ enclosed_tokens p;
+    tokens = t.tokens ∙ ap (λ (ts : List Placed). called_token at parts ∷ ts) (enclosed_are p);
+    stray = p.closing.stray ∙ p.list.read.stray ∙ p.opening.stray ∙ t.stray;
+    size = p.closing.size ∙ p.list.read.size ∙ p.opening.size ∙ t.size;
+    derived = subst (λ (levels : ℕ). Derives levels prim_rule (called_token at parts ∷ enclosed_tokens p) (call at (callee_of parts) (expressions_of es))) (sym p.levels) (by_call p.first_at p.last_at p.list.read.derived refl);
+    sound = and_from (takes (callee_of parts) (count (expressions_of es))) (are_sound (expressions_of es)) right p.list.read.sound;
+    closed = closed_end p.list.read.front (placed p.last_at token.closing) refl p.list.read.closed;
+  };
   reaches = λ l frames h.
       let made = call at (callee_of parts) (expressions_of es) in
       record {

@@ -16,7 +16,7 @@ use Rattle.matcher_read.specs.declared.fault.MatcherFault.TheVariants.{TooDeep}
 use Rattle.matcher_read.proofs.Gives.{step_opens, comma_at, comma_behind, with_one}
 use Rattle.matcher_read.proofs.Passes.{verdict_next, verdict_meets}
 use Rattle.matcher_read.proofs.ReadSteps.{verdict_stops, quiet, loud}
-use Rattle.matcher_read.proofs.ReadParts.{closed_join, tokens_join, fails_in}
+use Rattle.matcher_read.proofs.ReadParts.{derived_as, fails_in, read_join}
 
 -- ---- a list as tokens
 
@@ -46,13 +46,7 @@ inside frame frames before s e = Gives or_rule no_lefts (record frame { before =
 pub list_first : {n : ℕ} {e : Expression} {before after : TokenList} → Read n or_rule or_rule e before after → ReadList n (may_follow or_rule) (e ∷ []) before after
 unfolding inside
 list_first {n} {e} {before} {after} r = record {
-  front = r.front;
-  tokens = r.tokens;
-  stray = r.stray;
-  size = r.size;
-  derived = by_last r.derived;
-  sound = and_from (is_sound e) true r.sound refl;
-  closed = r.closed;
+  read = derived_as r.read (and_from (is_sound e) true r.read.sound refl) (by_last r.read.derived);
   reaches = λ frame frames kind h.
       let k = r.reaches no_lefts (frame ∷ frames) (omega (arith, h)) in
       record {
@@ -80,13 +74,8 @@ pub list_more : {n at : ℕ} {es : List Expression} {e : Expression} {before mid
     → Read n or_rule or_rule e behind after → ReadList n (may_follow or_rule) (es ++ e ∷ []) before after
 unfolding inside
 list_more {n} {at} {es} {e} {before} {middle} {behind} {after} r t k = record {
-  front = r.front ++ placed at token.comma ∷ k.front;
-  tokens = tokens_join before.tokens r.front k.front middle.tokens behind.tokens after.tokens (placed at token.comma) r.tokens t.tokens k.tokens;
-  stray = k.stray ∙ t.stray ∙ r.stray;
-  size = k.size ∙ t.size ∙ r.size;
-  derived = subst (λ (xs : Expressions). DerivesList n (r.front ++ placed at token.comma ∷ k.front) xs) (sym (and_last_is es e)) (derives_last at r.derived k.derived);
-  sound = ap are_sound (and_last_is es e) ∙ sound_last (expressions_of es) e r.sound k.sound;
-  closed = closed_join r.front k.front (placed at token.comma) refl r.closed k.closed;
+  read = read_join r.read t k.read refl (ap are_sound (and_last_is es e) ∙ sound_last (expressions_of es) e r.read.sound k.read.sound)
+      (subst (λ (xs : Expressions). DerivesList n (r.read.front ++ placed at token.comma ∷ k.read.front) xs) (sym (and_last_is es e)) (derives_last at r.read.derived k.read.derived));
   reaches = λ frame frames kind h.
       let first = r.reaches frame frames kind h in
       let open_frame : Frame = record frame { before = frame.before ++ first.front } in
@@ -112,7 +101,7 @@ list_fails_behind {n} {at} {es} {fault} {before} {middle} {behind} r t k = recor
       let open_frame : Frame = record frame { before = frame.before ++ first.front } in
       first.same before.size before.stray ∙ ap (verdict before.size before.stray first.state) t.tokens
       ∙ over_comma n at open_frame frames first.state first.last behind.tokens before.size before.stray kind h first.gives
-      ∙ fails_in n or_rule fault before behind no_lefts (with_one open_frame first.last ∷ frames) (t.stray ∙ r.stray) (t.size ∙ r.size) (omega (arith, h)) k;
+      ∙ fails_in n or_rule fault before behind no_lefts (with_one open_frame first.last ∷ frames) (t.stray ∙ r.read.stray) (t.size ∙ r.read.size) (omega (arith, h)) k;
 }
 
 -- where no comma stands next, nothing but a closing parenthesis goes on
@@ -140,13 +129,7 @@ head_no_comma (t ∷ ts) p q = no_comma t.token p q
 
 pub list_end : {n : ℕ} {es : List Expression} {before middle after : TokenList} → ReadList n (may_follow or_rule) es before middle → Stays is_comma middle after → ReadList n is_closing es before after
 list_end {n} {es} {before} {middle} {after} r stays = let P : TokenList → Type 0 = λ list. ReadList n is_closing es before list in subst P (sym stays.same) (record {
-  front = r.front;
-  tokens = r.tokens;
-  stray = r.stray;
-  size = r.size;
-  derived = r.derived;
-  sound = r.sound;
-  closed = r.closed;
+  read = r.read;
   reaches = λ frame frames kind h.
       let k = r.reaches frame frames kind h in
       record { state = k.state; front = k.front; last = k.last; whole = k.whole; gives = k.gives; same = k.same; stops = λ p. k.stops (head_no_comma middle.tokens p stays.head) };

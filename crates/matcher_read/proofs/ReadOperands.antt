@@ -45,14 +45,16 @@ inner_depth inside n l frames e h = omega (arith, e, h)
 pub read_parentheses : {n inside first_at last_at : ℕ} {e : Expression} {before opened middle after : TokenList} → n ≡ suc inside → Takes (placed first_at token.opening) before opened → Read inside or_rule or_rule e opened middle
     → Takes (placed last_at token.closing) middle after → Read n prim_rule prim_rule e before after
 read_parentheses {n} {inside} {first_at} {last_at} {e} {before} {opened} {middle} {after} levels o r c = record {
-  front = placed first_at token.opening ∷ r.front ++ placed last_at token.closing ∷ [];
-  tokens = o.tokens
-      ∙ ap (λ (ts : List Placed). placed first_at token.opening ∷ ts) (r.tokens ∙ ap (λ (ts : List Placed). r.front ++ ts) c.tokens ∙ sym (append_assoc r.front (placed last_at token.closing ∷ []) after.tokens));
-  stray = c.stray ∙ r.stray ∙ o.stray;
-  size = c.size ∙ r.size ∙ o.size;
-  derived = subst (λ (k : ℕ). Derives k prim_rule (placed first_at token.opening ∷ r.front ++ placed last_at token.closing ∷ []) e) (sym levels) (by_parentheses first_at last_at r.derived refl);
-  sound = r.sound;
-  closed = closed_end r.front (placed last_at token.closing) refl r.closed;
+  read = record {
+    front = placed first_at token.opening ∷ r.read.front ++ placed last_at token.closing ∷ [];
+    tokens = o.tokens
+        ∙ ap (λ (ts : List Placed). placed first_at token.opening ∷ ts) (r.read.tokens ∙ ap (λ (ts : List Placed). r.read.front ++ ts) c.tokens ∙ sym (append_assoc r.read.front (placed last_at token.closing ∷ []) after.tokens));
+    stray = c.stray ∙ r.read.stray ∙ o.stray;
+    size = c.size ∙ r.read.size ∙ o.size;
+    derived = subst (λ (k : ℕ). Derives k prim_rule (placed first_at token.opening ∷ r.read.front ++ placed last_at token.closing ∷ []) e) (sym levels) (by_parentheses first_at last_at r.read.derived refl);
+    sound = r.read.sound;
+    closed = closed_end r.read.front (placed last_at token.closing) refl r.read.closed;
+  };
   reaches = λ l frames h.
       let k = r.reaches no_lefts (list_frame parentheses l ∷ frames) (inner_depth inside n l frames levels h) in
       record {
@@ -98,7 +100,7 @@ fails_behind_parentheses {n} {inside} {at} {e} {fault} {before} {opened} {middle
   told = λ l frames h.
       let k = r.reaches no_lefts (list_frame parentheses l ∷ frames) (inner_depth inside n l frames levels h) in
       ap (verdict before.size before.stray (state_of wants l frames)) o.tokens ∙ over_parenthesis n inside at l frames opened.tokens before.size before.stray levels h ∙ k.same before.size before.stray
-      ∙ unexpected_here before middle fault k.state (r.stray ∙ o.stray) (r.size ∙ o.size) (head_inside_stops l frames k.state e middle.tokens k.gives u.head k.stops)
+      ∙ unexpected_here before middle fault k.state (r.read.stray ∙ o.stray) (r.read.size ∙ o.size) (head_inside_stops l frames k.state e middle.tokens k.gives u.head k.stops)
       (framed_final k.state k.gives.0 (record k.gives.1 { signs = [] }) (list_frame parentheses l) frames k.gives.2) u;
 }
 
@@ -145,13 +147,15 @@ sign_operand (sign.Negate at) l frames e = refl
 pub read_signed : (s : Sign) {n inside : ℕ} {e : Expression} {before behind after : TokenList} → n ≡ suc inside → Takes (sign_token s) before behind → Read inside unary_rule unary_rule e behind after
     → Read n unary_rule unary_rule (signed_by s e) before after
 read_signed s {n} {inside} {e} {before} {behind} {after} levels t r = record {
-  front = sign_token s ∷ r.front;
-  tokens = t.tokens ∙ ap (λ (ts : List Placed). sign_token s ∷ ts) r.tokens;
-  stray = r.stray ∙ t.stray;
-  size = r.size ∙ t.size;
-  derived = subst (λ (k : ℕ). Derives k unary_rule (sign_token s ∷ r.front) (signed_by s e)) (sym levels) (sign_derives s inside r.front e r.derived);
-  sound = sign_sound s e ∙ r.sound;
-  closed = sign_closed s r.front ∙ r.closed;
+  read = record {
+    front = sign_token s ∷ r.read.front;
+    tokens = t.tokens ∙ ap (λ (ts : List Placed). sign_token s ∷ ts) r.read.tokens;
+    stray = r.read.stray ∙ t.stray;
+    size = r.read.size ∙ t.size;
+    derived = subst (λ (k : ℕ). Derives k unary_rule (sign_token s ∷ r.read.front) (signed_by s e)) (sym levels) (sign_derives s inside r.read.front e r.read.derived);
+    sound = sign_sound s e ∙ r.read.sound;
+    closed = sign_closed s r.read.front ∙ r.read.closed;
+  };
   reaches = λ l frames h.
       let k = r.reaches (with_sign s l) frames (omega (arith, h, levels)) in
       record {
@@ -305,13 +309,15 @@ pub read_operand : {n : ℕ} {first : Placed} {e : Expression} {before after : T
 read_operand {n} {first} {e} {before} {after} t h =
     let alone = operand_alone n first.at first.token e h in
     record {
-      front = first ∷ [];
-      tokens = t.tokens;
-      stray = t.stray;
-      size = t.size;
-      derived = alone.derived;
-      sound = alone.sound;
-      closed = and_from (is_closed first.token) true alone.closed refl;
+      read = record {
+        front = first ∷ [];
+        tokens = t.tokens;
+        stray = t.stray;
+        size = t.size;
+        derived = alone.derived;
+        sound = alone.sound;
+        closed = and_from (is_closed first.token) true alone.closed refl;
+      };
       reaches = λ l frames small. record {
         state = with_operand l frames e;
         gives = refl;

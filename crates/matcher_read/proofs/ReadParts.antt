@@ -8,7 +8,7 @@ use Rattle.matcher_read.specs.Helps.Giving.{fresh, entry, Gives}
 use Rattle.matcher_read.specs.Grammar.{Rule, cmp_rule, sum_rule, IsPartOf, and_or, cmp_and, sum_cmp, term_sum, unary_term, prim_unary, Joins, or_joins, and_joins, plus_joins, minus_joins, times_joins, over_joins, remainder_joins, by_part, by_join, by_comparison}
 use Rattle.matcher_read.specs.Helps.Machine.{Lefts, Left, Frame, State, Rank, term_rank, sum_rank, comparing_rank, and_rank, or_rank, rank, is_in, levels_of, depth, step, verdict, has, state_of}
 use Rattle.matcher_read.specs.Matcher.{most_levels, is_sound, is_closed}
-use Rattle.matcher_read.specs.Helps.Parsing.{StopsAt, Read, Fails}
+use Rattle.matcher_read.specs.Helps.Parsing.{Front, StopsAt, Read, Fails}
 use Rattle.matcher_read.specs.Helps.Taking.{joins_by, follows, may_follow, goes_on_by, head_is, Takes, Stays}
 use Rattle.matcher_read.specs.Helps.TokenLists.{TokenList}
 use Rattle.matcher_read.specs.Tokens.{Placed, placed, Token, operator}
@@ -20,6 +20,32 @@ use Rattle.matcher_read.proofs.Ranks.{comparing_is, compares_is}
 use Rattle.matcher_read.proofs.Passes.{verdict_next}
 use Rattle.matcher_read.proofs.ReadSteps.{quiet}
 
+-- ---- fronts of the tokens
+
+pub closed_join : (left right : List Placed) (t : Placed) → is_closed t.token ≡ true → list_all (λ (t : Placed). is_closed t.token) left ≡ true → list_all (λ (t : Placed). is_closed t.token) right ≡ true
+    → list_all (λ (t : Placed). is_closed t.token) (left ++ t ∷ right) ≡ true
+closed_join left right t c p q = list_all-append (λ (t : Placed). is_closed t.token) left (t ∷ right) ∙ and_from _ _ p (and_from (is_closed t.token) _ c q)
+
+tokens_join : (before left right middle behind after : List Placed) (t : Placed) → before ≡ left ++ middle → middle ≡ t ∷ behind → behind ≡ right ++ after → before ≡ (left ++ t ∷ right) ++ after
+tokens_join before left right middle behind after t p q r = p ∙ ap (λ (xs : List Placed). left ++ xs) (q ∙ ap (λ (xs : List Placed). t ∷ xs) r) ∙ sym (append_assoc left (t ∷ right) after)
+
+-- the same front, as it derives otherwise
+pub derived_as : {D E : List Placed → Type 0} {a b : Bool} {before after : TokenList} (p : Front D a before after) → b ≡ true → E p.front → Front E b before after
+derived_as p sound derived = record { front = p.front; tokens = p.tokens; stray = p.stray; size = p.size; derived = derived; sound = sound; closed = p.closed }
+
+-- a token between two fronts
+pub read_join : {C D E : List Placed → Type 0} {a b c : Bool} {t : Placed} {before middle behind after : TokenList} (p : Front C a before middle) → Takes t middle behind → (q : Front D b behind after)
+    → is_closed t.token ≡ true → c ≡ true → E (p.front ++ t ∷ q.front) → Front E c before after
+read_join {t = t} {before} {middle} {behind} {after} p takes q shut sound derived = record {
+  front = p.front ++ t ∷ q.front;
+  tokens = tokens_join before.tokens p.front q.front middle.tokens behind.tokens after.tokens t p.tokens takes.tokens q.tokens;
+  stray = q.stray ∙ takes.stray ∙ p.stray;
+  size = q.size ∙ takes.size ∙ p.size;
+  derived = derived;
+  sound = sound;
+  closed = closed_join p.front q.front t shut p.closed q.closed;
+}
+
 -- ---- a part of a rule
 
 same_depth : {part rule : Rule} (n : ℕ) (l : Lefts) (frames : List Frame) → IsPartOf part rule → depth (entry rule l frames) + n ≡ most_levels → depth (entry part (fresh rule l) frames) + n ≡ most_levels
@@ -27,13 +53,7 @@ same_depth n l frames i h = ap (λ (s : State). depth s + n) (same_entry l frame
 
 pub read_part : {n : ℕ} {part rule stop : Rule} {e : Expression} {before after : TokenList} → IsPartOf part rule → Read n part stop e before after → Read n rule stop e before after
 read_part {n} {part} {rule} {stop} {e} {before} {after} i r = record {
-  front = r.front;
-  tokens = r.tokens;
-  stray = r.stray;
-  size = r.size;
-  derived = by_part i r.derived;
-  sound = r.sound;
-  closed = r.closed;
+  read = derived_as r.read r.read.sound (by_part i r.read.derived);
   reaches = λ l frames h.
       let k = r.reaches (fresh rule l) frames (same_depth n l frames i h) in
       record {
@@ -50,13 +70,6 @@ fails_part {n} {part} {rule} {fault} {before} i f = record {
 }
 
 -- ---- an operator and another part
-
-pub closed_join : (left right : List Placed) (t : Placed) → is_closed t.token ≡ true → list_all (λ (t : Placed). is_closed t.token) left ≡ true → list_all (λ (t : Placed). is_closed t.token) right ≡ true
-    → list_all (λ (t : Placed). is_closed t.token) (left ++ t ∷ right) ≡ true
-closed_join left right t c p q = list_all-append (λ (t : Placed). is_closed t.token) left (t ∷ right) ∙ and_from _ _ p (and_from (is_closed t.token) _ c q)
-
-pub tokens_join : (before left right middle behind after : List Placed) (t : Placed) → before ≡ left ++ middle → middle ≡ t ∷ behind → behind ≡ right ++ after → before ≡ (left ++ t ∷ right) ++ after
-tokens_join before left right middle behind after t p q r = p ∙ ap (λ (xs : List Placed). left ++ xs) (q ∙ ap (λ (xs : List Placed). t ∷ xs) r) ∙ sym (append_assoc left (t ∷ right) after)
 
 -- the rule and its part have no signs of their own
 pub record Unsigned (rule : Rule) : Type 0 where
@@ -93,13 +106,7 @@ joins_unsigned remainder_joins = record { unsigned = λ l. refl }
 pub read_joined : {n at : ℕ} {rule part stop : Rule} {o : Operator} {e f : Expression} {before middle behind after : TokenList} → Joins o rule → IsPartOf part rule
     → Read n rule part e before middle → Takes (placed at (operator o)) middle behind → Read n part stop f behind after → Read n rule stop (binary at o e f) before after
 read_joined {n} {at} {rule} {part} {stop} {o} {e} {f} {before} {middle} {behind} {after} j i r t k = record {
-  front = r.front ++ placed at (operator o) ∷ k.front;
-  tokens = tokens_join before.tokens r.front k.front middle.tokens behind.tokens after.tokens (placed at (operator o)) r.tokens t.tokens k.tokens;
-  stray = k.stray ∙ t.stray ∙ r.stray;
-  size = k.size ∙ t.size ∙ r.size;
-  derived = by_join j i r.derived k.derived refl;
-  sound = and_from (is_sound e) (is_sound f) r.sound k.sound;
-  closed = closed_join r.front k.front (placed at (operator o)) refl r.closed k.closed;
+  read = read_join r.read t k.read refl (and_from (is_sound e) (is_sound f) r.read.sound k.read.sound) (by_join j i r.read.derived k.read.derived refl);
   reaches = λ l frames h.
       let first = r.reaches l frames h in
       let c = join_continues at l frames first.state e j i first.gives in
@@ -127,7 +134,7 @@ fails_joined {n} {at} {rule} {part} {o} {e} {fault} {before} {middle} {behind} j
       let c = join_continues at l frames first.state e j i first.gives in
       first.same before.size before.stray ∙ ap (verdict before.size before.stray first.state) t.tokens
       ∙ over n at o l frames first.state (binary at o e) behind.tokens before.size before.stray (joins_unsigned j) c h
-      ∙ fails_in n part fault before behind c.lefts frames (t.stray ∙ r.stray) (t.size ∙ r.size) (part_depth rule part n l c.lefts frames (joins_unsigned j) c.unsigned h) k;
+      ∙ fails_in n part fault before behind c.lefts frames (t.stray ∙ r.read.stray) (t.size ∙ r.read.size) (part_depth rule part n l c.lefts frames (joins_unsigned j) c.unsigned h) k;
 }
 
 -- ---- where a rule ends
@@ -167,13 +174,7 @@ head_not_following i (t ∷ ts) p q = not_following i t.token p q
 
 pub read_end : {n : ℕ} {rule part : Rule} {e : Expression} {before after : TokenList} → IsPartOf part rule → Read n rule part e before after → head_is (goes_on_by rule) after.tokens ≡ false → Read n rule rule e before after
 read_end {n} {rule} {part} {e} {before} {after} i r q = record {
-  front = r.front;
-  tokens = r.tokens;
-  stray = r.stray;
-  size = r.size;
-  derived = r.derived;
-  sound = r.sound;
-  closed = r.closed;
+  read = r.read;
   reaches = λ l frames h. let k = r.reaches l frames h in record { state = k.state; gives = k.gives; same = k.same; stops = λ p. k.stops (head_not_following i after.tokens p q) };
 }
 
@@ -205,13 +206,7 @@ compared_stops at o e f l frames s (t ∷ ts) g h p = by_test (goes_on_by cmp_ru
 pub read_compared : {n at : ℕ} {o : Operator} {e f : Expression} {before middle behind after : TokenList} → joins_by cmp_rule (rank o) ≡ true → Read n sum_rule sum_rule e before middle
     → Takes (placed at (operator o)) middle behind → Read n sum_rule sum_rule f behind after → Read n cmp_rule cmp_rule (binary at o e f) before after
 read_compared {n} {at} {o} {e} {f} {before} {middle} {behind} {after} j r t k = record {
-  front = r.front ++ placed at (operator o) ∷ k.front;
-  tokens = tokens_join before.tokens r.front k.front middle.tokens behind.tokens after.tokens (placed at (operator o)) r.tokens t.tokens k.tokens;
-  stray = k.stray ∙ t.stray ∙ r.stray;
-  size = k.size ∙ t.size ∙ r.size;
-  derived = by_comparison (compares_is o j) r.derived k.derived refl;
-  sound = and_from (is_sound e) (is_sound f) r.sound k.sound;
-  closed = closed_join r.front k.front (placed at (operator o)) refl r.closed k.closed;
+  read = read_join r.read t k.read refl (and_from (is_sound e) (is_sound f) r.read.sound k.read.sound) (by_comparison (compares_is o j) r.read.derived k.read.derived refl);
   reaches = λ l frames h.
       let first = r.reaches (fresh cmp_rule l) frames h in
       let c = comparison_continues at o l frames first.state e (comparing_is (rank o) j) first.gives in
@@ -233,7 +228,7 @@ fails_compared {n} {at} {o} {e} {fault} {before} {middle} {behind} j r t k = rec
       let c = comparison_continues at o l frames first.state e (comparing_is (rank o) j) first.gives in
       first.same before.size before.stray ∙ ap (verdict before.size before.stray first.state) t.tokens
       ∙ over n at o l frames first.state (binary at o e) behind.tokens before.size before.stray unsigned_cmp c h
-      ∙ fails_in n sum_rule fault before behind (compared_with at o e l) frames (t.stray ∙ r.stray) (t.size ∙ r.size) h k;
+      ∙ fails_in n sum_rule fault before behind (compared_with at o e l) frames (t.stray ∙ r.read.stray) (t.size ∙ r.read.size) h k;
 }
 
 -- a sum alone

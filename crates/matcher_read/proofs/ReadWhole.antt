@@ -38,7 +38,7 @@ pub whole_unended : {e : Expression} {before after : TokenList} → Read most_le
 whole_unended {e} {before} {after} r h =
     let k = r.reaches no_lefts [] (omega arith) in
     k.same before.size before.stray
-    ∙ ap (λ (size : ℕ). verdict size before.stray k.state after.tokens) (sym r.size) ∙ ap (λ (stray : Option ℕ). verdict after.size stray k.state after.tokens) (sym r.stray)
+    ∙ ap (λ (size : ℕ). verdict size before.stray k.state after.tokens) (sym r.read.size) ∙ ap (λ (stray : Option ℕ). verdict after.size stray k.state after.tokens) (sym r.read.stray)
     ∙ by_list k.state k.gives after.tokens after.stray k.stops h
   where
     by_list : (s : State) → Gives or_rule no_lefts [] s e → (ts : List Placed) (stray : Option ℕ) → (head_is (may_follow or_rule) ts ≡ false → StopsAt s ts) → is_ended ts stray ≡ false
@@ -76,13 +76,13 @@ record IsAll (bytes : List ℕ) (e : Expression) (list : TokenList) : Type 0 whe
 all_read : {bytes : List ℕ} {e : Expression} {list after : TokenList} → IsListed bytes list → Read most_levels or_rule or_rule e list after → is_ended after.tokens after.stray ≡ true → IsAll bytes e list
 all_read {bytes} {e} {list} {after} l r end =
     let done = ended_is after.tokens after.stray end in
-    let whole : list.tokens ≡ r.front = r.tokens ∙ ap (λ (ts : List Placed). r.front ++ ts) done.0 ∙ append-nil r.front in
+    let whole : list.tokens ≡ r.read.front = r.read.tokens ∙ ap (λ (ts : List Placed). r.read.front ++ ts) done.0 ∙ append-nil r.read.front in
     record {
       tokens = l.cut.0;
-      cut = subst (λ (stray : Option ℕ). IsCut 1 bytes l.cut.0 stray) (sym r.stray ∙ done.1) l.cut.1;
+      cut = subst (λ (stray : Option ℕ). IsCut 1 bytes l.cut.0 stray) (sym r.read.stray ∙ done.1) l.cut.1;
       listed = l.cut.2;
-      derived = subst (λ (ts : List Placed). Derives most_levels or_rule ts e) (sym whole) r.derived;
-      closed = ap (list_all (λ (t : Placed). is_closed t.token)) whole ∙ r.closed;
+      derived = subst (λ (ts : List Placed). Derives most_levels or_rule ts e) (sym whole) r.read.derived;
+      closed = ap (list_all (λ (t : Placed). is_closed t.token)) whole ∙ r.read.closed;
     }
 
 pub whole_read : {bytes : List ℕ} {e : Expression} {list after : TokenList} → IsListed bytes list → Read most_levels or_rule or_rule e list after → is_ended after.tokens after.stray ≡ true
@@ -95,7 +95,7 @@ whole_read {bytes} {e} {list} {after} l r end few =
       cut = all.cut;
       closed = sym (calls_closed all.tokens) ∙ ap (list_all (λ (t : Placed). is_closed t.token)) (sym all.listed) ∙ all.closed;
       derived = subst (λ (ts : List Placed). Derives most_levels or_rule ts e) all.listed all.derived;
-      sound = r.sound;
+      sound = r.read.sound;
       few_nodes = omega (arith, nodes_derived all.derived, ltb-false most_nodes (node_count list.tokens) few);
     }
 
@@ -104,7 +104,7 @@ pub whole_too_many : {bytes : List ℕ} {e : Expression} {list after : TokenList
 whole_too_many {bytes} {e} {list} {after} l r end many =
     let all = all_read l r end in
     let derived = subst (λ (ts : List Placed). Derives most_levels or_rule ts e) all.listed all.derived in
-    within l.few all.cut (too_many_nodes (all_fine derived r.sound (ap (list_all (λ (t : Placed). is_closed t.token)) (sym all.listed) ∙ all.closed)) derived (omega (arith, nodes_derived all.derived, ltb-true most_nodes (node_count list.tokens) many)))
+    within l.few all.cut (too_many_nodes (all_fine derived r.read.sound (ap (list_all (λ (t : Placed). is_closed t.token)) (sym all.listed) ∙ all.closed)) derived (omega (arith, nodes_derived all.derived, ltb-true most_nodes (node_count list.tokens) many)))
   where
     all_fine : {ts : List Placed} → Derives most_levels or_rule ts e → is_sound e ≡ true → list_all (λ (t : Placed). is_closed t.token) ts ≡ true → AreFine ts
     all_fine {ts} d sound closed = let k = reads_through d sound closed no_lefts [] (omega arith) in read_fine ts k.0 k.2.without_fault

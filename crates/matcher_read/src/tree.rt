@@ -1,4 +1,4 @@
-use outside::Text;
+use outside::{Share, Text};
 
 /// An operator between two sides.
 #[derive(Clone, Copy, Debug, PartialEq, Eq)]
@@ -113,3 +113,5 @@ pub enum Tree {
         arguments: Vec<Tree>,
     },
 }
+
+impl Share for Tree {}

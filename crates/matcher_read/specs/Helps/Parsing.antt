@@ -26,15 +26,19 @@ pub record Reaches (rule stop : Rule) (e : Expression) (l : Lefts) (frames : Lis
   pub same : (size : ℕ) (stray : Option ℕ) → verdict size stray (entry rule l frames) before ≡ verdict size stray state after
   pub stops : head_is (may_follow stop) after ≡ false → StopsAt state after
 
--- a front of the tokens was read by a rule
-pub record Read (n : ℕ) (rule stop : Rule) (e : Expression) (before after : TokenList) : Type 0 where
+-- a front of the tokens was read: it derives so, it is sound by this test, and no text in it is open
+pub record Front (Derived : List Placed → Type 0) (test : Bool) (before after : TokenList) : Type 0 where
   pub front : List Placed
   pub tokens : before.tokens ≡ front ++ after.tokens
   pub stray : after.stray ≡ before.stray
   pub size : after.size ≡ before.size
-  pub derived : Derives n rule front e
-  pub sound : is_sound e ≡ true
+  pub derived : Derived front
+  pub sound : test ≡ true
   pub closed : list_all (λ (t : Placed). is_closed t.token) front ≡ true
+
+-- a front of the tokens was read by a rule
+pub record Read (n : ℕ) (rule stop : Rule) (e : Expression) (before after : TokenList) : Type 0 where
+  pub read : Front (λ (ts : List Placed). Derives n rule ts e) (is_sound e) before after
   pub reaches : (l : Lefts) (frames : List Frame) → depth (entry rule l frames) + n ≡ most_levels → Reaches rule stop e l frames before.tokens after.tokens
 
 -- the machine meets a fault in what should be read by a rule
@@ -57,13 +61,7 @@ pub record ReachesList (es : List Expression) (stop : Token → Bool) (frame : F
 
 -- expressions with commas between them were read
 pub record ReadList (n : ℕ) (stop : Token → Bool) (es : List Expression) (before after : TokenList) : Type 0 where
-  pub front : List Placed
-  pub tokens : before.tokens ≡ front ++ after.tokens
-  pub stray : after.stray ≡ before.stray
-  pub size : after.size ≡ before.size
-  pub derived : DerivesList n front (expressions_of es)
-  pub sound : are_sound (expressions_of es) ≡ true
-  pub closed : list_all (λ (t : Placed). is_closed t.token) front ≡ true
+  pub read : Front (λ (ts : List Placed). DerivesList n ts (expressions_of es)) (are_sound (expressions_of es)) before after
   pub reaches : (frame : Frame) (frames : List Frame) → holds_list frame.kind ≡ true → levels_of (frame ∷ frames) + n ≡ most_levels → ReachesList es stop frame frames before.tokens after.tokens
 
 -- the machine meets a fault in a list

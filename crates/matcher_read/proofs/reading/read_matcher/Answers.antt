@@ -23,7 +23,7 @@ returns-in_err-tree c =
 pub end-requires-clause-stray : goal.end-requires-clause-stray
 end-requires-clause-stray c =
     let l : IsListed c.args.text.now c.new.result = record { few = c.if-text-gt-MOST_BYTES.false; cut = c.new.ensures.found; size = c.new.ensures.size } in
-    stray_within c.chain.new.self.tokens l c.in_ok-tree.ensures.stray c.in_ok-tree.ensures.size
+    stray_within c.chain.new.self.tokens l c.in_ok-tree.ensures.read.stray c.in_ok-tree.ensures.read.size
 
 pub returns-in_err-end : goal.returns-in_err-end
 returns-in_err-end c =
