@@ -10,30 +10,26 @@ mod texts;
 mod trees;
 
 use anyhow::Result;
-use case_list::{Case, CaseList, Field};
+use case_list::{Case, Field, read_cases};
 use read::read;
 use std::alloc::Global;
-use std::io;
 use std::io::Write;
 
 fn main(rt: HostRuntime) -> Result<()> {
-    let text = io::read_to_string(rt.alloc(), rt.stdin())?;
-    answer(rt.alloc(), text.as_str(), &mut rt.stdout())
+    let cases = read_cases(rt.alloc(), rt.stdin())?;
+    answer(rt.alloc(), &cases, &mut rt.stdout())
 }
 
-fn answer(alloc: Global, text: &str, out: &mut impl Write) -> Result<()> {
-    let mut list = CaseList::new(alloc);
-    for line in text.split('\n') {
-        if let Some(case) = list.take(line)? {
-            answer_case(alloc, &case, out)?;
-        }
+fn answer(alloc: Global, cases: &[Case], out: &mut impl Write) -> Result<()> {
+    for case in cases {
+        writeln!(out, "case {}", case.name)?;
+        answer_fields(alloc, &case.fields, out)?;
     }
-    list.end()
+    Ok(())
 }
 
-fn answer_case(alloc: Global, case: &Case, out: &mut impl Write) -> Result<()> {
-    writeln!(out, "case {}", case.name)?;
-    for field in &case.fields {
+fn answer_fields(alloc: Global, fields: &[Field], out: &mut impl Write) -> Result<()> {
+    for field in fields {
         let answer = read(alloc, field)?;
         write_answer(field, answer.as_str(), out)?;
     }

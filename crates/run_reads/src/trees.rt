@@ -2,87 +2,107 @@ use anyhow::Result;
 use matcher_read::{Function, Operator, Tree};
 use perm_base::Text;
 use std::alloc::Global;
-
-fn place_text(alloc: Global, at: u32, places: bool) -> Result<String> {
-    if places {
-        Ok(format!(in alloc; ":{at}")?)
-    } else {
-        Ok(String::new(alloc))
-    }
-}
+use std::fmt::Write;
 
 /// The tree, with a parenthesis round each node that has operands, and where it is wanted the place of each node.
 #[cycle(print)]
 pub(crate) fn tree_text(alloc: Global, tree: &Tree, places: bool) -> Result<String> {
-    match tree {
-        Tree::Text { at, text } => {
-            let (text, place) = (text.as_str(), place_text(alloc, *at, places)?);
-            Ok(format!(in alloc; "'{text}'{place}")?)
-        }
-        Tree::Whole { at, number } => {
-            let place = place_text(alloc, *at, places)?;
-            Ok(format!(in alloc; "{number}{place}")?)
-        }
-        Tree::Truth { at, truth } => {
-            let place = place_text(alloc, *at, places)?;
-            Ok(format!(in alloc; "{truth}{place}")?)
-        }
-        Tree::Request { at, column, path } => {
-            let (column, place) = (column.as_str(), place_text(alloc, *at, places)?);
-            let path = path_text(alloc, path)?;
-            Ok(format!(in alloc; "r.{column}{path}{place}")?)
-        }
-        Tree::Policy { at, column } => {
-            let (column, place) = (column.as_str(), place_text(alloc, *at, places)?);
-            Ok(format!(in alloc; "p.{column}{place}")?)
-        }
-        Tree::Not { at, operand } => {
-            let operand = tree_text(alloc, operand, places)?;
-            let place = place_text(alloc, *at, places)?;
-            Ok(format!(in alloc; "(! {operand}){place}")?)
-        }
-        Tree::Negate { at, operand } => {
-            let operand = tree_text(alloc, operand, places)?;
-            let place = place_text(alloc, *at, places)?;
-            Ok(format!(in alloc; "(- {operand}){place}")?)
-        }
+    let mut text = match tree {
+        Tree::Not { operand, .. } => signed_text(alloc, "!", operand, places)?,
+        Tree::Negate { operand, .. } => signed_text(alloc, "-", operand, places)?,
         Tree::Binary {
-            at,
             operator,
             left,
             right,
-        } => {
-            let left = tree_text(alloc, left, places)?;
-            let sign = sign_text(*operator);
-            let right = tree_text(alloc, right, places)?;
-            let place = place_text(alloc, *at, places)?;
-            Ok(format!(in alloc; "({left} {sign} {right}){place}")?)
-        }
-        Tree::Among { at, value, members } => {
-            let value = tree_text(alloc, value, places)?;
-            let members = list_text(alloc, members, places)?;
-            let place = place_text(alloc, *at, places)?;
-            Ok(format!(in alloc; "({value} in {members}){place}")?)
-        }
+            ..
+        } => joined_text(alloc, sign_text(*operator), left, right, places)?,
+        Tree::Among { value, members, .. } => among_text(alloc, value, members, places)?,
         Tree::Call {
-            at,
             function,
             arguments,
-        } => {
-            let name = function_text(*function);
-            let arguments = list_text(alloc, arguments, places)?;
-            let place = place_text(alloc, *at, places)?;
-            Ok(format!(in alloc; "{name}{arguments}{place}")?)
-        }
+            ..
+        } => called_text(alloc, function_text(*function), arguments, places)?,
         Tree::Role {
-            at,
             relation,
             arguments,
-        } => {
-            let arguments = list_text(alloc, arguments, places)?;
-            let place = place_text(alloc, *at, places)?;
-            Ok(format!(in alloc; "role{relation}{arguments}{place}")?)
+            ..
+        } => role_text(alloc, *relation, arguments, places)?,
+        _ => operand_text(alloc, tree)?,
+    };
+    if places {
+        write!(text, ":{}", place_of(tree))?;
+    }
+    Ok(text)
+}
+
+// A literal or a name.
+fn operand_text(alloc: Global, tree: &Tree) -> Result<String> {
+    let mut text = String::new(alloc);
+    match tree {
+        Tree::Text { text: literal, .. } => write!(text, "'{}'", literal.as_str())?,
+        Tree::Whole { number, .. } => write!(text, "{number}")?,
+        Tree::Truth { truth, .. } => write!(text, "{truth}")?,
+        Tree::Policy { column, .. } => write!(text, "p.{}", column.as_str())?,
+        Tree::Request { column, path, .. } => {
+            write!(text, "r.{}", column.as_str())?;
+            push_path(&mut text, path)?;
         }
+        _ => {}
+    }
+    Ok(text)
+}
+
+#[cycle(print)]
+fn signed_text(alloc: Global, sign: &str, operand: &Tree, places: bool) -> Result<String> {
+    let operand = tree_text(alloc, operand, places)?;
+    Ok(format!(in alloc; "({sign} {operand})")?)
+}
+
+#[cycle(print)]
+fn joined_text(
+    alloc: Global,
+    sign: &str,
+    left: &Tree,
+    right: &Tree,
+    places: bool,
+) -> Result<String> {
+    let left = tree_text(alloc, left, places)?;
+    let right = tree_text(alloc, right, places)?;
+    Ok(format!(in alloc; "({left} {sign} {right})")?)
+}
+
+#[cycle(print)]
+fn among_text(alloc: Global, value: &Tree, members: &Vec<Tree>, places: bool) -> Result<String> {
+    let value = tree_text(alloc, value, places)?;
+    let members = list_text(alloc, members, places)?;
+    Ok(format!(in alloc; "({value} in {members})")?)
+}
+
+#[cycle(print)]
+fn called_text(alloc: Global, name: &str, arguments: &Vec<Tree>, places: bool) -> Result<String> {
+    let arguments = list_text(alloc, arguments, places)?;
+    Ok(format!(in alloc; "{name}{arguments}")?)
+}
+
+#[cycle(print)]
+fn role_text(alloc: Global, relation: u8, arguments: &Vec<Tree>, places: bool) -> Result<String> {
+    let arguments = list_text(alloc, arguments, places)?;
+    Ok(format!(in alloc; "role{relation}{arguments}")?)
+}
+
+fn place_of(tree: &Tree) -> u32 {
+    match tree {
+        Tree::Text { at, .. }
+        | Tree::Whole { at, .. }
+        | Tree::Truth { at, .. }
+        | Tree::Request { at, .. }
+        | Tree::Policy { at, .. }
+        | Tree::Not { at, .. }
+        | Tree::Negate { at, .. }
+        | Tree::Binary { at, .. }
+        | Tree::Among { at, .. }
+        | Tree::Call { at, .. }
+        | Tree::Role { at, .. } => *at,
     }
 }
 
@@ -99,13 +119,12 @@ fn list_text(alloc: Global, trees: &Vec<Tree>, places: bool) -> Result<String> {
     Ok(all)
 }
 
-fn path_text(alloc: Global, path: &Vec<Text>) -> Result<String> {
-    let mut all = String::new(alloc);
+fn push_path(text: &mut String, path: &Vec<Text>) -> Result<()> {
     for name in path {
-        all.push_str(".")?;
-        all.push_str(name.as_str())?;
+        text.push_str(".")?;
+        text.push_str(name.as_str())?;
     }
-    Ok(all)
+    Ok(())
 }
 
 fn sign_text(operator: Operator) -> &'static str {
