@@ -1,7 +1,7 @@
 -- Plain fields of a line, joined by a comma and a blank. A plain field needs no quotes.
 use Rattle.std.specs.Prelude.{◌≡◌, ℕ, ◌-◌, ◌<◌, Bool, false, ◌==◌, ◌||◌, ◌&&◌, not, nat_le, nat_lt, List, [], ◌∷◌, length, IsTrue, All, IsUtf8, slice_index}
 use Rattle.std.specs.List.{list_any, join_by}
-pub use Rattle.text_parts.specs.Blanks.{is_blank}
+use Rattle.text_parts.specs.Blanks.{is_blank}
 use Rattle.text_parts.specs.Lines.{has_byte}
 use Rattle.perm_base.specs.declared.fields.JoinFault.{JoinFault}
 use Rattle.perm_base.specs.declared.fields.JoinFault.TheVariants as join

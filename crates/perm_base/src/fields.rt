@@ -117,21 +117,6 @@ pub fn read_plain_fields(alloc: Global, line: &str, columns: u32) -> Result<Rule
     Ok(rule)
 }
 
-/// Appends the texts of a rule, joined by a comma and a blank. Where memory runs out, a part of them stands
-/// behind what the text held.
-pub fn push_joined(text: &mut Vec<u8>, rule: &Rule) -> Result<(), NoMemory>
-    ensures ok { OnOk result (text.new.items ≡ text.old.items ++ joined rule.now) }
-    ensures err { OnErr result ((part : List ℕ) × (text.new.items ≡ text.old.items ++ part)) }
-{
-    for at in 0..rule.len() {
-        if at > 0 {
-            text.extend_from_slice(b", ")?;
-        }
-        text.extend_from_slice(rule.field(at))?;
-    }
-    Ok(())
-}
-
 /// Appends the texts of a rule to a text, joined by a comma and a blank. Where memory runs out, a part of them stands
 /// behind what the text held.
 pub fn push_texts(text: &mut String, rule: &Rule) -> Result<(), NoMemory>
