@@ -1,6 +1,6 @@
 -- The lines of a policy's text, and that the text of a policy is UTF-8.
 use Rattle.std.proofs.Common.{◌≡◌, ℕ, ◌<◌, Bool, true, false, cond, not, List, [], ◌∷◌, ◌++◌, length, map, eqb, codes, IsUtf8, refl, sym, subst, arith, rules, tests}
-use Rattle.std.specs.Prelude.{All, filter}
+use Rattle.std.specs.Prelude.{filter}
 use Rattle.std.specs.List.{AllByRecursion, flat_map}
 use Rattle.std.proofs.lemmas.List.Elements.{recursion_from_All}
 use Rattle.std.proofs.lemmas.List.{nil_from_length}
@@ -8,7 +8,7 @@ use Rattle.std.proofs.lemmas.Bool.{eqb-true}
 use Rattle.std.proofs.lemmas.Str.{IsUtf8-append, IsUtf8-from_ascii, IsUtf8-nil}
 use Rattle.text_parts.specs.Lines.{lines_of}
 use Rattle.text_parts.proofs.CallerLemmas.{IsUtf8-from_lines}
-use Rattle.perm_base.specs.Fields.{IsPlainField, IsPlainLine, joined}
+use Rattle.perm_base.specs.Fields.{IsPlainField, joined}
 use Rattle.policy_csv.specs.Lines.{full_lines}
 use Rattle.policy_csv.specs.Policy.{IsPlainRule, IsPolicy, policy_line}
 

@@ -1,4 +1,4 @@
-use Rattle.std.proofs.Common.{◌≡◌, ◌≤◌, ℕ, List, [], Err, refl, ap, ◌∙◌, sym, subst, length, All, arith, rules}
+use Rattle.std.proofs.Common.{◌≡◌, ℕ, List, [], Err, refl, ap, ◌∙◌, sym, subst, length, All, rules}
 use Rattle.std.proofs.lemmas.Result.{err_from_is_err_and}
 use Rattle.policy_csv.specs.Policy.{IsPolicy}
 use Rattle.policy_csv.specs.declared.policy.PolicyFault.{PolicyFault}
