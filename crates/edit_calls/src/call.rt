@@ -1,6 +1,6 @@
 ghost use Rattle.std.specs.Prelude.{◌≡◌, ◌<◌, ◌^◌, Some, length, map, slice_get, vec_len};
 
-use perm_base::{Rule, Rules, TableId, Text};
+use perm_base::{Rule, Rules, Share, TableId, Text};
 use std::marker::Model;
 
 /// A management call (Casbin, policy and role management API).
@@ -58,6 +58,8 @@ pub enum Call {
         name: Text,
     },
 }
+
+impl Share for Call {}
 
 /// A list of fewer than 2^32 pairs of an old and a new rule. Contracts see the list.
 #[derive(Drop)]
@@ -121,3 +123,5 @@ impl Pairs {
         &self.pairs[at as usize].1
     }
 }
+
+impl Share for Pairs {}

@@ -1,4 +1,4 @@
-ghost use Rattle.std.specs.Prelude.{◌≡◌, ◌<◌, ◌≤◌, ◌^◌, [], IfOk, IsUtf8, filter, get_or, length};
+ghost use Rattle.std.specs.Prelude.{◌≡◌, ◌<◌, ◌≤◌, ◌^◌, [], IfOk, filter, get_or, length};
 ghost use Rattle.edit_calls.specs.Helps.Counts.{pairs_of, patterns_of};
 ghost use Rattle.edit_calls.specs.Limits.{different, domain_pairs, domains_of, pattern_rows};
 ghost use Rattle.perm_base.specs.Patterns.{is_pattern};
@@ -47,7 +47,7 @@ fn patterns_among(rules: &[Rule], fit: Fit) -> u64
 {
     let mut count = 0;
     for rule in rules {
-        if is_pattern(fit, domain_of(rule)) {
+        if is_pattern(fit, domain_of(rule).as_bytes()) {
             count += 1;
         }
     }
@@ -80,17 +80,15 @@ fn different_domains(alloc: Global, rules: &[Rule]) -> Result<u64, NoMemory>
 fn domain_text(alloc: Global, rule: &Rule) -> Result<Text, NoMemory>
     ensures { IfOk result (λ text. text ≡ get_or rule.now 2 []) }
 {
-    let text = str::from_utf8(domain_of(rule)).unwrap();
-    Text::from_str(alloc, text)
+    Text::from_str(alloc, domain_of(rule))
 }
 
 // The domain of a rule of a relation: its third field.
-fn domain_of(rule: &Rule) -> &[u8]
-    ensures value { result.now ≡ get_or rule.now 2 [] }
-    ensures utf8 { IsUtf8 result.now }
+fn domain_of(rule: &Rule) -> &str
+    ensures { result.now ≡ get_or rule.now 2 [] }
 {
     if rule.len() <= 2 {
-        return &[];
+        return "";
     }
-    rule.field(2)
+    rule.text(2)
 }

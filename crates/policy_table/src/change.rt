@@ -1,7 +1,7 @@
 ghost use Rattle.std.specs.Prelude.{◌≡◌, IfOk};
 ghost use Rattle.policy_table.specs.Changes.{table_of};
 
-use perm_base::{NoMemory, Rule, TableId};
+use perm_base::{NoMemory, Rule, Share, TableId};
 use std::alloc::Global;
 use std::marker::Model;
 
@@ -39,6 +39,8 @@ impl Change {
     }
 }
 
+impl Share for Change {}
+
 /// What a management call changes: a list of changes that are made one after the other. Contracts see that list.
 #[derive(Drop)]
 pub struct Edit {
@@ -69,6 +71,8 @@ impl Edit {
         &self.changes
     }
 }
+
+impl Share for Edit {}
 
 /// The same edit once more.
 pub fn copy_edit(alloc: Global, edit: &Edit) -> Result<Edit, NoMemory>

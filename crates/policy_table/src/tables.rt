@@ -8,7 +8,7 @@ ghost use Rattle.policy_table.specs.Tables.{AreLists, place, rows, same, stands}
 use crate::change::{Change, Edit};
 use crate::prepared::{Prepared, Step};
 use crate::table::Table;
-use perm_base::{NoMemory, Rule, TableId};
+use perm_base::{NoMemory, Rule, Share, TableId};
 use std::alloc::Global;
 use std::marker::Model;
 
@@ -164,6 +164,8 @@ impl Tables {
         Ok(copy)
     }
 }
+
+impl Share for Tables {}
 
 /// The place of a table among the nine.
 pub(crate) fn place(table: TableId) -> Option<usize>
