@@ -13,6 +13,7 @@ use Rattle.std.proofs.lemmas.Slice.Eq.{bytes_eq-Decides, slice_eq-Decides}
 use Rattle.perm_base.specs.declared.shapes.Shapes.{Shapes}
 use Rattle.perm_base.specs.declared.shapes.TableId.{TableId}
 use Rattle.perm_base.specs.declared.shapes.TableId.TheVariants.{P, G}
+use Rattle.policy_table.proofs.CallerLemmas.{keeps_all, out_and_out, same_symm}
 use Rattle.policy_table.specs.Changes.{applies, changed, changed_rules, edited, is_possible, suits, table_of}
 use Rattle.policy_table.specs.Filters.{fits_filter}
 use Rattle.policy_table.specs.Tables.{Fields, Lists, most_tables, place, rows, same, stands}
@@ -22,7 +23,7 @@ use Rattle.edit_calls.specs.Edits.{edit_by, fitting, has_repeat, inserts, one_is
 use Rattle.edit_calls.specs.Refusals.{table_of as call_table}
 use Rattle.edit_calls.specs.declared.call.Call.{Call}
 use Rattle.edit_calls.specs.declared.call.Call.TheVariants.{Add, AddAll, AddEx, Remove, RemoveAll, Update, RemoveFiltered, UpdateFiltered, DeleteUser, DeleteRole}
-use Rattle.edit_calls.proofs.PlaceLemmas.{place_few, same-Decides, same_symm}
+use Rattle.edit_calls.proofs.PlaceLemmas.{place_few, same-Decides}
 
 -- neither of two tests
 neither : (a b : Bool) → (a || b) ≡ false → (a ≡ false) × (b ≡ false)
@@ -205,26 +206,6 @@ still_stand (n ∷ named) rules x none =
 all_stand : (rules : List Fields) → one_is_absent rules rules ≡ false
 all_stand [] = refl
 all_stand (x ∷ xs) = rw (same_self x) (still_stand xs xs x (all_stand xs))
-
--- all rules pass where none is named
-keeps_all : (rules : List Fields) → filter (λ (other : Fields). not (stands other [])) rules ≡ rules
-keeps_all [] = refl
-keeps_all (x ∷ xs) = ap (λ (l : List Fields). x ∷ l) (keeps_all xs)
-
--- one rule out, and then others, is all of them out
-out_and_out : (rule : Fields) (gone xs : List Fields)
-    → filter (λ (other : Fields). not (stands other gone)) (filter (λ (other : Fields). not (same rule other)) xs) ≡ filter (λ (other : Fields). not (stands other (rule ∷ gone))) xs
-out_and_out rule gone [] = refl
-out_and_out rule gone (x ∷ xs) = by_test (same rule x) (same x rule) (same_symm rule x) (out_and_out rule gone xs)
-  where
-    by_test : (a b : Bool) → a ≡ b
-        → filter (λ (other : Fields). not (stands other gone)) (filter (λ (other : Fields). not (same rule other)) xs) ≡ filter (λ (other : Fields). not (stands other (rule ∷ gone))) xs
-        → filter (λ (other : Fields). not (stands other gone)) (cond (not a) (x ∷ filter (λ (other : Fields). not (same rule other)) xs) (filter (λ (other : Fields). not (same rule other)) xs))
-        ≡ cond (not (b || stands x gone)) (x ∷ filter (λ (other : Fields). not (stands other (rule ∷ gone))) xs) (filter (λ (other : Fields). not (stands other (rule ∷ gone))) xs)
-    by_test true true e rest = rest
-    by_test true false e rest = absurd (true≢false e)
-    by_test false true e rest = absurd (true≢false (sym e))
-    by_test false false e rest = ap (λ (l : List Fields). cond (not (stands x gone)) (x ∷ l) l) rest
 
 -- rules that are inserted go last
 made_inserts : (table : TableId) (news rules : List Fields) → made (inserts table news) rules ≡ rules ++ news

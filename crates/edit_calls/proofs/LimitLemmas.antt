@@ -6,17 +6,9 @@ use Rattle.std.proofs.lemmas.Slice.Eq.{bytes_eq-Decides}
 use Rattle.std.specs.List.{list_any}
 use Rattle.std.specs.Str.{bytes_eq}
 use Rattle.indexmap.specs.IndexSet.{insert_key}
+use Rattle.policy_table.proofs.CallerLemmas.{fewer}
 use Rattle.policy_table.specs.Tables.{Fields}
 use Rattle.edit_calls.specs.Limits.{different, domains_of}
-
--- no test makes a list longer
-fewer : {X : Type 0} (p : X → Bool) (xs : List X) → length (filter p xs) ≤ length xs
-fewer p [] = omega arith
-fewer p (x ∷ xs) = by_test (p x) (fewer p xs)
-  where
-    by_test : (test : Bool) → length (filter p xs) ≤ length xs → length (cond test (x ∷ filter p xs) (filter p xs)) ≤ length (x ∷ xs)
-    by_test true le = omega (arith, le)
-    by_test false le = omega (arith, le)
 
 -- one more item passes a test or does not
 filter_push : {X : Type 0} (p : X → Bool) (xs : List X) (y : X) → filter p (xs ++ y ∷ []) ≡ filter p xs ++ cond (p y) (y ∷ []) []

@@ -13,10 +13,6 @@ use Rattle.policy_table.specs.Tables.{Fields, most_tables, place, same}
 pub same-Decides : (first second : Fields) → Decides (same first second) (first ≡ second)
 same-Decides first second = slice_eq-Decides bytes_eq-Decides first second (same first second) refl
 
--- and this has two sides
-pub same_symm : (x y : Fields) → same x y ≡ same y x
-same_symm x y = same_from_decides (same x y) (same y x) (same-Decides x y) ((λ e. sym ((same-Decides y x).0 e)), (λ e. (same-Decides y x).1 (sym e)))
-
 pub left_of : (a b : Bool) → (a && b) ≡ true → a ≡ true
 left_of true b e = refl
 left_of false b e = absurd (true≢false (sym e))

@@ -4,11 +4,12 @@ use Rattle.std.proofs.lemmas.Bool.Decides.{same_from_decides}
 use Rattle.std.proofs.lemmas.List.{length-map, length_push}
 use Rattle.std.proofs.lemmas.Slice.Eq.{bytes_eq-Decides, slice_eq-Decides}
 use Rattle.std.specs.List.{AllByRecursion, IsDistinct}
+use Rattle.policy_table.proofs.CallerLemmas.{same_symm}
 use Rattle.policy_table.specs.Changes.{changed_rules, suits}
 use Rattle.policy_table.specs.Tables.{Fields, same, stands}
 use Rattle.policy_table.specs.declared.change.Change.{Change}
 use Rattle.policy_table.specs.declared.change.Change.TheVariants.{Insert, Remove, Replace}
-use Rattle.edit_calls.proofs.PlaceLemmas.{right_of, same-Decides, same_symm}
+use Rattle.edit_calls.proofs.PlaceLemmas.{right_of, same-Decides}
 
 -- no rule of these is this one
 abbrev AreApart : Fields → List Fields → Type 0

@@ -3,7 +3,7 @@ use Rattle.std.proofs.Common.{◌≡◌, ◌≢◌, ◌≤◌, ◌<◌, ◌+◌,
 use Rattle.std.proofs.lemmas.List.{drop_more, drop_all, length_push}
 use Rattle.effect_fold.specs.declared.fault.Cause.TheVariants.{Kind, Pattern}
 use Rattle.effect_fold.specs.declared.fault.Fault.{Fault}
-use Rattle.matcher_read.specs.Expression.{Callee, Expression, binary, among, call, Expressions, no_more, one_more, expression, expressions_of}
+use Rattle.matcher_read.specs.Expression.{Callee, Expression, binary, among, call, Expressions, no_more, one_more, expression, expressions_of, place}
 use Rattle.matcher_read.specs.declared.tree.Tree.{Tree}
 use Rattle.matcher_read.specs.declared.tree.Operator.{Operator}
 use Rattle.perm_value.specs.Datum.{Datum}
@@ -15,7 +15,7 @@ use Rattle.matcher_meaning.specs.Answers as answers
 use Rattle.matcher_meaning.specs.Answers.{Answer, fails, After, Unless, with_first}
 use Rattle.matcher_meaning.specs.Calls.{CallsTexts, text_of, text_before, texts_of}
 use Rattle.matcher_meaning.specs.Environment.{Environment, unrefused, refusing}
-use Rattle.matcher_meaning.specs.Meaning.{Means, IsAmong, AreArguments, is_search, searches, some_searches, place}
+use Rattle.matcher_meaning.specs.Meaning.{Means, IsAmong, AreArguments, is_search, searches, some_searches}
 use Rattle.matcher_meaning.specs.Operators.{settled, joined, is_member}
 use Rattle.matcher_meaning.proofs.CallerLemmas.{value_keeps, arguments_keep}
 use Rattle.enforce_core.specs.Helps.Ends.{AmongEnds, ArgumentsEnd, CallEnds, TruthEnds, ValueEnds}

@@ -4,7 +4,7 @@ ghost use Rattle.matcher_meaning.specs.Perm.{names_policy};
 
 use crate::names::names_policy;
 use model_conf::Model;
-use perm_base::NoMemory;
+use perm_base::{NoMemory, Share};
 use perm_value::Request;
 
 /// A model, ready to judge requests. Contracts see the model.
@@ -31,6 +31,8 @@ impl std::marker::Model for Program {
 
     ghost invariant = { λ p. IsProgram p.model p.by_row p.effect_place };
 }
+
+impl Share for Program {}
 
 /// A request has another number of values than the model wants.
 #[derive(Clone, Copy, Debug, PartialEq, Eq)]

@@ -1,6 +1,6 @@
 ghost use Rattle.std.specs.Prelude.{◌≡◌, IfErr, IsTrue, None, map};
-ghost use Rattle.matcher_read.specs.Expression.{expression};
-ghost use Rattle.matcher_meaning.specs.Meaning.{place, searches};
+ghost use Rattle.matcher_read.specs.Expression.{expression, place};
+ghost use Rattle.matcher_meaning.specs.Meaning.{searches};
 ghost use Rattle.perm_value.specs.Seen.{datum};
 ghost use Rattle.regex_gate.specs.Refusals.{IsRefused, IsUsed};
 ghost use Rattle.enforce_core.specs.Helps.Ends.{TruthEnds, environment, refused_by};
@@ -51,25 +51,6 @@ fn truth_in<'a, P: Finder>(
 {
     match value_of(tree, case, finder)? {
         View::Truth(truth) => Ok(truth),
-        _ => Err(Halt::Fault(kind(place_of(tree)))),
-    }
-}
-
-/// Where the root of a tree stands.
-pub(crate) fn place_of(tree: &Tree) -> u32
-    ensures { result ≡ place (expression tree.now) }
-{
-    match tree {
-        Tree::Text { at, .. }
-        | Tree::Whole { at, .. }
-        | Tree::Truth { at, .. }
-        | Tree::Request { at, .. }
-        | Tree::Policy { at, .. }
-        | Tree::Not { at, .. }
-        | Tree::Negate { at, .. }
-        | Tree::Binary { at, .. }
-        | Tree::Among { at, .. }
-        | Tree::Call { at, .. }
-        | Tree::Role { at, .. } => *at,
+        _ => Err(Halt::Fault(kind(tree.place()))),
     }
 }

@@ -3,11 +3,11 @@ use Rattle.std.proofs.Common.{◌≡◌, Bool, false, List, [], Option, Some, No
 use Rattle.effect_fold.specs.declared.fault.Fault.{Fault}
 use Rattle.perm_value.specs.Datum.{Datum}
 use Rattle.perm_value.specs.Datum as datum
-use Rattle.matcher_read.specs.Expression.{Expression, text, whole, truth, request, policy, negation, opposite, binary, among, call, Expressions, no_more, one_more}
+use Rattle.matcher_read.specs.Expression.{Expression, text, whole, truth, request, policy, negation, opposite, binary, among, call, Expressions, no_more, one_more, place}
 use Rattle.matcher_meaning.specs.Answers.{Answer, then, After, Unless, with_first}
 use Rattle.matcher_meaning.specs.Environment.{Environment, request_value, policy_text}
 use Rattle.matcher_meaning.specs.Calls.{Calls}
-use Rattle.matcher_meaning.specs.Meaning.{Means, IsAmong, AreArguments, IsTruth, along, place, truth_at}
+use Rattle.matcher_meaning.specs.Meaning.{Means, IsAmong, AreArguments, IsTruth, along, truth_at}
 use Rattle.matcher_meaning.proofs.CallLemmas.{AtMostOne, AtLeastOne, FunctionsAgree, FunctionsDecide, one_call, some_call}
 use Rattle.matcher_meaning.specs.Operators.{negated, opposed, settled, joined, found}
 

@@ -17,7 +17,7 @@ use Rattle.key_match.specs.Names.{CoversAlike}
 use Rattle.key_match.specs.Patterns.{brace_pieces, colon_pieces, glob_pieces}
 use Rattle.key_match.specs.Pieces.{Covers}
 use Rattle.key_match.specs.Stars.{AgreesToStar, part_at_star}
-use Rattle.matcher_read.specs.Expression.{Callee, function, relation, unknown, Expression, text, whole, truth, request, policy, negation, opposite, binary, among, call, Expressions, no_more, one_more}
+use Rattle.matcher_read.specs.Expression.{Callee, function, relation, unknown, Expression, text, whole, truth, request, policy, negation, opposite, binary, among, call, Expressions, no_more, one_more, place}
 use Rattle.matcher_read.specs.declared.tree.Function.{Function}
 use Rattle.matcher_read.specs.declared.tree.Function.TheVariants as f
 use Rattle.matcher_read.specs.declared.tree.Operator.{Operator}
@@ -30,7 +30,7 @@ use Rattle.matcher_meaning.specs.Answers.{Answer, After, Unless, with_first}
 use Rattle.matcher_meaning.specs.Arithmetic.{fits, fitted, divided, of_wholes}
 use Rattle.matcher_meaning.specs.Calls.{IsWhether, IsText, searched, IsInBlock, without_query, OfTwo, OfThree, linked, CallsTexts, texts_of, Calls}
 use Rattle.matcher_meaning.specs.Environment.{Environment, unrefused, without_roles, request_value, policy_text}
-use Rattle.matcher_meaning.specs.Meaning.{Means, IsAmong, AreArguments, IsTruth, along, place, truth_at}
+use Rattle.matcher_meaning.specs.Meaning.{Means, IsAmong, AreArguments, IsTruth, along, truth_at}
 use Rattle.matcher_meaning.specs.Operators.{negated, opposed, as_truth, ended_by, settled, ordered, joined, is_member, found}
 use Rattle.matcher_meaning.specs.Perm.{Judging, IsOutcome, AreOutcomes, IsOnce, HasOutcomes, IsPerm, outcome_of, row_word, names_policy, is_pattern, is_refusal}
 

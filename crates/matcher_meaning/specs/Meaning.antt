@@ -5,7 +5,7 @@ use Rattle.effect_fold.specs.declared.fault.Fault.{Fault}
 use Rattle.perm_value.specs.Attribute.{attribute}
 use Rattle.perm_value.specs.Datum.{Datum}
 use Rattle.perm_value.specs.Datum as datum
-use Rattle.matcher_read.specs.Expression.{Callee, function, Expression, text, whole, truth, request, policy, negation, opposite, binary, among, call, Expressions, no_more, one_more}
+use Rattle.matcher_read.specs.Expression.{Callee, function, Expression, text, whole, truth, request, policy, negation, opposite, binary, among, call, Expressions, no_more, one_more, place}
 use Rattle.matcher_read.specs.declared.tree.Function.TheVariants.{RegexMatch}
 use Rattle.matcher_meaning.specs.Answers.{Answer, fails, then, After, Unless, with_first}
 use Rattle.matcher_meaning.specs.Calls.{Calls}
@@ -41,19 +41,6 @@ abbrev mutual
   pub AreArguments : Environment → Expressions → Result (List Datum) Fault → Type 0
   AreArguments env no_more r = r ≡ Ok []
   AreArguments env (one_more e es) r = (x : Answer) × Means env e x × After x (λ d. (y : Result (List Datum) Fault) × AreArguments env es y × (r ≡ with_first d y)) r
-
--- where the root of an expression stands
-abbrev pub place : Expression → ℕ
-place (text at bytes) = at
-place (whole at n) = at
-place (truth at b) = at
-place (request at column path) = at
-place (policy at column) = at
-place (negation at e) = at
-place (opposite at e) = at
-place (binary at op e f) = at
-place (among at e es) = at
-place (call at callee es) = at
 
 -- a value as a truth
 abbrev pub truth_at : ℕ → Datum → Result Bool Fault

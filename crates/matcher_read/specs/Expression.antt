@@ -38,6 +38,19 @@ abbrev pub count : Expressions → ℕ
 count no_more = 0
 count (one_more e es) = 1 + count es
 
+-- where the root of an expression stands
+abbrev pub place : Expression → ℕ
+place (text at bytes) = at
+place (whole at n) = at
+place (truth at b) = at
+place (request at column path) = at
+place (policy at column) = at
+place (negation at e) = at
+place (opposite at e) = at
+place (binary at op e f) = at
+place (among at e es) = at
+place (call at callee es) = at
+
 -- how many nodes an expression has: each literal, name, operator, `in` and call is one
 abbrev mutual
   pub nodes : Expression → ℕ

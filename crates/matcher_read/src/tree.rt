@@ -1,3 +1,5 @@
+ghost use Rattle.std.specs.Prelude.{◌≡◌};
+
 use outside::{Share, Text};
 
 /// An operator between two sides.
@@ -115,3 +117,26 @@ pub enum Tree {
 }
 
 impl Share for Tree {}
+
+impl Tree {
+    ghost use Rattle.matcher_read.specs.Expression.{expression, place};
+
+    /// Where its root stands.
+    pub fn place(&self) -> u32
+        ensures { result ≡ place (expression self.now) }
+    {
+        match self {
+            Tree::Text { at, .. }
+            | Tree::Whole { at, .. }
+            | Tree::Truth { at, .. }
+            | Tree::Request { at, .. }
+            | Tree::Policy { at, .. }
+            | Tree::Not { at, .. }
+            | Tree::Negate { at, .. }
+            | Tree::Binary { at, .. }
+            | Tree::Among { at, .. }
+            | Tree::Call { at, .. }
+            | Tree::Role { at, .. } => *at,
+        }
+    }
+}

@@ -1,23 +1,47 @@
--- What a caller cites: one change that is possible, as an edit.
-use Rattle.std.proofs.Common.{◌≡◌, ℕ, ◌+◌, ◌<◌, ◌≤◌, ◌^◌, Bool, true, false, cond, List, [], ◌∷◌, ◌++◌, length, filter, Option, Some, None, refl, sym, ap, subst, ◌∙◌, arith}
+-- What a caller cites: filters of rules, and one change that is possible, as an edit.
+use Rattle.std.proofs.Common.{◌≡◌, ℕ, ◌+◌, ◌<◌, ◌≤◌, ◌^◌, Bool, true, false, ◌||◌, cond, List, [], ◌∷◌, ◌++◌, length, filter, Option, Some, None, refl, sym, ap, subst, ◌∙◌, arith, true≢false}
 use Rattle.std.specs.Prelude.{if◌then◌else◌, not}
 use Rattle.std.specs.Option.{option_map_or}
 use Rattle.std.proofs.Math.ListN.{set}
+use Rattle.std.proofs.lemmas.Cmp.{lists_equiv, nat_list_eq_equiv}
 use Rattle.std.proofs.lemmas.List.{length-append, length-map, length-set}
 use Rattle.std.proofs.lemmas.List.Elements.{All-set}
 use Rattle.policy_table.specs.Changes.{applies, changed, changed_rules, edited, is_possible, table_of}
-use Rattle.policy_table.specs.Tables.{AreLists, Fields, Lists, place, rows, same}
+use Rattle.policy_table.specs.Tables.{AreLists, Fields, Lists, place, rows, same, stands}
 use Rattle.policy_table.specs.declared.change.Change.{Change}
 use Rattle.policy_table.specs.declared.change.Change.TheVariants.{Insert, Remove, Replace}
 
+-- equality of rules goes both ways
+pub same_symm : (x y : Fields) → same x y ≡ same y x
+same_symm x y = (lists_equiv nat_list_eq_equiv).symm x y
+
 -- no test makes a list longer
-fewer : (p : Fields → Bool) (xs : List Fields) → length (filter p xs) ≤ length xs
+pub fewer : {X : Type 0} (p : X → Bool) (xs : List X) → length (filter p xs) ≤ length xs
 fewer p [] = omega arith
 fewer p (x ∷ xs) = by_test (p x) (fewer p xs)
   where
     by_test : (test : Bool) → length (filter p xs) ≤ length xs → length (cond test (x ∷ filter p xs) (filter p xs)) ≤ length (x ∷ xs)
     by_test true le = omega (arith, le)
     by_test false le = omega (arith, le)
+
+-- all rules pass where none is named
+pub keeps_all : (xs : List Fields) → filter (λ (other : Fields). not (stands other [])) xs ≡ xs
+keeps_all [] = refl
+keeps_all (x ∷ xs) = ap (λ (l : List Fields). x ∷ l) (keeps_all xs)
+
+-- one rule out, and then others, is all of them out
+pub out_and_out : (rule : Fields) (gone xs : List Fields) → filter (λ (other : Fields). not (stands other gone)) (filter (λ (other : Fields). not (same rule other)) xs) ≡ filter (λ (other : Fields). not (stands other (rule ∷ gone))) xs
+out_and_out rule gone [] = refl
+out_and_out rule gone (x ∷ xs) = by_test (same rule x) (same x rule) (same_symm rule x) (out_and_out rule gone xs)
+  where
+    by_test : (a b : Bool) → a ≡ b
+        → filter (λ (other : Fields). not (stands other gone)) (filter (λ (other : Fields). not (same rule other)) xs) ≡ filter (λ (other : Fields). not (stands other (rule ∷ gone))) xs
+        → filter (λ (other : Fields). not (stands other gone)) (cond (not a) (x ∷ filter (λ (other : Fields). not (same rule other)) xs) (filter (λ (other : Fields). not (same rule other)) xs))
+        ≡ cond (not (b || stands x gone)) (x ∷ filter (λ (other : Fields). not (stands other (rule ∷ gone))) xs) (filter (λ (other : Fields). not (stands other (rule ∷ gone))) xs)
+    by_test true true e rest = rest
+    by_test true false e rest = absurd (true≢false e)
+    by_test false true e rest = absurd (true≢false (sym e))
+    by_test false false e rest = ap (λ (l : List Fields). cond (not (stands x gone)) (x ∷ l) l) rest
 
 -- a change makes a table longer by one rule at most
 one_longer : (change : Change) (rules : List Fields) → length (changed_rules change rules) ≤ length rules + 1

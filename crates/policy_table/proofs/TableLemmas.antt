@@ -1,11 +1,10 @@
 -- What an action on one table is to all tables.
-use Rattle.std.proofs.Common.{◌≡◌, ℕ, suc, ◌+◌, ◌<◌, ◌≤◌, ◌^◌, Bool, true, false, not, ◌&&◌, ◌||◌, cond, eqb, zero, List, [], ◌∷◌, length, map, filter, get_or, Option, Some, None, refl, sym, ap, subst, ◌∙◌, arith, true≢false}
+use Rattle.std.proofs.Common.{◌≡◌, ℕ, suc, ◌+◌, ◌<◌, ◌≤◌, ◌^◌, Bool, true, false, not, ◌&&◌, eqb, zero, List, [], ◌∷◌, length, map, filter, get_or, Option, Some, None, refl, sym, ap, subst, ◌∙◌, arith, true≢false}
 use Rattle.std.specs.Prelude.{if◌then◌else◌, is_some, nat_lt}
 use Rattle.std.specs.List.{IsDistinct}
 use Rattle.std.proofs.Math.ListN.{set}
 use Rattle.std.proofs.lemmas.Bool.{eqb-true, eqb-false, ltb-true}
 use Rattle.std.proofs.lemmas.Bool.Decides.{Decides-eqb}
-use Rattle.std.proofs.lemmas.Cmp.{lists_equiv, nat_list_eq_equiv}
 use Rattle.std.proofs.lemmas.List.{map-set, get_or-map, get_or-set_same, get_or-set_other, set-get_or, length-map, length-set}
 use Rattle.std.proofs.lemmas.Option.{same_Some}
 use Rattle.perm_base.specs.declared.shapes.TableId.{TableId}
@@ -15,33 +14,11 @@ use Rattle.policy_table.specs.Changes.{applies, changed, edited, is_possible, su
 use Rattle.policy_table.specs.Held.{HasRoom, Rows, needed}
 use Rattle.policy_table.specs.Helps.Steps.{acted, changes_by, lists_of, may_act, puts, spare_of}
 use Rattle.policy_table.specs.Tables.{AreLists, Fields, Lists, most_tables, place, rows, same, stands}
+use Rattle.policy_table.proofs.CallerLemmas.{keeps_all, out_and_out}
 use Rattle.policy_table.specs.declared.change.Change.{Change}
 use Rattle.policy_table.specs.declared.change.Change.TheVariants as change
 use Rattle.policy_table.specs.declared.prepared.Action.{Action}
 use Rattle.policy_table.specs.declared.prepared.Action.TheVariants.{Insert, Remove, Replace}
-
--- equality of rules goes both ways
-pub same_symm : (x y : Fields) → same x y ≡ same y x
-same_symm x y = (lists_equiv nat_list_eq_equiv).symm x y
-
--- all rules pass where none is named
-keeps_all : (xs : List Fields) → filter (λ (other : Fields). not (stands other [])) xs ≡ xs
-keeps_all [] = refl
-keeps_all (x ∷ xs) = ap (λ (l : List Fields). x ∷ l) (keeps_all xs)
-
--- one rule out, and then others, is all of them out
-out_and_out : (rule : Fields) (gone xs : List Fields) → filter (λ (other : Fields). not (stands other gone)) (filter (λ (other : Fields). not (same rule other)) xs) ≡ filter (λ (other : Fields). not (stands other (rule ∷ gone))) xs
-out_and_out rule gone [] = refl
-out_and_out rule gone (x ∷ xs) = by_test (same rule x) (same x rule) (same_symm rule x) (out_and_out rule gone xs)
-  where
-    by_test : (a b : Bool) → a ≡ b
-        → filter (λ (other : Fields). not (stands other gone)) (filter (λ (other : Fields). not (same rule other)) xs) ≡ filter (λ (other : Fields). not (stands other (rule ∷ gone))) xs
-        → filter (λ (other : Fields). not (stands other gone)) (cond (not a) (x ∷ filter (λ (other : Fields). not (same rule other)) xs) (filter (λ (other : Fields). not (same rule other)) xs))
-        ≡ cond (not (b || stands x gone)) (x ∷ filter (λ (other : Fields). not (stands other (rule ∷ gone))) xs) (filter (λ (other : Fields). not (stands other (rule ∷ gone))) xs)
-    by_test true true e rest = rest
-    by_test true false e rest = absurd (true≢false e)
-    by_test false true e rest = absurd (true≢false (sym e))
-    by_test false false e rest = ap (λ (l : List Fields). cond (not (stands x gone)) (x ∷ l) l) rest
 
 -- a write over a write
 set_set : (lists : Lists) (at : ℕ) (x y : List Fields) → set (set lists at x) at y ≡ set lists at y

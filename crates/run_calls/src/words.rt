@@ -26,26 +26,8 @@ pub fn call(alloc: Global, line: &str) -> Result<Call> {
 
 fn call_on(alloc: Global, word: &str, table: TableId, rest: &str) -> Result<Call> {
     match word {
-        "add" => {
-            let rule = rule(alloc, rest)?;
-            Ok(Call::Add { table, rule })
-        }
-        "remove" => {
-            let rule = rule(alloc, rest)?;
-            Ok(Call::Remove { table, rule })
-        }
-        "add_all" => {
-            let rules = rules(alloc, rest)?;
-            Ok(Call::AddAll { table, rules })
-        }
-        "add_ex" => {
-            let rules = rules(alloc, rest)?;
-            Ok(Call::AddEx { table, rules })
-        }
-        "remove_all" => {
-            let rules = rules(alloc, rest)?;
-            Ok(Call::RemoveAll { table, rules })
-        }
+        "add" | "remove" => Ok(on_rule(word, table, rule(alloc, rest)?)),
+        "add_all" | "add_ex" | "remove_all" => Ok(on_rules(word, table, rules(alloc, rest)?)),
         "update" => {
             let pairs = pairs(alloc, rest)?;
             Ok(Call::Update { table, pairs })
@@ -56,6 +38,21 @@ fn call_on(alloc: Global, word: &str, table: TableId, rest: &str) -> Result<Call
         }
         "update_filtered" => update_filtered(alloc, table, rest),
         _ => bail!("no call has this name"),
+    }
+}
+
+fn on_rule(word: &str, table: TableId, rule: Rule) -> Call {
+    match word {
+        "add" => Call::Add { table, rule },
+        _ => Call::Remove { table, rule },
+    }
+}
+
+fn on_rules(word: &str, table: TableId, rules: Rules) -> Call {
+    match word {
+        "add_all" => Call::AddAll { table, rules },
+        "add_ex" => Call::AddEx { table, rules },
+        _ => Call::RemoveAll { table, rules },
     }
 }
 

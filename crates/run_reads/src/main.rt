@@ -16,8 +16,7 @@ use std::alloc::Global;
 use std::io::Write;
 
 fn main(rt: HostRuntime) -> Result<()> {
-    let cases = read_cases(rt.alloc(), rt.stdin())?;
-    answer(rt.alloc(), &cases, &mut rt.stdout())
+    answer(rt.alloc(), &read_cases(rt.alloc(), rt.stdin())?, &mut rt.stdout())
 }
 
 fn answer(alloc: Global, cases: &[Case], out: &mut impl Write) -> Result<()> {

@@ -30,7 +30,7 @@ pub(crate) fn tree_text(alloc: Global, tree: &Tree, places: bool) -> Result<Stri
         _ => operand_text(alloc, tree)?,
     };
     if places {
-        write!(text, ":{}", place_of(tree))?;
+        write!(text, ":{}", tree.place())?;
     }
     Ok(text)
 }
@@ -88,22 +88,6 @@ fn called_text(alloc: Global, name: &str, arguments: &Vec<Tree>, places: bool) -
 fn role_text(alloc: Global, relation: u8, arguments: &Vec<Tree>, places: bool) -> Result<String> {
     let arguments = list_text(alloc, arguments, places)?;
     Ok(format!(in alloc; "role{relation}{arguments}")?)
-}
-
-fn place_of(tree: &Tree) -> u32 {
-    match tree {
-        Tree::Text { at, .. }
-        | Tree::Whole { at, .. }
-        | Tree::Truth { at, .. }
-        | Tree::Request { at, .. }
-        | Tree::Policy { at, .. }
-        | Tree::Not { at, .. }
-        | Tree::Negate { at, .. }
-        | Tree::Binary { at, .. }
-        | Tree::Among { at, .. }
-        | Tree::Call { at, .. }
-        | Tree::Role { at, .. } => *at,
-    }
 }
 
 #[cycle(print)]

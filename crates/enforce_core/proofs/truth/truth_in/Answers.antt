@@ -14,6 +14,6 @@ returns-in-Truth-clause-value g c = truth_is (environment c.args.case.now) (expr
 
 pub returns-in_default : goal.returns-in_default
 returns-in_default g c = record {
-  value = rw (c.kind.ensures, c.place_of.ensures) (truth_fails (environment c.args.case.now) (expression c.args.tree.now) _ c.in_ok-truth.ensures.value c.in_default.not-Truth);
+  value = rw (c.kind.ensures, c.place.ensures) (truth_fails (environment c.args.case.now) (expression c.args.tree.now) _ c.in_ok-truth.ensures.value c.in_default.not-Truth);
   used = c.in_ok-truth.ensures.used;
 }
