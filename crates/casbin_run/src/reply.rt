@@ -108,7 +108,8 @@ fn push_rule(text: &mut String, rules: &Rules, row: Option<u32>) -> Result<(), N
     let Some(rule) = rule_at(rules, row) else {
         return Ok(());
     };
-    push_fields(text, rule)
+    push_fields(text, rule)?;
+    Ok(())
 }
 
 // The rule of a row, counted from 1.
