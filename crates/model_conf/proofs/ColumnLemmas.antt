@@ -1,12 +1,14 @@
 -- Identifiers, and columns by their places.
-use Rattle.std.proofs.Common.{◌≡◌, ◌≢◌, ℕ, zero, suc, ◌+◌, ◌<◌, ◌≤◌, Bool, true, false, Bor, List, [], ◌∷◌, ◌++◌, length, take, map, get_or, eqb, Option, Some, None, Contains, IsTrue, refl, sym, ap, ◌∙◌, subst, arith}
-use Rattle.std.specs.Prelude.{slice_get, option_map, MatchOption, IfSome, IfNone, is_some}
-use Rattle.std.specs.List.{list_all, list_any, position, AllWithin, HoldsAt, All}
+use Rattle.std.proofs.Common.{◌≡◌, ◌≢◌, ℕ, zero, suc, ◌+◌, ◌<◌, ◌≤◌, ◌||◌, Bool, true, false, Bor, List, [], ◌∷◌, ◌++◌, length, take, map, get_or, eqb, Option, Some, None, Contains, IsTrue, refl, sym, ap, ◌∙◌, subst, arith}
+use Rattle.std.specs.Prelude.{option_map}
+use Rattle.std.specs.List.{list_all, list_any, position, All}
 use Rattle.std.proofs.lemmas.Bool.{and_parts, false≢true, or_parts}
 use Rattle.std.proofs.lemmas.Bool.Decides.{nat_tests}
-use Rattle.std.proofs.lemmas.Option.{slice_get-map, slice_get-get_or, slice_get_within, get_or_from_slice_get}
 use Rattle.std.proofs.lemmas.List.{append_assoc, map-append, length-map, length-take, get_or-map, get_or-take, get_or_default, take-map, take_all, take_more}
-use Rattle.std.proofs.lemmas.List.Folds.{list_all-map}
+use Rattle.std.proofs.lemmas.List.Folds.{Any-from_list_any, list_all-map, list_any_at}
+use Rattle.std.proofs.lemmas.Slice.Eq.{bytes_eq-Decides}
+use Rattle.std.specs.Str.{bytes_eq}
+use Rattle.std.specs.Prelude.{Any}
 use Rattle.std.proofs.lemmas.List.Quantifiers.{all_pairs_push, position-Some}
 use Rattle.std.proofs.lemmas.List.Sums.{AllPass-from_list_all, list_all-from_AllPass}
 use Rattle.perm_base.specs.LineEnds.{has_line_end, is_line_end}
@@ -59,19 +61,18 @@ text_of name = name.now
 abbrev pub texts : List (Bor (List ℕ)) → List (List ℕ)
 texts names = map (λ (n : Bor (List ℕ)). n.now) names
 
-found_at : (names : List (Bor (List ℕ))) (name : List ℕ) (d : Bor (List ℕ)) (at : ℕ) → at < length names → HoldsAt (λ (n : Bor (List ℕ)). n.now ≡ name) names at → slice_get (map (λ (n : Bor (List ℕ)). n.now) names) at ≡ Some name
-found_at names name d at within holds = slice_get-map text_of names at ∙ ap (option_map text_of) (slice_get-get_or names at d within) ∙ ap (λ (text : List ℕ). Some text) (holds d)
+any_seen : (names : List (Bor (List ℕ))) (name : List ℕ) → list_any (λ (n : Bor (List ℕ)). bytes_eq n.now name) names ≡ list_any (λ (t : List ℕ). bytes_eq t name) (texts names)
+any_seen [] name = refl
+any_seen (n ∷ names) name = ap (λ (b : Bool). bytes_eq n.now name || b) (any_seen names name)
 
-found_none : (names : List (Bor (List ℕ))) (name : List ℕ) (d : Bor (List ℕ)) → AllWithin (λ (n : Bor (List ℕ)). n.now ≢ name) names 0 (length names) → ¬ (Contains (map (λ (n : Bor (List ℕ)). n.now) names) name)
-found_none names name d none (at, within, is) =
-    let inside : at < length names = omega (arith, length-map names text_of) in
-    none at d (omega arith) inside (sym (get_or-map text_of names at d name inside) ∙ is)
+contained : (all : List (List ℕ)) (name : List ℕ) → Any (λ (t : List ℕ). bytes_eq t name ≡ true) all → Contains all name
+contained all name (at, found, within, here, same) = (at, within, subst (λ (t : List ℕ). get_or all at t ≡ t) ((bytes_eq-Decides found name).0 same) here)
 
--- what a search for a name says of its place
-pub place_is : (names : List (Bor (List ℕ))) (name : List ℕ) (d : Bor (List ℕ)) (place : Option ℕ) → MatchOption place (AllWithin (λ (n : Bor (List ℕ)). n.now ≢ name) names 0 (length names)) (λ at. (at < length names) × HoldsAt (λ (n : Bor (List ℕ)). n.now ≡ name) names at × AllWithin (λ (n : Bor (List ℕ)). n.now ≢ name) names 0 at)
-    → IfSome place (λ at. slice_get (map (λ (n : Bor (List ℕ)). n.now) names) at ≡ Some name) × IfNone place (¬ (Contains (map (λ (n : Bor (List ℕ)). n.now) names) name))
-place_is names name d None told = (tt, found_none names name d told)
-place_is names name d (Some at) told = (found_at names name d at told.0 told.1, tt)
+-- a search for a name
+pub has_by_test : (names : List (Bor (List ℕ))) (name : List ℕ) (test : Bool) → test ≡ list_any (λ (n : Bor (List ℕ)). bytes_eq n.now name) names → (IsTrue test → Contains (texts names) name) × (Contains (texts names) name → IsTrue test)
+has_by_test names name test told =
+    let is : test ≡ list_any (λ (t : List ℕ). bytes_eq t name) (texts names) = told ∙ any_seen names name in
+    (λ passed. contained (texts names) name (Any-from_list_any (λ (t : List ℕ). bytes_eq t name) (texts names) (sym is ∙ passed)), λ has. is ∙ list_any_at (λ (t : List ℕ). bytes_eq t name) (texts names) has.0 name has.1 ((bytes_eq-Decides (get_or (texts names) has.0 name) name).1 has.2))
 
 -- a test of each name
 pub named_by_test : (names : List (Bor (List ℕ))) (test : Bool) → test ≡ list_all (λ (n : Bor (List ℕ)). is_identifier n.now) names → (IsTrue test → AreNames (texts names)) × (AreNames (texts names) → IsTrue test)
@@ -87,10 +88,6 @@ taken_more fields more names d at text taken within is pushed =
 
 -- ---- distinct names
 
-pub is_absent : (place : Option ℕ) (P : Type 0) → false ≡ is_some place → IfNone place P → P
-is_absent None P none told = told
-is_absent (Some at) P none told = absurd (false≢true none)
-
 pub distinct_more : (names : List (Bor (List ℕ))) (d : Bor (List ℕ)) (at : ℕ) → at < length names → AreDistinct (take at (texts names)) → ¬ (Contains (texts (take at names)) (get_or names at d).now) → AreDistinct (take (at + 1) (texts names))
 distinct_more names d at within distinct fresh =
     let name = (get_or names at d).now in
@@ -100,13 +97,12 @@ distinct_more names d at within distinct fresh =
     rw (take_more (texts names) at [] inside, is) (all_pairs_push (λ (a b : List ℕ). a ≢ b) (take at (texts names)) name distinct (λ k e before same. new (k, before, get_or_default _ k name e before ∙ same)))
 
 -- a name that stands before
-pub repeated : (names : List (Bor (List ℕ))) (d : Bor (List ℕ)) (at : ℕ) (place : Option ℕ) → at < length names → true ≡ is_some place → IfSome place (λ i. slice_get (texts (take at names)) i ≡ Some (get_or names at d).now) → ¬ (AreDistinct (texts names))
-repeated names d at None within some found distinct = false≢true (sym some)
-repeated names d at (Some i) within some found distinct =
-    let shorter : i < length (texts (take at names)) = slice_get_within _ i _ found in
+pub repeated : (names : List (Bor (List ℕ))) (d : Bor (List ℕ)) (at : ℕ) → at < length names → Contains (texts (take at names)) (get_or names at d).now → ¬ (AreDistinct (texts names))
+repeated names d at within (i, shorter, found) distinct =
+    let name = (get_or names at d).now in
     let before : i < at = omega (arith, length-map (take at names) text_of, length-take at names) in
     let inside : at < length (texts names) = omega (arith, length-map names text_of) in
-    let first : get_or (texts (take at names)) i [] ≡ (get_or names at d).now = get_or_from_slice_get _ i _ [] found in
+    let first : get_or (texts (take at names)) i [] ≡ name = get_or_default (texts (take at names)) i [] name shorter ∙ found in
     let same : get_or (texts names) i [] ≡ get_or (texts (take at names)) i [] = sym (get_or-take at (texts names) i [] before) ∙ ap (λ (l : List (List ℕ)). get_or l i []) (take-map text_of at names) in
     distinct i at [] before inside (same ∙ first ∙ sym (get_or-map text_of names at d [] within))
 

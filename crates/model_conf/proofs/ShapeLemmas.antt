@@ -1,6 +1,7 @@
 -- The shapes of a model.
-use Rattle.std.proofs.Common.{◌≡◌, ℕ, List, [], ◌∷◌, length, map, Option, refl, sym, ap, subst}
-use Rattle.std.specs.Prelude.{codes, unwrap_or}
+use Rattle.std.proofs.Common.{◌≡◌, ℕ, List, [], ◌∷◌, length, map, not, Bor, Option, Some, None, refl, sym, ap, ◌∙◌, subst}
+use Rattle.std.specs.Prelude.{codes, find, option_map, unwrap_or}
+use Rattle.std.specs.Option.{option_or}
 use Rattle.std.specs.List.Sorted.{IsStrictlyIncreasing}
 use Rattle.std.proofs.lemmas.List.Elements.{All-map}
 use Rattle.perm_base.specs.RoleShapes.{AreRoles, IsNumbered}
@@ -8,7 +9,7 @@ use Rattle.perm_base.specs.declared.shapes.Fit.{Fit}
 use Rattle.perm_base.specs.declared.shapes.RoleShape.{RoleShape}
 use Rattle.model_conf.specs.Kept.{AreRelations}
 use Rattle.model_conf.specs.ModelText.{ModelParts}
-use Rattle.model_conf.specs.Shapes.{fitted, place_of, shapes_of}
+use Rattle.model_conf.specs.Shapes.{first_absent, first_failing, fitted, has_domain, has_relation, place_of, shapes_of}
 
 -- functions leave the numbers of relations as they are
 same_numbers : (names domains : List (ℕ × Fit)) (relations : List RoleShape) → map (λ (shape : RoleShape). shape.number) (map (fitted names domains) relations) ≡ map (λ (shape : RoleShape). shape.number) relations
@@ -29,3 +30,26 @@ pub shapes_are : (model : ModelParts) (names domains : List (ℕ × Fit)) (limit
 unfolding shapes_of
 shapes_are model names domains limit columns subject effect roles c e s r =
     λ i. record { columns = c i; effect_column = e i; subject_column = s i; roles = r i; limit = limit }
+
+-- ---- the first relation that a list names and the model lacks
+
+abbrev pub number_of : Bor (ℕ × Fit) → ℕ
+number_of fit = fit.now.0
+
+abbrev named : ℕ × Fit → ℕ
+named fit = fit.0
+
+abbrev kept : Bor (ℕ × Fit) → ℕ × Fit
+kept fit = fit.now
+
+either : (one two : Option (Bor (ℕ × Fit))) → option_map number_of (option_or one two) ≡ option_or (option_map named (option_map kept one)) (option_map named (option_map kept two))
+either None None = refl
+either None (Some fit) = refl
+either (Some fit) two = refl
+
+pub absent_by : (relations : List RoleShape) (names domains : List (ℕ × Fit)) (one two : Option (Bor (ℕ × Fit))) → option_map kept one ≡ find (λ (fit : ℕ × Fit). not (has_relation relations fit.0)) names → option_map kept two ≡ find (λ (fit : ℕ × Fit). not (has_domain relations fit.0)) domains
+    → option_map number_of (option_or one two) ≡ first_absent relations names domains
+unfolding first_absent
+absent_by relations names domains one two e f =
+    either one two ∙ ap (λ (found : Option (ℕ × Fit)). option_or (option_map named found) (option_map named (option_map kept two))) e
+    ∙ ap (λ (found : Option (ℕ × Fit)). option_or (first_failing (has_relation relations) names) (option_map named found)) f

@@ -1,4 +1,4 @@
-ghost use Rattle.std.specs.Prelude.{◌≡◌, ◌↔◌, Some, Contains, IfNone, IfOk, IfSome, IsTrue, MatchOption, map, slice_get};
+ghost use Rattle.std.specs.Prelude.{◌≡◌, ◌↔◌, Contains, IfOk, IsTrue, MatchOption, map};
 ghost use Rattle.model_conf.specs.Columns.{AreColumns, AreDistinct, AreNames, columns_in};
 
 use outside::{NoMemory, Text};
@@ -70,19 +70,16 @@ fn are_identifiers(names: &[&str]) -> bool
 fn are_distinct(names: &[&str]) -> bool
     ensures { IsTrue result ↔ AreDistinct (map (λ name. name.now) names.now) }
 {
-    for at in 0..names.len() {
-        if place_of(&names[..at], names[at]).is_some() {
+    for (at, name) in names.iter().enumerate() {
+        if has_name(&names[..at], name) {
             return false;
         }
     }
     true
 }
 
-// The place of a name, counted from 0.
-fn place_of(names: &[&str], name: &str) -> Option<usize>
-    ensures found { IfSome result (λ at.
-        slice_get (map (λ n. n.now) names.now) at ≡ Some name.now) }
-    ensures none { IfNone result (¬ (Contains (map (λ n. n.now) names.now) name.now)) }
+fn has_name(names: &[&str], name: &str) -> bool
+    ensures { IsTrue result ↔ Contains (map (λ n. n.now) names.now) name.now }
 {
-    names.iter().position(|n| *n == name)
+    names.iter().any(|n| *n == name)
 }

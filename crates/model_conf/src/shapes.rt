@@ -72,29 +72,10 @@ pub fn shapes_of(
 fn first_absent(relations: &[RoleShape], names: &[(u8, Fit)], domains: &[(u8, Fit)]) -> Option<u8>
     ensures { result ≡ first_absent relations.now names.now domains.now }
 {
-    first_undeclared(relations, names).or(first_without_domain(relations, domains))
-}
-
-fn first_undeclared(relations: &[RoleShape], names: &[(u8, Fit)]) -> Option<u8>
-    ensures { result ≡ first_failing (has_relation relations.now) names.now }
-{
-    for (relation, _) in names {
-        if !has_relation(relations, *relation) {
-            return Some(*relation);
-        }
-    }
-    None
-}
-
-fn first_without_domain(relations: &[RoleShape], domains: &[(u8, Fit)]) -> Option<u8>
-    ensures { result ≡ first_failing (has_domain relations.now) domains.now }
-{
-    for (relation, _) in domains {
-        if !has_domain(relations, *relation) {
-            return Some(*relation);
-        }
-    }
-    None
+    let undeclared = names.iter().find(|fit| !has_relation(relations, fit.0));
+    let without_domain = domains.iter().find(|fit| !has_domain(relations, fit.0));
+    let (relation, _) = undeclared.or(without_domain)?;
+    Some(*relation)
 }
 
 fn has_relation(relations: &[RoleShape], number: u8) -> bool
