@@ -1,8 +1,6 @@
 -- The rules of a table after a change: how many there are, and that none stands twice.
-use Rattle.std.proofs.Common.{◌≡◌, ◌+◌, Bool, true, false, not, ◌||◌, ◌&&◌, cond, if◌then◌else◌, List, [], ◌∷◌, ◌++◌, length, filter, map, Decides, refl, sym, ap, subst, ◌∙◌, arith, true≢false}
-use Rattle.std.proofs.lemmas.Bool.Decides.{same_from_decides}
+use Rattle.std.proofs.Common.{◌≡◌, ◌+◌, Bool, true, false, not, ◌||◌, cond, if◌then◌else◌, List, [], ◌∷◌, ◌++◌, length, filter, map, refl, sym, ap, subst, ◌∙◌, arith, true≢false}
 use Rattle.std.proofs.lemmas.List.{length-map, length_push}
-use Rattle.std.proofs.lemmas.Slice.Eq.{bytes_eq-Decides, slice_eq-Decides}
 use Rattle.std.specs.List.{AllByRecursion, IsDistinct}
 use Rattle.policy_table.proofs.CallerLemmas.{same_symm}
 use Rattle.policy_table.specs.Changes.{changed_rules, suits}

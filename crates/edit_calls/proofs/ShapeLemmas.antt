@@ -1,17 +1,16 @@
 -- The edits of calls that are not refused keep the shapes of the tables.
-use Rattle.std.proofs.Common.{◌≡◌, ℕ, zero, suc, ◌<◌, Bool, true, false, not, ◌==◌, ◌&&◌, eqb}
-use Rattle.std.proofs.Common.{List, [], ◌∷◌, ◌++◌, length, filter, find, flat_map, get_or, set, All, Option, Some, None, refl, sym, ap, subst, ◌∙◌, arith}
-use Rattle.std.specs.Prelude.{if◌then◌else◌, nat_lt}
+use Rattle.std.proofs.Common.{◌≡◌, ℕ, zero, suc, Bool, true, false, not, ◌==◌, eqb}
+use Rattle.std.proofs.Common.{List, [], ◌∷◌, ◌++◌, length, filter, find, flat_map, get_or, set, All, Option, Some, None, refl, sym, ap, subst, ◌∙◌}
+use Rattle.std.specs.Prelude.{if◌then◌else◌}
 use Rattle.std.specs.Option.{option_map_or, option_or}
-use Rattle.std.proofs.lemmas.Bool.{eqb-true, eqb-false, ltb-true}
+use Rattle.std.proofs.lemmas.Bool.{eqb-true, eqb-false}
 use Rattle.std.proofs.lemmas.List.{get_or-set_other}
 use Rattle.std.proofs.lemmas.List.Elements.{All-cons, All-filter, All-head, All-map, All-nil, All-push, All-tail, All-weaker}
-use Rattle.std.proofs.lemmas.Option.{same_Some}
 use Rattle.perm_base.specs.declared.shapes.Shapes.{Shapes}
 use Rattle.perm_base.specs.declared.shapes.TableId.{TableId}
 use Rattle.perm_base.specs.declared.shapes.TableId.TheVariants.{P, G}
 use Rattle.policy_table.specs.Changes.{changed, changed_rules, edited, table_of}
-use Rattle.policy_table.specs.Tables.{Fields, Lists, most_tables, place, rows, same, stands}
+use Rattle.policy_table.specs.Tables.{Fields, Lists, place, rows, same, stands}
 use Rattle.policy_table.specs.declared.change.Change.{Change}
 use Rattle.policy_table.specs.declared.change.Change.TheVariants as change
 use Rattle.edit_calls.specs.Edits.{edit_by, fitting, inserts, removes, rows_with, unless, without_name}
@@ -21,7 +20,7 @@ use Rattle.edit_calls.specs.declared.call.Call.{Call}
 use Rattle.edit_calls.specs.declared.call.Call.TheVariants.{Add, AddAll, AddEx, Remove, RemoveAll, Update, RemoveFiltered, UpdateFiltered, DeleteUser, DeleteRole}
 use Rattle.edit_calls.specs.declared.refused.CallRefused.{CallRefused}
 use Rattle.edit_calls.specs.declared.refused.CallRefused.TheVariants.{Columns, FieldTooLong, NoTable}
-use Rattle.edit_calls.proofs.ApplyLemmas.{both, edit_of, replaces}
+use Rattle.edit_calls.proofs.ApplyLemmas.{edit_of, replaces}
 use Rattle.edit_calls.proofs.PlaceLemmas.{one_table}
 
 -- the rule has as many fields as its table has columns

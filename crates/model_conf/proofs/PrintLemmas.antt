@@ -1,6 +1,5 @@
 -- The printed text of a model, part by part.
-use Rattle.std.proofs.Common.{◌≡◌, ℕ, ◌≤◌, ◌==◌, false, List, [], ◌∷◌, ◌++◌, length, map, take, codes, Result, Ok, Err, sym, ap, ◌∙◌}
-use Rattle.std.specs.Prelude.{IfOk}
+use Rattle.std.proofs.Common.{◌≡◌, ℕ, ◌≤◌, ◌==◌, false, List, [], ◌∷◌, ◌++◌, length, map, take, codes, sym, ap, ◌∙◌}
 use Rattle.std.proofs.lemmas.Bool.{false≢true}
 use Rattle.std.proofs.lemmas.Grind.{flat_map-append}
 use Rattle.std.proofs.lemmas.List.{append_assoc, append-nil, take_all}
@@ -85,8 +84,3 @@ pub pushed-parts : (m : ModelParts) (request policy roles effect matcher : List 
 pushed-parts m request policy roles effect matcher er ep es ee em =
     eleven (91 ∷ codes "request_definition" ++ 93 ∷ 10 ∷ codes "r = ") request (10 ∷ 10 ∷ 91 ∷ codes "policy_definition" ++ 93 ∷ 10 ∷ codes "p = ") policy (10 ∷ []) roles (10 ∷ 91 ∷ codes "policy_effect" ++ 93 ∷ 10 ∷ codes "e = ") effect (10 ∷ 10 ∷ 91 ∷ codes "matchers" ++ 93 ∷ 10 ∷ codes "m = ") matcher (10 ∷ [])
     ∙ same_parts request policy roles effect matcher (joined m.request) (joined m.policy) (with_ends (role_lines m.relations)) (effect_text m.effect) m.matcher_text er ep es ee em ∙ sym (printed-parts m)
-
--- a copy of a text, where there is one
-pub copied_as : {E : Type 0} (r : Result (List ℕ) E) (text same : List ℕ) → text ≡ same → IfOk r (λ (copy : List ℕ). copy ≡ text) → IfOk r (λ (copy : List ℕ). copy ≡ same)
-copied_as (Ok copy) text same e is = is ∙ e
-copied_as (Err stop) text same e is = tt

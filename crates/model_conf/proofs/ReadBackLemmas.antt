@@ -1,6 +1,6 @@
 -- The printed text of a model says this model.
-use Rattle.std.proofs.Common.{◌≡◌, ℕ, ◌≤◌, ◌||◌, Bool, true, false, cond, List, [], ◌∷◌, ◌++◌, length, map, eqb, codes, Option, Some, None, Result, Ok, Err, refl, sym, ap, ◌∙◌, subst}
-use Rattle.std.specs.Prelude.{⊤, IfOk, IsTrue}
+use Rattle.std.proofs.Common.{◌≡◌, ℕ, ◌≤◌, ◌||◌, Bool, true, false, cond, List, [], ◌∷◌, ◌++◌, length, map, eqb, codes, Option, Some, None, refl, sym, ap, ◌∙◌, subst}
+use Rattle.std.specs.Prelude.{⊤, IsTrue}
 use Rattle.std.specs.List.{filter_map, list_all, list_any, AllByRecursion}
 use Rattle.std.specs.Option.{option_or}
 use Rattle.std.specs.Str.{bytes_eq}
@@ -317,7 +317,6 @@ printed_is_model m kept few =
       says = subst (λ (es : List Entry). SayModel es m) (sym entries) (entries_say m kept h);
     }
 
--- a text that is printed, where one is given
-pub read_back : {E : Type 0} (r : Result (List ℕ) E) (m : ModelParts) → IsKept m → IfOk r (λ (text : List ℕ). text ≡ printed m) → IfOk r (λ (text : List ℕ). length text ≤ most_bytes → IsModel text m)
-read_back (Ok text) m kept is = λ few. subst (λ (t : List ℕ). IsModel t m) (sym is) (printed_is_model m kept (subst (λ (t : List ℕ). length t ≤ most_bytes) is few))
-read_back (Err stop) m kept is = tt
+-- a text that is printed
+pub read_back : (m : ModelParts) (text : List ℕ) → IsKept m → text ≡ printed m → length text ≤ most_bytes → IsModel text m
+read_back m text kept is few = subst (λ (t : List ℕ). IsModel t m) (sym is) (printed_is_model m kept (subst (λ (t : List ℕ). length t ≤ most_bytes) is few))

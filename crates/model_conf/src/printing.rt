@@ -30,7 +30,7 @@ pub fn print_model(alloc: Global, model: &Model) -> Result<Text, NoMemory>
     text.push_str("\n\n[matchers]\nm = ")?;
     text.push_str(model.matcher_text().as_str())?;
     text.push_str("\n")?;
-    Text::from_str(alloc, text.as_str())
+    Ok(Text::from_string(text))
 }
 
 // Appends the section of relations, an empty line before it, where there are some.
