@@ -59,15 +59,11 @@ fn fits_given<'a>(pattern: &'a [u8], key: &'a [u8], from: Place, given: &'a Give
                 key[at.key..].starts_with(part)
                     && {
                         let end = at.key + part.len();
-                        fits_given(
-                            pattern,
-                            key,
-                            Place {
-                                pattern: reading.next,
-                                key: end,
-                            },
-                            given,
-                        )
+                        let behind = Place {
+                            pattern: reading.next,
+                            key: end,
+                        };
+                        fits_given(pattern, key, behind, given)
                     }
             }
             None => fits_new_name(pattern, key, at.key, reading.next, ends, name, given),
