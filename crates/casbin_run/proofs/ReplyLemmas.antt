@@ -6,6 +6,10 @@ use Rattle.std.proofs.lemmas.Option.{get_or_from_slice_get, unwrap_or-slice_get}
 use Rattle.perm_base.specs.FieldLine.{printed}
 use Rattle.casbin_run.specs.Answer.{place_text, rule_text}
 
+-- two texts behind each other
+pub appended_both : (old mid new a b : List ℕ) → mid ≡ old ++ a → new ≡ mid ++ b → new ≡ old ++ (a ++ b)
+appended_both old mid new a b one two = two ∙ ap (λ (t : List ℕ). t ++ b) one ∙ append_assoc old a b
+
 -- a row and the rule that stands there
 pub rule_there : (old : List ℕ) (rules : List (List (List ℕ))) (row : ℕ) (rule : List (List ℕ)) → slice_get rules (row - 1) ≡ Some rule → ((old ++ place_text (Some row)) ++ codes " ") ++ printed rule ≡ old ++ rule_text rules (Some row)
 rule_there old rules row rule there =

@@ -27,11 +27,7 @@ pub(crate) fn next_request(text: &str) -> Option<(&str, &str)>
 }
 
 /// Reads the line of a request, as JSON or as fields.
-pub(crate) fn read_request(
-    alloc: Global,
-    json: bool,
-    line: &str,
-) -> Result<Request, RequestFault>
+pub(crate) fn read_request(alloc: Global, json: bool, line: &str) -> Result<Request, RequestFault>
     ensures found { IfOk result (λ request. Says json line.now (Ok (map datum request))) }
     ensures fault { IfErr result (λ e. e ≢ fault.NoMemory → Says json line.now (Err e)) }
 {
