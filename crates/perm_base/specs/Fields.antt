@@ -3,10 +3,6 @@ use Rattle.std.specs.Prelude.{◌≡◌, ℕ, ◌-◌, ◌<◌, Bool, false, ◌
 use Rattle.std.specs.List.{list_any, join_by}
 use Rattle.text_parts.specs.Blanks.{is_blank}
 use Rattle.text_parts.specs.Lines.{has_byte}
-use Rattle.perm_base.specs.declared.fields.JoinFault.{JoinFault}
-use Rattle.perm_base.specs.declared.fields.JoinFault.TheVariants as join
-use Rattle.perm_base.specs.declared.fields.PlainFault.{PlainFault}
-use Rattle.perm_base.specs.declared.fields.PlainFault.TheVariants as plain
 
 -- the texts, joined by a comma and a blank
 abbrev pub joined : List (List ℕ) → List ℕ
@@ -45,8 +41,3 @@ pub record IsPlainLine (columns : ℕ) (line : List ℕ) (fields : List (List �
   pub some : 0 < columns
   pub plain : All IsPlainField fields
   pub spelled : line ≡ joined fields
-
--- a line that is not joined is no plain line
-abbrev pub plain_fault_of : JoinFault → PlainFault
-plain_fault_of join.NotJoined = plain.NotPlain
-plain_fault_of join.NoMemory = plain.NoMemory

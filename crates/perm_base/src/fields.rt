@@ -9,29 +9,10 @@ use text_parts::{behind, cut_at, is_blank};
 // The greatest number of bytes of a plain field.
 const LONGEST_FIELD: usize = 4096;
 
-/// Why a line is not cut into joined texts.
-#[derive(Clone, Copy, Debug, PartialEq, Eq)]
-pub enum JoinFault {
-    /// The line is not texts joined by a comma and a blank.
-    NotJoined,
-    /// Memory ran out.
-    NoMemory,
-}
-
-impl From<NoMemory> for JoinFault {
-    ghost use Rattle.perm_base.specs.declared.fields.JoinFault.TheVariants.{NoMemory};
-
-    ghost from_gives = { λ _ fault. fault ≡ NoMemory };
-
-    fn from(_: NoMemory) -> JoinFault {
-        JoinFault::NoMemory
-    }
-}
-
-/// Why a line is not read as a rule.
+/// Why a line is not read as a rule, or not cut into joined texts.
 #[derive(Clone, Copy, Debug, PartialEq, Eq)]
 pub enum PlainFault {
-    /// The line is not plain fields, as many as were wanted.
+    /// The line is not plain fields, as many as were wanted, or not texts joined by a comma and a blank.
     NotPlain,
     /// Memory ran out.
     NoMemory,
@@ -47,27 +28,14 @@ impl From<NoMemory> for PlainFault {
     }
 }
 
-impl From<JoinFault> for PlainFault {
-    ghost use Rattle.perm_base.specs.Fields.{plain_fault_of};
-
-    ghost from_gives = { λ fault plain. plain ≡ plain_fault_of fault };
-
-    fn from(fault: JoinFault) -> PlainFault {
-        match fault {
-            JoinFault::NotJoined => PlainFault::NotPlain,
-            JoinFault::NoMemory => PlainFault::NoMemory,
-        }
-    }
-}
-
 /// Cuts a line into the texts that are joined in it by a comma and a blank. No text holds a comma, and an empty
 /// line is one empty text.
-pub fn cut_joined(alloc: Global, line: &str) -> Result<Vec<&str>, JoinFault>
+pub fn cut_joined(alloc: Global, line: &str) -> Result<Vec<&str>, PlainFault>
     ensures found { IfOk result (λ texts. IsJoined line.now (map (λ text. text.now) texts.items)) }
     ensures only { (texts : List (List ℕ)) → IsJoined line.now texts
         → MatchResult result (λ found. map (λ text. text.now) found.items ≡ texts)
-        (λ fault. fault ≡ JoinFault.NoMemory) }
-    ensures refused { IsErrOf result JoinFault.NotJoined
+        (λ fault. fault ≡ PlainFault.NoMemory) }
+    ensures refused { IsErrOf result PlainFault.NotPlain
         → (texts : List (List ℕ)) → ¬ (IsJoined line.now texts) }
 {
     let mut texts = Vec::new(alloc);
@@ -75,7 +43,7 @@ pub fn cut_joined(alloc: Global, line: &str) -> Result<Vec<&str>, JoinFault>
     while let Some((text, after)) = cut_at(rest, b',') {
         texts.push(text).map_err(NoMemory::from)?;
         let Some(next) = behind(after, b' ') else {
-            return Err(JoinFault::NotJoined);
+            return Err(PlainFault::NotPlain);
         };
         rest = next;
     }

@@ -12,8 +12,8 @@ mod rules;
 mod shapes;
 
 pub use fields::{
-    JoinFault, PlainFault, cut_joined, joined_texts_are_unique, plain_fields_are_unique,
-    push_texts, read_plain_fields,
+    PlainFault, cut_joined, joined_texts_are_unique, plain_fields_are_unique, push_texts,
+    read_plain_fields,
 };
 pub use outside::{
     Failed, Fetch, ListShelf, ListSink, ListSource, NoMemory, ReadStop, Share, Shelf, Sink, Source,

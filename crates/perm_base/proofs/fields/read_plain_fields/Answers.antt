@@ -1,9 +1,9 @@
-use Rattle.std.proofs.Common.{◌≡◌, ℕ, List, Err, Bor, map, length, ap, ◌∙◌, refl, sym, subst, All, arith}
+use Rattle.std.proofs.Common.{◌≡◌, ℕ, List, Err, Bor, map, length, ap, ◌∙◌, refl, sym, subst, All, arith, rules}
 use Rattle.std.proofs.lemmas.List.{length-map}
 use Rattle.std.proofs.lemmas.Result.{err_from_is_err_and}
 use Rattle.perm_base.specs.declared.fields.PlainFault.{PlainFault}
 use Rattle.perm_base.specs.declared.fields.PlainFault.TheVariants.{NotPlain, NoMemory}
-use Rattle.perm_base.specs.Fields.{IsPlainField, IsPlainLine, plain_fault_of}
+use Rattle.perm_base.specs.Fields.{IsPlainField, IsPlainLine}
 use Rattle.perm_base.proofs.FieldLemmas.{IsJoined-from_plain, IsPlainLine-from_joined, fields_are_texts, no_line_end}
 use Rattle.perm_base.proofs.fields.read_plain_fields.Goals as goal
 
@@ -14,16 +14,17 @@ only_memory NoMemory other = refl
 abbrev values : List (Bor (List ℕ)) → List (List ℕ)
 values texts = map (λ (text : Bor (List ℕ)). text.now) texts
 
+-- where the line is no joined texts, it is no plain fields
 pub returns-in_err-texts-clause-only : goal.returns-in_err-texts-clause-only
 returns-in_err-texts-clause-only c = λ fields is.
-    let p = err_from_is_err_and c.from_residual.result c.from_residual.ensures.1 in
-    rw (p.1) (p.2 ∙ ap plain_fault_of (c.in_err-texts.ensures.only fields (IsJoined-from_plain _ _ fields is)))
+    let stop : c.from_residual.result ≡ Err c.in_err-texts.field-0.0 = search rules in
+    rw stop (c.in_err-texts.ensures.only fields (IsJoined-from_plain _ _ fields is))
 
 pub returns-in_err-texts-clause-refused : goal.returns-in_err-texts-clause-refused
 returns-in_err-texts-clause-refused c = λ e fields is.
-    let p = err_from_is_err_and c.from_residual.result c.from_residual.ensures.1 in
-    let memory = p.2 ∙ ap plain_fault_of (c.in_err-texts.ensures.only fields (IsJoined-from_plain _ _ fields is)) in
-    let same : NotPlain ≡ NoMemory = cc (p.1, memory, e) in
+    let stop : c.from_residual.result ≡ Err c.in_err-texts.field-0.0 = search rules in
+    let memory = c.in_err-texts.ensures.only fields (IsJoined-from_plain _ _ fields is) in
+    let same : NotPlain ≡ NoMemory = cc (stop, memory, e) in
     absurd cc
 
 pub returns-then-len-columns-clause-only : goal.returns-then-len-columns-clause-only
