@@ -16,7 +16,11 @@ use std::alloc::Global;
 use std::io::Write;
 
 fn main(rt: HostRuntime) -> Result<()> {
-    answer(rt.alloc(), &read_cases(rt.alloc(), rt.stdin())?, &mut rt.stdout())
+    answer(
+        rt.alloc(),
+        &read_cases(rt.alloc(), rt.stdin())?,
+        &mut rt.stdout(),
+    )
 }
 
 fn answer(alloc: Global, cases: &[Case], out: &mut impl Write) -> Result<()> {

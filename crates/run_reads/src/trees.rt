@@ -15,8 +15,16 @@ pub(crate) fn tree_text(alloc: Global, tree: &Tree, places: bool) -> Result<Stri
             left,
             right,
             ..
-        } => joined_text(alloc, sign_text(*operator), left, right, places)?,
-        Tree::Among { value, members, .. } => among_text(alloc, value, members, places)?,
+        } => {
+            let left = tree_text(alloc, left, places)?;
+            let right = tree_text(alloc, right, places)?;
+            format!(in alloc; "({left} {} {right})", sign_text(*operator))?
+        }
+        Tree::Among { value, members, .. } => {
+            let value = tree_text(alloc, value, places)?;
+            let members = list_text(alloc, members, places)?;
+            format!(in alloc; "({value} in {members})")?
+        }
         Tree::Call {
             function,
             arguments,
@@ -56,26 +64,6 @@ fn operand_text(alloc: Global, tree: &Tree) -> Result<String> {
 fn signed_text(alloc: Global, sign: &str, operand: &Tree, places: bool) -> Result<String> {
     let operand = tree_text(alloc, operand, places)?;
     Ok(format!(in alloc; "({sign} {operand})")?)
-}
-
-#[cycle(print)]
-fn joined_text(
-    alloc: Global,
-    sign: &str,
-    left: &Tree,
-    right: &Tree,
-    places: bool,
-) -> Result<String> {
-    let left = tree_text(alloc, left, places)?;
-    let right = tree_text(alloc, right, places)?;
-    Ok(format!(in alloc; "({left} {sign} {right})")?)
-}
-
-#[cycle(print)]
-fn among_text(alloc: Global, value: &Tree, members: &Vec<Tree>, places: bool) -> Result<String> {
-    let value = tree_text(alloc, value, places)?;
-    let members = list_text(alloc, members, places)?;
-    Ok(format!(in alloc; "({value} in {members})")?)
 }
 
 #[cycle(print)]
