@@ -69,7 +69,8 @@ impl Fold {
 
 /// The law that a fold over any outcomes ends in their verdict.
 pub fn fold_gives_verdict()
-    ensures verdict { (e : Effect) (outcomes : List Taken) → ended (behind (begun e) outcomes) ≡ verdict e outcomes }
+    ensures verdict { (e : Effect) (outcomes : List Taken)
+        → ended (behind (begun e) outcomes) ≡ verdict e outcomes }
     ensures settled { (e : Effect) (outcomes : List Taken)
         → is_some (behind (begun e) outcomes).settled ≡ is_some (find (ends e) outcomes) }
 {}

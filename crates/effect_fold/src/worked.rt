@@ -9,7 +9,8 @@ ghost use Rattle.effect_fold.specs.declared.verdict.Verdict.TheVariants as told;
 /// Worked lists of outcomes and their verdicts, for each effect. It does nothing when run.
 pub fn worked_verdicts()
     ensures allow_nothing { verdict AllowOverride [] ≡ Deny None }
-    ensures allow_second { verdict AllowOverride (at_row 1 (Matched false) ∷ at_row 2 (Matched true) ∷ at_row 3 (Matched true) ∷ [])
+    ensures allow_second { verdict AllowOverride
+        (at_row 1 (Matched false) ∷ at_row 2 (Matched true) ∷ at_row 3 (Matched true) ∷ [])
         ≡ Allow (Some 2) }
     ensures allow_none { verdict AllowOverride (at_row 1 Unmatched ∷ at_row 2 (Matched false) ∷ [])
         ≡ Deny None }
@@ -17,10 +18,12 @@ pub fn worked_verdicts()
         → verdict AllowOverride (at_row 1 (Matched true) ∷ at_row 2 (Failed f) ∷ [])
         ≡ Allow (Some 1) }
     ensures fault_before_allow { (f : Fault)
-        → verdict AllowOverride (at_row 1 Unmatched ∷ at_row 2 (Failed f) ∷ at_row 3 (Matched true) ∷ [])
+        → verdict AllowOverride
+        (at_row 1 Unmatched ∷ at_row 2 (Failed f) ∷ at_row 3 (Matched true) ∷ [])
         ≡ told.Fault (Some 2) f }
     ensures deny_nothing { verdict DenyOverride [] ≡ Allow None }
-    ensures deny_second { verdict DenyOverride (at_row 1 (Matched true) ∷ at_row 2 (Matched false) ∷ [])
+    ensures deny_second { verdict DenyOverride
+        (at_row 1 (Matched true) ∷ at_row 2 (Matched false) ∷ [])
         ≡ Deny (Some 2) }
     ensures deny_none { verdict DenyOverride (at_row 1 Unmatched ∷ at_row 2 (Matched true) ∷ [])
         ≡ Allow None }
@@ -28,16 +31,20 @@ pub fn worked_verdicts()
         → verdict DenyOverride (at_row 1 (Failed f) ∷ at_row 2 (Matched false) ∷ [])
         ≡ told.Fault (Some 1) f }
     ensures both_nothing { verdict AllowAndDeny [] ≡ Deny None }
-    ensures both_deny { verdict AllowAndDeny (at_row 1 (Matched true) ∷ at_row 2 (Matched false) ∷ [])
+    ensures both_deny { verdict AllowAndDeny
+        (at_row 1 (Matched true) ∷ at_row 2 (Matched false) ∷ [])
         ≡ Deny (Some 2) }
-    ensures both_allow { verdict AllowAndDeny (at_row 1 Unmatched ∷ at_row 2 (Matched true) ∷ at_row 3 (Matched true) ∷ [])
+    ensures both_allow { verdict AllowAndDeny
+        (at_row 1 Unmatched ∷ at_row 2 (Matched true) ∷ at_row 3 (Matched true) ∷ [])
         ≡ Allow (Some 2) }
     ensures both_fault_after_allow { (f : Fault)
         → verdict AllowAndDeny (at_row 1 (Matched true) ∷ at_row 2 (Failed f) ∷ [])
         ≡ told.Fault (Some 2) f }
     ensures priority_nothing { verdict Priority [] ≡ Deny None }
-    ensures priority_deny { verdict Priority (at_row 1 Unmatched ∷ at_row 2 (Matched false) ∷ at_row 3 (Matched true) ∷ [])
+    ensures priority_deny { verdict Priority
+        (at_row 1 Unmatched ∷ at_row 2 (Matched false) ∷ at_row 3 (Matched true) ∷ [])
         ≡ Deny (Some 2) }
-    ensures priority_allow { verdict Priority (at_row 1 (Matched true) ∷ at_row 2 (Matched false) ∷ [])
+    ensures priority_allow { verdict Priority
+        (at_row 1 (Matched true) ∷ at_row 2 (Matched false) ∷ [])
         ≡ Allow (Some 1) }
 {}
