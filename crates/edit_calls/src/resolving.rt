@@ -40,10 +40,8 @@ pub fn resolve(
     if let Some(refused) = refusal(call, shapes) {
         return Err(refused);
     }
-    // Called for what they say of the tables: nine of them, and no rule twice.
-    let _count = tables.len(TableId::P);
-    let _named = tables.rows(table_of(call));
-    let _rules = tables.rows(TableId::P);
+    tables.kept(table_of(call));
+    tables.kept(TableId::P);
     let Some(edit) = edit_by(alloc, call, tables, shapes)? else {
         return Ok(None);
     };

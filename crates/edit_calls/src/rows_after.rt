@@ -15,9 +15,8 @@ pub(crate) fn rows_after(edit: &Edit, tables: &Tables, table: TableId) -> u64
     ensures still_nine { length (edited edit.now tables.now.lists) ≡ most_tables }
 {
     let changes = edit.as_slice();
-    // `len` says that there are nine tables, `rows` that no rule stands twice.
+    tables.kept(table);
     let before = u64::from(tables.len(table));
-    let _rows = tables.rows(table);
     before + inserted(changes, table) - removed(changes, table)
 }
 

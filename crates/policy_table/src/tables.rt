@@ -64,6 +64,15 @@ impl Tables {
         }
     }
 
+    /// What the tables keep: there are nine of them, each of fewer than 2^32 rules, and no rule stands twice in this one.
+    pub fn kept(&self, table: TableId)
+        ensures lists { AreLists self.now.lists }
+        ensures once { IsDistinct same (rows self.now.lists table) }
+    {
+        let _tables = &self.tables;
+        let _rules = self.rows(table);
+    }
+
     /// How many rules a table has.
     pub fn len(&self, table: TableId) -> u32
         ensures value { result ≡ length (rows self.now.lists table) }

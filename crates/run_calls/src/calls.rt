@@ -129,7 +129,7 @@ fn make(
 {
     edits_keep_tables();
     tables_within_limits_are_lists();
-    let _count = tables.len(TableId::P);
+    tables.kept(TableId::P);
     let Some(edit) = resolve(alloc, call, tables, shapes)? else {
         return Ok(None);
     };

@@ -9,15 +9,15 @@ pub overflow_sub-result : goal.overflow_sub-result
 overflow_sub-result c =
     let lists = c.args.tables.now.lists in
     let same = c.as_slice-changes.ensures in
-    let counted = length_edited c.args.edit.now lists c.args.table c.len.ensures.kept.counted c.rows-rows.ensures.once c.requires in
+    let counted = length_edited c.args.edit.now lists c.args.table c.kept.ensures.lists.counted c.kept.ensures.once c.requires in
     omega (arith, counted, ap (λ (changes : List Change). count_by (inserts c.args.table) changes) same, ap (λ (changes : List Change). count_by (removes c.args.table) changes) same)
 
 pub returns-clause-value : goal.returns-clause-value
 returns-clause-value c =
     let lists = c.args.tables.now.lists in
     let same = c.as_slice-changes.ensures in
-    let counted = length_edited c.args.edit.now lists c.args.table c.len.ensures.kept.counted c.rows-rows.ensures.once c.requires in
+    let counted = length_edited c.args.edit.now lists c.args.table c.kept.ensures.lists.counted c.kept.ensures.once c.requires in
     omega (arith, counted, ap (λ (changes : List Change). count_by (inserts c.args.table) changes) same, ap (λ (changes : List Change). count_by (removes c.args.table) changes) same)
 
 pub returns-clause-still_nine : goal.returns-clause-still_nine
-returns-clause-still_nine c = counted_edited c.args.edit.now c.args.tables.now.lists c.len.ensures.kept.counted c.requires
+returns-clause-still_nine c = counted_edited c.args.edit.now c.args.tables.now.lists c.kept.ensures.lists.counted c.requires
