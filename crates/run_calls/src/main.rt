@@ -13,7 +13,11 @@ use std::alloc::Global;
 use std::io::Write;
 
 fn main(rt: HostRuntime) -> Result<()> {
-    answer(rt.alloc(), &read_cases(rt.alloc(), rt.stdin())?, &mut rt.stdout())
+    answer(
+        rt.alloc(),
+        &read_cases(rt.alloc(), rt.stdin())?,
+        &mut rt.stdout(),
+    )
 }
 
 // A case has calls without a state below `matches`, changes of tables below `changes`, and below `calls` management

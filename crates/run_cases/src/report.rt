@@ -1,14 +1,19 @@
+use crate::sure::run_sure;
+use crate::truth::truth;
 use anyhow::{Context, Result, ensure};
 use casbin_run::run_casbin;
 use case_list::{Case, Field};
-use outside::{ListShelf, ListSink, ListSource, Text};
+use outside::{ListShelf, ListSink, ListSource, Shelf, Sink, Source, Text};
 use regex_gate::ListFinder;
 use std::alloc::Global;
 use std::io::Write;
 
 // The fields of a case. Those that end in `-fails` have the numbers of the calls that fail, counted from 1.
-const KEYS: [&str; 8] = [
+const KEYS: [&str; 11] = [
     "words",
+    "sure",
+    "rule",
+    "request",
     "shelf-fails",
     "input-fails",
     "out-fails",
@@ -34,11 +39,22 @@ const SHOWN: usize = 80;
 const SHOWN_AT_END: usize = 40;
 
 /// Runs a case, and says what it came to. A case with `matchers` is run for each of these lines, with the line as the
-/// matcher at the end of its model.
+/// matcher at the end of its model; one with `sure` over objects that never fail, and keep nothing. A case with a
+/// `request` and a `rule` asks for the truth of its model's matcher alone.
 pub fn report(alloc: Global, case: &Case) -> Result<Vec<u8>> {
     case.check_keys(&KEYS, &KEYS_OF_TEXTS)?;
     let matchers = case.text(alloc, "matchers")?;
     let mut report = Vec::new(alloc);
+    if has(case, "request") {
+        let truth = truth(alloc, case)?;
+        writeln!(report, "case {}: {truth}", case.name)?;
+        return Ok(report);
+    }
+    if has(case, "sure") {
+        let code = run_sure(alloc, case)?;
+        writeln!(report, "case {}: status {code}", case.name)?;
+        return Ok(report);
+    }
     if matchers.is_empty() {
         push_run(alloc, &mut report, case, b"")?;
     }
@@ -46,6 +62,10 @@ pub fn report(alloc: Global, case: &Case) -> Result<Vec<u8>> {
         push_run(alloc, &mut report, case, matcher)?;
     }
     Ok(report)
+}
+
+fn has(case: &Case, key: &str) -> bool {
+    case.fields.iter().any(|field| field.key.as_str() == key)
 }
 
 // Runs a case with this matcher, and says what it came to.
@@ -87,14 +107,14 @@ fn run(
     )
 }
 
-// Runs the program. What its contract says is of no use here, so this function keeps it from the others.
-fn run_over(
+/// Runs the program. What its contract says is of no use here, so this function keeps it from the others.
+pub(crate) fn run_over(
     alloc: Global,
     words: &[String],
-    shelf: &mut ListShelf,
-    input: &mut ListSource,
-    out: &mut ListSink,
-    err: &mut ListSink,
+    shelf: &mut impl Shelf,
+    input: &mut impl Source,
+    out: &mut impl Sink,
+    err: &mut impl Sink,
     finders: &mut Vec<ListFinder>,
 ) -> Result<u8> {
     ensure!(finders.len() == 9, "a run has nine finders");
@@ -111,13 +131,15 @@ fn input(alloc: Global, case: &Case) -> Result<ListSource> {
 fn put_files(alloc: Global, shelf: &mut ListShelf, case: &Case, matcher: &[u8]) -> Result<()> {
     for field in &case.fields {
         if field.key.as_str() == "file" {
-            put_file(alloc, shelf, field, matcher)?;
+            let (name, bytes) = file_of(alloc, field, matcher)?;
+            shelf.put(name, bytes).ok().context("memory ran out")?;
         }
     }
     Ok(())
 }
 
-fn put_file(alloc: Global, shelf: &mut ListShelf, field: &Field, matcher: &[u8]) -> Result<()> {
+/// The name and the bytes of a file.
+pub(crate) fn file_of(alloc: Global, field: &Field, matcher: &[u8]) -> Result<(Text, Vec<u8>)> {
     let name = Text::from_str(alloc, field.rest.as_str());
     let name = name.ok().context("memory ran out")?;
     let mut bytes = Vec::from_slice(alloc, &field.text)?;
@@ -125,7 +147,7 @@ fn put_file(alloc: Global, shelf: &mut ListShelf, field: &Field, matcher: &[u8])
         bytes.extend_from_slice(b"m = ")?;
         bytes.extend_from_slice(matcher)?;
     }
-    shelf.put(name, bytes).ok().context("memory ran out")
+    Ok((name, bytes))
 }
 
 // A sink that takes at most so many bytes at a call, where the case says how many.
@@ -137,8 +159,8 @@ fn sink(alloc: Global, case: &Case, most: &str, fails: &str) -> Result<ListSink>
     sink.ok().context("memory ran out")
 }
 
-// The finders of a run, of which the first refuses the calls that the case says.
-fn finders(alloc: Global, case: &Case) -> Result<Vec<ListFinder>> {
+/// The finders of a run, of which the first refuses the calls that the case says.
+pub(crate) fn finders(alloc: Global, case: &Case) -> Result<Vec<ListFinder>> {
     let mut finders = Vec::new(alloc);
     let refused = case.numbers(alloc, "finder-fails")?;
     finders.push(ListFinder::new(alloc, refused))?;

@@ -76,9 +76,13 @@ fn said_bool(alloc: Global, answer: bool) -> Result<String> {
     Ok(format!(in alloc; "{answer}")?)
 }
 
+// The values of a copy of a request.
 fn said(alloc: Global, read: Result<Request, RequestFault>) -> Result<String> {
     match read {
-        Ok(request) => values_text(alloc, &request.into_vec()),
+        Ok(request) => {
+            let copy = request.copy(alloc).ok().context("memory ran out")?;
+            values_text(alloc, &copy.into_vec())
+        }
         Err(fault) => fault_text(alloc, fault),
     }
 }

@@ -1,0 +1,55 @@
+use anyhow::{Context, Result, bail, ensure};
+use case_list::Case;
+use enforce_core::{Stop, tree_value};
+use model_conf::{Model, read_model};
+use perm_base::{Rule, read_fields};
+use perm_value::{Request, View, request_of_fields};
+use regex_gate::ListFinder;
+use std::alloc::Global;
+
+/// What the matcher of a case's model comes to, for the case's request and rule.
+pub(crate) fn truth(alloc: Global, case: &Case) -> Result<String> {
+    let model = read_model(alloc, &case.text(alloc, "file")?);
+    let model = model.ok().context("the file is no model")?;
+    let request = request_of_fields(alloc, line_of(case, "request")?);
+    let request = request.ok().context("the line is no request")?;
+    let rule = rule_of(alloc, line_of(case, "rule")?)?;
+    let mut finder = ListFinder::new(alloc, case.numbers(alloc, "finder-fails")?);
+    asked(alloc, &model, &request, &rule, &mut finder)
+}
+
+// What stands behind a key.
+fn line_of<'a>(case: &'a Case, key: &str) -> Result<&'a str> {
+    for field in &case.fields {
+        if field.key.as_str() == key {
+            return Ok(field.rest.as_str());
+        }
+    }
+    bail!("a field is missing")
+}
+
+fn rule_of(alloc: Global, line: &str) -> Result<Rule> {
+    let fields = read_fields(alloc, line)
+        .ok()
+        .context("the line is no fields")?;
+    ensure!(fields.len() <= 34, "a case has at most 34 fields");
+    Rule::from_fields(fields)
+        .ok()
+        .context("the fields are no rule")
+}
+
+// Asks for the truth. What the contract says is of no use here, so this function keeps it from the others.
+fn asked(
+    alloc: Global,
+    model: &Model,
+    request: &Request,
+    rule: &Rule,
+    finder: &mut ListFinder,
+) -> Result<String> {
+    match tree_value(model, request, Some(rule), finder) {
+        Ok(View::Truth(truth)) => Ok(format!(in alloc; "truth {truth}")?),
+        Ok(_) => bail!("the matcher has a value that is no truth"),
+        Err(Stop::Fault(fault)) => Ok(format!(in alloc; "{:?} at {}", fault.cause, fault.at)?),
+        Err(Stop::NoMemory) => bail!("memory ran out"),
+    }
+}
