@@ -8,7 +8,7 @@ use Rattle.model_conf.specs.ModelText.{ModelParts}
 use Rattle.policy_csv.specs.Policy.{IsPolicy}
 use Rattle.casbin_run.specs.declared.stop.Part.TheVariants.{Model, Policy, Input}
 use Rattle.casbin_run.specs.declared.stop.Stop.{Stop}
-use Rattle.casbin_run.specs.declared.stop.Stop.TheVariants.{Words, NoModel, NoPolicy, NoScript, CannotRead, CannotWrite, TooLong, NoMemory}
+use Rattle.casbin_run.specs.declared.stop.Stop.TheVariants.{Words, NoModel, LaterModel, NoPolicy, NoScript, CannotRead, CannotWrite, TooLong, NoMemory}
 use Rattle.casbin_run.specs.Answer.{AreAnswers, Reply, refusals_in, text_of_replies}
 use Rattle.casbin_run.specs.Answers.{IsAnswered, TookAll, TookSome}
 use Rattle.casbin_run.specs.Cause.{EndsBy, IsBeforeOutput}
@@ -36,6 +36,7 @@ unfolding EndsBy
 model_ends words files input s out out_now shelf source sink command (CannotRead Model) told same stops = ⊎_elim (λ lacks. inl (command, told, lacks)) (λ rose. inr (command, told, rose)) stops
 model_ends words files input s out out_now shelf source sink command (TooLong Model) told same stops = inl (command, told, stops)
 model_ends words files input s out out_now shelf source sink command (NoModel fault) told same stops = inl (command, told, stops)
+model_ends words files input s out out_now shelf source sink command LaterModel told same stops = inl (command, told, stops)
 model_ends words files input s out out_now shelf source sink command NoMemory told same stops = inr ((command, told, tt), inl same)
 model_ends words files input s out out_now shelf source sink command _ told same stops = absurd stops
 

@@ -1,20 +1,19 @@
 -- Told words, files and input have one end: what is read comes to one state at each part, and the states to one end.
-use Rattle.std.proofs.Common.{◌≡◌, ℕ, ◌<◌, ◌≤◌, Bool, true, false, List, length, ⊎_elim, refl, sym, ap, subst, ◌∙◌, arith}
+use Rattle.std.proofs.Common.{◌≡◌, ℕ, ◌<◌, ◌≤◌, Bool, true, false, List, length, refl, sym, ap, subst, ◌∙◌, arith}
 use Rattle.std.specs.Prelude.{IsUtf8, Option, Some, None}
 use Rattle.outside.specs.Files.{Files}
 use Rattle.model_conf.specs.Faults.{IsModelFault}
-use Rattle.model_conf.specs.Later.{is_later}
 use Rattle.model_conf.specs.ModelText.{ModelParts, IsModel}
 use Rattle.model_conf.specs.declared.fault.ModelFault.{ModelFault}
 use Rattle.policy_csv.specs.Policy.{IsPolicy}
 use Rattle.casbin_run.specs.declared.stop.Part.TheVariants.{Model, Policy, Input}
 use Rattle.casbin_run.specs.declared.stop.Stop.{Stop}
-use Rattle.casbin_run.specs.declared.stop.Stop.TheVariants.{Words, NoModel, NoPolicy, NoScript, CannotRead, TooLong}
+use Rattle.casbin_run.specs.declared.stop.Stop.TheVariants.{Words, NoModel, LaterModel, NoPolicy, NoScript, CannotRead, TooLong}
 use Rattle.casbin_run.specs.Answer.{AreAnswers, text_of_replies}
 use Rattle.casbin_run.specs.Answers.{IsAnswered, IsInOrder}
-use Rattle.casbin_run.specs.Cause.{Cause, SaysNoModel, SaysNoPolicy, SaysNoText}
+use Rattle.casbin_run.specs.Cause.{Cause, IsLater, SaysNoPolicy, SaysNoText}
 use Rattle.casbin_run.specs.Finders.{NoneBad}
-use Rattle.casbin_run.specs.Judging.{IsAnsweredBy}
+use Rattle.casbin_run.specs.Judging.{is_later, IsAnsweredBy}
 use Rattle.casbin_run.specs.Parts.{model_limit, policy_limit, input_limit}
 use Rattle.casbin_run.specs.Script.{requests_of}
 use Rattle.casbin_run.specs.Words.{Command, command_of}
@@ -72,8 +71,14 @@ one_state content limit says faulty one (good x) (good y) p q = ap good (one.sai
 abbrev One : Type 0
 One = Unit {0}
 
+-- why the bytes are no model that is answered by, as the stop that tells it
+abbrev IsNoModel : List ℕ → Stop → Type 0
+IsNoModel bytes (NoModel fault) = IsModelFault bytes fault
+IsNoModel bytes LaterModel = IsLater bytes
+IsNoModel bytes _ = ⊥
+
 abbrev ModelState : Type 0
-ModelState = State ModelParts ModelFault
+ModelState = State ModelParts Stop
 
 abbrev PolicyState : Type 0
 PolicyState = State Rules One
@@ -82,7 +87,7 @@ abbrev InputState : Type 0
 InputState = State One One
 
 abbrev IsModelState : Option (List ℕ) → ModelState → Type 0
-IsModelState content state = IsState content model_limit IsAnsweredBy (λ bytes fault. SaysNoModel fault bytes) state
+IsModelState content state = IsState content model_limit IsAnsweredBy IsNoModel state
 
 abbrev IsPolicyState : Option (List ℕ) → ModelParts → PolicyState → Type 0
 IsPolicyState content parts state = IsState content policy_limit (IsPolicy (length parts.policy)) (λ bytes _. SaysNoPolicy (length parts.policy) bytes) state
@@ -112,7 +117,7 @@ PolicyEnds files name input parts end = (state : PolicyState) × IsPolicyState (
 abbrev AfterModel : Files → List ℕ → Option (List ℕ) → Option Stop → ModelState → Type 0
 AfterModel files name input end absent = end ≡ Some (CannotRead Model)
 AfterModel files name input end long = end ≡ Some (TooLong Model)
-AfterModel files name input end (bad fault) = end ≡ Some (NoModel fault)
+AfterModel files name input end (bad stop) = end ≡ Some stop
 AfterModel files name input end (good parts) = PolicyEnds files name input parts end
 
 abbrev AfterWords : Files → Option (List ℕ) → Option Stop → Option Command → Type 0
@@ -134,13 +139,22 @@ pub record SaysOnce : Type 0 where
 not_both : (a : Bool) → a ≡ true → a ≡ false → ⊥
 not_both a p q = absurd cc
 
-model_is_one : SaysOnce → IsOne IsAnsweredBy (λ (bytes : List ℕ) (fault : ModelFault). SaysNoModel fault bytes)
-model_is_one once = record {
-  said = λ bytes x y p q. once.model bytes x y p.is_model q.is_model;
-  fault = λ bytes f g p q.
-      ⊎_elim (λ a. ⊎_elim (λ b. once.fault bytes f g a b) (λ b. absurd (once.either bytes f b.1.0 a b.1.1)) q) (λ a. ⊎_elim (λ b. absurd (once.either bytes g a.1.0 b a.1.1)) (λ b. a.0 ∙ sym b.0) q) p;
-  either = λ bytes x f p q. ⊎_elim (λ b. once.either bytes f x b p.is_model) (λ b. not_both (is_later x) (ap is_later (once.model bytes x b.1.0 p.is_model b.1.1) ∙ b.1.2) p.is_now) q;
-}
+no_model_once : SaysOnce → (bytes : List ℕ) (f g : Stop) → IsNoModel bytes f → IsNoModel bytes g → f ≡ g
+no_model_once once bytes (NoModel f) (NoModel g) p q = ap (λ (e : ModelFault). NoModel e) (once.fault bytes f g p q)
+no_model_once once bytes (NoModel f) LaterModel p q = absurd (once.either bytes f q.0 p q.1)
+no_model_once once bytes LaterModel (NoModel g) p q = absurd (once.either bytes g p.0 q p.1)
+no_model_once once bytes LaterModel LaterModel p q = refl
+no_model_once once bytes (NoModel f) _ p q = absurd q
+no_model_once once bytes LaterModel _ p q = absurd q
+no_model_once once bytes _ _ p q = absurd p
+
+answered_or_not : SaysOnce → (bytes : List ℕ) (x : ModelParts) (f : Stop) → IsAnsweredBy bytes x → IsNoModel bytes f → ⊥
+answered_or_not once bytes x (NoModel f) p q = once.either bytes f x q p.is_model
+answered_or_not once bytes x LaterModel p q = not_both (is_later x) (ap is_later (once.model bytes x q.0 p.is_model q.1) ∙ q.2) p.is_now
+answered_or_not once bytes x _ p q = absurd q
+
+model_is_one : SaysOnce → IsOne IsAnsweredBy IsNoModel
+model_is_one once = record { said = λ bytes x y p q. once.model bytes x y p.is_model q.is_model; fault = no_model_once once; either = answered_or_not once }
 
 policy_is_one : SaysOnce → (columns : ℕ) → IsOne (IsPolicy columns) (λ (bytes : List ℕ) (_ : One). SaysNoPolicy columns bytes)
 policy_is_one once columns = record { said = λ bytes x y p q. once.policy columns bytes x y p q; fault = λ bytes f g p q. refl; either = λ bytes x f p q. q x p }
@@ -165,7 +179,7 @@ policy_once once files name input parts a b (s, s-is, p) (t, t-is, q) =
 after_model_once : SaysOnce → (files : Files) (name : List ℕ) (input : Option (List ℕ)) (a b : Option Stop) (state : ModelState) → AfterModel files name input a state → AfterModel files name input b state → a ≡ b
 after_model_once once files name input a b absent p q = p ∙ sym q
 after_model_once once files name input a b long p q = p ∙ sym q
-after_model_once once files name input a b (bad fault) p q = p ∙ sym q
+after_model_once once files name input a b (bad stop) p q = p ∙ sym q
 after_model_once once files name input a b (good parts) p q = policy_once once files name input parts a b p q
 
 after_words_once : SaysOnce → (files : Files) (input : Option (List ℕ)) (a b : Option Stop) (command : Option Command) → AfterWords files input a command → AfterWords files input b command → a ≡ b
@@ -183,7 +197,8 @@ cause_ends : (words : List (List ℕ)) (files : Files) (input : List ℕ) (stop 
 cause_ends words files input Words cause = (None, cause, refl)
 cause_ends words files input (CannotRead Model) (command, told, lacks) = (Some command, told, (absent, lacks, refl))
 cause_ends words files input (TooLong Model) (command, told, wide) = (Some command, told, (long, wide, refl))
-cause_ends words files input (NoModel fault) (command, told, none) = (Some command, told, (bad fault, none, refl))
+cause_ends words files input (NoModel fault) (command, told, none) = (Some command, told, (bad (NoModel fault), none, refl))
+cause_ends words files input LaterModel (command, told, later) = (Some command, told, (bad LaterModel, later, refl))
 cause_ends words files input (CannotRead Policy) (command, told, (parts, model, lacks)) = (Some command, told, (good parts, model, (absent, lacks, refl)))
 cause_ends words files input (TooLong Policy) (command, told, (parts, model, wide)) = (Some command, told, (good parts, model, (long, wide, refl)))
 cause_ends words files input NoPolicy (command, told, (parts, model, none)) = (Some command, told, (good parts, model, (bad tt, none, refl)))

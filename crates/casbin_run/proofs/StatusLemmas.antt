@@ -7,16 +7,17 @@ use Rattle.casbin_run.specs.declared.status.Status.TheVariants as statuses
 use Rattle.casbin_run.specs.declared.stop.Part.{Part}
 use Rattle.casbin_run.specs.declared.stop.Part.TheVariants.{Model, Policy, Input}
 use Rattle.casbin_run.specs.declared.stop.Stop.{Stop}
-use Rattle.casbin_run.specs.declared.stop.Stop.TheVariants.{Words, NoModel, NoPolicy, NoScript, CannotRead, CannotWrite, TooLong, NoMemory}
+use Rattle.casbin_run.specs.declared.stop.Stop.TheVariants.{Words, NoModel, LaterModel, NoPolicy, NoScript, CannotRead, CannotWrite, TooLong, NoMemory}
 use Rattle.casbin_run.specs.Cause.{Cause, EndsBy}
 use Rattle.casbin_run.specs.Answers.{TookAll, TookSome}
 use Rattle.casbin_run.specs.Finders.{Searches}
 use Rattle.casbin_run.specs.Message.{status_of}
 use Rattle.casbin_run.specs.Words.{Command, command_of}
 
-pub model_cause : (words : List (List ℕ)) (files : Option Files) (input : Option (List ℕ)) (s : Searches) (out out_now : Option (List ℕ)) (shelf source sink : Type 0) (stop : Stop) → status_of stop ≡ statuses.Model → EndsBy words files input s out out_now shelf source sink stop → (fault : ModelFault) × Cause words files input (NoModel fault)
+pub model_cause : (words : List (List ℕ)) (files : Option Files) (input : Option (List ℕ)) (s : Searches) (out out_now : Option (List ℕ)) (shelf source sink : Type 0) (stop : Stop) → status_of stop ≡ statuses.Model → EndsBy words files input s out out_now shelf source sink stop → ((fault : ModelFault) × Cause words files input (NoModel fault)) ⊎ Cause words files input LaterModel
 unfolding EndsBy
-model_cause words files input s out out_now shelf source sink (NoModel fault) e ends = (fault, ⊎_elim (λ cause. cause) (λ f. absurd f) ends)
+model_cause words files input s out out_now shelf source sink (NoModel fault) e ends = inl (fault, ⊎_elim (λ cause. cause) (λ f. absurd f) ends)
+model_cause words files input s out out_now shelf source sink LaterModel e ends = inr (⊎_elim (λ cause. cause) (λ f. absurd f) ends)
 model_cause words files input s out out_now shelf source sink _ e ends = absurd cc
 
 pub policy_cause : (words : List (List ℕ)) (files : Option Files) (input : Option (List ℕ)) (s : Searches) (out out_now : Option (List ℕ)) (shelf source sink : Type 0) (stop : Stop) → status_of stop ≡ statuses.Policy → EndsBy words files input s out out_now shelf source sink stop → Cause words files input NoPolicy
@@ -62,6 +63,7 @@ words_only : (words : List (List ℕ)) (files : Option Files) (input : Option (L
 unfolding EndsBy
 words_only words files input s out out_now shelf source sink Words none ends = refl
 words_only words files input s out out_now shelf source sink (NoModel m) none ends = ⊎_elim (λ cause. is_command words cause.0 cause.1 none) (λ fault. absurd fault) ends
+words_only words files input s out out_now shelf source sink LaterModel none ends = ⊎_elim (λ cause. is_command words cause.0 cause.1 none) (λ fault. absurd fault) ends
 words_only words files input s out out_now shelf source sink NoPolicy none ends = ⊎_elim (λ cause. is_command words cause.0 cause.1 none) (λ fault. absurd fault) ends
 words_only words files input s out out_now shelf source sink NoScript none ends = ⊎_elim (λ cause. is_command words cause.0 cause.1 none) (λ fault. absurd fault) ends
 words_only words files input s out out_now shelf source sink (CannotRead Model) none ends = ⊎_elim (λ cause. is_command words cause.0 cause.1 none) (λ fault. is_command words fault.0 fault.1 none) ends

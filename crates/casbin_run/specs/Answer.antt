@@ -36,6 +36,7 @@ cause_text cause.ZeroDivisor = codes "zero-divisor"
 cause_text cause.BadAddress = codes "bad-address"
 cause_text cause.BadBlock = codes "bad-block"
 cause_text cause.Pattern = codes "pattern"
+cause_text cause.RuleText = codes "rule-text"
 
 -- a fault and where it stands
 abbrev pub fault_text : Fault → List ℕ

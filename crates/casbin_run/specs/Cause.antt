@@ -2,26 +2,20 @@
 use Rattle.std.specs.Prelude.{◌≡◌, ◌⊎◌, ℕ, ◌<◌, List, Option, None, IfSome, length, ⊤, IsTrue, IsUtf8}
 use Rattle.outside.specs.Files.{Files, Lacks, OfFile}
 use Rattle.model_conf.specs.Faults.{IsModelFault}
-use Rattle.model_conf.specs.Later.{is_later}
 use Rattle.model_conf.specs.ModelText.{ModelParts, IsModel}
-use Rattle.model_conf.specs.declared.fault.ModelFault.{ModelFault}
-use Rattle.model_conf.specs.declared.fault.ModelFault.TheVariants.{NotYet}
 use Rattle.policy_csv.specs.Policy.{IsPolicy}
 use Rattle.casbin_run.specs.declared.stop.Part.TheVariants.{Model, Policy, Input}
 use Rattle.casbin_run.specs.declared.stop.Stop.{Stop}
-use Rattle.casbin_run.specs.declared.stop.Stop.TheVariants.{Words, NoModel, NoPolicy, NoScript, CannotRead, CannotWrite, TooLong, NoMemory}
+use Rattle.casbin_run.specs.declared.stop.Stop.TheVariants.{Words, NoModel, LaterModel, NoPolicy, NoScript, CannotRead, CannotWrite, TooLong, NoMemory}
 use Rattle.casbin_run.specs.Answers.{TookSome}
 use Rattle.casbin_run.specs.Finders.{Searches}
+use Rattle.casbin_run.specs.Judging.{is_later}
 use Rattle.casbin_run.specs.Words.{command_of}
 use Rattle.casbin_run.specs.Parts.{model_limit, policy_limit, input_limit, FileIs, InputIs, Asks, WithModel, WithPolicy}
 
 -- the bytes are a model, but none that is answered by yet
 abbrev pub IsLater : List ℕ → Type 0
 IsLater bytes = (parts : ModelParts) × IsModel bytes parts × IsTrue (is_later parts)
-
--- why the bytes are no model that is answered by: their first fault, or they are a model of those that are not answered by yet
-abbrev pub SaysNoModel : ModelFault → List ℕ → Type 0
-SaysNoModel fault bytes = IsModelFault bytes fault ⊎ ((fault ≡ NotYet) × IsLater bytes)
 
 -- the bytes are no policy with so many columns
 abbrev pub SaysNoPolicy : ℕ → List ℕ → Type 0
@@ -36,7 +30,8 @@ abbrev pub Cause : List (List ℕ) → Option Files → Option (List ℕ) → St
 Cause words files input Words = command_of words ≡ None
 Cause words files input (CannotRead Model) = Asks words (λ command. Lacks files command.model)
 Cause words files input (TooLong Model) = Asks words (λ command. OfFile files command.model (λ bytes. model_limit < length bytes))
-Cause words files input (NoModel fault) = Asks words (λ command. FileIs files command.model model_limit (SaysNoModel fault))
+Cause words files input (NoModel fault) = Asks words (λ command. FileIs files command.model model_limit (λ bytes. IsModelFault bytes fault))
+Cause words files input LaterModel = Asks words (λ command. FileIs files command.model model_limit IsLater)
 Cause words files input (CannotRead Policy) = WithModel words files (λ command parts. Lacks files command.policy)
 Cause words files input (TooLong Policy) = WithModel words files (λ command parts. OfFile files command.policy (λ bytes. policy_limit < length bytes))
 Cause words files input NoPolicy = WithModel words files (λ command parts. FileIs files command.policy policy_limit (SaysNoPolicy (length parts.policy)))

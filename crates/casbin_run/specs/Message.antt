@@ -10,12 +10,13 @@ use Rattle.casbin_run.specs.declared.status.Status.{Status}
 use Rattle.casbin_run.specs.declared.status.Status.TheVariants as statuses
 use Rattle.casbin_run.specs.declared.stop.Part.TheVariants.{Model, Policy, Input}
 use Rattle.casbin_run.specs.declared.stop.Stop.{Stop}
-use Rattle.casbin_run.specs.declared.stop.Stop.TheVariants.{Words, NoModel, NoPolicy, NoScript, CannotRead, CannotWrite, TooLong, NoMemory}
+use Rattle.casbin_run.specs.declared.stop.Stop.TheVariants.{Words, NoModel, LaterModel, NoPolicy, NoScript, CannotRead, CannotWrite, TooLong, NoMemory}
 
 -- the status that a stop ends with
 abbrev pub status_of : Stop → Status
 status_of Words = statuses.Words
 status_of (NoModel fault) = statuses.Model
+status_of LaterModel = statuses.Model
 status_of NoPolicy = statuses.Policy
 status_of NoScript = statuses.Script
 status_of (CannotRead part) = statuses.ReadFault
@@ -62,7 +63,7 @@ columns_line key = codes "model: columns of " ++ key_end key
 abbrev pub shape_line : ℕ → List ℕ
 shape_line relation = if relation == 1 then codes "model: shape of g\n" else codes "model: shape of g" ++ decimal relation ++ codes "\n"
 
--- why a text is no model, or none that is answered by
+-- why a text is no model
 abbrev pub model_line : ModelFault → List ℕ
 model_line model.TooLong = codes "too long: model, limit 65536\n"
 model_line model.NotUtf8 = codes "model: not UTF-8\n"
@@ -78,12 +79,12 @@ model_line (model.Matcher fault) = matcher_line fault
 model_line (model.UnknownColumn at) = in_matcher at (codes ": unknown column\n")
 model_line (model.RoleUse at) = in_matcher at (codes ": role use\n")
 model_line model.NoMemory = codes "no memory\n"
-model_line model.NotYet = codes "model: not yet\n"
 
 -- the line on standard error
 abbrev pub line_of : Stop → List ℕ
 line_of Words = codes "usage: casbin_cli COMMAND [OPTION]... [WORD]...\n"
 line_of (NoModel fault) = model_line fault
+line_of LaterModel = codes "model: not yet\n"
 line_of NoPolicy = codes "policy: not yet\n"
 line_of NoScript = codes "script: not UTF-8\n"
 line_of (CannotRead Model) = codes "cannot read: model\n"

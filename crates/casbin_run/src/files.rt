@@ -6,6 +6,7 @@ ghost use Rattle.casbin_run.specs.Parts.{FileIs, InputIs, model_limit, policy_li
 ghost use Rattle.casbin_run.specs.Judging.{IsAnsweredBy};
 ghost use Rattle.casbin_run.specs.Helps.Reading.{FetchStops, ModelStops, PolicyStops, InputStops};
 
+use crate::later::is_later;
 use crate::stop::{Part, Stop};
 use model_conf::{Model, read_model};
 use perm_base::{Fetch, ReadStop, Rules, Shelf, Source, read_all};
@@ -19,7 +20,7 @@ const POLICY_LIMIT: u64 = 16_777_216;
 
 const INPUT_LIMIT: u64 = 16_777_216;
 
-/// Fetches and reads the model.
+/// Fetches and reads the model. One that is not answered by yet stops the run.
 pub(crate) fn read_model_file<F: Shelf>(
     alloc: Global,
     shelf: &mut F,
@@ -33,7 +34,11 @@ pub(crate) fn read_model_file<F: Shelf>(
     ensures counted { F.faults shelf.old ≤ F.faults shelf.new }
 {
     let bytes = fetch(alloc, shelf, name, MODEL_LIMIT, Part::Model)?;
-    Ok(read_model(alloc, &bytes)?)
+    let model = read_model(alloc, &bytes)?;
+    if is_later(&model) {
+        return Err(Stop::LaterModel);
+    }
+    Ok(model)
 }
 
 /// Fetches and reads the policy.

@@ -3,6 +3,7 @@
 
 mod answer;
 mod files;
+mod later;
 mod law;
 mod message;
 mod reply;

@@ -21,6 +21,7 @@ pub(crate) fn message_of(stop: Stop) -> Message
     match stop {
         Stop::Words => whole(b"usage: casbin_cli COMMAND [OPTION]... [WORD]...\n"),
         Stop::NoModel(fault) => model_message(fault),
+        Stop::LaterModel => whole(b"model: not yet\n"),
         Stop::NoPolicy => whole(b"policy: not yet\n"),
         Stop::NoScript => whole(b"script: not UTF-8\n"),
         Stop::CannotRead(Part::Model) => whole(b"cannot read: model\n"),
@@ -34,7 +35,7 @@ pub(crate) fn message_of(stop: Stop) -> Message
     }
 }
 
-// Why a text is no model, or none that is answered by.
+// Why a text is no model.
 fn model_message(fault: ModelFault) -> Message
     ensures { text_of result ≡ model_line fault }
 {
@@ -53,7 +54,6 @@ fn model_message(fault: ModelFault) -> Message
         ModelFault::UnknownColumn { at } => in_matcher(at, b": unknown column\n"),
         ModelFault::RoleUse { at } => in_matcher(at, b": role use\n"),
         ModelFault::NoMemory => whole(b"no memory\n"),
-        ModelFault::NotYet => whole(b"model: not yet\n"),
     }
 }
 

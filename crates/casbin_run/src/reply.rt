@@ -145,5 +145,6 @@ fn cause_text(cause: Cause) -> &'static str
         Cause::BadAddress => "bad-address",
         Cause::BadBlock => "bad-block",
         Cause::Pattern => "pattern",
+        Cause::RuleText => "rule-text",
     }
 }

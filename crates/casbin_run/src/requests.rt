@@ -6,7 +6,7 @@ ghost use Rattle.casbin_run.specs.Script.{requests_of};
 
 use perm_value::{Request, RequestFault, request_of_fields, request_of_json};
 use std::alloc::Global;
-use text_parts::{is_passed, next_line, without_cr};
+use text_parts::{is_passed, next_text_line};
 
 /// The first request of a text, and what stands behind it. It takes no memory.
 pub(crate) fn next_request(text: &str) -> Option<(&str, &str)>
@@ -16,8 +16,7 @@ pub(crate) fn next_request(text: &str) -> Option<(&str, &str)>
     ensures shorter { IfSome result (λ cut. length cut.1.now < length text.now) }
 {
     let mut rest = text;
-    while let Some((line, after)) = next_line(rest) {
-        let line = without_cr(line);
+    while let Some((line, after)) = next_text_line(rest) {
         if !is_passed(line) {
             return Some((line, after));
         }

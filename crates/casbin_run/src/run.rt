@@ -48,8 +48,9 @@ pub fn run_casbin<F: Shelf, S: Source, K: Sink, E: Sink, P: Finder>(
 
     // When each other status comes.
     ensures words { (result ≡ Status.Words) ↔ (command_of (texts words.now) ≡ None) }
-    ensures model { result ≡ Status.Model → (fault : ModelFault)
-        × Cause (texts words.now) (F.files shelf.old) (S.left input.old) (Stop.NoModel fault) }
+    ensures model { result ≡ Status.Model → ((fault : ModelFault)
+        × Cause (texts words.now) (F.files shelf.old) (S.left input.old) (Stop.NoModel fault))
+        ⊎ Cause (texts words.now) (F.files shelf.old) (S.left input.old) Stop.LaterModel }
     ensures policy { result ≡ Status.Policy
         → Cause (texts words.now) (F.files shelf.old) (S.left input.old) Stop.NoPolicy }
     ensures script { result ≡ Status.Script

@@ -19,8 +19,10 @@ pub enum Part {
 pub enum Stop {
     /// The words are no command.
     Words,
-    /// The model's file is no model, or none that is answered by.
+    /// The model's file is no model.
     NoModel(ModelFault),
+    /// The model's file is a model that is not answered by yet.
+    LaterModel,
     /// The policy's file is no policy.
     NoPolicy,
     /// The input is not UTF-8.
@@ -88,7 +90,7 @@ impl Stop {
     {
         match self {
             Stop::Words => Status::Words,
-            Stop::NoModel(_) => Status::Model,
+            Stop::NoModel(_) | Stop::LaterModel => Status::Model,
             Stop::NoPolicy => Status::Policy,
             Stop::NoScript => Status::Script,
             Stop::CannotRead(_) => Status::ReadFault,

@@ -14,11 +14,11 @@ use Rattle.std.specs.List.{list_any}
 use Rattle.policy_table.specs.Tables.{Fields, same, stands}
 use Rattle.policy_table.specs.declared.change.Change.{Change}
 use Rattle.edit_calls.specs.Edits.{has_repeat, is_empty, unless}
-use Rattle.edit_calls.proofs.PlaceLemmas.{same-Decides}
+use Rattle.policy_table.proofs.CallerLemmas.{same-Decides}
 
 module _ {X : Type 0} (items : List X) (at : ℕ) (item : X) (here : slice_get items at ≡ Some item) where
   -- the items in front and one more
-  taken : take (at + 1) items ≡ take at items ++ item ∷ []
+  pub taken : take (at + 1) items ≡ take at items ++ item ∷ []
   taken = take_more items at item (slice_get_within items at item here) ∙ ap (λ x. take at items ++ x ∷ []) (get_or_from_slice_get items at item item here)
 
   -- the item at a place is the first of those that are left there

@@ -1,10 +1,11 @@
 -- Searches that go over a list place by place: what is left of the list has the answer of the whole.
-use Rattle.std.proofs.Common.{◌≡◌, ℕ, ◌+◌, Bool, true, false, not, ◌||◌, ◌&&◌, cond, eqb, nat_lt, refl, sym, ap, ◌∙◌}
+use Rattle.std.proofs.Common.{◌≡◌, ℕ, ◌+◌, Bool, true, false, not, ◌||◌, ◌&&◌, cond, eqb, refl, sym, ap, ◌∙◌}
 use Rattle.std.proofs.Common.{List, [], ◌∷◌, length, drop, slice_get, Option, Some, None}
 use Rattle.std.specs.List.{find, flat_map, list_all, list_any}
 use Rattle.std.specs.Option.{option_map_or, option_or}
 use Rattle.std.proofs.lemmas.List.{drop_more}
 use Rattle.std.proofs.lemmas.Option.{get_or_from_slice_get, slice_get_within}
+use Rattle.policy_table.specs.Limits.{has_short_fields}
 use Rattle.policy_table.specs.Tables.{Fields}
 use Rattle.edit_calls.specs.Refusals.{other_length}
 use Rattle.edit_calls.specs.declared.refused.CallRefused.{CallRefused}
@@ -14,13 +15,9 @@ use Rattle.edit_calls.specs.declared.refused.CallRefused.TheVariants.{Columns}
 abbrev pub is_empty : List ℕ → Bool
 is_empty field = eqb (length field) 0
 
--- the field is too long
-abbrev pub is_long_field : List ℕ → Bool
-is_long_field field = nat_lt 4096 (length field)
-
 -- a field of the rule is too long
 abbrev pub is_long_rule : Fields → Bool
-is_long_rule rule = list_any is_long_field rule
+is_long_rule rule = not (has_short_fields rule)
 
 -- the rules of pairs, each old one before its new one
 abbrev pub both_rules : List (Fields × Fields) → List Fields

@@ -1,7 +1,7 @@
 -- What a call that is not refused meets.
 use Rattle.std.proofs.Common.{◌≡◌, ℕ, ◌+◌, ◌<◌, ◌≤◌, Bool, true, false, cond, ◌==◌, eqb, List, [], ◌∷◌, length, All, Option, Some, None, refl, sym, subst, ◌∙◌, arith}
 use Rattle.std.specs.Prelude.{if◌then◌else◌, is_some, nat_lt}
-use Rattle.std.specs.List.{AllByRecursion, IsDistinct, list_all}
+use Rattle.std.specs.List.{AllByRecursion, list_all}
 use Rattle.std.specs.Option.{option_map_or, option_or}
 use Rattle.std.proofs.lemmas.Bool.{eqb-true, lt-ltb, ltb-false}
 use Rattle.std.proofs.lemmas.List.Elements.{All-weaker, recursion_from_All}
@@ -13,11 +13,11 @@ use Rattle.perm_base.specs.declared.shapes.Shapes.{Shapes}
 use Rattle.perm_base.specs.declared.shapes.TableId.{TableId}
 use Rattle.perm_base.specs.declared.shapes.TableId.TheVariants.{P, G}
 use Rattle.policy_table.specs.Changes.{applies}
-use Rattle.policy_table.specs.Tables.{Fields, Lists, most_tables, place, rows, same}
+use Rattle.policy_table.specs.Tables.{Fields, IsKept, Policy, place, rows}
 use Rattle.policy_table.specs.declared.change.Change.{Change}
 use Rattle.edit_calls.specs.Edits.{edit_by}
 use Rattle.edit_calls.specs.Helps.Kept.{AreFitted}
-use Rattle.edit_calls.specs.Limits.{HaveShapes, columns_of, role_columns}
+use Rattle.policy_table.specs.Limits.{HaveShapes, columns_of, role_columns}
 use Rattle.edit_calls.specs.Refusals.{added_rules, bad_filter, filter_fault, has_long_field, named_rules, other_length, refusal, table_of}
 use Rattle.edit_calls.specs.declared.call.Call.{Call}
 use Rattle.edit_calls.specs.declared.call.Call.TheVariants.{Add, AddAll, AddEx, Remove, RemoveAll, Update, RemoveFiltered, UpdateFiltered, DeleteUser, DeleteRole}
@@ -74,9 +74,9 @@ has_place shapes call valid passes = by (table_of call) (has_columns shapes call
     by (G number) is = found number (shape_of shapes.roles number) refl is
 
 -- the rules of a table have its columns
-have_length : (shapes : Shapes) (lists : Lists) (table : TableId) (columns : ℕ) → HaveShapes shapes lists → columns_of shapes table ≡ Some columns → All (λ (rule : Fields). columns ≡ length rule) (rows lists table)
-have_length shapes lists table columns shaped is =
-    All-weaker (λ (rule : Fields). columns_of shapes table ≡ Some (length rule)) (λ (rule : Fields). columns ≡ length rule) (λ rule e. same_Some columns (length rule) (sym is ∙ e)) (rows lists table) (shaped table)
+have_length : (shapes : Shapes) (policy : Policy) (table : TableId) (columns : ℕ) → HaveShapes shapes policy → columns_of shapes table ≡ Some columns → All (λ (rule : Fields). columns ≡ length rule) (rows policy table)
+have_length shapes policy table columns shaped is =
+    All-weaker (λ (rule : Fields). columns_of shapes table ≡ Some (length rule)) (λ (rule : Fields). columns ≡ length rule) (λ rule e. same_Some columns (length rule) (sym is ∙ e)) (rows policy table) (shaped.columns table)
 
 -- a filter without a fault lies within the columns
 filter_within : (columns at : ℕ) (values : Fields) → bad_filter columns at values ≡ None → at + length values ≤ columns
@@ -99,22 +99,22 @@ two_columns shapes columns is = by (shape_of shapes.roles 1) is
     by (Some shape) e = of_test shape.with_domain (same_Some (role_columns shape) columns e)
 
 -- a call that is not refused fits the tables
-pub fitted : (shapes : Shapes) (lists : Lists) (call : Call) → AreValid shapes → HaveShapes shapes lists → refusal shapes call ≡ None → AreFitted shapes lists call
-fitted shapes lists call valid shaped passes = by call (has_columns shapes call passes)
+pub fitted : (shapes : Shapes) (policy : Policy) (call : Call) → AreValid shapes → HaveShapes shapes policy → refusal shapes call ≡ None → AreFitted shapes policy call
+fitted shapes policy call valid shaped passes = by call (has_columns shapes call passes)
   where
-    within : (table : TableId) (columns at : ℕ) (values : Fields) → columns_of shapes table ≡ Some columns → bad_filter columns at values ≡ None → All (λ (rule : Fields). at + length values ≤ length rule) (rows lists table)
+    within : (table : TableId) (columns at : ℕ) (values : Fields) → columns_of shapes table ≡ Some columns → bad_filter columns at values ≡ None → All (λ (rule : Fields). at + length values ≤ length rule) (rows policy table)
     within table columns at values is fault =
-        All-weaker (λ (rule : Fields). columns ≡ length rule) (λ (rule : Fields). at + length values ≤ length rule) (λ rule e. subst (λ n. at + length values ≤ n) e (filter_within columns at values fault)) (rows lists table) (have_length shapes lists table columns shaped is)
+        All-weaker (λ (rule : Fields). columns ≡ length rule) (λ (rule : Fields). at + length values ≤ length rule) (λ rule e. subst (λ n. at + length values ≤ n) e (filter_within columns at values fault)) (rows policy table) (have_length shapes policy table columns shaped is)
 
-    names : (columns : ℕ) → columns_of shapes (G 1) ≡ Some columns → All (λ (rule : Fields). 1 < length rule) (rows lists (G 1))
+    names : (columns : ℕ) → columns_of shapes (G 1) ≡ Some columns → All (λ (rule : Fields). 1 < length rule) (rows policy (G 1))
     names columns is =
-        All-weaker (λ (rule : Fields). columns ≡ length rule) (λ (rule : Fields). 1 < length rule) (λ rule e. subst (λ n. 1 < n) e (two_columns shapes columns is)) (rows lists (G 1)) (have_length shapes lists (G 1) columns shaped is)
+        All-weaker (λ (rule : Fields). columns ≡ length rule) (λ (rule : Fields). 1 < length rule) (λ rule e. subst (λ n. 1 < n) e (two_columns shapes columns is)) (rows policy (G 1)) (have_length shapes policy (G 1) columns shaped is)
 
-    subjects : All (λ (rule : Fields). shapes.subject_column < length rule) (rows lists P)
+    subjects : All (λ (rule : Fields). shapes.subject_column < length rule) (rows policy P)
     subjects =
-        All-weaker (λ (rule : Fields). shapes.columns ≡ length rule) (λ (rule : Fields). shapes.subject_column < length rule) (λ rule e. subst (λ n. shapes.subject_column < n) e valid.subject) (rows lists P) (have_length shapes lists P shapes.columns shaped refl)
+        All-weaker (λ (rule : Fields). shapes.columns ≡ length rule) (λ (rule : Fields). shapes.subject_column < length rule) (λ rule e. subst (λ n. shapes.subject_column < n) e valid.subject) (rows policy P) (have_length shapes policy P shapes.columns shaped refl)
 
-    by : (c : Call) → ((columns : ℕ) × (columns_of shapes (table_of c) ≡ Some columns) × (filter_fault columns c ≡ None)) → AreFitted shapes lists c
+    by : (c : Call) → ((columns : ℕ) × (columns_of shapes (table_of c) ≡ Some columns) × (filter_fault columns c ≡ None)) → AreFitted shapes policy c
     by (Add table rule) found = tt
     by (AddAll table rules) found = tt
     by (AddEx table rules) found = tt
@@ -127,7 +127,7 @@ fitted shapes lists call valid shaped passes = by call (has_columns shapes call 
     by (DeleteRole name) found = (names found.0 found.1, subjects)
 
 -- the edit of a call that is not refused can be made
-pub may_be_made : (shapes : Shapes) (lists : Lists) (call : Call) (edit : List Change) (named : TableId) → AreValid shapes → length lists ≡ most_tables → named ≡ table_of call → IsDistinct same (rows lists named) → IsDistinct same (rows lists P)
-    → refusal shapes call ≡ None → edit_by shapes lists call ≡ Some edit → applies edit lists ≡ true
-may_be_made shapes lists call edit named valid counted is once base passes found =
-    edit_applies shapes lists call edit counted (subst (λ (table : TableId). IsDistinct same (rows lists table)) is once) base (has_place shapes call valid passes) found
+pub may_be_made : (shapes : Shapes) (policy : Policy) (call : Call) (edit : List Change) → AreValid shapes → IsKept policy → refusal shapes call ≡ None → edit_by shapes policy call ≡ Some edit
+    → applies edit policy ≡ true
+may_be_made shapes policy call edit valid kept passes found =
+    edit_applies shapes policy call edit kept.lists.counted (kept.once (table_of call)) (kept.once P) (has_place shapes call valid passes) found

@@ -3,13 +3,13 @@ use Rattle.std.specs.Prelude.{List, Option, Some, None, Result, Ok, Err}
 use Rattle.std.specs.Option.{option_map_or}
 use Rattle.perm_base.specs.declared.shapes.Shapes.{Shapes}
 use Rattle.policy_table.specs.Changes.{edited}
-use Rattle.policy_table.specs.Tables.{Lists}
+use Rattle.policy_table.specs.Tables.{Policy}
 use Rattle.policy_table.specs.declared.change.Change.{Change}
 use Rattle.edit_calls.specs.Edits.{edit_by}
-use Rattle.edit_calls.specs.Limits.{passed}
+use Rattle.policy_table.specs.Limits.{passed}
 use Rattle.edit_calls.specs.Refusals.{refusal}
 use Rattle.edit_calls.specs.declared.call.Call.{Call}
-use Rattle.edit_calls.specs.declared.limit.Limit.{Limit}
+use Rattle.policy_table.specs.declared.limit.Limit.{Limit}
 use Rattle.edit_calls.specs.declared.refused.CallRefused.{CallRefused}
 use Rattle.edit_calls.specs.declared.refused.CallRefused.TheVariants.{Full}
 
@@ -17,10 +17,10 @@ abbrev pub Answer : Type 0
 Answer = Result (Option (List Change)) CallRefused
 
 -- the edit, unless the tables after it pass a limit
-abbrev pub within : Shapes → Lists → List Change → Answer
-within shapes lists edit = option_map_or (λ (limit : Limit). Err (Full limit)) (passed shapes (edited edit lists)) (Ok (Some edit))
+abbrev pub within : Shapes → Policy → List Change → Answer
+within shapes policy edit = option_map_or (λ (limit : Limit). Err (Full limit)) (passed shapes (edited edit policy)) (Ok (Some edit))
 
 -- a refusal; else the edit, where there is one
-abbrev pub answer : Shapes → Lists → Call → Answer
-answer shapes lists call = option_map_or (λ (refused : CallRefused). Err refused) (refusal shapes call)
-    (option_map_or (λ (edit : List Change). within shapes lists edit) (edit_by shapes lists call) (Ok None))
+abbrev pub answer : Shapes → Policy → Call → Answer
+answer shapes policy call = option_map_or (λ (refused : CallRefused). Err refused) (refusal shapes call)
+    (option_map_or (λ (edit : List Change). within shapes policy edit) (edit_by shapes policy call) (Ok None))

@@ -6,7 +6,7 @@ use Rattle.perm_base.specs.declared.shapes.Shapes.{Shapes}
 use Rattle.perm_base.specs.declared.shapes.TableId.{TableId}
 use Rattle.perm_base.specs.declared.shapes.TableId.TheVariants.{P, G}
 use Rattle.policy_table.specs.Filters.{fits_filter}
-use Rattle.policy_table.specs.Tables.{Fields, Lists, rows, stands}
+use Rattle.policy_table.specs.Tables.{Fields, Policy, rows, stands}
 use Rattle.policy_table.specs.declared.change.Change.{Change}
 use Rattle.policy_table.specs.declared.change.Change.TheVariants as change
 use Rattle.edit_calls.specs.declared.call.Call.{Call}
@@ -49,23 +49,23 @@ abbrev pub one_stays : ℕ → Fields → List Fields → List Fields → Bool
 one_stays at values named rules = one_stands named (filter (λ (rule : Fields). not (fits_filter rule at values)) rules)
 
 -- the rules of a column of g, and then those of p whose subject it is, that have the name
-abbrev pub without_name : ℕ → Shapes → Lists → List ℕ → List Change
-without_name column shapes lists name = removes (G 1) (rows_with column name (rows lists (G 1))) ++ removes P (rows_with shapes.subject_column name (rows lists P))
+abbrev pub without_name : ℕ → Shapes → Policy → List ℕ → List Change
+without_name column shapes policy name = removes (G 1) (rows_with column name (rows policy (G 1))) ++ removes P (rows_with shapes.subject_column name (rows policy P))
 
 -- what a call changes, by the table's rules; None where it changes nothing
-abbrev pub edit_by : Shapes → Lists → Call → Option (List Change)
-edit_by shapes lists (Add table rule) = unless (stands rule (rows lists table)) (inserts table (rule ∷ []))
-edit_by shapes lists (AddAll table rules) = unless (is_empty rules || has_repeat rules || one_stands rules (rows lists table)) (inserts table rules)
-edit_by shapes lists (AddEx table rules) = unless (has_repeat rules || not (one_is_absent rules (rows lists table))) (inserts table (filter (λ (rule : Fields). not (stands rule (rows lists table))) rules))
-edit_by shapes lists (Remove table rule) = unless (not (stands rule (rows lists table))) (removes table (rule ∷ []))
-edit_by shapes lists (RemoveAll table rules) = unless (is_empty rules || has_repeat rules || one_is_absent rules (rows lists table)) (removes table rules)
-edit_by shapes lists (Update table pairs) = unless
-    (is_empty pairs || one_is_absent (map (λ (pair : Fields × Fields). pair.0) pairs) (rows lists table) || one_stands (map (λ (pair : Fields × Fields). pair.1) pairs) (rows lists table)
+abbrev pub edit_by : Shapes → Policy → Call → Option (List Change)
+edit_by shapes policy (Add table rule) = unless (stands rule (rows policy table)) (inserts table (rule ∷ []))
+edit_by shapes policy (AddAll table rules) = unless (is_empty rules || has_repeat rules || one_stands rules (rows policy table)) (inserts table rules)
+edit_by shapes policy (AddEx table rules) = unless (has_repeat rules || not (one_is_absent rules (rows policy table))) (inserts table (filter (λ (rule : Fields). not (stands rule (rows policy table))) rules))
+edit_by shapes policy (Remove table rule) = unless (not (stands rule (rows policy table))) (removes table (rule ∷ []))
+edit_by shapes policy (RemoveAll table rules) = unless (is_empty rules || has_repeat rules || one_is_absent rules (rows policy table)) (removes table rules)
+edit_by shapes policy (Update table pairs) = unless
+    (is_empty pairs || one_is_absent (map (λ (pair : Fields × Fields). pair.0) pairs) (rows policy table) || one_stands (map (λ (pair : Fields × Fields). pair.1) pairs) (rows policy table)
     || has_repeat (map (λ (pair : Fields × Fields). pair.0) pairs) || has_repeat (map (λ (pair : Fields × Fields). pair.1) pairs))
     (map (λ (pair : Fields × Fields). change.Replace table pair.0 pair.1) pairs)
-edit_by shapes lists (RemoveFiltered table at values) = unless (is_empty (fitting at values (rows lists table))) (removes table (fitting at values (rows lists table)))
-edit_by shapes lists (UpdateFiltered table at values rules) = unless
-    (is_empty (fitting at values (rows lists table)) || has_repeat rules || one_stays at values rules (rows lists table))
-    (removes table (fitting at values (rows lists table)) ++ inserts table rules)
-edit_by shapes lists (DeleteUser name) = unless (is_empty (without_name 0 shapes lists name)) (without_name 0 shapes lists name)
-edit_by shapes lists (DeleteRole name) = unless (is_empty (without_name 1 shapes lists name)) (without_name 1 shapes lists name)
+edit_by shapes policy (RemoveFiltered table at values) = unless (is_empty (fitting at values (rows policy table))) (removes table (fitting at values (rows policy table)))
+edit_by shapes policy (UpdateFiltered table at values rules) = unless
+    (is_empty (fitting at values (rows policy table)) || has_repeat rules || one_stays at values rules (rows policy table))
+    (removes table (fitting at values (rows policy table)) ++ inserts table rules)
+edit_by shapes policy (DeleteUser name) = unless (is_empty (without_name 0 shapes policy name)) (without_name 0 shapes policy name)
+edit_by shapes policy (DeleteRole name) = unless (is_empty (without_name 1 shapes policy name)) (without_name 1 shapes policy name)

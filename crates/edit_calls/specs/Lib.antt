@@ -1,6 +1,6 @@
-pub mod Limits
 pub mod Refusals
 pub mod Edits
 pub mod Answers
 pub mod Told
+pub mod Admitted
 pub mod Helps

@@ -6,7 +6,7 @@ use Rattle.perm_base.specs.declared.shapes.Shapes.{Shapes}
 use Rattle.perm_base.specs.declared.shapes.TableId.{TableId}
 use Rattle.perm_base.specs.declared.shapes.TableId.TheVariants.{G}
 use Rattle.policy_table.specs.Tables.{Fields}
-use Rattle.edit_calls.specs.Limits.{columns_of}
+use Rattle.policy_table.specs.Limits.{columns_of, has_short_fields}
 use Rattle.edit_calls.specs.declared.call.Call.{Call}
 use Rattle.edit_calls.specs.declared.call.Call.TheVariants.{Add, AddAll, AddEx, Remove, RemoveAll, Update, RemoveFiltered, UpdateFiltered, DeleteUser, DeleteRole}
 use Rattle.edit_calls.specs.declared.refused.CallRefused.{CallRefused}
@@ -77,7 +77,7 @@ filter_fault columns (DeleteRole name) = None
 
 -- a field of one of the rules has more than 4,096 bytes
 abbrev pub has_long_field : List Fields → Bool
-has_long_field rules = list_any (λ (rule : Fields). list_any (λ (field : List ℕ). nat_lt 4096 (length field)) rule) rules
+has_long_field rules = list_any (λ (rule : Fields). not (has_short_fields rule)) rules
 
 -- the first refusal that needs no look into the tables
 abbrev pub refusal : Shapes → Call → Option CallRefused

@@ -88,7 +88,8 @@ impl Pairs {
 
     /// The pairs in their order.
     pub fn as_slice(&self) -> &[(Rule, Rule)]
-        ensures { result.now ≡ self.now }
+        ensures value { result.now ≡ self.now }
+        ensures few { length result.now < 2 ^ 32 }
     {
         &self.pairs
     }
@@ -101,22 +102,23 @@ impl Pairs {
     }
 
     /// How many pairs there are.
-    pub(crate) fn len(&self) -> u32
-        ensures { result ≡ length self.now }
+    pub fn len(&self) -> u32
+        ensures value { result ≡ length self.now }
+        ensures few { length self.now < 2 ^ 32 }
     {
         self.pairs.len() as u32
     }
 
-    /// The old rule of a pair.
-    pub(crate) fn old(&self, at: u32) -> &Rule
+    /// The old rule of the pair at a place, counted from 0.
+    pub fn old(&self, at: u32) -> &Rule
         requires { at < length self.now }
         ensures { slice_get (map (λ pair. pair.0) self.now) at ≡ Some result.now }
     {
         &self.pairs[at as usize].0
     }
 
-    /// The new rule of a pair.
-    pub(crate) fn new(&self, at: u32) -> &Rule
+    /// The new rule of the pair at a place, counted from 0.
+    pub fn new(&self, at: u32) -> &Rule
         requires { at < length self.now }
         ensures { slice_get (map (λ pair. pair.1) self.now) at ≡ Some result.now }
     {

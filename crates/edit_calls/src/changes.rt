@@ -46,7 +46,7 @@ pub(crate) fn inserts_absent<L: RuleList>(
     rules: &L,
 ) -> Result<Vec<Change>, NoMemory>
     ensures { IfOk result (λ changes. changes.items ≡ inserts table
-        (filter (λ rule. not (stands rule (rows tables.now.lists table))) (L.rules rules.now))) }
+        (filter (λ rule. not (stands rule (rows tables.now.policy table))) (L.rules rules.now))) }
 {
     let mut changes = Vec::new(alloc);
     for at in 0..rules.len() {

@@ -22,8 +22,8 @@ pub(crate) fn edit_by(
     tables: &Tables,
     shapes: &Shapes,
 ) -> Result<Option<Edit>, NoMemory>
-    requires { AreFitted shapes.now tables.now.lists call.now }
-    ensures { IfOk result (λ edit. edit ≡ edit_by shapes.now tables.now.lists call.now) }
+    requires { AreFitted shapes.now tables.now.policy call.now }
+    ensures { IfOk result (λ edit. edit ≡ edit_by shapes.now tables.now.policy call.now) }
 {
     match call {
         Call::Add { table, rule } => add(alloc, tables, *table, rule),
@@ -53,7 +53,7 @@ fn add(
     rule: &Rule,
 ) -> Result<Option<Edit>, NoMemory>
     ensures { IfOk result (λ edit. edit ≡ unless
-        (stands rule.now (rows tables.now.lists table)) (inserts table (rule.now ∷ []))) }
+        (stands rule.now (rows tables.now.policy table)) (inserts table (rule.now ∷ []))) }
 {
     if tables.has(table, rule) {
         return Ok(None);
@@ -70,7 +70,7 @@ fn add_all(
 ) -> Result<Option<Edit>, NoMemory>
     ensures { IfOk result (λ edit. edit ≡ unless
         (is_empty rules.now || has_repeat rules.now
-        || one_stands rules.now (rows tables.now.lists table))
+        || one_stands rules.now (rows tables.now.policy table))
         (inserts table rules.now)) }
 {
     if rules.len() == 0 || has_repeat(alloc, rules)? || one_stands(tables, table, rules) {
@@ -86,9 +86,9 @@ fn add_absent(
     rules: &Rules,
 ) -> Result<Option<Edit>, NoMemory>
     ensures { IfOk result (λ edit. edit ≡ unless
-        (has_repeat rules.now || not (one_is_absent rules.now (rows tables.now.lists table)))
+        (has_repeat rules.now || not (one_is_absent rules.now (rows tables.now.policy table)))
         (inserts table
-        (filter (λ rule. not (stands rule (rows tables.now.lists table))) rules.now))) }
+        (filter (λ rule. not (stands rule (rows tables.now.policy table))) rules.now))) }
 {
     if has_repeat(alloc, rules)? {
         return Ok(None);
@@ -103,7 +103,7 @@ fn remove(
     rule: &Rule,
 ) -> Result<Option<Edit>, NoMemory>
     ensures { IfOk result (λ edit. edit ≡ unless
-        (not (stands rule.now (rows tables.now.lists table))) (removes table (rule.now ∷ []))) }
+        (not (stands rule.now (rows tables.now.policy table))) (removes table (rule.now ∷ []))) }
 {
     if !tables.has(table, rule) {
         return Ok(None);
@@ -120,7 +120,7 @@ fn remove_all(
 ) -> Result<Option<Edit>, NoMemory>
     ensures { IfOk result (λ edit. edit ≡ unless
         (is_empty rules.now || has_repeat rules.now
-        || one_is_absent rules.now (rows tables.now.lists table))
+        || one_is_absent rules.now (rows tables.now.policy table))
         (removes table rules.now)) }
 {
     if rules.len() == 0 || has_repeat(alloc, rules)? || one_is_absent(tables, table, rules) {
@@ -137,8 +137,8 @@ fn update(
 ) -> Result<Option<Edit>, NoMemory>
     ensures { IfOk result (λ edit. edit ≡ unless
         (is_empty pairs.now
-        || one_is_absent (map (λ pair. pair.0) pairs.now) (rows tables.now.lists table)
-        || one_stands (map (λ pair. pair.1) pairs.now) (rows tables.now.lists table)
+        || one_is_absent (map (λ pair. pair.0) pairs.now) (rows tables.now.policy table)
+        || one_stands (map (λ pair. pair.1) pairs.now) (rows tables.now.policy table)
         || has_repeat (map (λ pair. pair.0) pairs.now)
         || has_repeat (map (λ pair. pair.1) pairs.now))
         (map (λ pair. change.Replace table pair.0 pair.1) pairs.now)) }
@@ -163,10 +163,10 @@ fn remove_filtered(
     at: u32,
     values: &Rule,
 ) -> Result<Option<Edit>, NoMemory>
-    requires { All (λ rule. at + length values.now ≤ length rule) (rows tables.now.lists table) }
+    requires { All (λ rule. at + length values.now ≤ length rule) (rows tables.now.policy table) }
     ensures { IfOk result (λ edit. edit ≡ unless
-        (is_empty (fitting at values.now (rows tables.now.lists table)))
-        (removes table (fitting at values.now (rows tables.now.lists table)))) }
+        (is_empty (fitting at values.now (rows tables.now.policy table)))
+        (removes table (fitting at values.now (rows tables.now.policy table)))) }
 {
     let changes = removes_fitting(alloc, table, tables.rows(table), at, values)?;
     Ok(unless_empty(changes))
@@ -180,11 +180,11 @@ fn update_filtered(
     values: &Rule,
     rules: &Rules,
 ) -> Result<Option<Edit>, NoMemory>
-    requires { All (λ rule. at + length values.now ≤ length rule) (rows tables.now.lists table) }
+    requires { All (λ rule. at + length values.now ≤ length rule) (rows tables.now.policy table) }
     ensures { IfOk result (λ edit. edit ≡ unless
-        (is_empty (fitting at values.now (rows tables.now.lists table)) || has_repeat rules.now
-        || one_stays at values.now rules.now (rows tables.now.lists table))
-        (removes table (fitting at values.now (rows tables.now.lists table))
+        (is_empty (fitting at values.now (rows tables.now.policy table)) || has_repeat rules.now
+        || one_stays at values.now rules.now (rows tables.now.policy table))
+        (removes table (fitting at values.now (rows tables.now.policy table))
         ++ inserts table rules.now)) }
 {
     let mut changes = removes_fitting(alloc, table, tables.rows(table), at, values)?;
@@ -206,12 +206,12 @@ fn delete_name(
     column: u32,
     name: &Text,
 ) -> Result<Option<Edit>, NoMemory>
-    requires g { All (λ rule. column < length rule) (rows tables.now.lists (tables_of.G 1)) }
+    requires g { All (λ rule. column < length rule) (rows tables.now.policy (tables_of.G 1)) }
     requires p { All (λ rule. shapes.now.subject_column < length rule)
-        (rows tables.now.lists tables_of.P) }
+        (rows tables.now.policy tables_of.P) }
     ensures { IfOk result (λ edit. edit ≡ unless
-        (is_empty (without_name column shapes.now tables.now.lists name.now))
-        (without_name column shapes.now tables.now.lists name.now)) }
+        (is_empty (without_name column shapes.now tables.now.policy name.now))
+        (without_name column shapes.now tables.now.policy name.now)) }
 {
     let mut changes = Vec::new(alloc);
     let name = name.bytes();

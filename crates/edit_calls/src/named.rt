@@ -23,7 +23,7 @@ pub(crate) fn has_repeat<L: RuleList>(alloc: Global, rules: &L) -> Result<bool, 
 
 /// Whether one of the rules stands in a table.
 pub(crate) fn one_stands<L: RuleList>(tables: &Tables, table: TableId, rules: &L) -> bool
-    ensures { result ≡ one_stands (L.rules rules.now) (rows tables.now.lists table) }
+    ensures { result ≡ one_stands (L.rules rules.now) (rows tables.now.policy table) }
 {
     for at in 0..rules.len() {
         if tables.has(table, rules.at(at)) {
@@ -35,7 +35,7 @@ pub(crate) fn one_stands<L: RuleList>(tables: &Tables, table: TableId, rules: &L
 
 /// Whether one of the rules is absent from a table.
 pub(crate) fn one_is_absent<L: RuleList>(tables: &Tables, table: TableId, rules: &L) -> bool
-    ensures { result ≡ one_is_absent (L.rules rules.now) (rows tables.now.lists table) }
+    ensures { result ≡ one_is_absent (L.rules rules.now) (rows tables.now.policy table) }
 {
     for at in 0..rules.len() {
         if !tables.has(table, rules.at(at)) {
@@ -53,8 +53,8 @@ pub(crate) fn one_stays(
     values: &Rule,
     rules: &Rules,
 ) -> bool
-    requires { All (λ rule. at + length values.now ≤ length rule) (rows tables.now.lists table) }
-    ensures { result ≡ one_stays at values.now rules.now (rows tables.now.lists table) }
+    requires { All (λ rule. at + length values.now ≤ length rule) (rows tables.now.policy table) }
+    ensures { result ≡ one_stays at values.now rules.now (rows tables.now.policy table) }
 {
     for place in 0..rules.len() {
         let rule = rules.at(place);

@@ -1,15 +1,13 @@
-ghost use Rattle.std.specs.Prelude.{◌≡◌, ◌==◌, [], ◌∷◌, length, nat_lt};
-ghost use Rattle.std.specs.List.{flat_map, list_all, list_any};
-ghost use Rattle.edit_calls.specs.Limits.{columns_of};
+ghost use Rattle.std.specs.Prelude.{◌≡◌, ◌==◌, [], ◌∷◌, length, not};
+ghost use Rattle.std.specs.List.{flat_map, list_all};
+ghost use Rattle.policy_table.specs.Limits.{columns_of, has_short_fields};
 ghost use Rattle.edit_calls.specs.Refusals.{bad_filter, filter_fault, has_long_field, named_rules, other_length, refusal, added_rules, table_of};
 
 use crate::call::Call;
 use crate::listed::{News, RuleList};
 use crate::refused::CallRefused;
 use perm_base::{Rule, Rules, Shapes, TableId};
-
-// The greatest number of bytes of a field that is added.
-const LONGEST: usize = 4096;
+use policy_table::has_short_fields;
 
 /// Why a call is refused, whatever stands in the tables.
 pub(crate) fn refusal(call: &Call, shapes: &Shapes) -> Option<CallRefused>
@@ -49,8 +47,8 @@ pub(crate) fn table_of(call: &Call) -> TableId
     }
 }
 
-// The columns of a table, where the shapes have it.
-fn columns_of(shapes: &Shapes, table: TableId) -> Option<u32>
+/// The columns of a table, where the shapes have it.
+pub(crate) fn columns_of(shapes: &Shapes, table: TableId) -> Option<u32>
     ensures { result ≡ columns_of shapes.now table }
 {
     match table {
@@ -169,14 +167,9 @@ fn has_long_field(call: &Call) -> bool
 }
 
 fn is_long(rule: &Rule) -> bool
-    ensures { result ≡ list_any (λ field. nat_lt 4096 (length field)) rule.now }
+    ensures { result ≡ not (has_short_fields rule.now) }
 {
-    for at in 0..rule.len() {
-        if rule.field(at).len() > LONGEST {
-            return true;
-        }
-    }
-    false
+    !has_short_fields(rule)
 }
 
 fn one_is_long<L: RuleList>(rules: &L) -> bool

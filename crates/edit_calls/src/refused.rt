@@ -1,5 +1,5 @@
-use crate::limit::Limit;
 use perm_base::{NoMemory, TableId};
+use policy_table::Limit;
 
 /// Why a management call is refused. Where several hold, the first of these is told.
 #[derive(Clone, Copy, Debug, PartialEq, Eq)]

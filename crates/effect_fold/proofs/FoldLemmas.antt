@@ -1,10 +1,9 @@
 -- A fold over outcomes ends in their verdict.
-use Rattle.std.proofs.Common.{◌≡◌, ℕ, Bool, true, false, cond, List, [], ◌∷◌, Option, Some, None, is_some, find, refl, sym, ap, ◌∙◌}
+use Rattle.std.proofs.Common.{◌≡◌, ℕ, Bool, true, false, cond, List, [], ◌∷◌, Option, Some, None, is_some, find, refl, ap, ◌∙◌}
 use Rattle.effect_fold.specs.Verdict.{Taken, ends, ends_with, allows, is_allow, settled_by, unsettled, allow_by, verdict, verdict_at}
-use Rattle.effect_fold.specs.Steps.{Progress, progress, begun, first_row, taken, taken_by, open_taken, behind, open_end, ended}
+use Rattle.effect_fold.specs.Steps.{Progress, progress, begun, first_row, behind, open_end, ended}
 use Rattle.effect_fold.specs.declared.effect.Effect.{Effect}
 use Rattle.effect_fold.specs.declared.effect.Effect.TheVariants as effect
-use Rattle.effect_fold.specs.declared.outcome.Outcome.{Outcome}
 use Rattle.effect_fold.specs.declared.verdict.Verdict.{Verdict}
 
 stays : (e : Effect) (allowed : Option (Option ℕ)) (v : Verdict) (outcomes : List Taken) → behind (progress e allowed (Some v)) outcomes ≡ progress e allowed (Some v)
@@ -63,6 +62,7 @@ gives_verdict e outcomes = folds e None outcomes ∙ by_found (find (ends e) out
     by_effect effect.DenyOverride = refl
     by_effect effect.AllowAndDeny = by_allow (find allows outcomes)
     by_effect effect.Priority = refl
+    by_effect effect.SubjectPriority = refl
 
     by_found : (o : Option Taken) → answer e None outcomes o ≡ verdict_at e outcomes o
     by_found (Some found) = refl

@@ -1,5 +1,5 @@
 -- A fold over outcomes, one by one: what is known behind those that were taken.
-use Rattle.std.specs.Prelude.{ℕ, Bool, true, false, if◌then◌else◌, List, [], ◌∷◌, Option, Some, None}
+use Rattle.std.specs.Prelude.{ℕ, if◌then◌else◌, List, [], ◌∷◌, Option, Some, None}
 use Rattle.effect_fold.specs.Verdict.{Taken, ends_with, is_allow, settled_by}
 use Rattle.effect_fold.specs.declared.effect.Effect.{Effect}
 use Rattle.effect_fold.specs.declared.effect.Effect.TheVariants as effect
@@ -52,6 +52,7 @@ open_end effect.DenyOverride allowed = Allow None
 open_end effect.AllowAndDeny (Some row) = Allow row
 open_end effect.AllowAndDeny None = Deny None
 open_end effect.Priority allowed = Deny None
+open_end effect.SubjectPriority allowed = Deny None
 
 abbrev pub ended_by : Effect → Option (Option ℕ) → Option Verdict → Verdict
 ended_by e allowed (Some v) = v

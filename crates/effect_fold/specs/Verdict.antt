@@ -1,5 +1,5 @@
 -- The verdict that a policy's effect gives for the outcomes of its rows, taken in order (Casbin, policy effects).
-use Rattle.std.specs.Prelude.{ℕ, Bool, true, false, List, [], ◌∷◌, Option, Some, None, find}
+use Rattle.std.specs.Prelude.{ℕ, Bool, true, false, List, Option, Some, None, find}
 use Rattle.effect_fold.specs.declared.effect.Effect.{Effect}
 use Rattle.effect_fold.specs.declared.effect.Effect.TheVariants as effect
 use Rattle.effect_fold.specs.declared.outcome.Outcome.{Outcome}
@@ -23,6 +23,7 @@ settles effect.DenyOverride false = true
 settles effect.AllowAndDeny true = false
 settles effect.AllowAndDeny false = true
 settles effect.Priority allow = true
+settles effect.SubjectPriority allow = true
 
 -- an outcome that ends the evaluation: a fault, or a match that settles the effect
 abbrev pub ends_with : Effect → Outcome → Bool
@@ -53,6 +54,7 @@ unsettled effect.AllowOverride outcomes = Deny None
 unsettled effect.DenyOverride outcomes = Allow None
 unsettled effect.AllowAndDeny outcomes = allow_by (find allows outcomes)
 unsettled effect.Priority outcomes = Deny None
+unsettled effect.SubjectPriority outcomes = Deny None
 
 -- the row at which the evaluation ends says the verdict
 abbrev pub settled_by : Option ℕ → Outcome → Verdict

@@ -10,4 +10,6 @@ pub enum Effect {
     AllowAndDeny,
     /// `priority(p.eft) || deny`: the effect of the first rule that matches with allow or deny, else deny.
     Priority,
+    /// `subjectPriority(p.eft) || deny`: the same, over rules that are taken by falling depth of their subjects.
+    SubjectPriority,
 }

@@ -22,4 +22,6 @@ pub enum Cause {
     BadBlock,
     /// A pattern that is refused.
     Pattern,
+    /// A field of a rule that `eval` reads and that is no matcher.
+    RuleText,
 }

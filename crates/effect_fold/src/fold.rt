@@ -93,7 +93,7 @@ fn settles(effect: Effect, allow: bool) -> bool
     match effect {
         Effect::AllowOverride => allow,
         Effect::DenyOverride | Effect::AllowAndDeny => !allow,
-        Effect::Priority => true,
+        Effect::Priority | Effect::SubjectPriority => true,
     }
 }
 
@@ -123,7 +123,7 @@ fn open_end(effect: Effect, allowed: Option<Option<u32>>) -> Verdict
     ensures { result ≡ open_end effect allowed }
 {
     match effect {
-        Effect::AllowOverride | Effect::Priority => Verdict::Deny(None),
+        Effect::AllowOverride | Effect::Priority | Effect::SubjectPriority => Verdict::Deny(None),
         Effect::DenyOverride => Verdict::Allow(None),
         Effect::AllowAndDeny => match allowed {
             Some(row) => Verdict::Allow(row),

@@ -1,6 +1,6 @@
 ghost use Rattle.std.specs.Prelude.{◌≡◌, [], ◌∷◌, None, Some, false, true};
 ghost use Rattle.effect_fold.specs.Verdict.{at_row, verdict};
-ghost use Rattle.effect_fold.specs.declared.effect.Effect.TheVariants.{AllowOverride, DenyOverride, AllowAndDeny, Priority};
+ghost use Rattle.effect_fold.specs.declared.effect.Effect.TheVariants.{AllowOverride, DenyOverride, AllowAndDeny, Priority, SubjectPriority};
 ghost use Rattle.effect_fold.specs.declared.fault.Fault.{Fault};
 ghost use Rattle.effect_fold.specs.declared.outcome.Outcome.TheVariants.{Unmatched, Matched, Failed};
 ghost use Rattle.effect_fold.specs.declared.verdict.Verdict.TheVariants.{Allow, Deny};
@@ -47,4 +47,19 @@ pub fn worked_verdicts()
     ensures priority_allow { verdict Priority
         (at_row 1 (Matched true) ∷ at_row 2 (Matched false) ∷ [])
         ≡ Allow (Some 1) }
+    // The rows are given in the order in which they are taken, whatever their numbers.
+    ensures subject_priority_nothing { verdict SubjectPriority [] ≡ Deny None }
+    ensures subject_priority_none { verdict SubjectPriority
+        (at_row 2 Unmatched ∷ at_row 1 Unmatched ∷ [])
+        ≡ Deny None }
+    ensures subject_priority_deny { verdict SubjectPriority
+        (at_row 3 Unmatched ∷ at_row 2 (Matched false) ∷ at_row 1 (Matched true) ∷ [])
+        ≡ Deny (Some 2) }
+    ensures subject_priority_allow { verdict SubjectPriority
+        (at_row 5 (Matched true) ∷ at_row 3 (Matched false) ∷ at_row 1 (Matched false) ∷ [])
+        ≡ Allow (Some 5) }
+    ensures subject_priority_fault { (f : Fault)
+        → verdict SubjectPriority
+        (at_row 2 Unmatched ∷ at_row 3 (Failed f) ∷ at_row 1 (Matched true) ∷ [])
+        ≡ told.Fault (Some 3) f }
 {}

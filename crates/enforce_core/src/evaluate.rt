@@ -8,9 +8,10 @@ ghost use Rattle.enforce_core.specs.Helps.Ends.{AmongEnds, ArgumentsEnd, ValueEn
 use crate::attributes::attribute_along;
 use crate::calls::{Called, call_of_three, call_of_two};
 use crate::case::Case;
-use crate::faults::kind;
+use crate::faults::{fault, kind};
 use crate::halt::Halt;
 use crate::operators::{is_member, joined, negated, opposed, settled};
+use effect_fold::Cause;
 use matcher_read::Tree;
 use perm_value::View;
 use regex_gate::Finder;
@@ -36,6 +37,8 @@ pub(crate) fn value_of<'a, P: Finder>(
             Ok(attribute_along(*at, value, path)?)
         }
         Tree::Policy { column, .. } => Ok(View::Text(case.policy_text(column))),
+        // Rules that a column holds are not read yet.
+        Tree::Eval { at, .. } => Err(Halt::Fault(fault(Cause::RuleText, *at))),
         Tree::Not { at, operand } => Ok(negated(*at, &value_of(operand, case, finder)?)?),
         Tree::Negate { at, operand } => Ok(opposed(*at, &value_of(operand, case, finder)?)?),
         Tree::Binary {

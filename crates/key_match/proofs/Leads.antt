@@ -162,7 +162,7 @@ pattern_ended ps later t key k h e lt =
 -- ---- within a stretch
 
 -- pieces that lose nothing by leaving out bytes before `/`, as those that begin with a stretch or a rest
-pub LeadsTo-stretch : (ps later : List Piece) (t left : List ℕ) → LeadsTo ps t later left → (stretch_fits (fits later) left ≡ true → fits later left ≡ true) → LeadsTo (Stretch ∷ ps) t later left
+LeadsTo-stretch : (ps later : List Piece) (t left : List ℕ) → LeadsTo ps t later left → (stretch_fits (fits later) left ≡ true → fits later left ≡ true) → LeadsTo (Stretch ∷ ps) t later left
 LeadsTo-stretch ps later t left h keeps = record {
   same = same_test (stretch_fits (fits ps) t) (fits later left) (λ x. keeps (h.in_stretch x)) (λ x. stretch-here (fits ps) t (h.same ∙ x));
   in_stretch = λ x. h.in_stretch (stretch-stretch (fits ps) t x);
@@ -174,6 +174,11 @@ keeps-stretch qs u h = stretch-stretch (fits qs) u h
 
 pub keeps-rest : (qs : List Piece) (u : List ℕ) → stretch_fits (fits (Rest ∷ qs)) u ≡ true → fits (Rest ∷ qs) u ≡ true
 keeps-rest qs u h = end-end (fits qs) u (end-from_stretch (end_fits (fits qs)) u h)
+
+-- what leads to a stretch leads on to where the pieces behind it lead
+pub LeadsTo-behind : (whole ps later : List Piece) (piece : Piece) (text t left : List ℕ) → LeadsTo whole text (Stretch ∷ ps) t → LeadsTo ps t (piece ∷ later) left
+    → ((qs : List Piece) (u : List ℕ) → stretch_fits (fits (piece ∷ qs)) u ≡ true → fits (piece ∷ qs) u ≡ true) → LeadsTo whole text (piece ∷ later) left
+LeadsTo-behind whole ps later piece text t left here behind keeps = LeadsTo-trans _ _ _ _ _ _ here (LeadsTo-stretch ps (piece ∷ later) t left behind (keeps later left))
 
 pub LeadsTo-past : (ps : List Piece) (b : ℕ) (t : List ℕ) → fits ps (b ∷ t) ≡ false → not_slash b ≡ true → LeadsTo (Stretch ∷ ps) (b ∷ t) (Stretch ∷ ps) t
 LeadsTo-past ps b t misses plain =

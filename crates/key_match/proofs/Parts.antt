@@ -146,50 +146,52 @@ HasPart-from piece pieces key from within h =
     let fit = HasFit-from piece pieces key from within h in
     (fit.0, fit.1, fit.2, fit.3)
 
-pub IsChosen-last : (order : Order) (piece : Piece) (pieces : List Piece) (key : List ℕ) (from found : ℕ) (ends : Ends) → ((one other : ℕ) → order piece one other → other < one) → HasFit piece pieces key from → AreEnds piece key from ends → NoneLater pieces key ends.least ends.most found → (ends.least < found → fits pieces (drop found key) ≡ true) → IsChosen order piece pieces key from found
-IsChosen-last order piece pieces key from found ends longer fit are last fitting =
+-- an end with which the rest fits, if it does with some end, and before which no other goes with which it does
+chosen_among : (order : Order) (piece : Piece) (pieces : List Piece) (key : List ℕ) (from found : ℕ) (ends : Ends) → from ≤ length key → fits (piece ∷ pieces) (drop from key) ≡ true → AreEnds piece key from ends → ends.least ≤ found → found ≤ ends.most
+    → ((end : ℕ) → ends.least ≤ end → end ≤ ends.most → fits pieces (drop end key) ≡ true → fits pieces (drop found key) ≡ true)
+    → ((other : ℕ) → from ≤ other → ends.least ≤ other → other ≤ ends.most → order piece (other - from) (found - from) → fits pieces (drop other key) ≡ false)
+    → IsChosen order piece pieces key from found
+chosen_among order piece pieces key from found ends within h are low high fitting others =
+    let fit = HasFit-from piece pieces key from within h in
     let among = are.only fit.0 fit.1 fit.2 fit.3 in
-    let low = are.from_least in
-    let high = are.within in
+    let start = are.from_least in
+    let limit = are.within in
     record {
-      after_from = let h = last.from_least in omega arith;
-      within = let h = last.to_most in omega arith;
-      stands = are.all found last.from_least last.to_most;
-      rest =
-          ⊎_elim fitting
-          (λ here.
-          ⊎_elim (λ beyond. absurd (false≢true (sym (last.later fit.0 beyond among.1) ∙ fit.4)))
-          (λ before. let same : fit.0 ≡ found = omega arith in ap (λ k. fits pieces (drop k key)) (sym same) ∙ fit.4)
-          (cases_lt found fit.0))
-          (cases_lt ends.least found);
+      after_from = omega arith;
+      within = omega arith;
+      stands = are.all found low high;
+      rest = fitting fit.0 among.0 among.1 fit.4;
       first = λ other above below stands rest before.
-          let h = longer (other - from) (found - from) before in
           let inside = are.only other above below stands in
-          let start = last.from_least in
-          absurd (false≢true (sym (last.later other (omega arith) inside.1) ∙ rest));
+          false≢true (sym (others other above inside.0 inside.1 before) ∙ rest);
     }
 
-pub IsChosen-first : (order : Order) (piece : Piece) (pieces : List Piece) (key : List ℕ) (from found : ℕ) (ends : Ends) → ((one other : ℕ) → order piece one other → one < other) → HasFit piece pieces key from → AreEnds piece key from ends → NoneEarlier pieces key ends.least ends.most found → (found < ends.most → fits pieces (drop found key) ≡ true) → IsChosen order piece pieces key from found
-IsChosen-first order piece pieces key from found ends shorter fit are last fitting =
-    let among = are.only fit.0 fit.1 fit.2 fit.3 in
-    let low = are.from_least in
-    let high = are.within in
-    record {
-      after_from = let h = last.from_least in omega arith;
-      within = let h = last.to_most in omega arith;
-      stands = are.all found last.from_least last.to_most;
-      rest =
-          ⊎_elim fitting
-          (λ here.
-          ⊎_elim (λ before. absurd (false≢true (sym (last.earlier fit.0 among.0 before) ∙ fit.4)))
-          (λ after. let top = last.to_most in let same : fit.0 ≡ found = omega arith in ap (λ k. fits pieces (drop k key)) (sym same) ∙ fit.4)
-          (cases_lt fit.0 found))
-          (cases_lt found ends.most);
-      first = λ other above below stands rest before.
-          let h = shorter (other - from) (found - from) before in
-          let inside = are.only other above below stands in
-          absurd (false≢true (sym (last.earlier other inside.0 (omega arith)) ∙ rest));
-    }
+pub IsChosen-last : (order : Order) (piece : Piece) (pieces : List Piece) (key : List ℕ) (from found : ℕ) (ends : Ends) → ((one other : ℕ) → order piece one other → other < one) → from ≤ length key → fits (piece ∷ pieces) (drop from key) ≡ true → AreEnds piece key from ends → NoneLater pieces key ends.least ends.most found → (ends.least < found → fits pieces (drop found key) ≡ true) → IsChosen order piece pieces key from found
+IsChosen-last order piece pieces key from found ends longer within h are last fitting =
+    chosen_among order piece pieces key from found ends within h are last.from_least last.to_most
+    (λ end low high fits_there.
+    ⊎_elim fitting
+    (λ here.
+    ⊎_elim (λ beyond. absurd (false≢true (sym (last.later end beyond high) ∙ fits_there)))
+    (λ before. let same : end ≡ found = omega arith in ap (λ k. fits pieces (drop k key)) (sym same) ∙ fits_there)
+    (cases_lt found end))
+    (cases_lt ends.least found))
+    (λ other above low high before.
+    let h = longer (other - from) (found - from) before in
+    let begin = are.from_least in
+    let start = last.from_least in
+    last.later other (omega arith) high)
+
+pub IsChosen-first : (order : Order) (piece : Piece) (pieces : List Piece) (key : List ℕ) (from found : ℕ) (ends : Ends) → ((one other : ℕ) → order piece one other → one < other) → from ≤ length key → fits (piece ∷ pieces) (drop from key) ≡ true → AreEnds piece key from ends → NoneEarlier pieces key ends.least ends.most found → (found < ends.most → fits pieces (drop found key) ≡ true) → IsChosen order piece pieces key from found
+IsChosen-first order piece pieces key from found ends shorter within h are none fitting =
+    chosen_among order piece pieces key from found ends within h are none.from_least none.to_most
+    (λ end low high fits_there.
+    ⊎_elim (λ before. absurd (false≢true (sym (none.earlier end low before) ∙ fits_there)))
+    (λ after. ⊎_elim fitting
+    (λ top. let limit = none.to_most in let same : end ≡ found = omega arith in ap (λ k. fits pieces (drop k key)) (sym same) ∙ fits_there)
+    (cases_lt found ends.most))
+    (cases_lt end found))
+    (λ other above low high before. let h = shorter (other - from) (found - from) before in none.earlier other low (omega arith))
 
 -- ---- the first division
 

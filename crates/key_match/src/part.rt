@@ -164,17 +164,7 @@ fn last_fit(dialect: Dialect, pattern: &[u8], key: &[u8], next: usize, ends: End
         → fits (pieces_at dialect pattern.now next) (drop result key.now) ≡ true }
 {
     let mut end = ends.most;
-    while end > ends.least
-        && !fits_from(
-            dialect,
-            pattern,
-            key,
-            Place {
-                pattern: next,
-                key: end,
-            },
-        )
-    {
+    while end > ends.least && !fits_behind(dialect, pattern, key, next, end) {
         end -= 1;
     }
     end
@@ -191,18 +181,20 @@ fn first_fit(dialect: Dialect, pattern: &[u8], key: &[u8], next: usize, ends: En
         → fits (pieces_at dialect pattern.now next) (drop result key.now) ≡ true }
 {
     let mut end = ends.least;
-    while end < ends.most
-        && !fits_from(
-            dialect,
-            pattern,
-            key,
-            Place {
-                pattern: next,
-                key: end,
-            },
-        )
-    {
+    while end < ends.most && !fits_behind(dialect, pattern, key, next, end) {
         end += 1;
     }
     end
+}
+
+// Whether the key from a place on fits the pattern from `next` on.
+fn fits_behind(dialect: Dialect, pattern: &[u8], key: &[u8], next: usize, end: usize) -> bool
+    requires { end ≤ length key.now }
+    ensures { result ≡ fits (pieces_at dialect pattern.now next) (drop end key.now) }
+{
+    let from = Place {
+        pattern: next,
+        key: end,
+    };
+    fits_from(dialect, pattern, key, from)
 }

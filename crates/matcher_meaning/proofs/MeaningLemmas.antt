@@ -1,10 +1,11 @@
 -- An expression comes to one answer.
 use Rattle.std.proofs.Common.{◌≡◌, Bool, false, List, [], Option, Some, None, Result, Ok, Err, refl, sym, ap, ◌∙◌, subst}
+use Rattle.effect_fold.specs.declared.fault.Cause.TheVariants.{RuleText}
 use Rattle.effect_fold.specs.declared.fault.Fault.{Fault}
 use Rattle.perm_value.specs.Datum.{Datum}
 use Rattle.perm_value.specs.Datum as datum
-use Rattle.matcher_read.specs.Expression.{Expression, text, whole, truth, request, policy, negation, opposite, binary, among, call, Expressions, no_more, one_more, place}
-use Rattle.matcher_meaning.specs.Answers.{Answer, then, After, Unless, with_first}
+use Rattle.matcher_read.specs.Expression.{Expression, text, whole, truth, request, policy, evaluated, negation, opposite, binary, among, call, Expressions, no_more, one_more, place}
+use Rattle.matcher_meaning.specs.Answers.{Answer, fails, then, After, Unless, with_first}
 use Rattle.matcher_meaning.specs.Environment.{Environment, request_value, policy_text}
 use Rattle.matcher_meaning.specs.Calls.{Calls}
 use Rattle.matcher_meaning.specs.Meaning.{Means, IsAmong, AreArguments, IsTruth, along, truth_at}
@@ -32,6 +33,7 @@ mutual
   one_answer agree env (truth at b) r s p q = p ∙ sym q
   one_answer agree env (request at column path) r s p q = p ∙ sym q
   one_answer agree env (policy at column) r s p q = p ∙ sym q
+  one_answer agree env (evaluated at column) r s p q = p ∙ sym q
   one_answer agree env (negation at e) r s p q = one_next (Means env e) (λ x. then x (negated at)) (one_answer agree env e) r s p q
   one_answer agree env (opposite at e) r s p q = one_next (Means env e) (λ x. then x (opposed at)) (one_answer agree env e) r s p q
   one_answer agree env (binary at op e f) r s p q =
@@ -78,6 +80,7 @@ mutual
   some_answer decide env (truth at b) = (Ok (datum.truth b), refl)
   some_answer decide env (request at column path) = (along at (request_value env column) path, refl)
   some_answer decide env (policy at column) = (Ok (datum.text (policy_text env column)), refl)
+  some_answer decide env (evaluated at column) = (fails RuleText at, refl)
   some_answer decide env (negation at e) = some_next (Means env e) (λ x. then x (negated at)) (some_answer decide env e)
   some_answer decide env (opposite at e) = some_next (Means env e) (λ x. then x (opposed at)) (some_answer decide env e)
   some_answer decide env (binary at op e f) =

@@ -6,7 +6,7 @@ use Rattle.std.specs.declared.cmp.Ordering.{Ordering}
 use Rattle.effect_fold.specs.Verdict.{Taken, ends, unsettled, allow_by, allows, settled_by, verdict_at}
 use Rattle.effect_fold.specs.declared.effect.Effect.{Effect}
 use Rattle.effect_fold.specs.declared.effect.Effect.TheVariants as effect
-use Rattle.effect_fold.specs.declared.fault.Cause.TheVariants.{Kind, Overflow, ZeroDivisor, BadAddress, BadBlock}
+use Rattle.effect_fold.specs.declared.fault.Cause.TheVariants.{Kind, Overflow, ZeroDivisor, BadAddress, BadBlock, RuleText}
 use Rattle.effect_fold.specs.declared.fault.Fault.{Fault}
 use Rattle.effect_fold.specs.declared.outcome.Outcome.{Outcome}
 use Rattle.effect_fold.specs.declared.outcome.Outcome.TheVariants.{Unmatched, Matched, Failed}
@@ -17,7 +17,7 @@ use Rattle.key_match.specs.Names.{CoversAlike}
 use Rattle.key_match.specs.Patterns.{brace_pieces, colon_pieces, glob_pieces}
 use Rattle.key_match.specs.Pieces.{Covers}
 use Rattle.key_match.specs.Stars.{AgreesToStar, part_at_star}
-use Rattle.matcher_read.specs.Expression.{Callee, function, relation, unknown, Expression, text, whole, truth, request, policy, negation, opposite, binary, among, call, Expressions, no_more, one_more, place}
+use Rattle.matcher_read.specs.Expression.{Callee, function, relation, unknown, Expression, text, whole, truth, request, policy, evaluated, negation, opposite, binary, among, call, Expressions, no_more, one_more, place}
 use Rattle.matcher_read.specs.declared.tree.Function.{Function}
 use Rattle.matcher_read.specs.declared.tree.Function.TheVariants as f
 use Rattle.matcher_read.specs.declared.tree.Operator.{Operator}
@@ -196,6 +196,7 @@ mutual
   value_clear env (truth at b) r e = same_clear r (Ok (datum.truth b)) e tt
   value_clear env (request at column path) r e = same_clear r (along at (request_value env column) path) e (along_clear at (request_value env column) path)
   value_clear env (policy at column) r e = same_clear r (Ok (datum.text (policy_text env column))) e tt
+  value_clear env (evaluated at column) r e = same_clear r (answers.fails RuleText at) e refl
   value_clear env (negation at e) r p = next_clear (Means (unrefused env) e) (λ x. answers.then x (negated at)) (value_clear env e) (λ x clear. then_clear x (negated at) clear (negated_clear at)) r p
   value_clear env (opposite at e) r p = next_clear (Means (unrefused env) e) (λ x. answers.then x (opposed at)) (value_clear env e) (λ x clear. then_clear x (opposed at) clear (opposed_clear at)) r p
   value_clear env (binary at o e g) r p =
@@ -289,6 +290,7 @@ unsettled_clear effect.AllowAndDeny outcomes = go (find allows outcomes)
     go (Some taken) = refl
     go None = refl
 unsettled_clear effect.Priority outcomes = refl
+unsettled_clear effect.SubjectPriority outcomes = refl
 
 verdict_at_clear : (e : Effect) (outcomes : List Taken) (taken : Option Taken) → IsClearFound taken → is_refusal (verdict_at e outcomes taken) ≡ false
 verdict_at_clear e outcomes (Some taken) clear = settled_by_clear taken.0 taken.1 clear

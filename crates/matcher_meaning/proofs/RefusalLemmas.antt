@@ -4,7 +4,7 @@ use Rattle.std.proofs.lemmas.Bool.{eqb-true}
 use Rattle.std.specs.Str.{bytes_eq}
 use Rattle.effect_fold.specs.declared.fault.Cause.TheVariants.{Pattern}
 use Rattle.effect_fold.specs.declared.fault.Fault.{Fault}
-use Rattle.matcher_read.specs.Expression.{Callee, function, relation, unknown, Expression, text, whole, truth, request, policy, negation, opposite, binary, among, call, Expressions, no_more, one_more}
+use Rattle.matcher_read.specs.Expression.{Callee, function, relation, unknown, Expression, text, whole, truth, request, policy, evaluated, negation, opposite, binary, among, call, Expressions, no_more, one_more}
 use Rattle.matcher_read.specs.declared.tree.Function.{Function}
 use Rattle.matcher_read.specs.declared.tree.Function.TheVariants as f
 use Rattle.perm_value.specs.Datum.{Datum}
@@ -122,6 +122,7 @@ mutual
   value_keeps env at pattern (truth place b) r p = inl p
   value_keeps env at pattern (request place column path) r p = inl p
   value_keeps env at pattern (policy place column) r p = inl p
+  value_keeps env at pattern (evaluated place column) r p = inl p
   value_keeps env at pattern (negation place e) r p = then_keeps at (Means (unrefused env) e) (Means (refusing env at pattern) e) (λ x. answers.then x (negated place)) refl (value_keeps env at pattern e) r p
   value_keeps env at pattern (opposite place e) r p = then_keeps at (Means (unrefused env) e) (Means (refusing env at pattern) e) (λ x. answers.then x (opposed place)) refl (value_keeps env at pattern e) r p
   value_keeps env at pattern (binary place op e g) r p =

@@ -1,11 +1,11 @@
 -- What a matcher means, operands being evaluated from the left (Casbin, syntax for models: matchers).
-use Rattle.std.specs.Prelude.{◌≡◌, ℕ, ◌||◌, Bool, true, false, List, [], ◌∷◌, Option, Some, None, Result, Ok}
-use Rattle.effect_fold.specs.declared.fault.Cause.TheVariants.{Kind, NoAttribute}
+use Rattle.std.specs.Prelude.{◌≡◌, ℕ, Bool, true, false, List, [], ◌∷◌, Option, Some, None, Result, Ok}
+use Rattle.effect_fold.specs.declared.fault.Cause.TheVariants.{Kind, NoAttribute, RuleText}
 use Rattle.effect_fold.specs.declared.fault.Fault.{Fault}
 use Rattle.perm_value.specs.Attribute.{attribute}
 use Rattle.perm_value.specs.Datum.{Datum}
 use Rattle.perm_value.specs.Datum as datum
-use Rattle.matcher_read.specs.Expression.{Callee, function, Expression, text, whole, truth, request, policy, negation, opposite, binary, among, call, Expressions, no_more, one_more, place}
+use Rattle.matcher_read.specs.Expression.{Callee, function, Expression, text, whole, truth, request, policy, evaluated, negation, opposite, binary, among, call, Expressions, no_more, one_more, place, some_node, among_some}
 use Rattle.matcher_read.specs.declared.tree.Function.TheVariants.{RegexMatch}
 use Rattle.matcher_meaning.specs.Answers.{Answer, fails, then, After, Unless, with_first}
 use Rattle.matcher_meaning.specs.Calls.{Calls}
@@ -26,6 +26,8 @@ abbrev mutual
   Means env (truth at b) r = r ≡ Ok (datum.truth b)
   Means env (request at column path) r = r ≡ along at (request_value env column) path
   Means env (policy at column) r = r ≡ Ok (datum.text (policy_text env column))
+  -- rules held in a column are not read yet, so each is none
+  Means env (evaluated at column) r = r ≡ fails RuleText at
   Means env (negation at e) r = (x : Answer) × Means env e x × (r ≡ then x (negated at))
   Means env (opposite at e) r = (x : Answer) × Means env e x × (r ≡ then x (opposed at))
   Means env (binary at op e f) r = (x : Answer) × Means env e x × After x (λ d. Unless (settled at op d) ((y : Answer) × Means env f y × (r ≡ then y (joined at op d))) r) r
@@ -55,20 +57,15 @@ abbrev pub is_search : Callee → Bool
 is_search (function RegexMatch) = true
 is_search _ = false
 
--- the expression calls `regexMatch`
-abbrev mutual
-  pub searches : Expression → Bool
-  searches (text at bytes) = false
-  searches (whole at n) = false
-  searches (truth at b) = false
-  searches (request at column path) = false
-  searches (policy at column) = false
-  searches (negation at e) = searches e
-  searches (opposite at e) = searches e
-  searches (binary at op e f) = searches e || searches f
-  searches (among at e es) = searches e || some_searches es
-  searches (call at callee es) = is_search callee || some_searches es
+-- a call of `regexMatch`
+abbrev pub is_search_call : Expression → Bool
+is_search_call (call at callee es) = is_search callee
+is_search_call _ = false
 
-  pub some_searches : Expressions → Bool
-  some_searches no_more = false
-  some_searches (one_more e es) = searches e || some_searches es
+-- the expression calls `regexMatch`
+abbrev pub searches : Expression → Bool
+searches e = some_node is_search_call e
+
+-- one of the expressions does
+abbrev pub some_searches : Expressions → Bool
+some_searches es = among_some is_search_call es

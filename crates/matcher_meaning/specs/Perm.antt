@@ -1,12 +1,14 @@
 -- What a model, a policy and a request come to (PERM: policy, effect, request, matchers), without role relations.
-use Rattle.std.specs.Prelude.{◌≡◌, ◌⊎◌, ℕ, ◌+◌, ◌==◌, ◌||◌, Bool, true, false, if◌then◌else◌, List, [], ◌∷◌, codes, Option, Some, None, Result, Ok, Err, position}
+use Rattle.std.specs.Prelude.{◌≡◌, ◌⊎◌, ℕ, ◌+◌, ◌==◌, Bool, true, false, if◌then◌else◌, List, [], ◌∷◌, codes, Option, Some, None, Result, Ok, Err, position}
 use Rattle.std.specs.Str.{bytes_eq}
 use Rattle.effect_fold.specs.declared.effect.Effect.{Effect}
 use Rattle.effect_fold.specs.declared.fault.Cause.{Cause}
 use Rattle.effect_fold.specs.declared.fault.Cause.TheVariants.{Pattern}
 use Rattle.effect_fold.specs.declared.fault.Fault as fault
 use Rattle.perm_value.specs.Datum.{Datum}
-use Rattle.matcher_read.specs.Expression.{Expression, text, whole, truth, request, policy, negation, opposite, binary, among, call, Expressions, no_more, one_more}
+use Rattle.matcher_read.specs.Expression.{Expression, some_node}
+use Rattle.matcher_read.specs.Kinds.{is_of}
+use Rattle.matcher_read.specs.declared.kinds.NodeKind.TheVariants.{PolicyColumn}
 use Rattle.matcher_meaning.specs.Environment.{without_roles, field_of}
 use Rattle.matcher_meaning.specs.Meaning.{IsTruth}
 use Rattle.effect_fold.specs.Verdict.{Taken, verdict}
@@ -23,22 +25,8 @@ pub record Judging : Type 0 where
   pub matcher : Expression
 
 -- the expression names a column of the policy
-abbrev mutual
-  pub names_policy : Expression → Bool
-  names_policy (text at bytes) = false
-  names_policy (whole at n) = false
-  names_policy (truth at b) = false
-  names_policy (request at column path) = false
-  names_policy (policy at column) = true
-  names_policy (negation at e) = names_policy e
-  names_policy (opposite at e) = names_policy e
-  names_policy (binary at op e f) = names_policy e || names_policy f
-  names_policy (among at e es) = names_policy e || name_policy es
-  names_policy (call at callee es) = name_policy es
-
-  pub name_policy : Expressions → Bool
-  name_policy no_more = false
-  name_policy (one_more e es) = names_policy e || name_policy es
+abbrev pub names_policy : Expression → Bool
+names_policy e = some_node (λ node. is_of node PolicyColumn) e
 
 -- whether a text is `allow` (true) or `deny` (false); None where it is neither
 abbrev pub word_of : List ℕ → Option Bool

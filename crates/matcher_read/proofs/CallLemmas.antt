@@ -1,9 +1,10 @@
 -- What names call.
-use Rattle.std.proofs.Common.{◌≡◌, ℕ, ◌+◌, Bool, false, cond, List, [], ◌∷◌, length, codes, Option, Some, None, option_map, refl, ap, sym, ◌∙◌, arith, find, position, map}
+use Rattle.std.proofs.Common.{◌≡◌, ℕ, ◌+◌, Bool, true, false, cond, List, [], ◌∷◌, length, codes, Option, Some, None, option_map, refl, ap, sym, ◌∙◌, arith, find, position, map}
+use Rattle.std.proofs.lemmas.Slice.Eq.{bytes_eq-Decides}
 use Rattle.std.specs.Str.{bytes_eq}
 use Rattle.matcher_read.specs.Calls.{callee_of, functions, function_or, is_known, name_of, relation_at, relation_names}
 use Rattle.std.proofs.lemmas.List.{length-map}
-use Rattle.matcher_read.specs.Expression.{Expression, function, relation, expression, expressions_of, count}
+use Rattle.matcher_read.specs.Expression.{Expression, function, relation, unknown, expression, expressions_of, count}
 use Rattle.matcher_read.specs.Helps.TokenLists.{pieces}
 use Rattle.matcher_read.specs.declared.tree.Function.{Function}
 use Rattle.matcher_read.specs.declared.tree.Function.TheVariants as f
@@ -43,13 +44,17 @@ calls_relation bs number none e =
     pieces_cases (λ ps. callee_of ps ≡ relation number) bs (ap (function_or bs) (sym none) ∙ relation_is bs number (position (bytes_eq bs) relation_names) e)
     (λ a b cs more. absurd (let no : Some number ≡ None = e ∙ ap (option_map (λ (place : ℕ). place + 1)) (no_relation bs a b cs more) in cc))
 
-unknown_is : (bs : List ℕ) (o : Option ℕ) → None ≡ option_map (λ (place : ℕ). place + 1) o → is_known (relation_at bs o) ≡ false
-unknown_is bs None e = refl
-unknown_is bs (Some place) e = absurd cc
+unknown_is : (bs : List ℕ) (o : Option ℕ) → None ≡ option_map (λ (place : ℕ). place + 1) o → bytes_eq bs (codes "eval") ≡ false → is_known (relation_at bs o) ≡ false
+unknown_is bs None e other = other
+unknown_is bs (Some place) e other = absurd cc
 
-pub calls_nothing : (bs : List ℕ) → None ≡ find (λ (found : Function). bytes_eq bs (name_of found)) functions → None ≡ option_map (λ (place : ℕ). place + 1) (position (bytes_eq bs) relation_names) → is_known (callee_of (pieces bs)) ≡ false
-calls_nothing bs none e =
-    pieces_cases (λ ps. is_known (callee_of ps) ≡ false) bs (ap (λ (o : Option Function). is_known (function_or bs o)) (sym none) ∙ unknown_is bs (position (bytes_eq bs) relation_names) e) (λ a b cs more. refl)
+pub calls_nothing : (bs : List ℕ) → None ≡ find (λ (found : Function). bytes_eq bs (name_of found)) functions → None ≡ option_map (λ (place : ℕ). place + 1) (position (bytes_eq bs) relation_names) → bytes_eq bs (codes "eval") ≡ false → is_known (callee_of (pieces bs)) ≡ false
+calls_nothing bs none e other =
+    pieces_cases (λ ps. is_known (callee_of ps) ≡ false) bs (ap (λ (o : Option Function). is_known (function_or bs o)) (sym none) ∙ unknown_is bs (position (bytes_eq bs) relation_names) e other) (λ a b cs more. refl)
+
+-- the name `eval`
+pub calls_eval : (bs : List ℕ) → bytes_eq bs (codes "eval") ≡ true → callee_of (pieces bs) ≡ unknown (codes "eval" ∷ [])
+calls_eval bs e = rw ((bytes_eq-Decides bs (codes "eval")).0 e) refl
 
 -- as many as the list has, and as there are trees
 pub count_is : (es : List Expression) → count (expressions_of es) ≡ length es

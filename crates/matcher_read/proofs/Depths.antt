@@ -1,50 +1,21 @@
 -- How many levels stand round the places that the machine comes to.
-use Rattle.std.proofs.Common.{◌≡◌, ℕ, suc, ◌+◌, ◌<◌, ◌≤◌, nat_le, Bool, true, false, cond, List, [], ◌∷◌, length, Option, Some, None, option_and_then, option_map, refl, subst, arith, leb-true}
+use Rattle.std.proofs.Common.{◌≡◌, ℕ, suc, ◌+◌, ◌<◌, ◌≤◌, nat_le, Bool, true, false, cond, List, [], ◌∷◌, length, Option, Some, None, option_and_then, option_map, refl, sym, subst, arith, leb-true}
 use Rattle.matcher_read.specs.Expression.{Expression}
 use Rattle.matcher_read.specs.Faults.{IsOpenWithin}
 use Rattle.matcher_read.specs.Tokens.{Placed, Token, name, called, number, unclosed, operator, exclamation, opening, closing, comma}
 use Rattle.matcher_read.specs.Tokens as token
 use Rattle.matcher_read.specs.declared.tree.Operator.{Operator}
 use Rattle.matcher_read.specs.declared.tree.Operator.TheVariants as op
-use Rattle.matcher_read.specs.Helps.Machine.{Left, Lefts, Kind, parentheses, members, arguments, Frame, State, Control, wants, has, has_members, opens, start, with_operand, goes_within, joined_left, sum_of, Rank, term_rank, sum_rank, comparing_rank, and_rank, or_rank, rank, joins, operates, asks, parts, closes, name_operand, is_in, step_wants, step_by, step, levels_of, depth}
+use Rattle.matcher_read.specs.Helps.Machine.{Left, Lefts, Kind, parentheses, members, arguments, Frame, State, Control, wants, has, has_members, opens, start, with_operand, goes_within, levels_at, joined_left, sum_of, Rank, term_rank, sum_rank, comparing_rank, and_rank, or_rank, rank, joins, operates, asks, parts, closes, name_operand, is_in, step_wants, step_by, step, levels_of, depth}
 use Rattle.matcher_read.proofs.Opens.{awaited, open_within}
 use Rattle.matcher_read.proofs.Passes.{within_more}
 
-within_depth_from : (most : ℕ) (ts : List Placed) (s final : State) → depth s ≤ most → goes_within most s ts ≡ Some final → depth final ≤ most
-within_depth_from most [] s final few e =
-    let same : s ≡ final = cc in
-    subst (λ (x : State). depth x ≤ most) same few
-within_depth_from most (t ∷ ts) s final few e = each (λ next. within_depth_from most ts next final) (step s t) e where
-  each : ((next : State) → depth next ≤ most → goes_within most next ts ≡ Some final → depth final ≤ most) → (o : Option State)
-      → option_and_then (λ next. cond (nat_le (depth next) most) (goes_within most next ts) None) o ≡ Some final → depth final ≤ most
-  each further None k = absurd cc
-  each further (Some next) k = both (nat_le (depth next) most) refl k where
-    both : (b : Bool) → nat_le (depth next) most ≡ b → cond b (goes_within most next ts) None ≡ Some final → depth final ≤ most
-    both true h f = further next (leb-true _ _ h) f
-    both false h f = absurd cc
-
-pub within_depth : (most : ℕ) (ts : List Placed) (s : State) → goes_within most start ts ≡ Some s → depth s ≤ most
-within_depth most ts s e = within_depth_from most ts start s (omega arith) e
-
--- where no parenthesis has to open next
-pub open_within_here : (most : ℕ) (ts : List Placed) (s : State) → goes_within most start ts ≡ Some s → awaited s.control ≡ 0 → IsOpenWithin most ts
-open_within_here most ts s e none = open_within most ts s e (omega (arith, none, within_depth most ts s e))
-
-awaited_few : (c : Control) → awaited c ≤ 1
-awaited_few wants = omega arith
-awaited_few (has e) = omega arith
-awaited_few (has_members e) = omega arith
-awaited_few (opens kind) = omega arith
-
-pub open_within_one_more : (most : ℕ) (ts : List Placed) (s : State) → goes_within most start ts ≡ Some s → IsOpenWithin (suc most) ts
-open_within_one_more most ts s e =
-    open_within (suc most) ts s (within_more most (suc most) start s ts (omega arith) e) (omega (arith, awaited_few s.control, within_depth most ts s e))
-
 -- ---- the tokens that open a level
 
--- `(`, `!` and `-`
+-- `(`, also that of `eval ( p.column )`, `!` and `-`
 abbrev pub encloses : Token → Bool
 encloses opening = true
+encloses (token.eval at_opening column) = true
 encloses exclamation = true
 encloses (operator op.Minus) = true
 encloses _ = false
@@ -55,15 +26,19 @@ Settles (Some next) = awaited next.control ≡ 0
 
 settles_by : (c : Control) (at : ℕ) (t : Token) (lefts : Lefts) (frames : List Frame) → encloses t ≡ true → Settles (step_by c at t lefts frames)
 settles_by wants at opening lefts frames h = refl
+settles_by wants at (token.eval at_opening column) lefts frames h = refl
 settles_by wants at exclamation lefts frames h = refl
 settles_by wants at (operator op.Minus) lefts frames h = refl
 settles_by (has e) at opening lefts frames h = tt
+settles_by (has e) at (token.eval at_opening column) lefts frames h = tt
 settles_by (has e) at exclamation lefts frames h = tt
 settles_by (has e) at (operator op.Minus) lefts frames h = refl
 settles_by (has_members e) at opening lefts frames h = tt
+settles_by (has_members e) at (token.eval at_opening column) lefts frames h = tt
 settles_by (has_members e) at exclamation lefts frames h = tt
 settles_by (has_members e) at (operator op.Minus) lefts frames h = tt
 settles_by (opens kind) at opening lefts frames h = refl
+settles_by (opens kind) at (token.eval at_opening column) lefts frames h = tt
 settles_by (opens kind) at exclamation lefts frames h = tt
 settles_by (opens kind) at (operator op.Minus) lefts frames h = tt
 settles_by c at _ lefts frames h = absurd cc
@@ -128,6 +103,7 @@ module _ (at : ℕ) (lefts : Lefts) (frames : List Frame) where
   no_deeper_by : (c : Control) (t : Token) → encloses t ≡ false → NoDeeper (length lefts.signs + levels_of frames) (step_by c at t lefts frames)
   no_deeper_by c opening h = absurd cc
   no_deeper_by c exclamation h = absurd cc
+  no_deeper_by c (token.eval at_opening column) h = absurd cc
   no_deeper_by wants (name names) h = operand_no_deeper lefts frames (name_operand at names)
   no_deeper_by wants (called names) h = omega arith
   no_deeper_by wants (number digits) h = omega arith
@@ -147,12 +123,77 @@ module _ (at : ℕ) (lefts : Lefts) (frames : List Frame) where
   no_deeper_by (has_members e) _ h = tt
   no_deeper_by (opens kind) _ h = tt
 
--- only a token that opens a level leads to more levels
-pub deeper_encloses : (s next : State) (t : Placed) → step s t ≡ Some next → depth s < depth next → encloses t.token ≡ true
+-- `eval ( p.column )` leads to no more levels
+eval_no_deeper : (c : Control) (at at_opening : ℕ) (column : List ℕ) (lefts : Lefts) (frames : List Frame) → NoDeeper (length lefts.signs + levels_of frames) (step_by c at (token.eval at_opening column) lefts frames)
+eval_no_deeper wants at at_opening column lefts frames = omega arith
+eval_no_deeper (has e) at at_opening column lefts frames = tt
+eval_no_deeper (has_members e) at at_opening column lefts frames = tt
+eval_no_deeper (opens kind) at at_opening column lefts frames = tt
+
+-- the state that is next has no more levels than stand round the token
+pub depth_reached : (s next : State) (t : Placed) → step s t ≡ Some next → depth next ≤ levels_at s t.token next
 unfolding step
-deeper_encloses s next t e more = each (encloses t.token) refl where
-  each : (b : Bool) → encloses t.token ≡ b → b ≡ true
-  each true h = refl
-  each false h =
-      let few : depth next ≤ depth s = subst (NoDeeper (depth s)) e (no_deeper_by t.at s.lefts s.frames s.control t.token h) in
-      absurd (omega arith)
+depth_reached s next t e = each t.token e where
+  each : (tk : Token) → step_by s.control t.at tk s.lefts s.frames ≡ Some next → depth next ≤ levels_at s tk next
+  each (token.eval at_opening column) h =
+      let few : depth next ≤ depth s = subst (NoDeeper (depth s)) h (eval_no_deeper s.control t.at at_opening column s.lefts s.frames) in
+      omega (arith, few)
+  each _ h = omega arith
+
+-- only a token that opens a level leads to more levels
+pub deeper_encloses : (s next : State) (t : Placed) → step s t ≡ Some next → depth s < levels_at s t.token next → encloses t.token ≡ true
+unfolding step
+deeper_encloses s next t e more = each t.token e more where
+  flat : (tk : Token) → encloses tk ≡ false → step_by s.control t.at tk s.lefts s.frames ≡ Some next → depth s < depth next → true ≡ false
+  flat tk h e more =
+      let few : depth next ≤ depth s = subst (NoDeeper (depth s)) e (no_deeper_by t.at s.lefts s.frames s.control tk h) in
+      absurd (omega (arith, few, more))
+
+  by_test : (tk : Token) (b : Bool) → encloses tk ≡ b → step_by s.control t.at tk s.lefts s.frames ≡ Some next → depth s < depth next → b ≡ true
+  by_test tk true h e more = refl
+  by_test tk false h e more = sym (flat tk h e more)
+
+  each : (tk : Token) → step_by s.control t.at tk s.lefts s.frames ≡ Some next → depth s < levels_at s tk next → encloses tk ≡ true
+  each (token.eval at_opening column) e more = refl
+  each (name names) e more = by_test (name names) false refl e more
+  each (called names) e more = by_test (called names) false refl e more
+  each (number digits) e more = by_test (number digits) false refl e more
+  each (token.text bytes) e more = by_test (token.text bytes) false refl e more
+  each (unclosed bytes) e more = by_test (unclosed bytes) false refl e more
+  each (operator o) e more = by_test (operator o) (encloses (operator o)) refl e more
+  each exclamation e more = refl
+  each opening e more = refl
+  each closing e more = by_test closing false refl e more
+  each comma e more = by_test comma false refl e more
+
+-- ---- within the levels
+
+within_depth_from : (most : ℕ) (ts : List Placed) (s final : State) → depth s ≤ most → goes_within most s ts ≡ Some final → depth final ≤ most
+within_depth_from most [] s final few e =
+    let same : s ≡ final = cc in
+    subst (λ (x : State). depth x ≤ most) same few
+within_depth_from most (t ∷ ts) s final few e = each (λ next. within_depth_from most ts next final) (step s t) refl e where
+  each : ((next : State) → depth next ≤ most → goes_within most next ts ≡ Some final → depth final ≤ most) → (o : Option State) → step s t ≡ o
+      → option_and_then (λ next. cond (nat_le (levels_at s t.token next) most) (goes_within most next ts) None) o ≡ Some final → depth final ≤ most
+  each further None stepped k = absurd cc
+  each further (Some next) stepped k = both (nat_le (levels_at s t.token next) most) refl k where
+    both : (b : Bool) → nat_le (levels_at s t.token next) most ≡ b → cond b (goes_within most next ts) None ≡ Some final → depth final ≤ most
+    both true h f = further next (omega (arith, leb-true _ _ h, depth_reached s next t stepped)) f
+    both false h f = absurd cc
+
+pub within_depth : (most : ℕ) (ts : List Placed) (s : State) → goes_within most start ts ≡ Some s → depth s ≤ most
+within_depth most ts s e = within_depth_from most ts start s (omega arith) e
+
+-- where no parenthesis has to open next
+pub open_within_here : (most : ℕ) (ts : List Placed) (s : State) → goes_within most start ts ≡ Some s → awaited s.control ≡ 0 → IsOpenWithin most ts
+open_within_here most ts s e none = open_within most ts s e (omega (arith, none, within_depth most ts s e))
+
+awaited_few : (c : Control) → awaited c ≤ 1
+awaited_few wants = omega arith
+awaited_few (has e) = omega arith
+awaited_few (has_members e) = omega arith
+awaited_few (opens kind) = omega arith
+
+pub open_within_one_more : (most : ℕ) (ts : List Placed) (s : State) → goes_within most start ts ≡ Some s → IsOpenWithin (suc most) ts
+open_within_one_more most ts s e =
+    open_within (suc most) ts s (within_more most (suc most) start s ts (omega arith) e) (omega (arith, awaited_few s.control, within_depth most ts s e))

@@ -2,7 +2,7 @@
 use Rattle.std.proofs.Common.{◌≡◌, ℕ, true, false, List, [], ◌∷◌, ◌++◌, codes, Option, Some, None, option_and_then, option_map, pos, refl, ap, ◌∙◌}
 use Rattle.std.proofs.lemmas.Bool.{false≢true}
 use Rattle.std.specs.Str.Parse.{digits_value}
-use Rattle.matcher_read.specs.Expression.{Expression, text, whole, truth, request, policy, binary}
+use Rattle.matcher_read.specs.Expression.{Expression, text, whole, truth, request, policy, evaluated, binary}
 use Rattle.matcher_read.specs.Grammar.{Rule, or_rule, and_rule, cmp_rule, sum_rule, term_rule, unary_rule, IsPartOf, and_or, cmp_and, sum_cmp, term_sum, unary_term, prim_unary, Joins, or_joins, and_joins, plus_joins, minus_joins, times_joins, over_joins, remainder_joins}
 use Rattle.matcher_read.specs.Tokens.{Placed, placed, operator}
 use Rattle.matcher_read.specs.Tokens as token
@@ -221,3 +221,8 @@ pub step_policy : (at : ℕ) (column : List ℕ) (l : Lefts) (frames : List Fram
     → step (state_of wants l frames) (placed at (token.name (codes "p" ∷ column ∷ []))) ≡ Some (with_operand l frames (policy at column))
 unfolding step
 step_policy at column l frames = refl
+
+pub step_eval : (at at_opening : ℕ) (column : List ℕ) (l : Lefts) (frames : List Frame)
+    → step (state_of wants l frames) (placed at (token.eval at_opening column)) ≡ Some (with_operand l frames (evaluated at column))
+unfolding step
+step_eval at at_opening column l frames = refl

@@ -1,19 +1,18 @@
 -- A text says one matcher at most, and else has one first fault at most.
-use Rattle.std.proofs.Common.{◌≡◌, ℕ, ◌<◌, inl, inr, Bool, true, false, cond, List, [], ◌∷◌, length, Option, None, Ok, Err, refl, sym, ◌∙◌, subst, arith}
-use Rattle.std.specs.List.{list_all}
+use Rattle.std.proofs.Common.{◌≡◌, ℕ, zero, suc, ◌<◌, ◌&&◌, inl, inr, Bool, true, false, cond, List, [], ◌∷◌, length, drop, Option, Some, None, option_map, Ok, Err, refl, ap, sym, ◌∙◌, subst, arith}
+use Rattle.std.proofs.lemmas.Bool.{and_parts}
 use Rattle.matcher_read.specs.Expression.{Expression, nodes}
 use Rattle.matcher_read.specs.Faults.{IsFirst, IsFault, too_long, within}
 use Rattle.matcher_read.specs.Grammar.{Derives, or_rule}
 use Rattle.matcher_read.specs.Matcher.{IsMatcher, is_closed, most_levels, most_nodes}
-use Rattle.matcher_read.specs.Tokens.{Placed, Token, name, called, opening, is_reserved, name_before, token_before, with_calls}
+use Rattle.matcher_read.specs.Tokens.{Placed, placed, Token, name, called, eval, opening, closing, is_reserved, name_before, token_before, with_calls, is_eval, is_opening, is_closing, column_of, eval_column, eval_at, evals_behind, as_read}
 use Rattle.matcher_read.specs.declared.fault.MatcherFault.{MatcherFault}
 use Rattle.matcher_read.proofs.CuttingLemmas.{cut_is_one}
 use Rattle.matcher_read.specs.Helps.Machine.{start, verdict}
+use Rattle.matcher_read.proofs.Passes.{cond_some}
+use Rattle.matcher_read.proofs.RunParts.{are_closed}
 use Rattle.matcher_read.proofs.Runs.{derives_one, whole_reads}
 use Rattle.matcher_read.proofs.Verdicts.{Shows, first_verdict}
-
-abbrev pub are_closed : List Placed → Bool
-are_closed ts = list_all (λ (t : Placed). is_closed t.token) ts
 
 name_closed : (parts : List (List ℕ)) (next : Token) → is_closed (name_before parts next) ≡ true
 name_closed parts opening = by_word (is_reserved parts)
@@ -29,18 +28,73 @@ before_closed (name parts) [] = refl
 before_closed (name parts) (next ∷ behind) = name_closed parts next.token
 before_closed _ behind = refl
 
-pub calls_closed : (ts : List Placed) → are_closed (with_calls ts) ≡ are_closed ts
+calls_closed : (ts : List Placed) → are_closed (with_calls ts) ≡ are_closed ts
 calls_closed [] = refl
 calls_closed (t ∷ ts) = rw (before_closed t.token ts, calls_closed ts) refl
 
+-- `eval ( p.column )` is closed, and so are its tokens
+eval_closed : (t : Token) → is_eval t ≡ true → is_closed t ≡ true
+eval_closed (called parts) h = refl
+eval_closed _ h = absurd cc
+
+opening_closed : (t : Token) → is_opening t ≡ true → is_closed t ≡ true
+opening_closed opening h = refl
+opening_closed _ h = absurd cc
+
+closing_closed : (t : Token) → is_closing t ≡ true → is_closed t ≡ true
+closing_closed closing h = refl
+closing_closed _ h = absurd cc
+
+column_closed : (t : Token) (column : List ℕ) → column_of t ≡ Some column → is_closed t ≡ true
+column_closed (name parts) column h = refl
+column_closed _ column h = absurd cc
+
+abbrev onto_evals : Placed → List Placed → Option Placed → List Placed
+onto_evals t ts o = elim o [
+  | Some form ↦ form ∷ evals_behind 3 ts
+  | None ↦ t ∷ evals_behind 0 ts
+]
+
+abbrev IsShut : Placed → List Placed → Option Placed → Type 0
+IsShut t ts None = Unit {0}
+IsShut t ts (Some form) = (is_closed form.token ≡ true) × (are_closed (t ∷ ts) ≡ are_closed (drop 3 ts))
+
+form_shut : (t a b c : Placed) (rest : List Placed) → (o : Option (List ℕ)) → eval_column t.token a.token b.token c.token ≡ o
+    → IsShut t (a ∷ b ∷ c ∷ rest) (option_map (λ column. placed t.at (eval a.at column)) o)
+form_shut t a b c rest None e = tt
+form_shut t a b c rest (Some column) e =
+    let test = cond_some (is_eval t.token && (is_opening a.token && is_closing c.token)) (column_of b.token) column e in
+    let first = and_parts (is_eval t.token) (is_opening a.token && is_closing c.token) test.0 in
+    let others = and_parts (is_opening a.token) (is_closing c.token) first.1 in
+    (refl, rw (eval_closed t.token first.0, opening_closed a.token others.0, column_closed b.token column test.1, closing_closed c.token others.1) refl)
+
+shut : (t : Placed) (ts : List Placed) → IsShut t ts (eval_at t ts)
+shut t [] = tt
+shut t (a ∷ []) = tt
+shut t (a ∷ b ∷ []) = tt
+shut t (a ∷ b ∷ c ∷ rest) = form_shut t a b c rest (eval_column t.token a.token b.token c.token) refl
+
+evals_closed : (n : ℕ) (ts : List Placed) → are_closed (evals_behind n ts) ≡ are_closed (drop n ts)
+evals_closed zero [] = refl
+evals_closed (suc n) [] = refl
+evals_closed (suc n) (t ∷ ts) = evals_closed n ts
+evals_closed zero (t ∷ ts) = by_form (evals_closed 3 ts) (evals_closed 0 ts) (eval_at t ts) (shut t ts)
+  where
+    by_form : are_closed (evals_behind 3 ts) ≡ are_closed (drop 3 ts) → are_closed (evals_behind 0 ts) ≡ are_closed ts → (o : Option Placed) → IsShut t ts o → are_closed (onto_evals t ts o) ≡ are_closed (t ∷ ts)
+    by_form three one None h = ap (λ (b : Bool). is_closed t.token && b) one
+    by_form three one (Some form) h = ap (λ (b : Bool). b && are_closed (evals_behind 3 ts)) h.0 ∙ (three ∙ sym h.1)
+
+pub read_closed : (ts : List Placed) → are_closed (as_read ts) ≡ are_closed ts
+read_closed ts = evals_closed 0 (with_calls ts) ∙ calls_closed ts
+
 -- the verdict of a matcher's tokens
-pub matcher_verdict : {bytes : List ℕ} {e : Expression} (m : IsMatcher bytes e) → verdict (length bytes) None start (with_calls m.tokens) ≡ Ok e
-matcher_verdict {bytes} m = whole_reads (length bytes) m.derived m.sound (calls_closed m.tokens ∙ m.closed)
+pub matcher_verdict : {bytes : List ℕ} {e : Expression} (m : IsMatcher bytes e) → verdict (length bytes) None start (as_read m.tokens) ≡ Ok e
+matcher_verdict {bytes} m = whole_reads (length bytes) m.derived m.sound (read_closed m.tokens ∙ m.closed)
 
 pub one_matcher : (bytes : List ℕ) (first second : Expression) → IsMatcher bytes first → IsMatcher bytes second → first ≡ second
 one_matcher bytes first second m n =
     let same = cut_is_one m.cut n.cut in
-    derives_one m.derived (subst (λ ts. Derives most_levels or_rule (with_calls ts) second) (sym same.0) n.derived)
+    derives_one m.derived (subst (λ ts. Derives most_levels or_rule (as_read ts) second) (sym same.0) n.derived)
 
 -- two first faults of the same tokens
 one_first : {size : ℕ} {stray : Option ℕ} {ts : List Placed} {f g : MatcherFault} → IsFirst size ts stray f → IsFirst size ts stray g → f ≡ g
@@ -58,7 +112,7 @@ one_fault bytes _ second (too_long over) (within few cut first) = absurd (omega 
 one_fault bytes first _ (within few cut found) (too_long over) = absurd (omega arith)
 one_fault bytes first second (within {tokens = ts} {stray = stray} few cut found) (within {tokens = us} {stray = stray'} few' cut' found') =
     let same = cut_is_one cut cut' in
-    one_first found (subst (λ o. IsFirst (length bytes) (with_calls ts) o second) (sym same.1) (subst (λ vs. IsFirst (length bytes) (with_calls vs) stray' second) (sym same.0) found'))
+    one_first found (subst (λ o. IsFirst (length bytes) (as_read ts) o second) (sym same.1) (subst (λ vs. IsFirst (length bytes) (as_read vs) stray' second) (sym same.0) found'))
 
 pub no_matcher_with_fault : (bytes : List ℕ) (f : MatcherFault) (e : Expression) → IsFault bytes f → ¬ (IsMatcher bytes e)
 no_matcher_with_fault bytes _ e (too_long over) m = let few = m.few_bytes in absurd (omega arith)
@@ -67,10 +121,10 @@ no_matcher_with_fault bytes f e (within {tokens = ts} {stray = stray} few cut fo
     same : (ts ≡ m.tokens) × (stray ≡ None)
     same = cut_is_one cut m.cut
 
-    moved : IsFirst (length bytes) (with_calls m.tokens) None f
-    moved = subst (λ o. IsFirst (length bytes) (with_calls m.tokens) o f) same.1 (subst (λ us. IsFirst (length bytes) (with_calls us) stray f) same.0 found)
+    moved : IsFirst (length bytes) (as_read m.tokens) None f
+    moved = subst (λ o. IsFirst (length bytes) (as_read m.tokens) o f) same.1 (subst (λ us. IsFirst (length bytes) (as_read us) stray f) same.0 found)
 
-    by_shown : Shows (verdict (length bytes) None start (with_calls m.tokens)) f → ⊥
+    by_shown : Shows (verdict (length bytes) None start (as_read m.tokens)) f → ⊥
     by_shown (inl a) = let bad : Err f ≡ Ok e = sym a ∙ matcher_verdict m in cc
     by_shown (inr (d, a, is, many)) =
         let same' : Ok d ≡ Ok e = sym a ∙ matcher_verdict m in

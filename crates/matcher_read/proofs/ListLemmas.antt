@@ -160,11 +160,11 @@ pub peek-is : (current : Option PlacedToken) (place : ℕ) (bytes : List ℕ) (l
 peek-is (Some token) place bytes list e left = subst (λ (l : TokenList). l.tokens ≡ placed_of token ∷ drop 1 l.tokens) e refl
 peek-is None place bytes list e left = subst (λ (l : TokenList). l.tokens ≡ []) e (ap with_calls (cut-end place bytes left.has_current))
 
-pub advance-is : (current : Option Placed) (place : ℕ) (bytes : List ℕ) (list : TokenList) → listed current place bytes ≡ list → IsLeft current place bytes → 0 < length list.tokens → with_calls (cut place bytes).tokens ≡ drop 1 list.tokens
-advance-is (Some token) place bytes list e left some = subst (λ (l : TokenList). with_calls (cut place bytes).tokens ≡ drop 1 l.tokens) e refl
-advance-is None place bytes list e left some =
-    let none : list.tokens ≡ [] = subst (λ (l : TokenList). l.tokens ≡ []) e (ap with_calls (cut-end place bytes left.has_current)) in
-    absurd (omega (arith, ap length none))
+pub advance-is : (current : Option Placed) (place : ℕ) (bytes : List ℕ) (list : TokenList) → listed current place bytes ≡ list → IsLeft current place bytes → with_calls (cut place bytes).tokens ≡ drop 1 list.tokens
+advance-is (Some token) place bytes list e left = subst (λ (l : TokenList). with_calls (cut place bytes).tokens ≡ drop 1 l.tokens) e refl
+advance-is None place bytes list e left =
+    let none : with_calls (cut place bytes).tokens ≡ [] = ap with_calls (cut-end place bytes left.has_current) in
+    subst (λ (l : TokenList). with_calls (cut place bytes).tokens ≡ drop 1 l.tokens) e (none ∙ ap (drop 1) (sym none))
 
 pub end-is : (current : Option Placed) (place : ℕ) (bytes : List ℕ) (list : TokenList) → listed current place bytes ≡ list → IsLeft current place bytes → list.tokens ≡ [] → place ≡ end_of list.stray list.size
 end-is (Some token) place bytes list e left none =

@@ -1,14 +1,14 @@
 -- What stands before a state still stands when the machine has read a token.
-use Rattle.std.proofs.Common.{◌≡◌, ℕ, suc, ◌+◌, ◌-◌, ◌≤◌, Bool, true, false, cond, List, [], ◌∷◌, ◌++◌, length, codes, Option, Some, None, option_map, refl, ap, subst, arith}
+use Rattle.std.proofs.Common.{◌≡◌, ℕ, suc, ◌+◌, ◌-◌, ◌≤◌, Bool, true, false, cond, List, [], ◌∷◌, ◌++◌, length, codes, Option, Some, None, option_map, refl, sym, ap, subst, arith}
 use Rattle.std.proofs.lemmas.Slice.Eq.{bytes_eq-Decides}
 use Rattle.std.specs.Str.{bytes_eq}
-use Rattle.matcher_read.specs.Expression.{Expression}
-use Rattle.matcher_read.specs.Grammar.{Derives, by_text, by_unclosed, by_number, by_true, by_false, by_request, by_policy, by_negation, by_opposite, or_rule, and_rule, cmp_rule, sum_rule, term_rule, prim_rule}
+use Rattle.matcher_read.specs.Expression.{Expression, evaluated}
+use Rattle.matcher_read.specs.Grammar.{Derives, by_text, by_unclosed, by_number, by_true, by_false, by_request, by_policy, by_eval, by_negation, by_opposite, or_rule, and_rule, cmp_rule, sum_rule, term_rule, prim_rule}
 use Rattle.matcher_read.specs.Tokens.{Placed, Token, placed, name, called, number, unclosed, operator, exclamation, opening, closing, comma}
 use Rattle.matcher_read.specs.Tokens as token
 use Rattle.matcher_read.specs.declared.tree.Operator.{Operator}
 use Rattle.matcher_read.specs.declared.tree.Operator.TheVariants as op
-use Rattle.matcher_read.specs.Helps.Machine.{Left, Lefts, Kind, parentheses, members, arguments, Frame, State, Control, wants, has, has_members, opens, start, state_of, with_operand, pushed, goes, left_of, or_of, sum_of, Rank, term_rank, sum_rank, comparing_rank, and_rank, or_rank, rank, joins, operates, parts, closes, name_operand, is_in, step_wants, step_has, step_members, step_opens, step_by, step, levels_of, depth}
+use Rattle.matcher_read.specs.Helps.Machine.{Left, Lefts, Kind, parentheses, members, arguments, Frame, State, Control, wants, has, has_members, opens, start, state_of, with_operand, pushed, goes, left_of, or_of, sum_of, Rank, term_rank, sum_rank, comparing_rank, and_rank, or_rank, rank, joins, operates, parts, closes, name_operand, is_in, step_wants, step_has, step_members, step_opens, step_by, step, levels_of, depth, levels_at}
 use Rattle.matcher_read.specs.Helps.Taking.{joins_by}
 use Rattle.matcher_read.specs.declared.words.Chain.TheVariants as chain
 use Rattle.matcher_read.proofs.Ranks.{compares_is, joins_is}
@@ -19,6 +19,16 @@ use Rattle.matcher_read.proofs.StandingSteps.{operand_stands, having_compared, c
 abbrev pub AfterStep : ℕ → List Placed → Option State → Type 0
 AfterStep most ts None = Unit {0}
 AfterStep most ts (Some next) = depth next ≤ most → Holds most next ts
+
+-- the same, if the levels round a token that leads to it are not too many
+abbrev pub AfterToken : ℕ → State → Token → List Placed → Option State → Type 0
+AfterToken most s t ts None = Unit {0}
+AfterToken most s t ts (Some next) = levels_at s t next ≤ most → Holds most next ts
+
+-- a token that stands for four
+abbrev is_form : Token → Bool
+is_form (token.eval at_opening column) = true
+is_form _ = false
 
 -- ---- literals and names
 
@@ -76,17 +86,25 @@ module _ (most n : ℕ) (lefts : Lefts) (frames : List Frame) (ts : List Placed)
         record { levels_left = n; levels = levels; stands = sign_stands _ n lefts ts at (operator op.Minus) false more.0 w more.1 (λ us e d. by_opposite d) }
     minus_after at _ = tt
 
-    wants_after : goes start ts ≡ Some (state_of wants lefts frames) → (at : ℕ) (t : Token) → AfterStep most (ts ++ placed at t ∷ []) (step_wants at t lefts frames)
-    wants_after reached at (name names) = operand_after (placed at (name names)) (name_operand at names) (name_derived w.left_levels at names)
-    wants_after reached at (called names) = λ few. record { levels_left = n; levels = levels; stands = record { front = ts; wanting = w; reached = reached; tokens = refl } }
-    wants_after reached at (number digits) = operand_after (placed at (number digits)) (Some _) by_number
-    wants_after reached at (token.text bytes) = operand_after (placed at (token.text bytes)) (Some _) by_text
-    wants_after reached at (unclosed bytes) = operand_after (placed at (unclosed bytes)) (Some _) by_unclosed
-    wants_after reached at (operator o) = minus_after at o
-    wants_after reached at exclamation = negation_after at
-    wants_after reached at opening = opening_after at parentheses w
-    wants_after reached at closing = tt
-    wants_after reached at comma = tt
+    wants_after : goes start ts ≡ Some (state_of wants lefts frames) → (at : ℕ) (t : Token) → is_form t ≡ false → AfterStep most (ts ++ placed at t ∷ []) (step_wants at t lefts frames)
+    wants_after reached at (name names) h = operand_after (placed at (name names)) (name_operand at names) (name_derived w.left_levels at names)
+    wants_after reached at (called names) h = λ few. record { levels_left = n; levels = levels; stands = record { front = ts; wanting = w; reached = reached; tokens = refl } }
+    wants_after reached at (number digits) h = operand_after (placed at (number digits)) (Some _) by_number
+    wants_after reached at (token.text bytes) h = operand_after (placed at (token.text bytes)) (Some _) by_text
+    wants_after reached at (unclosed bytes) h = operand_after (placed at (unclosed bytes)) (Some _) by_unclosed
+    wants_after reached at (operator o) h = minus_after at o
+    wants_after reached at exclamation h = negation_after at
+    wants_after reached at (token.eval at_opening column) h = absurd cc
+    wants_after reached at opening h = opening_after at parentheses w
+    wants_after reached at closing h = tt
+    wants_after reached at comma h = tt
+
+    -- the parenthesis of `eval ( p.column )` stands within the levels
+    eval_after : (at at_opening : ℕ) (column : List ℕ) → AfterToken most (state_of wants lefts frames) (token.eval at_opening column) (ts ++ placed at (token.eval at_opening column) ∷ []) (Some (with_operand lefts frames (evaluated at column)))
+    eval_after at at_opening column = λ few.
+        let more = positive n (length lefts.signs) (levels_of frames) most w.left_levels w.levels levels (omega (arith, few)) in
+        let derived = subst (λ m. Derives m prim_rule (placed at (token.eval at_opening column) ∷ []) (evaluated at column)) (sym more.1) by_eval in
+        record { levels_left = n; levels = levels; stands = operand_stands _ _ _ _ w (placed at (token.eval at_opening column) ∷ []) (evaluated at column) derived }
 
 -- ---- behind a closing parenthesis and a comma
 
@@ -165,12 +183,42 @@ module _ (most n : ℕ) (lefts : Lefts) (frames : List Frame) (ts : List Placed)
 -- ---- each step
 
 control_after : (most : ℕ) (c : Control) (n : ℕ) (lefts : Lefts) (frames : List Frame) (ts : List Placed) → n + levels_of frames ≡ most → Stands c n lefts frames ts
-    → goes start ts ≡ Some (state_of c lefts frames) → (at : ℕ) (t : Token) → AfterStep most (ts ++ placed at t ∷ []) (step_by c at t lefts frames)
-control_after most wants n lefts frames ts levels stands reached at t = wants_after most n lefts frames ts levels stands reached at t
-control_after most (has e) n lefts frames ts levels stands reached at t = has_after most n lefts frames ts levels at e stands t
-control_after most (has_members e) n lefts frames ts levels stands reached at t = members_after most n lefts frames ts levels at t e stands
-control_after most (opens kind) n lefts frames ts levels stands reached at t = opens_after most n lefts frames ts levels at t kind stands
+    → goes start ts ≡ Some (state_of c lefts frames) → (at : ℕ) (t : Token) → is_form t ≡ false → AfterStep most (ts ++ placed at t ∷ []) (step_by c at t lefts frames)
+control_after most wants n lefts frames ts levels stands reached at t h = wants_after most n lefts frames ts levels stands reached at t h
+control_after most (has e) n lefts frames ts levels stands reached at t h = has_after most n lefts frames ts levels at e stands t
+control_after most (has_members e) n lefts frames ts levels stands reached at t h = members_after most n lefts frames ts levels at t e stands
+control_after most (opens kind) n lefts frames ts levels stands reached at t h = opens_after most n lefts frames ts levels at t kind stands
 
-pub step_after : (most : ℕ) (s : State) (ts : List Placed) (t : Placed) → Holds most s ts → goes start ts ≡ Some s → AfterStep most (ts ++ t ∷ []) (step s t)
+form_after : (most : ℕ) (c : Control) (n : ℕ) (lefts : Lefts) (frames : List Frame) (ts : List Placed) → n + levels_of frames ≡ most → Stands c n lefts frames ts → (at at_opening : ℕ) (column : List ℕ)
+    → AfterToken most (state_of c lefts frames) (token.eval at_opening column) (ts ++ placed at (token.eval at_opening column) ∷ []) (step_by c at (token.eval at_opening column) lefts frames)
+form_after most wants n lefts frames ts levels stands at at_opening column = eval_after most n lefts frames ts levels stands at at_opening column
+form_after most (has e) n lefts frames ts levels stands at at_opening column = tt
+form_after most (has_members e) n lefts frames ts levels stands at at_opening column = tt
+form_after most (opens kind) n lefts frames ts levels stands at at_opening column = tt
+
+-- another token has the levels of the state that is next
+plain_after : (most : ℕ) (s : State) (t : Token) (ts : List Placed) (o : Option State) → is_form t ≡ false → AfterStep most ts o → AfterToken most s t ts o
+plain_after most s t ts None h after = tt
+plain_after most s t ts (Some next) h after = each t h where
+  each : (tk : Token) → is_form tk ≡ false → levels_at s tk next ≤ most → Holds most next ts
+  each (token.eval at_opening column) h few = absurd cc
+  each _ h few = after few
+
+pub step_after : (most : ℕ) (s : State) (ts : List Placed) (t : Placed) → Holds most s ts → goes start ts ≡ Some s → AfterToken most s t.token (ts ++ t ∷ []) (step s t)
 unfolding step
-step_after most s ts t h reached = control_after most s.control h.levels_left s.lefts s.frames ts h.levels h.stands reached t.at t.token
+step_after most s ts t h reached = each t.token where
+  plain : (tk : Token) → is_form tk ≡ false → AfterToken most s tk (ts ++ placed t.at tk ∷ []) (step_by s.control t.at tk s.lefts s.frames)
+  plain tk f = plain_after most s tk (ts ++ placed t.at tk ∷ []) (step_by s.control t.at tk s.lefts s.frames) f (control_after most s.control h.levels_left s.lefts s.frames ts h.levels h.stands reached t.at tk f)
+
+  each : (tk : Token) → AfterToken most s tk (ts ++ placed t.at tk ∷ []) (step_by s.control t.at tk s.lefts s.frames)
+  each (token.eval at_opening column) = form_after most s.control h.levels_left s.lefts s.frames ts h.levels h.stands t.at at_opening column
+  each (name names) = plain (name names) refl
+  each (called names) = plain (called names) refl
+  each (number digits) = plain (number digits) refl
+  each (token.text bytes) = plain (token.text bytes) refl
+  each (unclosed bytes) = plain (unclosed bytes) refl
+  each (operator o) = plain (operator o) refl
+  each exclamation = plain exclamation refl
+  each opening = plain opening refl
+  each closing = plain closing refl
+  each comma = plain comma refl

@@ -5,22 +5,22 @@ use Rattle.matcher_read.specs.Faults.{IsOpenWithin, IsOpen}
 use Rattle.matcher_read.specs.Grammar.{Derives, by_text, DerivesList, by_last, or_rule}
 use Rattle.matcher_read.specs.Tokens.{Placed, placed, called, opening, closing}
 use Rattle.matcher_read.specs.Tokens as token
-use Rattle.matcher_read.specs.Helps.Machine.{Lefts, no_lefts, Kind, parentheses, members, arguments, Frame, Control, wants, has, has_members, opens, State, start, state_of, pushed, or_of, comparison_of, final_value, step, levels_of, depth, goes, goes_within}
+use Rattle.matcher_read.specs.Helps.Machine.{Lefts, no_lefts, Kind, parentheses, members, arguments, Frame, Control, wants, has, has_members, opens, State, start, state_of, pushed, or_of, comparison_of, final_value, step, levels_of, levels_at, depth, goes, goes_within}
 use Rattle.matcher_read.proofs.Standing.{Wanting, Having, expressions_before, Outside, Stands, Holds, Complete}
 use Rattle.matcher_read.proofs.StandingSteps.{start_stands, operand_stands, having_compared, compared_complete, closing_parentheses, closing_call, closing_members}
 use Rattle.matcher_read.proofs.Passes.{goes_levels, goes_one, within_more}
-use Rattle.matcher_read.proofs.OpenSteps.{AfterStep, step_after, opening_after}
+use Rattle.matcher_read.proofs.OpenSteps.{AfterToken, step_after, opening_after}
 
 -- ---- the tokens that are gone through
 
 -- one token further
 holds_one : (most : ℕ) (ts rest : List Placed) (t : Placed) (s final : State) → Holds most s ts → goes start ts ≡ Some s
     → ((next : State) → Holds most next (ts ++ t ∷ []) → goes start (ts ++ t ∷ []) ≡ Some next → goes_within most next rest ≡ Some final → Holds most final ((ts ++ t ∷ []) ++ rest))
-    → (o : Option State) → step s t ≡ o → AfterStep most (ts ++ t ∷ []) o
-    → option_and_then (λ next. cond (nat_le (depth next) most) (goes_within most next rest) None) o ≡ Some final → Holds most final ((ts ++ t ∷ []) ++ rest)
+    → (o : Option State) → step s t ≡ o → AfterToken most s t.token (ts ++ t ∷ []) o
+    → option_and_then (λ next. cond (nat_le (levels_at s t.token next) most) (goes_within most next rest) None) o ≡ Some final → Holds most final ((ts ++ t ∷ []) ++ rest)
 holds_one most ts rest t s final h reached later None k after e = absurd cc
-holds_one most ts rest t s final h reached later (Some next) k after e = each (nat_le (depth next) most) refl e where
-  each : (b : Bool) → nat_le (depth next) most ≡ b → cond b (goes_within most next rest) None ≡ Some final → Holds most final ((ts ++ t ∷ []) ++ rest)
+holds_one most ts rest t s final h reached later (Some next) k after e = each (nat_le (levels_at s t.token next) most) refl e where
+  each : (b : Bool) → nat_le (levels_at s t.token next) most ≡ b → cond b (goes_within most next rest) None ≡ Some final → Holds most final ((ts ++ t ∷ []) ++ rest)
   each true few f = later next (after (leb-true _ _ few)) (goes_one start s ts t reached ∙ k) f
   each false few f = absurd cc
 

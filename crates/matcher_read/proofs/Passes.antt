@@ -5,7 +5,7 @@ use Rattle.std.proofs.lemmas.Option.{none-some}
 use Rattle.matcher_read.specs.Tokens.{Placed}
 use Rattle.matcher_read.specs.declared.fault.MatcherFault.{MatcherFault}
 use Rattle.matcher_read.specs.declared.fault.MatcherFault.TheVariants.{Unexpected}
-use Rattle.matcher_read.specs.Helps.Machine.{State, step, goes, goes_within, depth, token_fault, after_fault, read_step, verdict}
+use Rattle.matcher_read.specs.Helps.Machine.{State, step, goes, goes_within, levels_at, token_fault, after_fault, read_step, verdict}
 
 -- ---- two fronts of the tokens
 
@@ -19,8 +19,8 @@ goes-append s (t ∷ ts) us = by_next (λ next. goes-append next ts us) (step s 
     by_next more (Some next) = more next
 
 -- the states behind the tokens, where the first of them is within the levels
-abbrev within_then : ℕ → (State → Option State) → State → Option State
-within_then most more next = cond (nat_le (depth next) most) (more next) None
+abbrev within_then : State → Placed → ℕ → (State → Option State) → State → Option State
+within_then s t most more next = cond (nat_le (levels_at s t.token next) most) (more next) None
 
 cond-append : (b : Bool) (first both : Option State) (more : State → Option State) → both ≡ option_and_then more first → cond b both None ≡ option_and_then more (cond b first None)
 cond-append true first both more e = e
@@ -31,10 +31,10 @@ within-append most s [] us = refl
 within-append most s (t ∷ ts) us = by_next (λ next. within-append most next ts us) (step s t)
   where
     by_next : ((next : State) → goes_within most next (ts ++ us) ≡ option_and_then (λ (later : State). goes_within most later us) (goes_within most next ts)) → (o : Option State)
-        → option_and_then (within_then most (λ (next : State). goes_within most next (ts ++ us))) o
-        ≡ option_and_then (λ (later : State). goes_within most later us) (option_and_then (within_then most (λ (next : State). goes_within most next ts)) o)
+        → option_and_then (within_then s t most (λ (next : State). goes_within most next (ts ++ us))) o
+        ≡ option_and_then (λ (later : State). goes_within most later us) (option_and_then (within_then s t most (λ (next : State). goes_within most next ts)) o)
     by_next more None = refl
-    by_next more (Some next) = cond-append (nat_le (depth next) most) (goes_within most next ts) (goes_within most next (ts ++ us)) (λ later. goes_within most later us) (more next)
+    by_next more (Some next) = cond-append (nat_le (levels_at s t.token next) most) (goes_within most next ts) (goes_within most next (ts ++ us)) (λ later. goes_within most later us) (more next)
 
 -- a front that is gone through, and then the others
 pub goes_behind : (s next : State) (ts us : List Placed) → goes s ts ≡ Some next → goes s (ts ++ us) ≡ goes next us
@@ -62,22 +62,22 @@ within_goes most s later [] e = e
 within_goes most s later (t ∷ ts) e = by_next (λ next. within_goes most next later ts) (step s t) e
   where
     by_next : ((next : State) → goes_within most next ts ≡ Some later → goes next ts ≡ Some later) → (o : Option State)
-        → option_and_then (within_then most (λ (next : State). goes_within most next ts)) o ≡ Some later → option_and_then (λ (next : State). goes next ts) o ≡ Some later
+        → option_and_then (within_then s t most (λ (next : State). goes_within most next ts)) o ≡ Some later → option_and_then (λ (next : State). goes next ts) o ≡ Some later
     by_next more None e = absurd (none-some later e)
-    by_next more (Some next) e = more next (cond_some (nat_le (depth next) most) (goes_within most next ts) later e).1
+    by_next more (Some next) e = more next (cond_some (nat_le (levels_at s t.token next) most) (goes_within most next ts) later e).1
 
 pub within_more : (most more : ℕ) (s later : State) (ts : List Placed) → most ≤ more → goes_within most s ts ≡ Some later → goes_within more s ts ≡ Some later
 within_more most more s later [] h e = e
 within_more most more s later (t ∷ ts) h e = by_next (λ next. within_more most more next later ts h) (step s t) e
   where
     by_next : ((next : State) → goes_within most next ts ≡ Some later → goes_within more next ts ≡ Some later) → (o : Option State)
-        → option_and_then (within_then most (λ (next : State). goes_within most next ts)) o ≡ Some later
-        → option_and_then (within_then more (λ (next : State). goes_within more next ts)) o ≡ Some later
+        → option_and_then (within_then s t most (λ (next : State). goes_within most next ts)) o ≡ Some later
+        → option_and_then (within_then s t more (λ (next : State). goes_within more next ts)) o ≡ Some later
     by_next others None e = absurd (none-some later e)
     by_next others (Some next) e =
-        let both = cond_some (nat_le (depth next) most) (goes_within most next ts) later e in
-        let small = leb-true (depth next) most both.0 in
-        ap (λ (b : Bool). cond b (goes_within more next ts) None) (le-leb (depth next) more (omega arith)) ∙ others next both.1
+        let both = cond_some (nat_le (levels_at s t.token next) most) (goes_within most next ts) later e in
+        let small = leb-true (levels_at s t.token next) most both.0 in
+        ap (λ (b : Bool). cond b (goes_within more next ts) None) (le-leb (levels_at s t.token next) more (omega arith)) ∙ others next both.1
 
 -- what is gone through is gone through within some levels
 pub goes_levels : (s later : State) (ts : List Placed) → goes s ts ≡ Some later → (most : ℕ) × (goes_within most s ts ≡ Some later)
@@ -86,13 +86,13 @@ goes_levels s later (t ∷ ts) e = by_next (λ next. goes_levels next later ts) 
   where
     by_next : ((next : State) → goes next ts ≡ Some later → (most : ℕ) × (goes_within most next ts ≡ Some later)) → (o : Option State)
         → option_and_then (λ (next : State). goes next ts) o ≡ Some later
-        → (most : ℕ) × (option_and_then (within_then most (λ (next : State). goes_within most next ts)) o ≡ Some later)
+        → (most : ℕ) × (option_and_then (within_then s t most (λ (next : State). goes_within most next ts)) o ≡ Some later)
     by_next others None e = absurd (none-some later e)
     by_next others (Some next) e =
         let found = others next e in
-        let most = depth next + found.0 in (
+        let most = levels_at s t.token next + found.0 in (
           most,
-          ap (λ (b : Bool). cond b (goes_within most next ts) None) (le-leb (depth next) most (omega arith))
+          ap (λ (b : Bool). cond b (goes_within most next ts) None) (le-leb (levels_at s t.token next) most (omega arith))
               ∙ within_more found.0 most next later ts (omega arith) found.1,
         )
 
@@ -181,10 +181,10 @@ passes_both {most} s next later ts us p q = record {
   without_fault = λ h. reads_behind s next ts us (p.without_fault h) ∙ q.without_fault h;
 }
 
-pub passes_more : {most : ℕ} {fine : Type 0} (s next later : State) (t : Placed) (ts : List Placed) → step s t ≡ Some next → depth next ≤ most → (fine → token_fault s next t.at t.token ≡ None)
+pub passes_more : {most : ℕ} {fine : Type 0} (s next later : State) (t : Placed) (ts : List Placed) → step s t ≡ Some next → levels_at s t.token next ≤ most → (fine → token_fault s next t.at t.token ≡ None)
     → Passes most fine next ts later → Passes most fine s (t ∷ ts) later
 passes_more {most} s next later t ts e small sound p = record {
-  within = ap (option_and_then (within_then most (λ (n : State). goes_within most n ts))) e ∙ ap (λ (b : Bool). cond b (goes_within most next ts) None) (le-leb (depth next) most small) ∙ p.within;
+  within = ap (option_and_then (within_then s t most (λ (n : State). goes_within most n ts))) e ∙ ap (λ (b : Bool). cond b (goes_within most next ts) None) (le-leb (levels_at s t.token next) most small) ∙ p.within;
   without_fault = λ h. ap (read_on (λ (n : State). reads n ts)) (read_one s next t e (sound h)) ∙ p.without_fault h;
 }
 

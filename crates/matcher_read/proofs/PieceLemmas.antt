@@ -10,7 +10,7 @@ use Rattle.std.specs.Str.{bytes_eq}
 use Rattle.matcher_read.specs.Helps.Machine.{name_operand, is_in}
 use Rattle.matcher_read.specs.Helps.Naming.{request_of, policy_of}
 use Rattle.matcher_read.specs.Helps.TokenLists.{pieces}
-use Rattle.matcher_read.specs.Tokens.{is_reserved}
+use Rattle.matcher_read.specs.Tokens.{name, column_of, is_eval_name, is_reserved}
 use denote.Ref.{Bor}
 
 -- no byte passes: one piece
@@ -72,3 +72,12 @@ reserved-is bs = pieces_cases (λ ps. is_reserved ps ≡ (bytes_eq bs (codes "tr
 
 pub reserved-last : (bs : List ℕ) → bytes_eq bs (codes "true") ≡ false → bytes_eq bs (codes "false") ≡ false → bytes_eq bs (codes "in") ≡ is_reserved (pieces bs)
 reserved-last bs first second = sym (reserved-is bs ∙ ap (λ (t : Bool). t || bytes_eq bs (codes "false") || bytes_eq bs (codes "in")) first ∙ ap (λ (t : Bool). t || bytes_eq bs (codes "in")) second)
+
+-- the name `eval`
+pub eval_word : (bs : List ℕ) → is_eval_name (pieces bs) ≡ bytes_eq bs (codes "eval")
+eval_word bs = pieces_cases (λ ps. is_eval_name ps ≡ bytes_eq bs (codes "eval")) bs refl (λ a b cs e. sym (other_text bs (codes "eval") a b cs refl e))
+
+-- a name of three parts or more is no column of the policy
+pub column_of_more : (first second : List ℕ) (names : List (List ℕ)) → 0 < length names → None ≡ column_of (name (first ∷ second ∷ names))
+column_of_more first second [] h = absurd (omega (arith, h))
+column_of_more first second (next ∷ names) h = refl

@@ -1,17 +1,17 @@
 -- How operands are read: what stands in parentheses, behind signs, and alone.
-use Rattle.std.proofs.Common.{◌≡◌, ℕ, suc, ◌+◌, ◌<◌, ◌≤◌, nat_lt, pos, Bool, true, false, cond, List, [], ◌∷◌, ◌++◌, codes, Option, Some, None, option_map, Result, Ok, Err, refl, ap, sym, ◌∙◌, subst, arith, append_assoc, inl, inr}
-use Rattle.std.proofs.lemmas.Bool.{and_from, false≢true}
+use Rattle.std.proofs.Common.{◌≡◌, ℕ, zero, suc, ◌+◌, ◌<◌, ◌≤◌, nat_lt, pos, Bool, true, false, cond, List, [], ◌∷◌, ◌++◌, codes, Option, Some, None, option_map, Result, Ok, Err, refl, ap, sym, ◌∙◌, subst, arith, append_assoc, inl, inr}
+use Rattle.std.proofs.lemmas.Bool.{and_from, false≢true, ne_eqb}
 use Rattle.std.specs.List.{list_all}
 use Rattle.std.specs.Option.{ok_or}
 use Rattle.std.specs.Result.{result_ok}
 use Rattle.std.specs.Str.{bytes_eq}
 use Rattle.std.specs.Str.Parse.{digits_value}
 use Rattle.matcher_read.specs.Calls.{callee_of, is_known}
-use Rattle.matcher_read.specs.Expression.{Expression, text, whole, truth, request}
+use Rattle.matcher_read.specs.Expression.{Expression, text, whole, truth, request, evaluated}
 use Rattle.matcher_read.specs.Helps.Giving.{entry, Gives}
-use Rattle.matcher_read.specs.Grammar.{or_rule, unary_rule, prim_rule, Derives, by_parentheses, by_negation, by_opposite, by_text, by_number}
+use Rattle.matcher_read.specs.Grammar.{or_rule, unary_rule, prim_rule, Derives, by_parentheses, by_negation, by_opposite, by_text, by_number, by_eval}
 use Rattle.matcher_read.specs.Helps.Naming.{policy_of}
-use Rattle.matcher_read.specs.Helps.Machine.{Lefts, Frame, parentheses, wants, opens, State, no_lefts, depth, step, token_fault, call_fault, verdict, state_of, with_operand, pushed, name_operand, final_value, arguments, parts}
+use Rattle.matcher_read.specs.Helps.Machine.{Lefts, Frame, parentheses, wants, opens, State, no_lefts, depth, levels_at, step, token_fault, call_fault, verdict, state_of, with_operand, pushed, name_operand, final_value, arguments, parts}
 use Rattle.matcher_read.specs.Matcher.{most_levels, first_wide, is_sound, is_closed}
 use Rattle.matcher_read.specs.Helps.Parsing.{StopsAt, Read, Fails}
 use Rattle.matcher_read.specs.Helps.Taking.{may_follow, head_is, is_closing, is_opening, is_sign, is_minus, is_called, is_strange, Takes, IsUnexpected, ToldAt, sign_token, signed_by, operand_of, first_operand}
@@ -24,7 +24,7 @@ use Rattle.matcher_read.specs.declared.tree.Operator.{Operator}
 use Rattle.matcher_read.specs.declared.tree.Operator.TheVariants as op
 use Rattle.matcher_read.specs.declared.words.Sign.{Sign}
 use Rattle.matcher_read.specs.declared.words.Sign.TheVariants as sign
-use Rattle.matcher_read.proofs.Gives.{step_called, step_parenthesis, step_negation, step_opposite, step_unclosed, step_number, closing_behind}
+use Rattle.matcher_read.proofs.Gives.{step_called, step_parenthesis, step_negation, step_opposite, step_unclosed, step_number, step_eval, closing_behind}
 use Rattle.matcher_read.proofs.OpenSteps.{AreDerived, name_derived}
 use Rattle.matcher_read.proofs.Passes.{verdict_next, verdict_meets}
 use Rattle.matcher_read.proofs.ReadSteps.{verdict_stops, quiet, loud}
@@ -186,6 +186,7 @@ sign_is t h = by_token t.token h
     by_token (operator o) h = by_operator o h
     by_token (token.name parts) h = absurd (false≢true h)
     by_token (token.called parts) h = absurd (false≢true h)
+    by_token (token.eval at_opening column) h = absurd (false≢true h)
     by_token (token.number digits) h = absurd (false≢true h)
     by_token (token.text bytes) h = absurd (false≢true h)
     by_token (token.unclosed bytes) h = absurd (false≢true h)
@@ -233,26 +234,35 @@ fails_at_call {n} {fault} {before} d = record {
 
 -- ---- literals and names
 
-number_test : (at : ℕ) (digits : List ℕ) (e : Expression) → operand_of at (token.number digits) ≡ Ok e → (nat_lt (digits_value 10 digits) first_wide ≡ true) × (whole at (pos (digits_value 10 digits)) ≡ e)
-number_test at digits e h = by_test (nat_lt (digits_value 10 digits) first_wide) h
+number_test : (levels at : ℕ) (digits : List ℕ) (e : Expression) → operand_of levels at (token.number digits) ≡ Ok e → (nat_lt (digits_value 10 digits) first_wide ≡ true) × (whole at (pos (digits_value 10 digits)) ≡ e)
+number_test levels at digits e h = by_test (nat_lt (digits_value 10 digits) first_wide) h
   where
     by_test : (b : Bool) → cond b (Ok (whole at (pos (digits_value 10 digits)))) (Err (NumberTooWide at)) ≡ Ok e → (b ≡ true) × (whole at (pos (digits_value 10 digits)) ≡ e)
     by_test true h = (refl, cc)
     by_test false h = absurd cc
 
-name_test : (at : ℕ) (parts : List (List ℕ)) (e : Expression) → operand_of at (token.name parts) ≡ Ok e → name_operand at parts ≡ Some e
-name_test at parts e h = ok_is (name_operand at parts) h
+name_test : (levels at : ℕ) (parts : List (List ℕ)) (e : Expression) → operand_of levels at (token.name parts) ≡ Ok e → name_operand at parts ≡ Some e
+name_test levels at parts e h = ok_is (name_operand at parts) h
   where
     ok_is : (o : Option Expression) → ok_or o (Unexpected at) ≡ Ok e → o ≡ Some e
     ok_is None h = absurd cc
     ok_is (Some x) h = ap result_ok h
 
-step_operand : (at : ℕ) (t : Token) (e : Expression) (l : Lefts) (frames : List Frame) → operand_of at t ≡ Ok e → step (state_of wants l frames) (placed at t) ≡ Some (with_operand l frames e)
+-- the parenthesis of `eval ( p.column )` wants a level
+some_level : (levels at at_opening : ℕ) (column : List ℕ) → operand_of (suc levels) at (token.eval at_opening column) ≡ Ok (evaluated at column)
+some_level levels at at_opening column = ap (λ (b : Bool). cond b (Err (TooDeep at_opening)) (Ok (evaluated at column))) (ne_eqb (suc levels) 0 (λ e. absurd (omega (arith, e))))
+
+eval_test : (levels at at_opening : ℕ) (column : List ℕ) (e : Expression) → operand_of (suc levels) at (token.eval at_opening column) ≡ Ok e → evaluated at column ≡ e
+eval_test levels at at_opening column e h = let same : Ok (evaluated at column) ≡ Ok e = sym (some_level levels at at_opening column) ∙ h in cc
+
+step_operand : (levels at : ℕ) (t : Token) (e : Expression) (l : Lefts) (frames : List Frame) → operand_of levels at t ≡ Ok e → step (state_of wants l frames) (placed at t) ≡ Some (with_operand l frames e)
 unfolding step
-step_operand at (token.text bytes) e l frames h = ap (λ (r : Result Expression MatcherFault). option_map (with_operand l frames) (result_ok r)) h
-step_operand at (token.number digits) e l frames h = ap (λ (x : Expression). Some (with_operand l frames x)) (number_test at digits e h).1
-step_operand at (token.name parts) e l frames h = ap (option_map (with_operand l frames)) (name_test at parts e h)
-step_operand at _ e l frames h = absurd cc
+step_operand levels at (token.text bytes) e l frames h = ap (λ (r : Result Expression MatcherFault). option_map (with_operand l frames) (result_ok r)) h
+step_operand levels at (token.number digits) e l frames h = ap (λ (x : Expression). Some (with_operand l frames x)) (number_test levels at digits e h).1
+step_operand zero at (token.eval at_opening column) e l frames h = absurd cc
+step_operand (suc levels) at (token.eval at_opening column) e l frames h = ap (λ (x : Expression). Some (with_operand l frames x)) (eval_test levels at at_opening column e h)
+step_operand levels at (token.name parts) e l frames h = ap (option_map (with_operand l frames)) (name_test levels at parts e h)
+step_operand levels at _ e l frames h = absurd cc
 
 abbrev sound_of : Option Expression → Bool
 sound_of None = true
@@ -263,7 +273,8 @@ record Alone (n : ℕ) (t : Placed) (e : Expression) : Type 0 where
   pub derived : Derives n prim_rule (t ∷ []) e
   pub sound : is_sound e ≡ true
   pub closed : is_closed t.token ≡ true
-  pub quiet : (s next : State) → depth next ≤ most_levels → token_fault s next t.at t.token ≡ None
+  pub small : (l : Lefts) (frames : List Frame) → depth (state_of wants l frames) + n ≡ most_levels → levels_at (state_of wants l frames) t.token (with_operand l frames e) ≤ most_levels
+  pub quiet : (s next : State) → levels_at s t.token next ≤ most_levels → token_fault s next t.at t.token ≡ None
 
 name_sound : (at : ℕ) (parts : List (List ℕ)) (e : Expression) → name_operand at parts ≡ Some e → is_sound e ≡ true
 name_sound at [] e h = absurd cc
@@ -284,28 +295,39 @@ name_sound at (first ∷ column ∷ names) e h = by_two (bytes_eq first (codes "
     by_two false true h = policy_sound names h
     by_two false false h = absurd cc
 
-operand_alone : (n at : ℕ) (t : Token) (e : Expression) → operand_of at t ≡ Ok e → Alone n (placed at t) e
+operand_alone : (n at : ℕ) (t : Token) (e : Expression) → operand_of n at t ≡ Ok e → Alone n (placed at t) e
 operand_alone n at (token.text bytes) e h = let same : text at bytes ≡ e = cc in record {
   derived = subst (λ (x : Expression). Derives n prim_rule (placed at (token.text bytes) ∷ []) x) same by_text;
   sound = ap is_sound (sym same);
   closed = refl;
+  small = λ l frames few. omega (arith, few);
   quiet = λ s next small. quiet at (depth next) small;
 }
-operand_alone n at (token.number digits) e h = let p = number_test at digits e h in record {
+operand_alone zero at (token.eval at_opening column) e h = absurd cc
+operand_alone (suc n) at (token.eval at_opening column) e h = let same = eval_test n at at_opening column e h in record {
+  derived = subst (λ (x : Expression). Derives (suc n) prim_rule (placed at (token.eval at_opening column) ∷ []) x) same by_eval;
+  sound = ap is_sound (sym same);
+  closed = refl;
+  small = λ l frames few. omega (arith, few);
+  quiet = λ s next small. quiet at_opening (suc (depth s)) small;
+}
+operand_alone n at (token.number digits) e h = let p = number_test n at digits e h in record {
   derived = subst (λ (x : Expression). Derives n prim_rule (placed at (token.number digits) ∷ []) x) p.1 by_number;
   sound = ap is_sound (sym p.1) ∙ p.0;
   closed = refl;
+  small = λ l frames few. omega (arith, few);
   quiet = λ s next small. ap (λ (b : Bool). cond b None (Some (NumberTooWide at))) p.0;
 }
-operand_alone n at (token.name parts) e h = let p = name_test at parts e h in record {
+operand_alone n at (token.name parts) e h = let p = name_test n at parts e h in record {
   derived = subst (AreDerived n (placed at (token.name parts) ∷ [])) p (name_derived n at parts);
   sound = name_sound at parts e p;
   closed = refl;
+  small = λ l frames few. omega (arith, few);
   quiet = λ s next small. quiet at (depth next) small;
 }
 operand_alone n at _ e h = absurd cc
 
-pub read_operand : {n : ℕ} {first : Placed} {e : Expression} {before after : TokenList} → Takes first before after → operand_of first.at first.token ≡ Ok e → Read n prim_rule prim_rule e before after
+pub read_operand : {n : ℕ} {first : Placed} {e : Expression} {before after : TokenList} → Takes first before after → operand_of n first.at first.token ≡ Ok e → Read n prim_rule prim_rule e before after
 read_operand {n} {first} {e} {before} {after} t h =
     let alone = operand_alone n first.at first.token e h in
     record {
@@ -323,8 +345,8 @@ read_operand {n} {first} {e} {before} {after} t h =
         gives = refl;
         same = λ size stray.
             ap (verdict size stray (state_of wants l frames)) t.tokens
-            ∙ verdict_next size stray (state_of wants l frames) (with_operand l frames e) first after.tokens (step_operand first.at first.token e l frames h)
-            (alone.quiet (state_of wants l frames) (with_operand l frames e) (omega (arith, small)));
+            ∙ verdict_next size stray (state_of wants l frames) (with_operand l frames e) first after.tokens (step_operand n first.at first.token e l frames h)
+            (alone.quiet (state_of wants l frames) (with_operand l frames e) (alone.small l frames small));
         stops = head_operand_stops _ _ frames after.tokens;
       };
     }
@@ -335,15 +357,15 @@ nothing_final : (l : Lefts) (frames : List Frame) → final_value (state_of want
 nothing_final l [] = refl
 nothing_final l (frame ∷ frames) = refl
 
-number_fault : (at : ℕ) (digits : List ℕ) (fault : MatcherFault) → operand_of at (token.number digits) ≡ Err fault → (nat_lt (digits_value 10 digits) first_wide ≡ false) × (NumberTooWide at ≡ fault)
-number_fault at digits fault h = by_test (nat_lt (digits_value 10 digits) first_wide) h
+number_fault : (levels at : ℕ) (digits : List ℕ) (fault : MatcherFault) → operand_of levels at (token.number digits) ≡ Err fault → (nat_lt (digits_value 10 digits) first_wide ≡ false) × (NumberTooWide at ≡ fault)
+number_fault levels at digits fault h = by_test (nat_lt (digits_value 10 digits) first_wide) h
   where
     by_test : (b : Bool) → cond b (Ok (whole at (pos (digits_value 10 digits)))) (Err (NumberTooWide at)) ≡ Err fault → (b ≡ false) × (NumberTooWide at ≡ fault)
     by_test true h = absurd cc
     by_test false h = (refl, cc)
 
-name_fault : (at : ℕ) (parts : List (List ℕ)) (fault : MatcherFault) → operand_of at (token.name parts) ≡ Err fault → (name_operand at parts ≡ None) × (Unexpected at ≡ fault)
-name_fault at parts fault h = by_name (name_operand at parts) h
+name_fault : (levels at : ℕ) (parts : List (List ℕ)) (fault : MatcherFault) → operand_of levels at (token.name parts) ≡ Err fault → (name_operand at parts ≡ None) × (Unexpected at ≡ fault)
+name_fault levels at parts fault h = by_name (name_operand at parts) h
   where
     by_name : (o : Option Expression) → ok_or o (Unexpected at) ≡ Err fault → (o ≡ None) × (Unexpected at ≡ fault)
     by_name None h = (refl, cc)
@@ -367,34 +389,41 @@ step_comma_none : (at : ℕ) (l : Lefts) (frames : List Frame) → step (state_o
 unfolding step
 step_comma_none at l frames = refl
 
-told_at : (at : ℕ) (t : Token) (fault : MatcherFault) (behind : List Placed) (size : ℕ) (stray : Option ℕ) (l : Lefts) (frames : List Frame) → is_sign t ≡ false → is_opening t ≡ false → is_called t ≡ false → operand_of at t ≡ Err fault
+told_at : (levels at : ℕ) (t : Token) (fault : MatcherFault) (behind : List Placed) (size : ℕ) (stray : Option ℕ) (l : Lefts) (frames : List Frame) → depth (state_of wants l frames) + levels ≡ most_levels → is_sign t ≡ false → is_opening t ≡ false → is_called t ≡ false → operand_of levels at t ≡ Err fault
     → verdict size stray (state_of wants l frames) (placed at t ∷ behind) ≡ Err fault
-told_at at (token.unclosed bytes) fault behind size stray l frames a b c h =
+told_at levels at (token.unclosed bytes) fault behind size stray l frames few a b c h =
     verdict_meets size stray (state_of wants l frames) (with_operand l frames (text at bytes)) (placed at (token.unclosed bytes)) behind (OpenText at) (step_unclosed at bytes l frames) refl ∙ ap (λ (f : MatcherFault). Err f) (let same : OpenText at ≡ fault = cc in same)
-told_at at (token.number digits) fault behind size stray l frames a b c h =
-    let p = number_fault at digits fault h in
+told_at levels at (token.number digits) fault behind size stray l frames few a b c h =
+    let p = number_fault levels at digits fault h in
     verdict_meets size stray (state_of wants l frames) (with_operand l frames (whole at (pos (digits_value 10 digits)))) (placed at (token.number digits)) behind (NumberTooWide at) (step_number at digits l frames)
     (ap (λ (b : Bool). cond b None (Some (NumberTooWide at))) p.0)
     ∙ ap (λ (f : MatcherFault). Err f) p.1
-told_at at (token.name names) fault behind size stray l frames a b c h =
-    let p = name_fault at names fault h in
+told_at levels at (token.name names) fault behind size stray l frames few a b c h =
+    let p = name_fault levels at names fault h in
     verdict_stops size stray (state_of wants l frames) (placed at (token.name names) ∷ behind) (step_name at names l frames p.0) (nothing_final l frames) ∙ ap (λ (f : MatcherFault). Err f) p.1
-told_at at (operator o) fault behind size stray l frames a b c h =
+told_at levels at (operator o) fault behind size stray l frames few a b c h =
     verdict_stops size stray (state_of wants l frames) (placed at (operator o) ∷ behind) (step_no_sign at o l frames a) (nothing_final l frames) ∙ h
-told_at at token.closing fault behind size stray l frames a b c h =
+told_at zero at (token.eval at_opening column) fault behind size stray l frames few a b c h =
+    let same : TooDeep at_opening ≡ fault = cc in
+    verdict_meets size stray (state_of wants l frames) (with_operand l frames (evaluated at column)) (placed at (token.eval at_opening column)) behind (TooDeep at_opening) (step_eval at at_opening column l frames)
+    (loud at_opening (suc (depth (state_of wants l frames))) (omega (arith, few)))
+    ∙ ap (λ (f : MatcherFault). Err f) same
+told_at (suc levels) at (token.eval at_opening column) fault behind size stray l frames few a b c h =
+    absurd (let bad : Ok (evaluated at column) ≡ Err fault = sym (some_level levels at at_opening column) ∙ h in cc)
+told_at levels at token.closing fault behind size stray l frames few a b c h =
     verdict_stops size stray (state_of wants l frames) (placed at token.closing ∷ behind) (step_closing_none at l frames) (nothing_final l frames) ∙ h
-told_at at token.comma fault behind size stray l frames a b c h =
+told_at levels at token.comma fault behind size stray l frames few a b c h =
     verdict_stops size stray (state_of wants l frames) (placed at token.comma ∷ behind) (step_comma_none at l frames) (nothing_final l frames) ∙ h
-told_at at (token.text bytes) fault behind size stray l frames a b c h = absurd cc
-told_at at (token.called names) fault behind size stray l frames a b c h = absurd (false≢true (sym c))
-told_at at token.exclamation fault behind size stray l frames a b c h = absurd (false≢true (sym a))
-told_at at token.opening fault behind size stray l frames a b c h = absurd (false≢true (sym b))
+told_at levels at (token.text bytes) fault behind size stray l frames few a b c h = absurd cc
+told_at levels at (token.called names) fault behind size stray l frames few a b c h = absurd (false≢true (sym c))
+told_at levels at token.exclamation fault behind size stray l frames few a b c h = absurd (false≢true (sym a))
+told_at levels at token.opening fault behind size stray l frames few a b c h = absurd (false≢true (sym b))
 
 pub fails_operand : {n : ℕ} {fault : MatcherFault} {before : TokenList} → head_is is_sign before.tokens ≡ false → head_is is_opening before.tokens ≡ false → head_is is_called before.tokens ≡ false
-    → first_operand before.tokens (end_of before.stray before.size) ≡ Err fault → Fails n prim_rule fault before
-fails_operand {n} {fault} {before} a b c h = record { told = λ l frames small. by_first l frames before.tokens a b c h }
+    → first_operand n before.tokens (end_of before.stray before.size) ≡ Err fault → Fails n prim_rule fault before
+fails_operand {n} {fault} {before} a b c h = record { told = λ l frames small. by_first l frames before.tokens small a b c h }
   where
-    by_first : (l : Lefts) (frames : List Frame) (ts : List Placed) → head_is is_sign ts ≡ false → head_is is_opening ts ≡ false → head_is is_called ts ≡ false → first_operand ts (end_of before.stray before.size) ≡ Err fault
+    by_first : (l : Lefts) (frames : List Frame) (ts : List Placed) → depth (state_of wants l frames) + n ≡ most_levels → head_is is_sign ts ≡ false → head_is is_opening ts ≡ false → head_is is_called ts ≡ false → first_operand n ts (end_of before.stray before.size) ≡ Err fault
         → verdict before.size before.stray (state_of wants l frames) ts ≡ Err fault
-    by_first l frames [] a b c h = verdict_stops before.size before.stray (state_of wants l frames) [] tt (nothing_final l frames) ∙ h
-    by_first l frames (t ∷ ts) a b c h = told_at t.at t.token fault ts before.size before.stray l frames a b c h
+    by_first l frames [] small a b c h = verdict_stops before.size before.stray (state_of wants l frames) [] tt (nothing_final l frames) ∙ h
+    by_first l frames (t ∷ ts) small a b c h = told_at n t.at t.token fault ts before.size before.stray l frames small a b c h

@@ -66,18 +66,19 @@ pub primary_reads : (n : ℕ) (before middle after : TokenList) (r : Result Tree
 primary_reads n before middle after (Ok tree) s h = read_same s.same (read_end prim_unary (read_part prim_unary h) (head_no_joins after.tokens))
 primary_reads n before middle after (Err fault) s h = λ some. fails_same s.same (fails_part prim_unary (h some))
 
--- a literal or a name
+-- a literal, a name or the `eval` of a column
 pub literal_reads : (n : ℕ) (before middle after : TokenList) (r : Result Tree MatcherFault) → head_is is_sign before.tokens ≡ false → Stays is_opening before middle → head_is is_called before.tokens ≡ false
-    → MatchResult r (λ tree. (first : Placed) × Takes first middle after × (operand_of first.at first.token ≡ Ok (expression tree))) (λ fault. fault ≢ NoMemory → first_operand middle.tokens (end_of middle.stray middle.size) ≡ Err fault)
+    → MatchResult r (λ tree. (first : Placed) × Takes first middle after × (operand_of n first.at first.token ≡ Ok (expression tree))) (λ fault. fault ≢ NoMemory → first_operand n middle.tokens (end_of middle.stray middle.size) ≡ Err fault)
     → ReadsBy n prim_rule before after r
 literal_reads n before middle after (Ok tree) a s c h = read_same s.same (read_operand h.1 h.2)
 literal_reads n before middle after (Err fault) a s c h =
-    λ some. fails_operand a s.head c (ap (λ (list : TokenList). first_operand list.tokens (end_of list.stray list.size)) (sym s.same) ∙ h some)
+    λ some. fails_operand a s.head c (ap (λ (list : TokenList). first_operand n list.tokens (end_of list.stray list.size)) (sym s.same) ∙ h some)
 
 -- a call with its arguments
 callee_known : (called : Called) → is_known (callee called) ≡ true
 callee_known (kind.Function called) = refl
 callee_known (kind.Relation number) = refl
+callee_known kind.Eval = refl
 
 pub call_reads : (n : ℕ) {inside at : ℕ} {parts : List (List ℕ)} (called : Called) {es : List Expression} {before behind after : TokenList} (r : Result Tree MatcherFault) → Takes (called_token at parts) before behind → callee_of parts ≡ callee called
     → Enclosed n inside es behind after

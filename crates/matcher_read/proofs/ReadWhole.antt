@@ -12,13 +12,13 @@ use Rattle.matcher_read.specs.Matcher.{IsMatcher, is_closed, is_sound, most_byte
 use Rattle.matcher_read.specs.Helps.Parsing.{Fails, Read, StopsAt}
 use Rattle.matcher_read.specs.Helps.Taking.{head_is, may_follow, place_of_next, place_of_first}
 use Rattle.matcher_read.specs.Helps.TokenLists.{TokenList, end_of}
-use Rattle.matcher_read.specs.Tokens.{IsCut, ended, strayed, one_token, Placed, placed, Token, with_calls}
+use Rattle.matcher_read.specs.Tokens.{IsCut, ended, strayed, one_token, Placed, placed, Token, as_read}
 use Rattle.matcher_read.specs.declared.fault.MatcherFault.{MatcherFault}
 use Rattle.matcher_read.specs.declared.fault.MatcherFault.TheVariants as fault
 use Rattle.matcher_read.specs.declared.tree.Tree.{Tree}
 use Rattle.matcher_read.proofs.CountLemmas.{nodes_derived}
 use Rattle.matcher_read.proofs.Gives.{closing_behind}
-use Rattle.matcher_read.proofs.LawLemmas.{calls_closed, no_matcher_with_fault, one_fault, one_matcher}
+use Rattle.matcher_read.proofs.LawLemmas.{read_closed, no_matcher_with_fault, one_fault, one_matcher}
 use Rattle.matcher_read.proofs.ReadLists.{no_list_stops}
 use Rattle.matcher_read.proofs.Passes.{verdict_none}
 use Rattle.matcher_read.proofs.Runs.{reads_through}
@@ -52,13 +52,13 @@ whole_unended {e} {before} {after} r h =
 -- the tokens of a text, as they are read
 pub record IsListed (bytes : List ℕ) (list : TokenList) : Type 0 where
   pub few : length bytes ≤ most_bytes
-  pub cut : (tokens : List Placed) × IsCut 1 bytes tokens list.stray × (list.tokens ≡ with_calls tokens)
+  pub cut : (tokens : List Placed) × IsCut 1 bytes tokens list.stray × (list.tokens ≡ as_read tokens)
   pub size : list.size ≡ length bytes
 
 pub fault_told : {bytes : List ℕ} {list : TokenList} (f : MatcherFault) → IsListed bytes list → verdict list.size list.stray start list.tokens ≡ Err f → IsFault bytes f
 fault_told {bytes} {list} f l v =
-    within l.few l.cut.1 (verdict_first (length bytes) list.stray (with_calls l.cut.0) f
-    (ap (λ (size : ℕ). verdict size list.stray start (with_calls l.cut.0)) (sym l.size) ∙ ap (verdict list.size list.stray start) (sym l.cut.2) ∙ v))
+    within l.few l.cut.1 (verdict_first (length bytes) list.stray (as_read l.cut.0) f
+    (ap (λ (size : ℕ). verdict size list.stray start (as_read l.cut.0)) (sym l.size) ∙ ap (verdict list.size list.stray start) (sym l.cut.2) ∙ v))
 
 ended_is : (ts : List Placed) (stray : Option ℕ) → is_ended ts stray ≡ true → (ts ≡ []) × (stray ≡ None)
 ended_is [] None h = (refl, refl)
@@ -69,7 +69,7 @@ ended_is (t ∷ ts) stray h = absurd cc
 record IsAll (bytes : List ℕ) (e : Expression) (list : TokenList) : Type 0 where
   pub tokens : List Placed
   pub cut : IsCut 1 bytes tokens None
-  pub listed : list.tokens ≡ with_calls tokens
+  pub listed : list.tokens ≡ as_read tokens
   pub derived : Derives most_levels or_rule list.tokens e
   pub closed : list_all (λ (t : Placed). is_closed t.token) list.tokens ≡ true
 
@@ -93,7 +93,7 @@ whole_read {bytes} {e} {list} {after} l r end few =
       few_bytes = l.few;
       tokens = all.tokens;
       cut = all.cut;
-      closed = sym (calls_closed all.tokens) ∙ ap (list_all (λ (t : Placed). is_closed t.token)) (sym all.listed) ∙ all.closed;
+      closed = sym (read_closed all.tokens) ∙ ap (list_all (λ (t : Placed). is_closed t.token)) (sym all.listed) ∙ all.closed;
       derived = subst (λ (ts : List Placed). Derives most_levels or_rule ts e) all.listed all.derived;
       sound = r.read.sound;
       few_nodes = omega (arith, nodes_derived all.derived, ltb-false most_nodes (node_count list.tokens) few);
@@ -167,6 +167,6 @@ stray_within {bytes} {list} after l p q = by_stray after.stray (sym p) (subst (�
     by_stray (Some place) e h = omega (arith, h, q, l.size)
 
 -- the tokens of the same text
-pub listed_same : (first : TokenList) {bytes : List ℕ} {second : TokenList} → ((tokens : List Placed) (stray : Option ℕ) → IsCut 1 bytes tokens stray → (first.tokens ≡ with_calls tokens) × (first.stray ≡ stray)) → IsListed bytes second
+pub listed_same : (first : TokenList) {bytes : List ℕ} {second : TokenList} → ((tokens : List Placed) (stray : Option ℕ) → IsCut 1 bytes tokens stray → (first.tokens ≡ as_read tokens) × (first.stray ≡ stray)) → IsListed bytes second
     → first.tokens ≡ second.tokens
 listed_same first only l = (only l.cut.0 _ l.cut.1).0 ∙ sym l.cut.2

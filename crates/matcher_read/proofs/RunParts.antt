@@ -10,7 +10,7 @@ use Rattle.matcher_read.specs.Grammar.{Rule, or_rule, cmp_rule, sum_rule, unary_
 use Rattle.matcher_read.specs.Matcher.{is_sound, are_sound, is_closed, most_levels}
 use Rattle.matcher_read.specs.declared.fault.MatcherFault.TheVariants.{TooDeep}
 use Rattle.matcher_read.specs.declared.tree.Operator.{Operator}
-use Rattle.matcher_read.specs.Helps.Machine.{State, step, depth, token_fault, Lefts, Frame, wants, no_lefts, state_of, with_operand, levels_of}
+use Rattle.matcher_read.specs.Helps.Machine.{State, step, depth, levels_at, token_fault, Lefts, Frame, wants, no_lefts, state_of, with_operand, levels_of}
 use Rattle.matcher_read.proofs.Ranks.{comparing}
 use Rattle.matcher_read.proofs.ReadSteps.{quiet}
 use Rattle.matcher_read.proofs.Passes.{Passes, passes_both, passes_more, passes_none, passes_weaker}
@@ -85,6 +85,9 @@ RunsList n ts es = (most : ℕ) (frame : Frame) (frames : List Frame) → holds_
 
 -- ---- levels
 
+pub shallow_levels : (levels at most : ℕ) → levels ≤ most → most ≤ most_levels → cond (nat_le levels most_levels) None (Some (TooDeep at)) ≡ None
+shallow_levels levels at most h k = quiet at levels (omega arith)
+
 pub shallow_fault : (next : State) (at most : ℕ) → depth next ≤ most → most ≤ most_levels → cond (nat_le (depth next) most_levels) None (Some (TooDeep at)) ≡ None
 shallow_fault next at most h k = quiet at (depth next) (omega arith)
 
@@ -134,10 +137,10 @@ runs_comparison {o} n at left right e f c r q most l frames h =
 -- an operator before its operand
 pub runs_sign : (n at : ℕ) (t : token.Token) (is : Bool) (build : Expression → Expression) (ts : List Placed) (e : Expression)
     → ((l : Lefts) (frames : List Frame) → step (state_of wants l frames) (placed at t) ≡ Some (state_of wants (record l { signs = (at, is) ∷ l.signs }) frames))
-    → ((s next : State) → token_fault s next at t ≡ cond (nat_le (depth next) most_levels) None (Some (TooDeep at)))
+    → ((s next : State) → token_fault s next at t ≡ cond (nat_le (depth next) most_levels) None (Some (TooDeep at))) → ((s next : State) → levels_at s t next ≡ depth next)
     → ((l : Lefts) (frames : List Frame) → with_operand (record l { signs = (at, is) ∷ l.signs }) frames e ≡ with_operand l frames (build e))
     → is_sound (build e) ≡ is_sound e → Runs n unary_rule ts e → Runs (suc n) unary_rule (placed at t ∷ ts) (build e)
-runs_sign n at t is build ts e steps faults builds sounds r most l frames h =
+runs_sign n at t is build ts e steps faults flat builds sounds r most l frames h =
     let inner : Lefts = record l { signs = (at, is) ∷ l.signs } in
     let before = state_of wants l frames in
     let middle = state_of wants inner frames in
@@ -145,18 +148,19 @@ runs_sign n at t is build ts e steps faults builds sounds r most l frames h =
     record {
       state = k.state;
       gives = k.gives ∙ builds l frames;
-      passes = passes_more before middle k.state (placed at t) ts (steps l frames) (omega (arith, h)) (λ q. faults before middle ∙ shallow_fault middle at most (omega (arith, h)) q.shallow)
+      passes = passes_more before middle k.state (placed at t) ts (steps l frames) (omega (arith, h, flat before middle)) (λ q. faults before middle ∙ shallow_fault middle at most (omega (arith, h)) q.shallow)
           (passes_weaker middle k.state ts (λ q. fine_behind [] (placed at t) ts (record { sound = sym sounds ∙ q.sound; closed = q.closed; shallow = q.shallow })) k.passes);
     }
 
 -- an operand that is one token
 pub runs_operand : (n at : ℕ) (t : token.Token) (e : Expression) → ((l : Lefts) (frames : List Frame) → step (state_of wants l frames) (placed at t) ≡ Some (with_operand l frames e))
-    → ((most : ℕ) (s next : State) → depth next ≤ most → Fine most (placed at t ∷ []) (is_sound e) → token_fault s next at t ≡ None) → Runs n prim_rule (placed at t ∷ []) e
-runs_operand n at t e steps quiet most l frames h =
+    → ((most : ℕ) (l : Lefts) (frames : List Frame) → depth (state_of wants l frames) + n ≤ most → levels_at (state_of wants l frames) t (with_operand l frames e) ≤ most)
+    → ((most : ℕ) (s next : State) → levels_at s t next ≤ most → Fine most (placed at t ∷ []) (is_sound e) → token_fault s next at t ≡ None) → Runs n prim_rule (placed at t ∷ []) e
+runs_operand n at t e steps few quiet most l frames h =
     let before = state_of wants l frames in
     let behind = with_operand l frames e in
     record {
       state = behind;
       gives = refl;
-      passes = passes_more before behind behind (placed at t) [] (steps l frames) (omega (arith, h)) (λ q. quiet most before behind (omega (arith, h)) q) (passes_none behind);
+      passes = passes_more before behind behind (placed at t) [] (steps l frames) (few most l frames h) (λ q. quiet most before behind (few most l frames h) q) (passes_none behind);
     }

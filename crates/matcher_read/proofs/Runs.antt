@@ -4,9 +4,9 @@ use Rattle.std.proofs.lemmas.Bool.{false≢true}
 use Rattle.std.specs.Str.Parse.{digits_value}
 use Rattle.matcher_read.specs.Tokens.{Placed, placed, operator}
 use Rattle.matcher_read.specs.Tokens as token
-use Rattle.matcher_read.specs.Expression.{Expression, text, whole, truth, request, policy, negation, opposite, binary, among, call, Expressions, one_more, expressions_of, count}
+use Rattle.matcher_read.specs.Expression.{Expression, text, whole, truth, request, policy, evaluated, negation, opposite, binary, among, call, Expressions, one_more, expressions_of, count}
 use Rattle.matcher_read.specs.Calls.{callee_of}
-use Rattle.matcher_read.specs.Grammar.{Rule, or_rule, and_rule, cmp_rule, sum_rule, term_rule, unary_rule, prim_rule, and_or, cmp_and, sum_cmp, term_sum, unary_term, prim_unary, Derives, DerivesList, by_part, by_join, by_comparison, by_members, by_negation, by_opposite, by_text, by_unclosed, by_number, by_true, by_false, by_request, by_policy, by_call, by_parentheses, by_last, by_more}
+use Rattle.matcher_read.specs.Grammar.{Rule, or_rule, and_rule, cmp_rule, sum_rule, term_rule, unary_rule, prim_rule, and_or, cmp_and, sum_cmp, term_sum, unary_term, prim_unary, Derives, DerivesList, by_part, by_join, by_comparison, by_members, by_negation, by_opposite, by_text, by_unclosed, by_number, by_true, by_false, by_request, by_policy, by_eval, by_call, by_parentheses, by_last, by_more}
 use Rattle.matcher_read.specs.Matcher.{is_sound, are_sound, most_levels, first_wide}
 use Rattle.matcher_read.specs.declared.fault.MatcherFault.{MatcherFault}
 use Rattle.matcher_read.specs.declared.fault.MatcherFault.TheVariants.{Unexpected, NumberTooWide}
@@ -14,8 +14,8 @@ use Rattle.matcher_read.specs.Helps.Machine.{State, Kind, goes, goes_within, dep
 use Rattle.matcher_read.proofs.Passes.{within_goes}
 use Rattle.matcher_read.proofs.Passes.{reads, verdict_behind}
 use Rattle.matcher_read.specs.Helps.Giving.{entry, Gives, holds_list}
-use Rattle.matcher_read.proofs.Gives.{step_negation, step_opposite, step_text, step_unclosed, step_number, step_true, step_false, step_request, step_policy}
-use Rattle.matcher_read.proofs.RunParts.{list_of, list_of_same, are_closed, Fine, GivesList, Runs, RunsList, shallow_fault, runs_part, runs_join, runs_comparison, runs_sign, runs_operand}
+use Rattle.matcher_read.proofs.Gives.{step_negation, step_opposite, step_text, step_unclosed, step_number, step_true, step_false, step_request, step_policy, step_eval}
+use Rattle.matcher_read.proofs.RunParts.{list_of, list_of_same, are_closed, Fine, GivesList, Runs, RunsList, shallow_fault, shallow_levels, runs_part, runs_join, runs_comparison, runs_sign, runs_operand}
 use Rattle.matcher_read.proofs.RunLists.{number_before, list_last, list_more, runs_parentheses, runs_call, runs_members}
 use Rattle.matcher_read.specs.declared.tree.Operator.TheVariants as op
 
@@ -37,17 +37,19 @@ mutual
       let closing = placed at_closing token.closing ∷ [] in
       same_tokens (suc n) cmp_rule tokens (left ++ (behind ++ closing)) (among at e es) (same ∙ append_assoc left behind closing) (runs_members n at at_opening at_closing left inside e es (runs d) (runs_list ds))
   runs (by_negation {n} {at} {tokens} {e} d) =
-      runs_sign n at token.exclamation true (negation at) tokens e (step_negation at) (λ s next. refl) (λ l frames. refl) refl (runs d)
+      runs_sign n at token.exclamation true (negation at) tokens e (step_negation at) (λ s next. refl) (λ s next. refl) (λ l frames. refl) refl (runs d)
   runs (by_opposite {n} {at} {tokens} {e} d) =
-      runs_sign n at (operator op.Minus) false (opposite at) tokens e (step_opposite at) (λ s next. refl) (λ l frames. refl) refl (runs d)
-  runs (by_text {n} {at} {bytes}) = runs_operand n at (token.text bytes) (text at bytes) (step_text at bytes) (λ most s next small q. shallow_fault next at most small q.shallow)
-  runs (by_unclosed {n} {at} {bytes}) = runs_operand n at (token.unclosed bytes) (text at bytes) (step_unclosed at bytes) (λ most s next small q. absurd (false≢true q.closed))
-  runs (by_number {n} {at} {digits}) = runs_operand n at (token.number digits) (whole at (pos (digits_value 10 digits))) (step_number at digits) (λ most s next small q. quiet_number at most digits q)
-  runs (by_true {n} {at}) = runs_operand n at (token.name (codes "true" ∷ [])) (truth at true) (step_true at) (λ most s next small q. shallow_fault next at most small q.shallow)
-  runs (by_false {n} {at}) = runs_operand n at (token.name (codes "false" ∷ [])) (truth at false) (step_false at) (λ most s next small q. shallow_fault next at most small q.shallow)
+      runs_sign n at (operator op.Minus) false (opposite at) tokens e (step_opposite at) (λ s next. refl) (λ s next. refl) (λ l frames. refl) refl (runs d)
+  runs (by_text {n} {at} {bytes}) = runs_operand n at (token.text bytes) (text at bytes) (step_text at bytes) (λ most l frames h. omega (arith, h)) (λ most s next small q. shallow_fault next at most small q.shallow)
+  runs (by_unclosed {n} {at} {bytes}) = runs_operand n at (token.unclosed bytes) (text at bytes) (step_unclosed at bytes) (λ most l frames h. omega (arith, h)) (λ most s next small q. absurd (false≢true q.closed))
+  runs (by_number {n} {at} {digits}) = runs_operand n at (token.number digits) (whole at (pos (digits_value 10 digits))) (step_number at digits) (λ most l frames h. omega (arith, h)) (λ most s next small q. quiet_number at most digits q)
+  runs (by_true {n} {at}) = runs_operand n at (token.name (codes "true" ∷ [])) (truth at true) (step_true at) (λ most l frames h. omega (arith, h)) (λ most s next small q. shallow_fault next at most small q.shallow)
+  runs (by_false {n} {at}) = runs_operand n at (token.name (codes "false" ∷ [])) (truth at false) (step_false at) (λ most l frames h. omega (arith, h)) (λ most s next small q. shallow_fault next at most small q.shallow)
   runs (by_request {n} {at} {column} {path}) =
-      runs_operand n at (token.name (codes "r" ∷ column ∷ path)) (request at column path) (step_request at column path) (λ most s next small q. shallow_fault next at most small q.shallow)
-  runs (by_policy {n} {at} {column}) = runs_operand n at (token.name (codes "p" ∷ column ∷ [])) (policy at column) (step_policy at column) (λ most s next small q. shallow_fault next at most small q.shallow)
+      runs_operand n at (token.name (codes "r" ∷ column ∷ path)) (request at column path) (step_request at column path) (λ most l frames h. omega (arith, h)) (λ most s next small q. shallow_fault next at most small q.shallow)
+  runs (by_policy {n} {at} {column}) = runs_operand n at (token.name (codes "p" ∷ column ∷ [])) (policy at column) (step_policy at column) (λ most l frames h. omega (arith, h)) (λ most s next small q. shallow_fault next at most small q.shallow)
+  runs (by_eval {n} {at} {at_opening} {column}) =
+      runs_operand (suc n) at (token.eval at_opening column) (evaluated at column) (step_eval at at_opening column) (λ most l frames h. omega (arith, h)) (λ most s next small q. shallow_levels (suc (depth s)) at_opening most small q.shallow)
   runs (by_call at_opening at_closing {n} {at} {parts = names} {tokens} {arguments = inside} {es} ds same) =
       same_tokens (suc n) prim_rule tokens (placed at (token.called names) ∷ placed at_opening token.opening ∷ inside ++ placed at_closing token.closing ∷ []) (call at (callee_of names) es) same
       (runs_call n at at_opening at_closing names inside es (runs_list ds))

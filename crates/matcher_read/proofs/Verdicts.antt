@@ -7,8 +7,9 @@ use Rattle.matcher_read.specs.Matcher.{most_levels, most_nodes}
 use Rattle.matcher_read.specs.Tokens.{Placed}
 use Rattle.matcher_read.specs.declared.fault.MatcherFault.{MatcherFault}
 use Rattle.matcher_read.specs.declared.fault.MatcherFault.TheVariants as fault
-use Rattle.matcher_read.specs.Helps.Machine.{State, start, step, depth, goes, goes_within, token_fault, after_fault, read_step, final_value, finish, verdict}
+use Rattle.matcher_read.specs.Helps.Machine.{State, start, step, depth, levels_at, goes, goes_within, token_fault, after_fault, read_step, final_value, finish, verdict}
 use Rattle.matcher_read.proofs.TokenFaults.{deep_fault, deep_opens, met_step, shallow, step_met}
+use Rattle.matcher_read.proofs.Depths.{depth_reached}
 use Rattle.matcher_read.proofs.Opens.{whole_within}
 use Rattle.matcher_read.proofs.Passes.{read_none, read_on, read_some, reads, reads_behind, within_goes}
 use Rattle.matcher_read.proofs.Runs.{derives_final}
@@ -27,30 +28,33 @@ verdict_reads size stray s (t ∷ ts) = by_step (λ next. verdict_reads size str
     by_step later (Err f) h = rw (h, verdict) refl
 
 -- what is read leads to a state, within the levels
-read_steps : (s next : State) (t : Placed) → depth s ≤ most_levels → read_step s t ≡ Ok next → (step s t ≡ Some next) × (nat_le (depth next) most_levels ≡ true)
+read_steps : (s next : State) (t : Placed) → depth s ≤ most_levels → read_step s t ≡ Ok next → (step s t ≡ Some next) × (nat_le (levels_at s t.token next) most_levels ≡ true)
 read_steps s next t h read = by_step (step s t) refl
   where
     fine : (m : State) (o : Option MatcherFault) → after_fault m o ≡ Ok next → (m ≡ next) × (o ≡ None)
     fine m None e = (cc, refl)
     fine m (Some f) e = absurd cc
 
-    by_depth : (m : State) (b : Bool) → nat_le (depth m) most_levels ≡ b → step s t ≡ Some m → token_fault s m t.at t.token ≡ None → nat_le (depth m) most_levels ≡ true
+    by_depth : (m : State) (b : Bool) → nat_le (levels_at s t.token m) most_levels ≡ b → step s t ≡ Some m → token_fault s m t.at t.token ≡ None → nat_le (levels_at s t.token m) most_levels ≡ true
     by_depth m true fits stepped none = fits
-    by_depth m false deep stepped none = absurd (let e : Some (fault.TooDeep t.at) ≡ None = sym (deep_fault s m t.at (deep_opens s m t.at t.token h stepped deep) deep) ∙ none in cc)
+    by_depth m false deep stepped none =
+        let opens = deep_opens s m t.at t.token h stepped deep in
+        absurd (let e : Some (fault.TooDeep opens.0) ≡ None = sym (deep_fault s m opens.1 deep) ∙ none in cc)
 
-    by_step : (o : Option State) → step s t ≡ o → (step s t ≡ Some next) × (nat_le (depth next) most_levels ≡ true)
+    by_step : (o : Option State) → step s t ≡ o → (step s t ≡ Some next) × (nat_le (levels_at s t.token next) most_levels ≡ true)
     by_step None stepped = absurd (let e : Err (fault.Unexpected t.at) ≡ Ok next = sym (read_none s t stepped) ∙ read in cc)
     by_step (Some m) stepped =
         let is = fine m (token_fault s m t.at t.token) (sym (read_some s m t stepped) ∙ read) in
-        (stepped ∙ ap (λ x. Some x) is.0, ap (λ x. nat_le (depth x) most_levels) (sym is.0) ∙ by_depth m (nat_le (depth m) most_levels) refl stepped is.1)
+        (stepped ∙ ap (λ x. Some x) is.0, ap (λ x. nat_le (levels_at s t.token x) most_levels) (sym is.0) ∙ by_depth m (nat_le (levels_at s t.token m) most_levels) refl stepped is.1)
 
 pub reads_within : (s last : State) (ts : List Placed) → depth s ≤ most_levels → reads s ts ≡ Ok last → goes_within most_levels s ts ≡ Some last
 reads_within s last [] h read = cc
 reads_within s last (t ∷ ts) h read =
     let cut = then_ok (λ next. reads next ts) (read_step s t) last read in
     let one = read_steps s cut.0 t h cut.1 in
-    let rest = reads_within cut.0 last ts (leb-true (depth cut.0) most_levels one.1) cut.2 in
-    ap (option_and_then (λ m. shallow most_levels m (goes_within most_levels m ts))) one.0 ∙ (ap (λ b. cond b (goes_within most_levels cut.0 ts) None) one.1 ∙ rest)
+    let few = leb-true (levels_at s t.token cut.0) most_levels one.1 in
+    let rest = reads_within cut.0 last ts (omega (arith, few, depth_reached s cut.0 t one.0)) cut.2 in
+    ap (option_and_then (λ m. shallow s t most_levels m (goes_within most_levels m ts))) one.0 ∙ (ap (λ b. cond b (goes_within most_levels cut.0 ts) None) one.1 ∙ rest)
 
 reads_front : (s last : State) (ts us : List Placed) → reads s (ts ++ us) ≡ Ok last → (m : State) × (reads s ts ≡ Ok m) × (reads m us ≡ Ok last)
 reads_front s last [] us h = (s, refl, h)

@@ -2,6 +2,7 @@
 use Rattle.std.specs.Prelude.{ℕ, ◌+◌, ◌==◌, ◌||◌, Bool, true, false, List, [], ◌∷◌, Option, Some, None, codes, find, position}
 use Rattle.std.specs.Str.{bytes_eq}
 use Rattle.matcher_read.specs.Expression.{Callee, function, relation, unknown}
+use Rattle.matcher_read.specs.Tokens.{is_eval_name}
 use Rattle.matcher_read.specs.declared.tree.Function.{Function}
 use Rattle.matcher_read.specs.declared.tree.Function.TheVariants as f
 
@@ -49,11 +50,11 @@ arity f.KeyGet2 = 3
 arity f.KeyGet3 = 3
 arity _ = 2
 
--- it is a function or a relation
+-- it is a function or a relation, or `eval`, which takes no list of arguments
 abbrev pub is_known : Callee → Bool
 is_known (function called) = true
 is_known (relation number) = true
-is_known (unknown parts) = false
+is_known (unknown parts) = is_eval_name parts
 
 -- it takes so many arguments; a role relation is asked with two names, or with two and a domain
 abbrev pub takes : Callee → ℕ → Bool

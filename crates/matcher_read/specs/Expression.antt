@@ -1,5 +1,5 @@
 -- What a matcher says: an expression, each node at its place, the byte of the text, counted from 1, where its literal, name, call or operator begins.
-use Rattle.std.specs.Prelude.{ℕ, ◌+◌, ℤ, Bool, List, [], ◌∷◌}
+use Rattle.std.specs.Prelude.{ℕ, ◌+◌, ℤ, ◌||◌, Bool, false, List, [], ◌∷◌}
 use Rattle.matcher_read.specs.declared.tree.Function.{Function}
 use Rattle.matcher_read.specs.declared.tree.Operator.{Operator}
 use Rattle.matcher_read.specs.declared.tree.Tree.{Tree, fold-Tree}
@@ -18,6 +18,7 @@ mutual
     truth : ℕ → Bool → Expression
     request : ℕ → List ℕ → List (List ℕ) → Expression
     policy : ℕ → List ℕ → Expression
+    evaluated : ℕ → List ℕ → Expression
     negation : ℕ → Expression → Expression
     opposite : ℕ → Expression → Expression
     binary : ℕ → Operator → Expression → Expression → Expression
@@ -45,13 +46,14 @@ place (whole at n) = at
 place (truth at b) = at
 place (request at column path) = at
 place (policy at column) = at
+place (evaluated at column) = at
 place (negation at e) = at
 place (opposite at e) = at
 place (binary at op e f) = at
 place (among at e es) = at
 place (call at callee es) = at
 
--- how many nodes an expression has: each literal, name, operator, `in` and call is one
+-- how many nodes an expression has: each literal, name, operator, `in` and call, also that of `eval`, is one
 abbrev mutual
   pub nodes : Expression → ℕ
   nodes (text at bytes) = 1
@@ -59,6 +61,7 @@ abbrev mutual
   nodes (truth at b) = 1
   nodes (request at column path) = 1
   nodes (policy at column) = 1
+  nodes (evaluated at column) = 1
   nodes (negation at e) = 1 + nodes e
   nodes (opposite at e) = 1 + nodes e
   nodes (binary at op e f) = 1 + nodes e + nodes f
@@ -69,6 +72,25 @@ abbrev mutual
   all_nodes no_more = 0
   all_nodes (one_more e es) = nodes e + all_nodes es
 
+-- a node of the expression passes the test: its root, or one below it
+abbrev mutual
+  pub some_node : (Expression → Bool) → Expression → Bool
+  some_node test (text at bytes) = test (text at bytes)
+  some_node test (whole at n) = test (whole at n)
+  some_node test (truth at b) = test (truth at b)
+  some_node test (request at column path) = test (request at column path)
+  some_node test (policy at column) = test (policy at column)
+  some_node test (evaluated at column) = test (evaluated at column)
+  some_node test (negation at e) = test (negation at e) || some_node test e
+  some_node test (opposite at e) = test (opposite at e) || some_node test e
+  some_node test (binary at op e f) = test (binary at op e f) || (some_node test e || some_node test f)
+  some_node test (among at e es) = test (among at e es) || (some_node test e || among_some test es)
+  some_node test (call at callee es) = test (call at callee es) || among_some test es
+
+  pub among_some : (Expression → Bool) → Expressions → Bool
+  among_some test no_more = false
+  among_some test (one_more e es) = some_node test e || among_some test es
+
 -- one level of a tree, with each tree inside already seen as its expression
 abbrev pub expression_step : Tree-F Expression → Expression
 expression_step (Tree-F.Text at bytes) = text at bytes
@@ -76,6 +98,7 @@ expression_step (Tree-F.Whole at n) = whole at n
 expression_step (Tree-F.Truth at b) = truth at b
 expression_step (Tree-F.Request at column path) = request at column path.items
 expression_step (Tree-F.Policy at column) = policy at column
+expression_step (Tree-F.Eval at column) = evaluated at column
 expression_step (Tree-F.Not at e) = negation at e.value
 expression_step (Tree-F.Negate at e) = opposite at e.value
 expression_step (Tree-F.Binary at op e f) = binary at op e.value f.value

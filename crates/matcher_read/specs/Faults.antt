@@ -5,7 +5,7 @@ use Rattle.matcher_read.specs.Calls.{callee_of, is_known, takes}
 use Rattle.matcher_read.specs.Expression.{Expression, Expressions, count, nodes}
 use Rattle.matcher_read.specs.Grammar.{Derives, DerivesList, or_rule}
 use Rattle.matcher_read.specs.Matcher.{most_bytes, most_levels, most_nodes, first_wide}
-use Rattle.matcher_read.specs.Tokens.{Placed, placed, Token, IsCut, with_calls}
+use Rattle.matcher_read.specs.Tokens.{Placed, placed, IsCut, as_read}
 use Rattle.matcher_read.specs.Tokens as token
 use Rattle.matcher_read.specs.declared.tree.Operator.TheVariants as op
 use Rattle.matcher_read.specs.declared.fault.MatcherFault.{MatcherFault}
@@ -23,11 +23,12 @@ IsOpen tokens = (levels : ℕ) × IsOpenWithin levels tokens
 abbrev pub IsWhole : List Placed → Type 0
 IsWhole tokens = (levels : ℕ) × (e : Expression) × Derives levels or_rule tokens e
 
--- tokens that may open a level: `!`, `-` and `(`
-pub data OpensLevel : Token → Type 0 where
-  exclamation_opens : OpensLevel token.exclamation
-  minus_opens : OpensLevel (token.operator op.Minus)
-  parenthesis_opens : OpensLevel token.opening
+-- tokens that may open a level, and where: `!`, `-` and `(`, also that of `eval ( p.column )`
+pub data OpensLevel : Placed → ℕ → Type 0 where
+  exclamation_opens : {at : ℕ} → OpensLevel (placed at token.exclamation) at
+  minus_opens : {at : ℕ} → OpensLevel (placed at (token.operator op.Minus)) at
+  parenthesis_opens : {at : ℕ} → OpensLevel (placed at token.opening) at
+  eval_opens : {at at_opening : ℕ} {column : List ℕ} → OpensLevel (placed at (token.eval at_opening column)) at_opening
 
 -- the fault is met at a token behind these; all but the first are met where the token may stand there
 pub data IsMet (before : List Placed) : Placed → MatcherFault → Type 0 where
@@ -41,12 +42,12 @@ pub data IsMet (before : List Placed) : Placed → MatcherFault → Type 0 where
   -- what is called is no function and no role relation
   unknown_function : {at : ℕ} {parts : List (List ℕ)} → IsOpen (before ++ placed at (token.called parts) ∷ []) → is_known (callee_of parts) ≡ false
       → IsMet before (placed at (token.called parts)) (UnknownFunction at)
-  -- the parenthesis that closes the arguments of a call, when it has another number of them than it takes; the fault stands at the call
+  -- the parenthesis that closes the arguments of a call, when it has another number of them than it takes, and of `eval` with any list that is not one column of the policy; the fault stands at the call
   wrong_arguments : (at_opening at_closing : ℕ) {at : ℕ} (parts : List (List ℕ)) (front inside : List Placed) {n : ℕ} {es : Expressions} → IsOpen (before ++ placed at_closing token.closing ∷ [])
       → before ≡ front ++ placed at (token.called parts) ∷ placed at_opening token.opening ∷ inside → DerivesList n inside es → takes (callee_of parts) (count es) ≡ false
       → IsMet before (placed at_closing token.closing) (WrongArguments at)
   -- a token that opens one level too many
-  too_deep : {t : Placed} → OpensLevel t.token → IsOpen (before ++ t ∷ []) → ¬ (IsOpenWithin most_levels (before ++ t ∷ [])) → IsMet before t (TooDeep t.at)
+  too_deep : {t : Placed} {at : ℕ} → OpensLevel t at → IsOpen (before ++ t ∷ []) → ¬ (IsOpenWithin most_levels (before ++ t ∷ [])) → IsMet before t (TooDeep at)
 
 -- no fault is met at any of the tokens
 abbrev pub AreFine : List Placed → Type 0
@@ -63,4 +64,4 @@ pub data IsFirst (size : ℕ) : List Placed → Option ℕ → MatcherFault → 
 pub data IsFault (bytes : List ℕ) : MatcherFault → Type 0 where
   too_long : most_bytes < length bytes → IsFault bytes TooLong
   within : {tokens : List Placed} {stray : Option ℕ} {fault : MatcherFault} → length bytes ≤ most_bytes → IsCut 1 bytes tokens stray
-      → IsFirst (length bytes) (with_calls tokens) stray fault → IsFault bytes fault
+      → IsFirst (length bytes) (as_read tokens) stray fault → IsFault bytes fault

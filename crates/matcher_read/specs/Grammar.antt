@@ -5,12 +5,13 @@
 --     sum    = term { ( "+" | "-" ) term }
 --     term   = unary { ( "*" | "/" | "%" ) unary }
 --     unary  = ( "!" | "-" ) unary | prim
---     prim   = text | number | "true" | "false" | "r" names | "p" name | called "(" list ")" | "(" or ")"
+--     prim   = text | number | "true" | "false" | "r" names | "p" name | "eval" "(" "p" name ")" | called "(" list ")" | "(" or ")"
 --     list   = or { "," or }
+-- what `eval` calls, with its parentheses, is one token here.
 use Rattle.std.specs.Prelude.{◌≡◌, ℕ, suc, pos, true, false, List, [], ◌∷◌, ◌++◌, codes}
 use Rattle.std.specs.Str.Parse.{digits_value}
 use Rattle.matcher_read.specs.Calls.{callee_of}
-use Rattle.matcher_read.specs.Expression.{Expression, text, whole, truth, request, policy, negation, opposite, binary, among, call, Expressions, no_more, one_more}
+use Rattle.matcher_read.specs.Expression.{Expression, text, whole, truth, request, policy, evaluated, negation, opposite, binary, among, call, Expressions, no_more, one_more}
 use Rattle.matcher_read.specs.Tokens.{Placed, placed}
 use Rattle.matcher_read.specs.Tokens as token
 use Rattle.matcher_read.specs.declared.tree.Operator.{Operator}
@@ -73,6 +74,7 @@ mutual
     by_false : {n at : ℕ} → Derives n prim_rule (placed at (token.name (codes "false" ∷ [])) ∷ []) (truth at false)
     by_request : {n at : ℕ} {column : List ℕ} {path : List (List ℕ)} → Derives n prim_rule (placed at (token.name (codes "r" ∷ column ∷ path)) ∷ []) (request at column path)
     by_policy : {n at : ℕ} {column : List ℕ} → Derives n prim_rule (placed at (token.name (codes "p" ∷ column ∷ [])) ∷ []) (policy at column)
+    by_eval : {n at at_opening : ℕ} {column : List ℕ} → Derives (suc n) prim_rule (placed at (token.eval at_opening column) ∷ []) (evaluated at column)
     by_call : (at_opening at_closing : ℕ) {n at : ℕ} {parts : List (List ℕ)} {tokens arguments : List Placed} {es : Expressions} → DerivesList n arguments es
         → tokens ≡ placed at (token.called parts) ∷ placed at_opening token.opening ∷ arguments ++ placed at_closing token.closing ∷ [] → Derives (suc n) prim_rule tokens (call at (callee_of parts) es)
     by_parentheses : (at_opening at_closing : ℕ) {n : ℕ} {tokens inside : List Placed} {e : Expression} → Derives n or_rule inside e

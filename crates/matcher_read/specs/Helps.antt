@@ -1,5 +1,6 @@
 -- Helps for the proofs, which no public clause cites.
 pub mod TokenLists
+pub mod Forming
 pub mod Cutting
 pub mod Naming
 pub mod Machine

@@ -1,4 +1,5 @@
 pub mod Expression
+pub mod Kinds
 pub mod Tokens
 pub mod Grammar
 pub mod Calls

@@ -1,9 +1,9 @@
 -- The text of a matcher (Casbin, syntax for models: matchers).
 use Rattle.std.specs.Prelude.{◌≡◌, ℕ, ◌≤◌, ◌&&◌, ℤ, pos, negsuc, Bool, true, false, nat_lt, List, length, None}
 use Rattle.matcher_read.specs.Calls.{takes}
-use Rattle.matcher_read.specs.Expression.{Expression, text, whole, truth, request, policy, negation, opposite, binary, among, call, Expressions, no_more, one_more, count, nodes}
+use Rattle.matcher_read.specs.Expression.{Expression, text, whole, truth, request, policy, evaluated, negation, opposite, binary, among, call, Expressions, no_more, one_more, count, nodes}
 use Rattle.matcher_read.specs.Grammar.{Derives, or_rule}
-use Rattle.matcher_read.specs.Tokens.{Placed, IsCut, with_calls, Token, unclosed}
+use Rattle.matcher_read.specs.Tokens.{Placed, IsCut, as_read, Token, unclosed}
 use Rattle.std.specs.List.{list_all}
 
 -- the greatest number of bytes, of levels and of nodes
@@ -33,6 +33,7 @@ abbrev mutual
   is_sound (truth at b) = true
   is_sound (request at column path) = true
   is_sound (policy at column) = true
+  is_sound (evaluated at column) = true
   is_sound (negation at e) = is_sound e
   is_sound (opposite at e) = is_sound e
   is_sound (binary at op e f) = is_sound e && is_sound f
@@ -58,6 +59,6 @@ pub record IsMatcher (bytes : List ℕ) (e : Expression) : Type 0 where
   pub tokens : List Placed
   pub cut : HasTokens bytes tokens
   pub closed : list_all (λ (t : Placed). is_closed t.token) tokens ≡ true
-  pub derived : Derives most_levels or_rule (with_calls tokens) e
+  pub derived : Derives most_levels or_rule (as_read tokens) e
   pub sound : is_sound e ≡ true
   pub few_nodes : nodes e ≤ most_nodes

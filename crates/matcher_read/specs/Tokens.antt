@@ -1,5 +1,5 @@
 -- The tokens of a matcher: the longest that fit, one behind the other, with blanks between them (Casbin, syntax for models: matchers).
-use Rattle.std.specs.Prelude.{◌≡◌, ℕ, ◌+◌, ◌<◌, ◌≤◌, ◌||◌, ◌⊎◌, Bool, false, if◌then◌else◌, List, [], ◌∷◌, ◌++◌, length, codes, All, IsTrue, Option, Some, None}
+use Rattle.std.specs.Prelude.{◌≡◌, ℕ, zero, suc, ◌+◌, ◌<◌, ◌≤◌, ◌||◌, ◌&&◌, ◌⊎◌, Bool, true, false, cond, option_map, if◌then◌else◌, List, [], ◌∷◌, ◌++◌, length, codes, All, IsTrue, Option, Some, None}
 use Rattle.std.specs.Char.{is_ascii_digit}
 use Rattle.std.specs.List.{join_with_byte, list_all}
 use Rattle.std.specs.Str.{bytes_eq}
@@ -9,10 +9,11 @@ use Rattle.text_parts.specs.Names.{is_identifier}
 use Rattle.matcher_read.specs.declared.tree.Operator.{Operator}
 use Rattle.matcher_read.specs.declared.tree.Operator.TheVariants as op
 
--- a name is seen as its identifiers; one before `(` is called
+-- a name is seen as its identifiers; one before `(` is called; `eval ( p.column )` is seen as one, with the place of its `(`
 pub data Token : Type 0 where
   name : List (List ℕ) → Token
   called : List (List ℕ) → Token
+  eval : ℕ → List ℕ → Token
   number : List ℕ → Token
   text : List ℕ → Token
   unclosed : List ℕ → Token
@@ -107,3 +108,49 @@ token_before token _ = token
 abbrev pub with_calls : List Placed → List Placed
 with_calls [] = []
 with_calls (token ∷ behind) = placed token.at (token_before token.token behind) ∷ with_calls behind
+
+-- the name `eval`
+abbrev pub is_eval_name : List (List ℕ) → Bool
+is_eval_name [] = false
+is_eval_name (part ∷ []) = bytes_eq part (codes "eval")
+is_eval_name (part ∷ next ∷ parts) = false
+
+-- a call of `eval`
+abbrev pub is_eval : Token → Bool
+is_eval (called parts) = is_eval_name parts
+is_eval _ = false
+
+abbrev pub is_opening : Token → Bool
+is_opening opening = true
+is_opening _ = false
+
+abbrev pub is_closing : Token → Bool
+is_closing closing = true
+is_closing _ = false
+
+-- the column of `p.column`
+abbrev pub column_of : Token → Option (List ℕ)
+column_of (name (part ∷ column ∷ [])) = cond (bytes_eq part (codes "p")) (Some column) None
+column_of _ = None
+
+-- the column of `eval ( p.column )`, where the four tokens are that
+abbrev pub eval_column : Token → Token → Token → Token → Option (List ℕ)
+eval_column first second third fourth = cond (is_eval first && (is_opening second && is_closing fourth)) (column_of third) None
+
+-- `eval ( p.column )` as one token, where a token and those behind it begin so
+abbrev pub eval_at : Placed → List Placed → Option Placed
+eval_at first (second ∷ third ∷ fourth ∷ behind) = option_map (λ column. placed first.at (eval second.at column)) (eval_column first.token second.token third.token fourth.token)
+eval_at first _ = None
+
+-- behind so many tokens, each `eval ( p.column )` as one
+abbrev pub evals_behind : ℕ → List Placed → List Placed
+evals_behind n [] = []
+evals_behind (suc n) (token ∷ behind) = evals_behind n behind
+evals_behind zero (token ∷ behind) = elim (eval_at token behind) [
+  | Some form ↦ form ∷ evals_behind 3 behind
+  | None ↦ token ∷ evals_behind 0 behind
+]
+
+-- the tokens as the grammar reads them
+abbrev pub as_read : List Placed → List Placed
+as_read tokens = evals_behind 0 (with_calls tokens)

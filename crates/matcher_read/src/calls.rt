@@ -6,11 +6,12 @@ ghost use Rattle.matcher_read.specs.Helps.TokenLists.{pieces};
 
 use crate::tree::Function;
 
-/// What is called: a function, or a role relation by its number.
+/// What is called: a function, a role relation by its number, or `eval`.
 #[derive(Clone, Copy)]
 pub(crate) enum Called {
     Function(Function),
     Relation(u8),
+    Eval,
 }
 
 /// What a name calls, if there is such a function or role relation.
@@ -23,6 +24,9 @@ pub(crate) fn called_by(name: &str) -> Option<Called>
     }
     if let Some(relation) = relation_by(name) {
         return Some(Called::Relation(relation));
+    }
+    if name == "eval" {
+        return Some(Called::Eval);
     }
     None
 }
@@ -65,7 +69,8 @@ fn relation_by(name: &str) -> Option<u8>
     }
 }
 
-/// Whether so many arguments are right; a role relation is asked with two names, or with two and a domain.
+/// Whether so many arguments are right; a role relation is asked with two names, or with two and a domain. No list of
+/// arguments is right for `eval`.
 pub(crate) fn takes(called: Called, arguments: usize) -> bool
     ensures { result ≡ accepts (callee called) arguments }
 {
@@ -73,5 +78,6 @@ pub(crate) fn takes(called: Called, arguments: usize) -> bool
         Called::Function(Function::KeyGet2 | Function::KeyGet3) => arguments == 3,
         Called::Function(_) => arguments == 2,
         Called::Relation(_) => arguments == 2 || arguments == 3,
+        Called::Eval => false,
     }
 }

@@ -3,14 +3,14 @@ ghost use Rattle.matcher_read.specs.Helps.Counting.{is_node as is_node_token, no
 ghost use Rattle.matcher_read.specs.Matcher.{most_nodes};
 ghost use Rattle.matcher_read.specs.Helps.TokenLists.{token_of};
 
+use crate::forms::Forms;
 use crate::token::Token;
-use crate::tokens::Tokens;
 
 // The greatest number of nodes.
 const MOST_NODES: u32 = 1024;
 
 /// Whether the tokens of a matcher make more nodes than it may have.
-pub(crate) fn has_too_many_nodes(mut tokens: Tokens) -> bool
+pub(crate) fn has_too_many_nodes(mut tokens: Forms) -> bool
     ensures { result ≡ nat_lt most_nodes (node_count tokens.entry.tokens) }
 {
     let mut nodes = 0;

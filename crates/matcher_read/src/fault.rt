@@ -14,7 +14,8 @@ pub enum MatcherFault {
     NumberTooWide { at: u32 },
     /// A call of what is no function.
     UnknownFunction { at: u32 },
-    /// A function with another number of arguments than it takes.
+    /// A function with another number of arguments than it takes, or `eval` with another list than one column of the
+    /// policy.
     WrongArguments { at: u32 },
     /// More than 64 levels that enclose a place.
     TooDeep { at: u32 },

@@ -4,6 +4,8 @@
 mod calls;
 mod count;
 mod fault;
+mod forms;
+mod kinds;
 mod law;
 mod names;
 mod nodes;
@@ -16,6 +18,7 @@ mod tree;
 mod words;
 
 pub use fault::MatcherFault;
+pub use kinds::{NodeKind, has_node};
 pub use law::{faulty_text_is_no_matcher, text_has_one_fault, text_says_one_matcher};
 pub use reading::read_matcher;
 pub use tree::{Function, Operator, Tree};

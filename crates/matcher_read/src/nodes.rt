@@ -1,4 +1,4 @@
-ghost use Rattle.std.specs.Prelude.{◌≡◌, ◌≢◌, Err, false, IfOk, MatchResult, Ok, map, true};
+ghost use Rattle.std.specs.Prelude.{◌≡◌, ◌≢◌, Err, false, IfOk, MatchOption, MatchResult, Ok, ℕ, map, true};
 ghost use Rattle.matcher_read.specs.Calls.{takes as accepts};
 ghost use Rattle.matcher_read.specs.Expression as tree;
 ghost use Rattle.matcher_read.specs.Expression.{count, expression, expressions_of};
@@ -72,32 +72,37 @@ pub(crate) fn call(at: u32, called: Called, arguments: Vec<Tree>) -> Result<Tree
     if !takes(called, arguments.len()) {
         return Err(MatcherFault::WrongArguments { at });
     }
-    Ok(call_of(at, called, arguments))
-}
-
-// A call with its arguments, however many they are.
-fn call_of(at: u32, called: Called, arguments: Vec<Tree>) -> Tree
-    ensures { expression result
-        ≡ tree.call at (callee called) (expressions_of (map expression arguments.items)) }
-{
-    match called {
-        Called::Function(function) => Tree::Call {
-            at,
-            function,
-            arguments,
-        },
-        Called::Relation(relation) => Tree::Role {
-            at,
-            relation,
-            arguments,
-        },
+    match called_with(at, called, arguments) {
+        Some(tree) => Ok(tree),
+        None => Err(MatcherFault::WrongArguments { at }),
     }
 }
 
-/// The literal or the name that a token is.
-pub(crate) fn literal(alloc: Global, next: PlacedToken) -> Result<Tree, MatcherFault>
+// A call of a function, or a question to a role relation.
+fn called_with(at: u32, called: Called, arguments: Vec<Tree>) -> Option<Tree>
+    ensures { MatchOption result ((given : ℕ) → accepts (callee called) given ≡ false)
+        (λ made. expression made
+        ≡ tree.call at (callee called) (expressions_of (map expression arguments.items))) }
+{
+    match called {
+        Called::Function(function) => Some(Tree::Call {
+            at,
+            function,
+            arguments,
+        }),
+        Called::Relation(relation) => Some(Tree::Role {
+            at,
+            relation,
+            arguments,
+        }),
+        Called::Eval => None,
+    }
+}
+
+/// The literal, the name or the `eval` of a column that a token is, with so many levels left.
+pub(crate) fn literal(alloc: Global, next: PlacedToken, levels: u8) -> Result<Tree, MatcherFault>
     requires { HasDigits (token_of next.token) }
-    ensures { let operand = operand_of next.entry.at (token_of next.entry.token) in
+    ensures { let operand = operand_of levels next.entry.at (token_of next.entry.token) in
         MatchResult result (λ made. operand ≡ Ok (expression made))
         (λ fault. fault ≢ MatcherFault.NoMemory → operand ≡ Err fault) }
 {
@@ -112,6 +117,15 @@ pub(crate) fn literal(alloc: Global, next: PlacedToken) -> Result<Tree, MatcherF
             Some(number) => Ok(Tree::Whole { at, number }),
             None => Err(MatcherFault::NumberTooWide { at }),
         },
+        Token::Eval { opening, column } => {
+            if levels == 0 {
+                return Err(MatcherFault::TooDeep { at: opening });
+            }
+            Ok(Tree::Eval {
+                at,
+                column: Text::from_str(alloc, column)?,
+            })
+        }
         Token::Name(name) => match operand_by(alloc, at, name)? {
             Some(tree) => Ok(tree),
             None => Err(MatcherFault::Unexpected { at }),

@@ -1,4 +1,4 @@
-ghost use Rattle.std.specs.Prelude.{◌≡◌, ◌≢◌, Err, false, true, IfErr, MatchBool, MatchResult, Ok, ℕ};
+ghost use Rattle.std.specs.Prelude.{◌≡◌, ◌≢◌, Err, false, true, MatchBool, MatchResult, Ok, ℕ};
 ghost use Rattle.matcher_read.specs.Helps.Counting.{IsWithin, is_ended};
 ghost use Rattle.matcher_read.specs.Expression.{expression};
 ghost use Rattle.matcher_read.specs.Grammar.{cmp_rule, prim_rule, unary_rule};
@@ -28,9 +28,9 @@ ghost use Rattle.matcher_read.specs.Tokens.{Placed, placed, comma};
 
 use crate::calls::called_by;
 use crate::fault::MatcherFault;
+use crate::forms::Forms;
 use crate::nodes::{among, binary, call, literal, signed};
 use crate::token::Token;
-use crate::tokens::Tokens;
 use crate::tree::{Operator, Tree};
 use crate::words::{Chain, Comparing, Opener, Sign, compares, is_in, joins};
 use outside::NoMemory;
@@ -40,7 +40,7 @@ use std::alloc::Global;
 #[derive(Drop)]
 pub(crate) struct Parser<'a> {
     pub(crate) alloc: Global,
-    pub(crate) tokens: Tokens<'a>,
+    pub(crate) tokens: Forms<'a>,
 }
 
 impl<'a> Parser<'a> {
@@ -124,7 +124,7 @@ impl<'a> Parser<'a> {
                 self.take_closing()?;
                 call(at, called, arguments)
             }
-            Opener::Nothing => self.literal(),
+            Opener::Nothing => self.literal(levels),
         }
     }
 
@@ -157,18 +157,18 @@ impl<'a> Parser<'a> {
         Ok(())
     }
 
-    // Reads a literal or a name.
-    fn literal(&mut self) -> Result<Tree, MatcherFault>
+    // Reads a literal, a name or the `eval` of a column.
+    fn literal(&mut self, levels: u8) -> Result<Tree, MatcherFault>
         ensures { let old = self.old.tokens in MatchResult result
             (λ tree. (first : Placed) × Takes first old self.new.tokens
-            × (operand_of first.at first.token ≡ Ok (expression tree)))
+            × (operand_of levels first.at first.token ≡ Ok (expression tree)))
             (λ fault. fault ≢ MatcherFault.NoMemory
-            → first_operand old.tokens (end_of old.stray old.size) ≡ Err fault) }
+            → first_operand levels old.tokens (end_of old.stray old.size) ≡ Err fault) }
     {
         let Some(next) = self.tokens.peek() else {
             return Err(self.unexpected());
         };
-        let tree = literal(self.alloc, next)?;
+        let tree = literal(self.alloc, next, levels)?;
         self.tokens.advance();
         Ok(tree)
     }

@@ -5,8 +5,8 @@ ghost use Rattle.matcher_read.specs.Matcher.{IsMatcher};
 
 use crate::count::has_too_many_nodes;
 use crate::fault::MatcherFault;
+use crate::forms::Forms;
 use crate::parser::Parser;
-use crate::tokens::Tokens;
 use crate::tree::Tree;
 use crate::words::Chain;
 use std::alloc::Global;
@@ -31,11 +31,11 @@ pub fn read_matcher(alloc: Global, text: &str) -> Result<Tree, MatcherFault>
     }
     let mut parser = Parser {
         alloc,
-        tokens: Tokens::new(text),
+        tokens: Forms::new(text),
     };
     let tree = parser.chain(Chain::Or, MOST_LEVELS)?;
     parser.end(text.len())?;
-    if has_too_many_nodes(Tokens::new(text)) {
+    if has_too_many_nodes(Forms::new(text)) {
         return Err(MatcherFault::TooManyNodes);
     }
     Ok(tree)

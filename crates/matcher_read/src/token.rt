@@ -15,6 +15,8 @@ pub(crate) enum Token<'a> {
     Name(&'a str),
     /// A name that `(` follows, other than `true`, `false` and `in`.
     Called(&'a str),
+    /// `eval ( p.column )`, and where its `(` stands.
+    Eval { opening: u32, column: &'a str },
     /// Digits.
     Number(&'a str),
     /// What stands between two equal quotes.

@@ -1,8 +1,8 @@
-ghost use Rattle.std.specs.Prelude.{◌≡◌, ℕ, ◌+◌, ◌<◌, ◌≤◌, List, [], ◌∷◌, Option, IfSome, MatchOption, drop, length};
+ghost use Rattle.std.specs.Prelude.{◌≡◌, ◌+◌, ◌<◌, ◌≤◌, [], ◌∷◌, IfSome, MatchOption, drop, length};
 ghost use Rattle.matcher_read.specs.Helps.Cutting.{begins_opening, blanks, cut, marked};
 ghost use Rattle.matcher_read.specs.Matcher.{most_bytes};
 ghost use Rattle.matcher_read.specs.Helps.TokenLists.{HasDigits, end_of, pieces, placed_of, token_of};
-ghost use Rattle.matcher_read.specs.Tokens.{IsCut, Placed, is_reserved, with_calls};
+ghost use Rattle.matcher_read.specs.Tokens.{is_reserved, with_calls};
 
 use crate::token::{PlacedToken, Token, first_token};
 use std::marker::Model;
@@ -31,18 +31,6 @@ impl<'a> Model for Tokens<'a> {
 }
 
 impl<'a> Tokens<'a> {
-    /// The tokens of a text.
-    pub(crate) fn new(text: &'a str) -> Tokens<'a>
-        requires { length text.now ≤ most_bytes }
-        ensures found { (tokens : List Placed) × IsCut 1 text.now tokens result.stray
-            × (result.tokens ≡ with_calls tokens) }
-        ensures only { (tokens : List Placed) (stray : Option ℕ) → IsCut 1 text.now tokens stray
-            → (result.tokens ≡ with_calls tokens) × (result.stray ≡ stray) }
-        ensures size { result.size ≡ length text.now }
-    {
-        tokens_from(text, 1)
-    }
-
     /// The first token that is left.
     pub(crate) fn peek(&self) -> Option<PlacedToken<'a>>
         ensures token { MatchOption result (self.now.tokens ≡ [])
@@ -52,14 +40,13 @@ impl<'a> Tokens<'a> {
         self.current
     }
 
-    /// Passes over the first token that is left.
-    pub(crate) fn advance(&mut self)
-        requires { 0 < length self.old.tokens }
-        ensures tokens { self.new.tokens ≡ drop 1 self.old.tokens }
-        ensures stray { self.new.stray ≡ self.old.stray }
-        ensures size { self.new.size ≡ self.old.size }
+    /// The tokens behind the first, if there is one.
+    pub(crate) fn behind(&self) -> Tokens<'a>
+        ensures tokens { result.tokens ≡ drop 1 self.now.tokens }
+        ensures stray { result.stray ≡ self.now.stray }
+        ensures size { result.size ≡ self.now.size }
     {
-        *self = tokens_from(self.rest, self.place);
+        tokens_from(self.rest, self.place)
     }
 
     /// The place where the tokens end: that of a byte that begins none, or else the length of the text and 1.
@@ -71,8 +58,8 @@ impl<'a> Tokens<'a> {
     }
 }
 
-// The tokens of a text whose first byte stands at a place.
-fn tokens_from(text: &str, place: u32) -> Tokens<'_>
+/// The tokens of a text whose first byte stands at a place.
+pub(crate) fn tokens_from(text: &str, place: u32) -> Tokens<'_>
     requires place { 0 < place }
     requires few { place + length text.now ≤ most_bytes + 1 }
     ensures tokens { result.tokens ≡ with_calls ((cut place text.now).tokens) }

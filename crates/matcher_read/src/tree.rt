@@ -79,6 +79,11 @@ pub enum Tree {
         at: u32,
         column: Text,
     },
+    /// `eval(p.column)`.
+    Eval {
+        at: u32,
+        column: Text,
+    },
     /// `!` before its operand.
     Not {
         at: u32,
@@ -131,6 +136,7 @@ impl Tree {
             | Tree::Truth { at, .. }
             | Tree::Request { at, .. }
             | Tree::Policy { at, .. }
+            | Tree::Eval { at, .. }
             | Tree::Not { at, .. }
             | Tree::Negate { at, .. }
             | Tree::Binary { at, .. }

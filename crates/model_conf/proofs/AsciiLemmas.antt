@@ -78,6 +78,7 @@ effect_ascii e.AllowOverride = refl
 effect_ascii e.DenyOverride = refl
 effect_ascii e.AllowAndDeny = refl
 effect_ascii e.Priority = refl
+effect_ascii e.SubjectPriority = refl
 
 pub IsUtf8-printed : (m : ModelParts) → AreNames m.request → AreNames m.policy → IsUtf8 m.matcher_text → IsUtf8 (printed m)
 IsUtf8-printed m request policy matcher =

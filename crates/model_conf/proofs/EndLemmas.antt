@@ -1,14 +1,12 @@
 -- What the reading of a whole text comes to.
-use Rattle.std.proofs.Common.{◌≡◌, ◌≢◌, ℕ, ◌≤◌, ◌⊎◌, inl, inr, Bool, true, false, cond, List, [], ◌∷◌, ◌++◌, length, Option, Some, None, Result, Ok, Err, refl, ap, ◌∙◌, subst}
+use Rattle.std.proofs.Common.{◌≡◌, ◌≢◌, ℕ, ◌≤◌, ◌⊎◌, inl, inr, List, [], length, Option, Some, None, Result, Ok, Err, refl, ap, ◌∙◌, subst}
 use Rattle.std.specs.Prelude.{MatchResult, IfOk, IfErr, IsUtf8}
 use Rattle.effect_fold.specs.declared.effect.Effect.{Effect}
-use Rattle.std.specs.Option.{option_or}
-use Rattle.model_conf.specs.Faults.{IsModelFault, too_long, not_utf8, at_line, behind_lines, IsEntryFault, missing, request_columns, policy_columns, role_shape, unknown_effect, matcher, undeclared, fault_of}
+use Rattle.model_conf.specs.Faults.{IsModelFault, at_line, behind_lines, IsEntryFault}
 use Rattle.model_conf.specs.ModelText.{ModelParts, Values, IsText, IsModel, SayModel, HasEffect, most_bytes}
 use Rattle.model_conf.specs.Helps.Outlines.{IsSettled}
-use Rattle.model_conf.specs.Sections.{Entry, entries_of, fault_behind, first_fault, has_key, is_key_of, is_section, key_fault, said_fault, section_behind}
-use Rattle.model_conf.specs.Uses.{Use, of_request, of_policy, of_relation}
-use Rattle.model_conf.specs.Statements.{Said, header, pair, nothing, Statement, HasStatements}
+use Rattle.model_conf.specs.Sections.{Entry, entries_of, first_fault}
+use Rattle.model_conf.specs.Statements.{Statement, HasStatements}
 use Rattle.model_conf.specs.declared.fault.ModelFault.{ModelFault}
 use Rattle.model_conf.specs.declared.fault.ModelFault.TheVariants as fault
 use Rattle.model_conf.proofs.LawLemmas.{AreSettled, AreSettledIn, IsModel-once, IsModelFault-once, faulty_text, same_statements}
@@ -29,7 +27,6 @@ by_memory (fault.Matcher inner) = inr (λ e. absurd cc)
 by_memory (fault.UnknownColumn at) = inr (λ e. absurd cc)
 by_memory (fault.RoleUse at) = inr (λ e. absurd cc)
 by_memory fault.NoMemory = inl refl
-by_memory fault.NotYet = inr (λ e. absurd cc)
 
 -- ---- where a text is settled
 
@@ -92,65 +89,3 @@ ends_by_entries bytes statements entries (Err f) text lines are found faults set
   stops = λ other. behind_lines statements text lines (subst (λ (l : List Entry). IsEntryFault l f) are (faults other));
   settled = λ other. settled_by_entries bytes statements entries text are (λ v effect is. settled v effect is other);
 }
-
--- ---- no fault of a text is that it is not answered by yet
-
-key_not_yet : (entries : List Entry) (section : Option (List ℕ)) (number : ℕ) (key : List ℕ) (f : ModelFault) → key_fault entries section number key ≡ Some f → f ≢ fault.NotYet
-key_not_yet entries None number key f e = λ same. differs_line number f e same
-  where
-    differs_line : (number : ℕ) (f : ModelFault) → Some (fault.Line number) ≡ Some f → f ≡ fault.NotYet → ⊥
-    differs_line number f e same = absurd cc
-key_not_yet entries (Some section) number key f e = by_test (has_key section key) (is_key_of entries key) number f e
-  where
-    by_test : (known repeated : Bool) (number : ℕ) (f : ModelFault) → cond known (cond repeated (Some (fault.RepeatedKey number)) None) (Some (fault.UnknownKey number)) ≡ Some f → f ≡ fault.NotYet → ⊥
-    by_test true true number f e same = absurd cc
-    by_test true false number f e same = absurd cc
-    by_test false repeated number f e same = absurd cc
-
-said_not_yet : (entries : List Entry) (section : Option (List ℕ)) (number : ℕ) (said : Said) (f : ModelFault) → said_fault entries section number said ≡ Some f → f ≢ fault.NotYet
-said_not_yet entries section number (header name) f e = by_test (is_section name) number f e
-  where
-    by_test : (known : Bool) (number : ℕ) (f : ModelFault) → cond known None (Some (fault.UnknownSection number)) ≡ Some f → f ≡ fault.NotYet → ⊥
-    by_test true number f e same = absurd cc
-    by_test false number f e same = absurd cc
-said_not_yet entries section number (pair key value) f e = key_not_yet entries section number key f e
-said_not_yet entries section number nothing f e = λ same. differs_line number f e same
-  where
-    differs_line : (number : ℕ) (f : ModelFault) → Some (fault.Line number) ≡ Some f → f ≡ fault.NotYet → ⊥
-    differs_line number f e same = absurd cc
-
-line_not_yet : (before others : List Statement) (f : ModelFault) → first_fault before others ≡ Some f → f ≢ fault.NotYet
-line_not_yet before [] f e = absurd cc
-line_not_yet before (first ∷ others) f e =
-    either (fault_behind before first) (first_fault (before ++ first ∷ []) others) f (λ g. said_not_yet (entries_of before) (section_behind before) first.number first.said f g) (λ g. line_not_yet (before ++ first ∷ []) others f g) e
-  where
-    either : (a b : Option ModelFault) (f : ModelFault) → (a ≡ Some f → f ≢ fault.NotYet) → (b ≡ Some f → f ≢ fault.NotYet) → option_or a b ≡ Some f → f ≢ fault.NotYet
-    either None b f here later e = later e
-    either (Some g) b f here later e = here e
-
-use_not_yet : (u : Use) (f : ModelFault) → f ≡ fault_of u → f ≢ fault.NotYet
-use_not_yet (of_request at column) f e = λ same. absurd cc
-use_not_yet (of_policy at column) f e = λ same. absurd cc
-use_not_yet (of_relation at number names) f e = λ same. absurd cc
-
-entry_not_yet : (entries : List Entry) (f : ModelFault) → IsEntryFault entries f → f ≢ fault.NotYet
-entry_not_yet entries f (missing e) = λ same. absurd cc
-entry_not_yet entries f (request_columns v has none) = λ same. absurd cc
-entry_not_yet entries f (policy_columns v has are none) = λ same. absurd cc
-entry_not_yet entries f (role_shape v has bad) = λ same. absurd cc
-entry_not_yet entries f (unknown_effect v has shapes none) = λ same. absurd cc
-entry_not_yet entries f (matcher v effect has is) = λ same. absurd cc
-entry_not_yet entries f (undeclared v effect e first has is names at) = use_not_yet first f at
-
-pub not_yet_is_no_fault : (bytes : List ℕ) (f : ModelFault) → IsModelFault bytes f → f ≢ fault.NotYet
-not_yet_is_no_fault bytes f (too_long long) = λ same. absurd cc
-not_yet_is_no_fault bytes f (not_utf8 few none) = λ same. absurd cc
-not_yet_is_no_fault bytes f (at_line statements text first) = line_not_yet [] statements f first
-not_yet_is_no_fault bytes f (behind_lines statements text lines is) = entry_not_yet (entries_of statements) f is
-
--- a stop that is not want of memory is none of NotYet
-pub stop_is_not_yet : (bytes : List ℕ) (stop : ModelFault) → (stop ≢ fault.NoMemory → IsModelFault bytes stop) → stop ≡ fault.NotYet → ⊥
-stop_is_not_yet bytes stop is same = not_yet_is_no_fault bytes stop (is (λ memory. absurd cc)) same
-
-pub same_stop : (f g : ModelFault) → ◌≡◌ {A = Result ModelParts ModelFault} (Err f) (Err g) → f ≡ g
-same_stop f g e = cc

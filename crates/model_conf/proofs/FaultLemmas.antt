@@ -2,10 +2,10 @@
 use Rattle.std.proofs.Common.{◌≡◌, ℕ, List, codes, Some, None, refl, sym, ◌∙◌}
 use Rattle.effect_fold.specs.declared.effect.Effect.{Effect}
 use Rattle.model_conf.specs.Columns.{AreColumns, columns_in}
-use Rattle.model_conf.specs.Effects.{effect_of}
+use Rattle.model_conf.specs.Effects.{model_effect}
 use Rattle.model_conf.specs.Faults.{first_missing, IsEntryFault, request_columns, policy_columns, role_shape, unknown_effect}
 use Rattle.model_conf.specs.ModelText.{Values, HasValues, HasColumns, HasEffect}
-use Rattle.model_conf.specs.Relations.{value_of, first_bad_shape}
+use Rattle.model_conf.specs.Relations.{value_of, relations_of, first_bad_shape}
 use Rattle.model_conf.specs.declared.fault.ModelFault.TheVariants as fault
 use Rattle.model_conf.specs.Sections.{Entry}
 use Rattle.model_conf.specs.declared.key.Key.TheVariants as k
@@ -51,5 +51,5 @@ columns_are entries values has request policy = record { has = has; request = re
 pub no_shape : (entries : List Entry) (values : Values) (number : ℕ) → HasColumns entries values → Some number ≡ first_bad_shape entries → IsEntryFault entries (fault.RoleShape number) × ((effect : Effect) → ¬ (HasEffect entries values effect))
 no_shape entries values number has bad = (role_shape values has (sym bad), λ effect is. some_is_none number (bad ∙ is.shapes))
 
-pub no_effect : (entries : List Entry) (values : Values) → HasColumns entries values → None ≡ first_bad_shape entries → None ≡ effect_of values.effect → IsEntryFault entries fault.UnknownEffect × ((effect : Effect) → ¬ (HasEffect entries values effect))
+pub no_effect : (entries : List Entry) (values : Values) → HasColumns entries values → None ≡ first_bad_shape entries → None ≡ model_effect (relations_of entries) (columns_in values.policy) values.effect → IsEntryFault entries fault.UnknownEffect × ((effect : Effect) → ¬ (HasEffect entries values effect))
 no_effect entries values has shapes none = (unknown_effect values has (sym shapes) (sym none), λ effect is. none_is_some effect (none ∙ is.effect_is))

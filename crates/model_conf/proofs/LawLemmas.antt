@@ -7,7 +7,7 @@ use Rattle.matcher_read.specs.Matcher.{IsMatcher}
 use Rattle.matcher_read.specs.declared.fault.MatcherFault.{MatcherFault}
 use Rattle.perm_base.specs.declared.shapes.RoleShape.{RoleShape}
 use Rattle.model_conf.specs.Columns.{AreColumns, columns_in}
-use Rattle.model_conf.specs.Effects.{effect_of}
+use Rattle.model_conf.specs.Effects.{model_effect}
 use Rattle.model_conf.specs.Faults.{IsEntryFault, missing, request_columns, policy_columns, role_shape, unknown_effect, matcher, undeclared, IsModelFault, too_long, not_utf8, at_line, behind_lines, first_missing, fault_of}
 use Rattle.model_conf.specs.ModelText.{ModelParts, parts_of, Values, IsText, HasValues, HasEffect, SayModel, IsModel}
 use Rattle.model_conf.specs.Helps.Outlines.{IsSettled}
@@ -62,7 +62,7 @@ pub SayModel-once : (entries : List Entry) → AreSettled entries → (m n : Mod
 SayModel-once entries settled m n one two =
     let v = one.values in
     let same : two.values ≡ v = same_values entries two.values v two.has.has.has one.has.has.has in
-    let effects : m.effect ≡ n.effect = one_value _ _ _ one.has.effect_is (subst (λ (w : Values). effect_of w.effect ≡ Some n.effect) same two.has.effect_is) in
+    let effects : m.effect ≡ n.effect = one_value _ _ _ one.has.effect_is (subst (λ (w : Values). model_effect (relations_of entries) (columns_in w.policy) w.effect ≡ Some n.effect) same two.has.effect_is) in
     let matchers : m.matcher ≡ n.matcher = (settled v m.effect one.has).once m.matcher n.matcher one.matcher (subst (λ (w : Values). IsMatcher w.matcher n.matcher) same two.matcher) in
     same_model m n (one.request ∙ sym (two.request ∙ ap (λ (w : Values). columns_in w.request) same)) (one.policy ∙ sym (two.policy ∙ ap (λ (w : Values). columns_in w.policy) same))
     (one.relations ∙ sym two.relations) effects (one.matcher_text ∙ sym (two.matcher_text ∙ ap (λ (w : Values). w.matcher) same)) matchers
@@ -74,7 +74,7 @@ ByMatcher entries v f =
     ⊎ ((e : Expression) × (first : Use) × IsMatcher v.matcher e × (first_undeclared (columns_in v.request) (columns_in v.policy) (relations_of entries) (uses e) ≡ Some first) × (f ≡ fault_of first))
 
 abbrev ByEffect : List Entry → Values → ModelFault → Type 0
-ByEffect entries v f = ((effect_of v.effect ≡ None) × (f ≡ fault.UnknownEffect)) ⊎ ((effect : Effect) × HasEffect entries v effect × ByMatcher entries v f)
+ByEffect entries v f = ((model_effect (relations_of entries) (columns_in v.policy) v.effect ≡ None) × (f ≡ fault.UnknownEffect)) ⊎ ((effect : Effect) × HasEffect entries v effect × ByMatcher entries v f)
 
 abbrev ByShape : List Entry → Values → ModelFault → Type 0
 ByShape entries v f = ((number : ℕ) × (first_bad_shape entries ≡ Some number) × (f ≡ fault.RoleShape number)) ⊎ ((first_bad_shape entries ≡ None) × ByEffect entries v f)
@@ -149,7 +149,7 @@ faulty_entries entries settled f m (request_columns v has none) says = none (sub
 faulty_entries entries settled f m (policy_columns v has are none) says = none (subst (λ (w : Values). AreColumns (columns_in w.policy)) (same_values entries says.values v says.has.has.has has) says.has.has.policy)
 faulty_entries entries settled f m (role_shape v has bad) says = no_value _ _ bad says.has.shapes
 faulty_entries entries settled f m (unknown_effect v has shapes none) says =
-    no_value _ _ (subst (λ (w : Values). effect_of w.effect ≡ Some m.effect) (same_values entries says.values v says.has.has.has has.has) says.has.effect_is) none
+    no_value _ _ (subst (λ (w : Values). model_effect (relations_of entries) (columns_in w.policy) w.effect ≡ Some m.effect) (same_values entries says.values v says.has.has.has has.has) says.has.effect_is) none
 faulty_entries entries settled f m (matcher v effect {inner} has is) says =
     (settled v effect has).apart inner m.matcher is (subst (λ (w : Values). IsMatcher w.matcher m.matcher) (same_values entries says.values v says.has.has.has has.has.has) says.matcher)
 faulty_entries entries settled f m (undeclared v effect e first has is names same) says =

@@ -1,5 +1,4 @@
 pub mod OpenLemmas
-pub mod LineLemmas
 pub mod CommentLemmas
 pub mod ColumnLemmas
 pub mod SectionLemmas
@@ -16,6 +15,7 @@ pub mod MatcherLemmas
 pub mod KeptLemmas
 pub mod ShapeLemmas
 pub mod TextLemmas
+pub mod EffectLemmas
 pub mod EndLemmas
 pub mod PrintLemmas
 pub mod AsciiLemmas
@@ -25,3 +25,4 @@ pub mod SteadyLemmas
 pub mod SpelledLemmas
 pub mod SlotLemmas
 pub mod ReadBackLemmas
+pub mod RuleLemmas

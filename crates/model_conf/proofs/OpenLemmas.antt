@@ -7,7 +7,7 @@ use Rattle.std.proofs.lemmas.List.{append_assoc, append_cancel_right, length-app
 use Rattle.std.proofs.lemmas.Str.{IsCharBoundary-before_ascii}
 use Rattle.text_parts.specs.Blanks.{before_blanks}
 use Rattle.text_parts.proofs.BlankLemmas.{back, before_blanks-blanks, before_blanks-other}
-use Rattle.model_conf.specs.Lines.{Line}
+use Rattle.text_parts.specs.Numbered.{Line}
 use Rattle.model_conf.specs.Logical.{EndsOpen, IsWhole, ended, continued, dropped}
 
 pub ends_open : (text front : List ℕ) → before_blanks text ≡ front ++ 92 ∷ [] → EndsOpen text front

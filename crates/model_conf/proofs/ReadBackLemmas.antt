@@ -16,10 +16,10 @@ use Rattle.perm_base.specs.Fields.{joined}
 use Rattle.perm_base.specs.declared.shapes.RoleShape.{RoleShape}
 use Rattle.text_parts.specs.Blanks.{before_blanks}
 use Rattle.model_conf.specs.Columns.{AreColumns, columns_in}
-use Rattle.model_conf.specs.Effects.{effect_of, effect_text}
+use Rattle.model_conf.specs.Effects.{effect_of, effect_text, model_effect}
 use Rattle.model_conf.specs.Kept.{IsKept}
 use Rattle.text_parts.specs.Passed.{is_passed_in_model}
-use Rattle.model_conf.specs.Lines.{numbered}
+use Rattle.text_parts.specs.Numbered.{numbered}
 use Rattle.model_conf.specs.ModelText.{ModelParts, HasValues, IsModel, SayModel, Values, most_bytes}
 use Rattle.model_conf.specs.Printed.{printed, printed_lines, relation_entry, role_lines}
 use Rattle.model_conf.specs.Relations.{first_bad_shape, relations_of}
@@ -30,6 +30,7 @@ use Rattle.model_conf.specs.declared.fault.ModelFault.{ModelFault}
 use Rattle.model_conf.specs.declared.fault.ModelFault.TheVariants as fault
 use Rattle.model_conf.proofs.AsciiLemmas.{IsUtf8-printed}
 use Rattle.text_parts.proofs.BlankLemmas.{before_blanks-push}
+use Rattle.model_conf.proofs.EffectLemmas.{allowed}
 use Rattle.model_conf.proofs.ColumnLemmas.{differs, has_byte-identifier}
 use Rattle.text_parts.proofs.CallerLemmas.{words_of}
 use Rattle.model_conf.proofs.JoinedLemmas.{columns_in-joined, joined_tame, joined_trimmed, words_first, words_last}
@@ -79,6 +80,7 @@ effect_value e.AllowOverride = tame_value (effect_text e.AllowOverride) refl ref
 effect_value e.DenyOverride = tame_value (effect_text e.DenyOverride) refl refl
 effect_value e.AllowAndDeny = tame_value (effect_text e.AllowAndDeny) refl refl
 effect_value e.Priority = tame_value (effect_text e.Priority) refl refl
+effect_value e.SubjectPriority = tame_value (effect_text e.SubjectPriority) refl refl
 
 matcher_value : (m : ModelParts) → IsKept m → IsValueText m.matcher_text
 matcher_value m kept =
@@ -246,12 +248,13 @@ entries_of_roles (first ∷ others) rest = entries_of_pairs (map relation_entry 
 entries_of_all : (m : ModelParts) → filter_map entry_of (all_saids m) ≡ all_entries m
 entries_of_all m = ap (λ (l : List Entry). front_entries m ++ l) (entries_of_roles m.relations (back_saids m))
 
-effect_read : (effect : Effect) → effect_of (effect_text effect) ≡ Some effect
+effect_read : (effect : Effect) → Some effect ≡ effect_of (effect_text effect)
 unfolding effect_of
 effect_read e.AllowOverride = refl
 effect_read e.DenyOverride = refl
 effect_read e.AllowAndDeny = refl
 effect_read e.Priority = refl
+effect_read e.SubjectPriority = refl
 
 shapes_read : (m : ModelParts) → HasSlots 1 relation_names m.relations → first_bad_shape (all_entries m) ≡ None
 unfolding first_bad_shape
@@ -288,7 +291,10 @@ entries_say m kept h =
       has = record {
         has = record { has = values_read m h; request = subst AreColumns (sym request) kept.request; policy = subst AreColumns (sym policy) kept.policy };
         shapes = shapes_read m h;
-        effect_is = effect_read m.effect;
+        effect_is =
+            ap (λ (relations : List RoleShape). model_effect relations (columns_in (joined m.policy)) (effect_text m.effect)) (sym (relations_read m h))
+            ∙ ap (λ (columns : List (List ℕ)). model_effect m.relations columns (effect_text m.effect)) policy
+            ∙ allowed m.relations m.policy (effect_text m.effect) m.effect (effect_read m.effect) kept.effect;
       };
       request = sym request;
       policy = sym policy;

@@ -3,7 +3,7 @@ use Rattle.std.proofs.Common.{◌≡◌, ◌≢◌, ℕ, ◌+◌, true, false, L
 use Rattle.std.specs.Option.{option_or}
 use Rattle.std.proofs.lemmas.List.{append_assoc, append-nil}
 use Rattle.std.proofs.lemmas.List.Elements.{filter_map-append}
-use Rattle.model_conf.specs.Lines.{Line, line, model_lines, numbered}
+use Rattle.text_parts.specs.Numbered.{Line, line, numbered, text_lines}
 use Rattle.text_parts.specs.Passed.{is_passed_in_model}
 use Rattle.model_conf.specs.Logical.{IsWhole, no_line, passed, begun}
 use Rattle.model_conf.specs.Sections.{Entry, entry_of, entries_of, fault_behind, first_fault, name_of, said_fault, section_behind}
@@ -67,14 +67,14 @@ begun_more {first} {whole = whole} e joined says t = record { logical = line fir
 -- the lines that were read, behind which this stands
 pub record HasRead (bytes rest : List ℕ) (number : ℕ) (now : Standing) : Type 0 where
   pub front : List Statement
-  pub reads : (tail : List Statement) → AreStatements (numbered number (model_lines rest)) tail → AreStatements (numbered 1 (model_lines bytes)) (front ++ tail)
+  pub reads : (tail : List Statement) → AreStatements (numbered number (text_lines rest)) tail → AreStatements (numbered 1 (text_lines bytes)) (front ++ tail)
   pub fine : first_fault [] front ≡ None
   pub stands : now ≡ stands_behind front
 
 pub read_none : (bytes : List ℕ) (now : Standing) → now ≡ standing None [] → HasRead bytes bytes 1 now
 read_none bytes now e = record { front = []; reads = λ tail t. t; fine = refl; stands = e }
 
-pub read_passed : (bytes rest after text : List ℕ) (number : ℕ) (now : Standing) → HasRead bytes rest number now → model_lines rest ≡ text ∷ model_lines after → is_passed_in_model text ≡ true → HasRead bytes after (number + 1) now
+pub read_passed : (bytes rest after text : List ℕ) (number : ℕ) (now : Standing) → HasRead bytes rest number now → text_lines rest ≡ text ∷ text_lines after → is_passed_in_model text ≡ true → HasRead bytes after (number + 1) now
 read_passed bytes rest after text number now so_far first e = record {
   front = so_far.front;
   reads = λ tail t. so_far.reads tail (subst (λ (l : List (List ℕ)). AreStatements (numbered number l) tail) (sym first) (passed_more e t));
@@ -83,28 +83,28 @@ read_passed bytes rest after text number now so_far first e = record {
 }
 
 -- a line that was begun, with what it says, and the lines behind it
-begun_at : (bytes rest after text whole : List ℕ) (number : ℕ) (now : Standing) (left : List Line) (said : Said) (tail : List Statement) → (so_far : HasRead bytes rest number now) → model_lines rest ≡ text ∷ model_lines after → is_passed_in_model text ≡ false
-    → IsWhole text (numbered (number + 1) (model_lines after)) whole left → LineSays whole said → AreStatements left tail → AreStatements (numbered 1 (model_lines bytes)) (so_far.front ++ statement number said ∷ tail)
+begun_at : (bytes rest after text whole : List ℕ) (number : ℕ) (now : Standing) (left : List Line) (said : Said) (tail : List Statement) → (so_far : HasRead bytes rest number now) → text_lines rest ≡ text ∷ text_lines after → is_passed_in_model text ≡ false
+    → IsWhole text (numbered (number + 1) (text_lines after)) whole left → LineSays whole said → AreStatements left tail → AreStatements (numbered 1 (text_lines bytes)) (so_far.front ++ statement number said ∷ tail)
 begun_at bytes rest after text whole number now left said tail so_far first e joined says t =
     so_far.reads (statement number said ∷ tail) (subst (λ (l : List (List ℕ)). AreStatements (numbered number l) (statement number said ∷ tail)) (sym first) (begun_more e joined says t))
 
 fault_there : (front : List Statement) (number : ℕ) (said : Said) (now : Standing) (found : Option ModelFault) → now ≡ stands_behind front → said_fault now.entries now.section number said ≡ found → fault_behind front (statement number said) ≡ found
 fault_there front number said now found stands e = ap (λ (st : Standing). said_fault st.entries st.section number said) (sym stands) ∙ e
 
-pub read_taken : (bytes rest after text : List ℕ) (left : Bor (List ℕ)) (number next : ℕ) (now later : Standing) → HasRead bytes rest number now → model_lines rest ≡ text ∷ model_lines after → is_passed_in_model text ≡ false
-    → TakesLines number text (numbered (number + 1) (model_lines after)) now later (Ok (left, next)) → HasRead bytes left.now next later
+pub read_taken : (bytes rest after text : List ℕ) (left : Bor (List ℕ)) (number next : ℕ) (now later : Standing) → HasRead bytes rest number now → text_lines rest ≡ text ∷ text_lines after → is_passed_in_model text ≡ false
+    → TakesLines number text (numbered (number + 1) (text_lines after)) now later (Ok (left, next)) → HasRead bytes left.now next later
 read_taken bytes rest after text left number next now later so_far first e taken =
     let s = statement number taken.1 in
     let here : fault_behind so_far.front s ≡ None = fault_there so_far.front number taken.1 now None so_far.stands taken.4 in
     record {
       front = so_far.front ++ s ∷ [];
-      reads = λ tail t. subst (AreStatements (numbered 1 (model_lines bytes))) (sym (append_assoc so_far.front (s ∷ []) tail)) (begun_at bytes rest after text taken.0 number now _ taken.1 tail so_far first e taken.2 taken.3 t);
+      reads = λ tail t. subst (AreStatements (numbered 1 (text_lines bytes))) (sym (append_assoc so_far.front (s ∷ []) tail)) (begun_at bytes rest after text taken.0 number now _ taken.1 tail so_far first e taken.2 taken.3 t);
       fine = first_fault-append [] so_far.front (s ∷ []) ∙ rw (so_far.fine, here) refl;
       stands = taken.5 ∙ ap (λ (st : Standing). behind st taken.1) so_far.stands ∙ sym (stands-push so_far.front number taken.1);
     }
 
-pub read_stopped : (bytes rest after text : List ℕ) (number : ℕ) (now later : Standing) (stop : ModelFault) → HasRead bytes rest number now → model_lines rest ≡ text ∷ model_lines after → is_passed_in_model text ≡ false
-    → TakesLines number text (numbered (number + 1) (model_lines after)) now later (Err stop) → stop ≢ fault.NoMemory → (statements : List Statement) × HasStatements bytes statements × (first_fault [] statements ≡ Some stop)
+pub read_stopped : (bytes rest after text : List ℕ) (number : ℕ) (now later : Standing) (stop : ModelFault) → HasRead bytes rest number now → text_lines rest ≡ text ∷ text_lines after → is_passed_in_model text ≡ false
+    → TakesLines number text (numbered (number + 1) (text_lines after)) now later (Err stop) → stop ≢ fault.NoMemory → (statements : List Statement) × HasStatements bytes statements × (first_fault [] statements ≡ Some stop)
 read_stopped bytes rest after text number now later stop so_far first e taken other =
     let t = taken other in
     let tail = AreStatements-some t.1 in
@@ -112,10 +112,10 @@ read_stopped bytes rest after text number now later stop so_far first e taken ot
     let here : fault_behind so_far.front s ≡ Some stop = fault_there so_far.front number t.2 now (Some stop) so_far.stands t.5 in
     (so_far.front ++ s ∷ tail.0, begun_at bytes rest after text t.0 number now t.1 t.2 tail.0 so_far first e t.3 t.4 tail.1, first_fault-append [] so_far.front (s ∷ tail.0) ∙ rw (so_far.fine, here) refl)
 
-pub read_all : (bytes rest : List ℕ) (number : ℕ) (now : Standing) → HasRead bytes rest number now → model_lines rest ≡ [] → (statements : List Statement) × HasStatements bytes statements × (first_fault [] statements ≡ None) × (now.entries ≡ entries_of statements)
+pub read_all : (bytes rest : List ℕ) (number : ℕ) (now : Standing) → HasRead bytes rest number now → text_lines rest ≡ [] → (statements : List Statement) × HasStatements bytes statements × (first_fault [] statements ≡ None) × (now.entries ≡ entries_of statements)
 read_all bytes rest number now so_far none =
-    let last : AreStatements (numbered number (model_lines rest)) [] = subst (λ (l : List (List ℕ)). AreStatements (numbered number l) []) (sym none) (record { logical = []; lines_are = no_line; say = no_more }) in
-    (so_far.front, subst (AreStatements (numbered 1 (model_lines bytes))) (append-nil so_far.front) (so_far.reads [] last), so_far.fine, ap (λ (st : Standing). st.entries) so_far.stands)
+    let last : AreStatements (numbered number (text_lines rest)) [] = subst (λ (l : List (List ℕ)). AreStatements (numbered number l) []) (sym none) (record { logical = []; lines_are = no_line; say = no_more }) in
+    (so_far.front, subst (AreStatements (numbered 1 (text_lines bytes))) (append-nil so_far.front) (so_far.reads [] last), so_far.fine, ap (λ (st : Standing). st.entries) so_far.stands)
 
 -- ---- the same of an equal text
 

@@ -1,5 +1,5 @@
 -- The shapes of a model.
-use Rattle.std.proofs.Common.{◌≡◌, ℕ, List, [], ◌∷◌, length, map, not, Bor, Option, Some, None, refl, sym, ap, ◌∙◌, subst}
+use Rattle.std.proofs.Common.{◌≡◌, ℕ, Bool, List, [], ◌∷◌, length, map, not, Bor, Option, Some, None, refl, sym, ap, ◌∙◌, subst}
 use Rattle.std.specs.Prelude.{codes, find, option_map, unwrap_or}
 use Rattle.std.specs.Option.{option_or}
 use Rattle.std.specs.List.Sorted.{IsStrictlyIncreasing}
@@ -9,7 +9,7 @@ use Rattle.perm_base.specs.declared.shapes.Fit.{Fit}
 use Rattle.perm_base.specs.declared.shapes.RoleShape.{RoleShape}
 use Rattle.model_conf.specs.Kept.{AreRelations}
 use Rattle.model_conf.specs.ModelText.{ModelParts}
-use Rattle.model_conf.specs.Shapes.{first_absent, first_failing, fitted, has_domain, has_relation, place_of, shapes_of}
+use Rattle.model_conf.specs.Shapes.{first_absent, first_failing, fitted, has_domain, has_relation, is_ranked, place_of, shapes_of}
 
 -- functions leave the numbers of relations as they are
 same_numbers : (names domains : List (ℕ × Fit)) (relations : List RoleShape) → map (λ (shape : RoleShape). shape.number) (map (fitted names domains) relations) ≡ map (λ (shape : RoleShape). shape.number) relations
@@ -24,12 +24,12 @@ fitted_roles names domains relations are = record {
 }
 
 -- shapes whose parts are those of the model
-pub shapes_are : (model : ModelParts) (names domains : List (ℕ × Fit)) (limit columns subject : ℕ) (effect : Option ℕ) (roles : List RoleShape) → columns ≡ length model.policy → effect ≡ place_of model.policy (codes "eft")
-    → subject ≡ unwrap_or (place_of model.policy (codes "sub")) 0 → roles ≡ map (fitted names domains) model.relations
-    → record { columns = columns; effect_column = effect; subject_column = subject; roles = roles; limit = limit } ≡ shapes_of model names domains limit
+pub shapes_are : (model : ModelParts) (names domains : List (ℕ × Fit)) (limit columns subject : ℕ) (effect : Option ℕ) (roles : List RoleShape) (ranked : Bool) → columns ≡ length model.policy → effect ≡ place_of model.policy (codes "eft")
+    → subject ≡ unwrap_or (place_of model.policy (codes "sub")) 0 → roles ≡ map (fitted names domains) model.relations → ranked ≡ is_ranked model.effect model.policy
+    → record { columns = columns; effect_column = effect; subject_column = subject; roles = roles; limit = limit; ranked = ranked } ≡ shapes_of model names domains limit
 unfolding shapes_of
-shapes_are model names domains limit columns subject effect roles c e s r =
-    λ i. record { columns = c i; effect_column = e i; subject_column = s i; roles = r i; limit = limit }
+shapes_are model names domains limit columns subject effect roles ranked c e s r k =
+    λ i. record { columns = c i; effect_column = e i; subject_column = s i; roles = r i; limit = limit; ranked = k i }
 
 -- ---- the first relation that a list names and the model lacks
 

@@ -6,7 +6,7 @@ use Rattle.std.proofs.lemmas.List.Folds.{list_any-append}
 use Rattle.text_parts.specs.Blanks.{is_blank, before_blanks, behind_blanks, trimmed}
 use Rattle.text_parts.specs.Lines.{has_byte, lines_of, with_ends, without_cr}
 use Rattle.model_conf.specs.Comments.{IsUncommented, ended as no_bytes}
-use Rattle.model_conf.specs.Lines.{Line, line, model_lines, numbered}
+use Rattle.text_parts.specs.Numbered.{Line, line, numbered, text_lines}
 use Rattle.text_parts.specs.Passed.{is_passed_in_model}
 use Rattle.model_conf.specs.Logical.{EndsOpen, ended, no_line}
 use Rattle.model_conf.specs.Printed.{key_line, section_lines}
@@ -15,11 +15,10 @@ use Rattle.model_conf.specs.Statements.{Said, header, pair, IsNoHeader, Says, as
 use Rattle.text_parts.proofs.BlankLemmas.{before_blanks-other, behind_blanks-blank}
 use Rattle.std.proofs.lemmas.Bool.{and_parts}
 use Rattle.model_conf.proofs.JoinedLemmas.{before_blanks-onto}
-use Rattle.model_conf.proofs.LineLemmas.{model_lines-first, model_lines-none}
 use Rattle.model_conf.proofs.ReadLemmas.{begun_more, passed_more}
 use Rattle.model_conf.proofs.TameLemmas.{are_tame, loose, loose-append, no_cr, not_open, tame-append, tame_firm, tame_line, tame_uncommented}
 use Rattle.model_conf.proofs.TextLemmas.{before_again}
-use Rattle.text_parts.proofs.CallerLemmas.{lines_of-cut}
+use Rattle.text_parts.proofs.CallerLemmas.{lines_of-cut, text_lines-first, text_lines-none}
 
 -- ---- keys and values
 
@@ -139,17 +138,17 @@ keys_read (e ∷ entries) all = full_line (key_spelled e all.0) (keys_read entri
 pub section_read : (name : List ℕ) (entries : List Entry) → are_tame name ≡ true → AllByRecursion IsEntryText entries → AreRead (section_lines name entries) (header name ∷ map said_of entries)
 section_read name entries tame all = full_line (header_spelled name tame) (keys_read entries all)
 
-ends_more : (text : List ℕ) (lines : List (List ℕ)) → has_byte 10 text ≡ false → without_cr text ≡ text → model_lines (with_ends lines) ≡ lines → model_lines (with_ends (text ∷ lines)) ≡ text ∷ lines
+ends_more : (text : List ℕ) (lines : List (List ℕ)) → has_byte 10 text ≡ false → without_cr text ≡ text → text_lines (with_ends lines) ≡ lines → text_lines (with_ends (text ∷ lines)) ≡ text ∷ lines
 ends_more text lines none same rest =
-    model_lines-first (with_ends (text ∷ lines)) (with_ends lines) text (ap lines_of (append_assoc text (10 ∷ []) (with_ends lines)) ∙ lines_of-cut text (with_ends lines) none)
-    ∙ ap (λ (t : List ℕ). t ∷ model_lines (with_ends lines)) same ∙ ap (λ (l : List (List ℕ)). text ∷ l) rest
+    text_lines-first (with_ends (text ∷ lines)) (with_ends lines) text (ap lines_of (append_assoc text (10 ∷ []) (with_ends lines)) ∙ lines_of-cut text (with_ends lines) none)
+    ∙ ap (λ (t : List ℕ). t ∷ text_lines (with_ends lines)) same ∙ ap (λ (l : List (List ℕ)). text ∷ l) rest
 
 no_ends : lines_of [] ≡ []
 unfolding lines_of
 no_ends = refl
 
-pub lines_again : {lines : List (List ℕ)} {saids : List Said} → AreRead lines saids → model_lines (with_ends lines) ≡ lines
-lines_again no_lines = model_lines-none [] no_ends
+pub lines_again : {lines : List (List ℕ)} {saids : List Said} → AreRead lines saids → text_lines (with_ends lines) ≡ lines
+lines_again no_lines = text_lines-none [] no_ends
 lines_again (empty_line {lines = lines} rest) = ends_more [] lines refl refl (lines_again rest)
 lines_again (full_line {text} {lines = lines} is rest) = ends_more text lines is.whole is.no_cr_is (lines_again rest)
 

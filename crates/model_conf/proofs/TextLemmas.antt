@@ -11,7 +11,7 @@ use Rattle.text_parts.proofs.BlankLemmas.{back}
 use Rattle.model_conf.specs.Comments.{IsUncommented, ended, comment, plain, quoted, unclosed}
 use Rattle.model_conf.specs.Helps.Outlines.{HasTextOfMatcher}
 use Rattle.model_conf.specs.Kept.{IsPartOfLine}
-use Rattle.model_conf.specs.Lines.{Line, model_lines, numbered}
+use Rattle.text_parts.specs.Numbered.{Line, numbered, text_lines}
 use Rattle.model_conf.specs.Logical as l
 use Rattle.model_conf.specs.Relations.{value_of}
 use Rattle.model_conf.specs.Sections.{Entry, entries_of}
@@ -125,8 +125,8 @@ numbered_whole : (number : ℕ) (texts : List (List ℕ)) → AreWhole texts →
 numbered_whole number [] all = tt
 numbered_whole number (text ∷ texts) all = (all.0, numbered_whole (number + 1) texts all.1)
 
-text_whole : (bytes : List ℕ) → AllWhole (numbered 1 (model_lines bytes))
-unfolding model_lines
+text_whole : (bytes : List ℕ) → AllWhole (numbered 1 (text_lines bytes))
+unfolding text_lines
 text_whole bytes = numbered_whole 1 (map without_cr (lines_of bytes)) (without_cr_whole (lines_of bytes) (lines_whole bytes))
 
 -- ---- logical lines

@@ -4,7 +4,7 @@ use Rattle.std.proofs.lemmas.Bool.{eqb-true, eqb-false}
 use Rattle.std.proofs.lemmas.List.{length-append}
 use Rattle.text_parts.specs.Lines.{has_byte}
 use Rattle.text_parts.specs.Blanks.{before_blanks, trimmed}
-use Rattle.model_conf.specs.Lines.{Line, line}
+use Rattle.text_parts.specs.Numbered.{Line, line}
 use Rattle.text_parts.specs.Passed.{is_passed_in_model}
 use Rattle.model_conf.specs.Logical.{EndsOpen, IsWhole, ended, continued, dropped, AreLogical, no_line, passed, begun}
 use Rattle.model_conf.specs.Statements.{Said, header, pair, nothing, IsNoHeader, Says, as_header, as_pair, as_nothing, LineSays, Statement, statement, AllSay, no_more, one_more, AreStatements}

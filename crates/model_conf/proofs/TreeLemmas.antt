@@ -1,11 +1,11 @@
 -- The expressions of trees, one level at a time.
-use Rattle.std.proofs.Common.{◌≡◌, ℕ, ℤ, ◌⊎◌, inl, inr, Bool, List, [], map, Vec, Box, Global, sym, ap, ◌∙◌}
-use Rattle.matcher_read.specs.Expression.{Expression, expression, expression_step, expressions_of, text, whole, truth, request, policy, binary, among, call, function, relation}
+use Rattle.std.proofs.Common.{◌≡◌, ℕ, ℤ, ◌⊎◌, inl, inr, Bool, List, [], ◌∷◌, map, Vec, Box, Global, sym, ap, ◌∙◌}
+use Rattle.matcher_read.specs.Expression.{Expression, expression, expression_step, expressions_of, text, whole, truth, request, policy, evaluated, binary, among, call, function, relation}
 use Rattle.matcher_read.specs.declared.tree.Function.{Function}
 use Rattle.matcher_read.specs.declared.tree.Operator.{Operator}
 use Rattle.matcher_read.specs.declared.tree.Tree.{Tree, Tree-F, fold-roll-Tree}
 use Rattle.matcher_read.specs.declared.tree.Tree.TheVariants as t
-use Rattle.model_conf.specs.Uses.{uses}
+use Rattle.model_conf.specs.Uses.{uses, of_policy}
 
 pub expression-Text : (at : ℕ) (bytes : List ℕ) → expression (t.Text at bytes) ≡ text at bytes
 expression-Text at bytes = ap expression (sym (t.rolls-Text at bytes)) ∙ fold-roll-Tree Expression expression_step (Tree-F.Text at bytes)
@@ -21,6 +21,9 @@ expression-Request at column path = ap expression (sym (t.rolls-Request at colum
 
 pub expression-Policy : (at : ℕ) (column : List ℕ) → expression (t.Policy at column) ≡ policy at column
 expression-Policy at column = ap expression (sym (t.rolls-Policy at column)) ∙ fold-roll-Tree Expression expression_step (Tree-F.Policy at column)
+
+pub expression-Eval : (at : ℕ) (column : List ℕ) → expression (t.Eval at column) ≡ evaluated at column
+expression-Eval at column = ap expression (sym (t.rolls-Eval at column)) ∙ fold-roll-Tree Expression expression_step (Tree-F.Eval at column)
 
 pub expression-Binary : (at : ℕ) (op : Operator) (left right : Box Tree Global) → expression (t.Binary at op left right) ≡ binary at op (expression left.value) (expression right.value)
 expression-Binary at op left right = ap expression (sym (t.rolls-Binary at op left right)) ∙ fold-roll-Tree Expression expression_step (Tree-F.Binary at op left right)
@@ -39,3 +42,8 @@ pub literal_uses : (tree : Tree) → ((at : ℕ) × (bytes : List ℕ) × (tree 
 literal_uses tree (inl is) = ap uses (ap expression is.2 ∙ expression-Text is.0 is.1)
 literal_uses tree (inr (inl is)) = ap uses (ap expression is.2 ∙ expression-Whole is.0 is.1)
 literal_uses tree (inr (inr is)) = ap uses (ap expression is.2 ∙ expression-Truth is.0 is.1)
+
+-- a column of the policy is named by itself or by `eval`
+pub policy_uses : (tree : Tree) (at : ℕ) (column : List ℕ) → (tree ≡ t.Policy at column) ⊎ (tree ≡ t.Eval at column) → uses (expression tree) ≡ of_policy at column ∷ []
+policy_uses tree at column (inl is) = ap uses (ap expression is ∙ expression-Policy at column)
+policy_uses tree at column (inr is) = ap uses (ap expression is ∙ expression-Eval at column)

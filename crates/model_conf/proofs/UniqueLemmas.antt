@@ -4,7 +4,7 @@ use Rattle.std.proofs.lemmas.Bool.{false≢true}
 use Rattle.std.proofs.lemmas.List.{append_cancel_right}
 use Rattle.text_parts.specs.Lines.{has_byte}
 use Rattle.text_parts.specs.Blanks.{trimmed}
-use Rattle.model_conf.specs.Lines.{Line, line}
+use Rattle.text_parts.specs.Numbered.{Line, line}
 use Rattle.model_conf.specs.Logical.{IsWhole, ended, continued, dropped, AreLogical, no_line, passed, begun}
 use Rattle.model_conf.specs.Statements.{Said, header, pair, Says, as_header, as_pair, as_nothing, LineSays, Statement, statement, AllSay, no_more, one_more, AreStatements}
 use Rattle.model_conf.proofs.OpenLemmas.{EndsOpen-once}

@@ -85,6 +85,11 @@ pub misuse_in-policy : (requests policies : List (List ℕ)) (relations : List R
 unfolding first_undeclared
 misuse_in-policy requests policies relations at column = elim (list_any (bytes_eq column) policies) as (λ b. option_map misuse_of (first_by_place (cond (not b) (of_policy at column ∷ []) [])) ≡ cond b None (Some (Column at))) [ true ↦ refl | false ↦ refl ]
 
+-- a column of the policy, named by itself or by `eval`
+pub policy_misuse : (requests policies : List (List ℕ)) (relations : List RoleShape) (tree : Tree) (at : ℕ) (column text : List ℕ) (result : Option Misuse) → uses (expression tree) ≡ of_policy at column ∷ [] → text ≡ column → result ≡ column_misuse policies at text → result ≡ misuse_in requests policies relations (uses (expression tree))
+policy_misuse requests policies relations tree at column text result named same told =
+    told ∙ ap (column_misuse policies at) same ∙ sym (misuse_in-policy requests policies relations at column) ∙ ap (misuse_in requests policies relations) (sym named)
+
 pub misuse_in-role : (requests policies : List (List ℕ)) (relations : List RoleShape) (at number names : ℕ) → misuse_in requests policies relations (of_relation at number names ∷ []) ≡ role_misuse relations at number names
 unfolding first_undeclared
 misuse_in-role requests policies relations at number names = elim (list_any (λ (shape : RoleShape). shape.number == number && names == names_of shape) relations) as (λ b. option_map misuse_of (first_by_place (cond (not b) (of_relation at number names ∷ []) [])) ≡ cond b None (Some (Role at))) [ true ↦ refl | false ↦ refl ]

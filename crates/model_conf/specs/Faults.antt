@@ -6,7 +6,7 @@ use Rattle.matcher_read.specs.Faults.{IsFault}
 use Rattle.matcher_read.specs.Matcher.{IsMatcher}
 use Rattle.matcher_read.specs.declared.fault.MatcherFault.{MatcherFault}
 use Rattle.model_conf.specs.Columns.{AreColumns, columns_in}
-use Rattle.model_conf.specs.Effects.{effect_of}
+use Rattle.model_conf.specs.Effects.{model_effect}
 use Rattle.model_conf.specs.ModelText.{most_bytes, Values, IsText, HasValues, HasColumns, HasEffect}
 use Rattle.model_conf.specs.Relations.{value_of, relations_of, first_bad_shape}
 use Rattle.model_conf.specs.Sections.{Entry, entries_of, first_fault}
@@ -40,7 +40,8 @@ pub data IsEntryFault (entries : List Entry) : ModelFault → Type 0 where
   request_columns : (values : Values) → HasValues entries values → ¬ (AreColumns (columns_in values.request)) → IsEntryFault entries (fault.Columns k.R)
   policy_columns : (values : Values) → HasValues entries values → AreColumns (columns_in values.request) → ¬ (AreColumns (columns_in values.policy)) → IsEntryFault entries (fault.Columns k.P)
   role_shape : (values : Values) {number : ℕ} → HasColumns entries values → first_bad_shape entries ≡ Some number → IsEntryFault entries (fault.RoleShape number)
-  unknown_effect : (values : Values) → HasColumns entries values → first_bad_shape entries ≡ None → effect_of values.effect ≡ None → IsEntryFault entries fault.UnknownEffect
+  unknown_effect : (values : Values) → HasColumns entries values → first_bad_shape entries ≡ None
+      → model_effect (relations_of entries) (columns_in values.policy) values.effect ≡ None → IsEntryFault entries fault.UnknownEffect
   matcher : (values : Values) (effect : Effect) {inner : MatcherFault} → HasEffect entries values effect → IsFault values.matcher inner → IsEntryFault entries (fault.Matcher inner)
   undeclared : (values : Values) (effect : Effect) (e : Expression) (first : Use) {at : ModelFault} → HasEffect entries values effect → IsMatcher values.matcher e
       → first_undeclared (columns_in values.request) (columns_in values.policy) (relations_of entries) (uses e) ≡ Some first → at ≡ fault_of first → IsEntryFault entries at

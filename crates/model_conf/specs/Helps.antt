@@ -4,4 +4,5 @@ pub mod Seen
 pub mod Outlines
 pub mod Misuses
 pub mod MatcherStops
+pub mod RuleTexts
 pub mod ExpressionCode

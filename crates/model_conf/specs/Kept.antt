@@ -1,5 +1,5 @@
 -- What each model keeps.
-use Rattle.std.specs.Prelude.{◌≡◌, ℕ, false, List, All, map, IsUtf8, None}
+use Rattle.std.specs.Prelude.{◌≡◌, ℕ, false, List, All, map, IsTrue, IsUtf8, None}
 use Rattle.std.specs.List.Sorted.{IsStrictlyIncreasing}
 use Rattle.matcher_read.specs.Matcher.{IsMatcher}
 use Rattle.text_parts.specs.Lines.{has_byte}
@@ -8,6 +8,7 @@ use Rattle.perm_base.specs.declared.shapes.Fit.TheVariants.{Exact}
 use Rattle.perm_base.specs.declared.shapes.RoleShape.{RoleShape}
 use Rattle.text_parts.specs.Blanks.{trimmed}
 use Rattle.model_conf.specs.Columns.{AreColumns}
+use Rattle.model_conf.specs.Effects.{may_have}
 use Rattle.model_conf.specs.ModelText.{ModelParts}
 use Rattle.model_conf.specs.Uses.{uses, first_undeclared}
 
@@ -27,11 +28,12 @@ pub record IsPartOfLine (text : List ℕ) : Type 0 where
   pub whole_line : has_byte 10 text ≡ false
   pub trimmed_is : trimmed text ≡ text
 
--- columns and relations are in order, the text is UTF-8 and says the matcher, and what the matcher names is declared so
+-- columns and relations are in order, and a model may have the effect with them; the text is UTF-8 and says the matcher, and what the matcher names is declared so
 pub record IsKept (model : ModelParts) : Type 0 where
   pub request : AreColumns model.request
   pub policy : AreColumns model.policy
   pub relations : AreRelations model.relations
+  pub effect : IsTrue (may_have model.relations model.policy model.effect)
   pub part : IsPartOfLine model.matcher_text
   pub utf8 : IsUtf8 model.matcher_text
   pub matcher : IsMatcher model.matcher_text model.matcher

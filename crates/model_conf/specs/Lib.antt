@@ -1,4 +1,3 @@
-pub mod Lines
 pub mod Logical
 pub mod Comments
 pub mod Statements
@@ -8,8 +7,8 @@ pub mod Relations
 pub mod Effects
 pub mod Uses
 pub mod ModelText
+pub mod RuleText
 pub mod Faults
-pub mod Later
 pub mod Kept
 pub mod Printed
 pub mod Shapes

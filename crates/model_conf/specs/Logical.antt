@@ -1,7 +1,7 @@
 -- Logical lines: a line that is not passed over, with the lines that continue it (Casbin, model syntax).
 use Rattle.std.specs.Prelude.{◌≡◌, ℕ, true, false, List, [], ◌∷◌, ◌++◌}
 use Rattle.text_parts.specs.Blanks.{AreBlanks}
-use Rattle.model_conf.specs.Lines.{Line, line}
+use Rattle.text_parts.specs.Numbered.{Line, line}
 use Rattle.text_parts.specs.Passed.{is_passed_in_model}
 
 -- the text ends in `\`, blanks behind it apart, and this stands before the `\`

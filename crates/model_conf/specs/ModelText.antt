@@ -5,7 +5,7 @@ use Rattle.matcher_read.specs.Expression.{Expression}
 use Rattle.matcher_read.specs.Matcher.{IsMatcher}
 use Rattle.perm_base.specs.declared.shapes.RoleShape.{RoleShape}
 use Rattle.model_conf.specs.Columns.{AreColumns, columns_in}
-use Rattle.model_conf.specs.Effects.{effect_of}
+use Rattle.model_conf.specs.Effects.{model_effect}
 use Rattle.model_conf.specs.Relations.{value_of, relations_of, first_bad_shape}
 use Rattle.model_conf.specs.Sections.{Entry, entries_of, first_fault}
 use Rattle.model_conf.specs.Statements.{Statement, HasStatements}
@@ -59,7 +59,7 @@ pub record HasColumns (entries : List Entry) (values : Values) : Type 0 where
 pub record HasEffect (entries : List Entry) (values : Values) (effect : Effect) : Type 0 where
   pub has : HasColumns entries values
   pub shapes : first_bad_shape entries ≡ None
-  pub effect_is : effect_of values.effect ≡ Some effect
+  pub effect_is : model_effect (relations_of entries) (columns_in values.policy) values.effect ≡ Some effect
 
 -- the entries say this model
 pub record SayModel (entries : List Entry) (model : ModelParts) : Type 0 where

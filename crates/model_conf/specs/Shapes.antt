@@ -1,8 +1,10 @@
 -- The shapes that a model gives its tables, with the functions by which the names and domains of its relations are compared.
-use Rattle.std.specs.Prelude.{ℕ, ◌==◌, ◌&&◌, ◌≢◌, Bool, not, List, length, codes, map, find, position, AllPairs, Option, option_map, unwrap_or}
+use Rattle.std.specs.Prelude.{ℕ, ◌==◌, ◌&&◌, ◌≢◌, Bool, false, not, List, ◌∷◌, length, codes, map, find, position, AllPairs, Option, option_map, unwrap_or}
 use Rattle.std.specs.List.{list_any}
 use Rattle.std.specs.Option.{option_or}
 use Rattle.std.specs.Str.{bytes_eq}
+use Rattle.effect_fold.specs.declared.effect.Effect.{Effect}
+use Rattle.effect_fold.specs.declared.effect.Effect.TheVariants as e
 use Rattle.perm_base.specs.declared.shapes.Fit.{Fit}
 use Rattle.perm_base.specs.declared.shapes.Fit.TheVariants.{Exact}
 use Rattle.perm_base.specs.declared.shapes.RoleShape.{RoleShape}
@@ -25,6 +27,11 @@ fitted names domains shape = record shape { names = fit_of names shape.number; d
 abbrev pub place_of : List (List ℕ) → List ℕ → Option ℕ
 place_of columns name = position (bytes_eq name) columns
 
+-- the effect is priority, and the first column is named `priority`
+abbrev pub is_ranked : Effect → List (List ℕ) → Bool
+is_ranked e.Priority (first ∷ others) = bytes_eq first (codes "priority")
+is_ranked effect columns = false
+
 -- the shapes: the effect's column is `eft`, the subject's is `sub`, else the first
 unfoldable pub shapes_of : ModelParts → List (ℕ × Fit) → List (ℕ × Fit) → ℕ → Shapes
 shapes_of model names domains limit =
@@ -34,6 +41,7 @@ shapes_of model names domains limit =
       subject_column = unwrap_or (place_of model.policy (codes "sub")) 0;
       roles = map (fitted names domains) model.relations;
       limit = limit;
+      ranked = is_ranked model.effect model.policy;
     }
 
 -- the relation is one of these

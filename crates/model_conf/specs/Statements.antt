@@ -3,7 +3,7 @@ use Rattle.std.specs.Prelude.{◌≡◌, ℕ, false, List, [], ◌∷◌, ◌++�
 use Rattle.text_parts.specs.Lines.{has_byte}
 use Rattle.text_parts.specs.Blanks.{trimmed}
 use Rattle.model_conf.specs.Comments.{IsUncommented}
-use Rattle.model_conf.specs.Lines.{Line, model_lines, numbered}
+use Rattle.text_parts.specs.Numbered.{Line, numbered, text_lines}
 use Rattle.model_conf.specs.Logical.{AreLogical}
 
 pub data Said : Type 0 where
@@ -49,4 +49,4 @@ pub record AreStatements (lines : List Line) (statements : List Statement) : Typ
 
 -- what the lines of a text say
 abbrev pub HasStatements : List ℕ → List Statement → Type 0
-HasStatements bytes statements = AreStatements (numbered 1 (model_lines bytes)) statements
+HasStatements bytes statements = AreStatements (numbered 1 (text_lines bytes)) statements

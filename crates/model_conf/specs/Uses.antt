@@ -2,7 +2,7 @@
 use Rattle.std.specs.Prelude.{ℕ, ◌==◌, ◌&&◌, Bool, not, if◌then◌else◌, nat_lt, List, [], ◌∷◌, ◌++◌, Option, Some, None, filter}
 use Rattle.std.specs.List.{list_any}
 use Rattle.std.specs.Str.{bytes_eq}
-use Rattle.matcher_read.specs.Expression.{Callee, function, relation, unknown, Expression, text, whole, truth, request, policy, negation, opposite, binary, among, call, Expressions, no_more, one_more, count}
+use Rattle.matcher_read.specs.Expression.{Callee, function, relation, unknown, Expression, text, whole, truth, request, policy, evaluated, negation, opposite, binary, among, call, Expressions, no_more, one_more, count}
 use Rattle.perm_base.specs.declared.shapes.RoleShape.{RoleShape}
 
 -- a column, or a relation and how many names it is asked with, at its place
@@ -25,6 +25,7 @@ abbrev mutual
   uses (truth at b) = []
   uses (request at column path) = of_request at column ∷ []
   uses (policy at column) = of_policy at column ∷ []
+  uses (evaluated at column) = of_policy at column ∷ []
   uses (negation at e) = uses e
   uses (opposite at e) = uses e
   uses (binary at op e f) = uses e ++ uses f

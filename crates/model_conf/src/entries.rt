@@ -1,5 +1,5 @@
 ghost use Rattle.std.specs.Prelude.{◌≡◌, ◌+◌, ◌<◌, ◌≤◌, ◌^◌, IfOk, IfSome, IsUtf8, length, option_copied};
-ghost use Rattle.model_conf.specs.Lines.{model_lines, numbered};
+ghost use Rattle.text_parts.specs.Numbered.{numbered, text_lines};
 ghost use Rattle.model_conf.specs.Relations.{value_of};
 ghost use Rattle.model_conf.specs.Sections.{is_key_of};
 ghost use Rattle.model_conf.specs.Helps.Seen.{ReadsEntries, TakesLines, entries_seen, standing_seen};
@@ -8,12 +8,11 @@ ghost use Rattle.model_conf.specs.Helps.Steps.{Takes};
 
 use crate::fault::ModelFault;
 use crate::joining::{join_lines, open_front};
-use crate::lines::next_model_line;
 use crate::saying::{Said, read_said};
 use crate::sections::{Section, key_named, section_named};
 use outside::NoMemory;
 use std::alloc::Global;
-use text_parts::is_passed_in_model;
+use text_parts::{is_passed_in_model, next_text_line};
 
 /// A key and its value.
 #[derive(Drop)]
@@ -59,7 +58,7 @@ impl Entries {
     ) -> Result<(&'a str, u32), ModelFault>
         requires { number + 1 + length after.now < 2 ^ 32 }
         ensures taken { TakesLines
-            number line.now (numbered (number + 1) (model_lines after.now))
+            number line.now (numbered (number + 1) (text_lines after.now))
             (standing_seen self.old) (standing_seen self.new) result }
         ensures fewer { IfOk result (λ left.
             left.1 + length left.0.now ≤ number + 1 + length after.now) }
@@ -106,7 +105,7 @@ pub(crate) fn read_entries(alloc: Global, text: &str) -> Result<Entries, ModelFa
     };
     let mut rest = text;
     let mut number = 1;
-    while let Some((line, after)) = next_model_line(rest) {
+    while let Some((line, after)) = next_text_line(rest) {
         if is_passed_in_model(line) {
             rest = after;
             number += 1;

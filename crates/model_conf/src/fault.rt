@@ -26,7 +26,8 @@ pub enum ModelFault {
     /// The value of the relation is neither `_, _` nor `_, _, _`: 1 is `g`, 2 to 8 are `g2` to `g8`. Of several the
     /// one that comes first in the text.
     RoleShape { relation: u8 },
-    /// The value of `e` is no effect.
+    /// The value of `e` is no effect; or it is the priority of subjects, and `g` is not declared, or has domains where
+    /// the policy has no column `dom`.
     UnknownEffect,
     /// The value of `m` is no matcher.
     Matcher(MatcherFault),
@@ -36,8 +37,6 @@ pub enum ModelFault {
     RoleUse { at: u32 },
     /// Memory ran out.
     NoMemory,
-    /// The text is a model, and one of those that are not answered by yet.
-    NotYet,
 }
 
 impl From<NoMemory> for ModelFault {

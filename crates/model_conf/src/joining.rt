@@ -1,10 +1,9 @@
 ghost use Rattle.std.specs.Prelude.{◌≡◌, ◌+◌, ◌<◌, ◌≤◌, ◌^◌, ℕ, List, [], IfOk, MatchBool, MatchOption, length, string_bytes};
-ghost use Rattle.model_conf.specs.Lines.{model_lines, numbered};
+ghost use Rattle.text_parts.specs.Numbered.{numbered, text_lines};
 ghost use Rattle.model_conf.specs.Logical.{EndsOpen, IsWhole};
 
-use crate::lines::next_model_line;
 use outside::NoMemory;
-use text_parts::before_blanks;
+use text_parts::{before_blanks, next_text_line};
 
 /// Joins to a text the lines that continue it, the first of which has this number. Gives what stands behind them, and
 /// the number of the next line. Where memory runs out, the text is not to be used.
@@ -15,8 +14,8 @@ pub(crate) fn join_lines<'a>(
 ) -> Result<(&'a str, u32), NoMemory>
     requires { number + length lines.now < 2 ^ 32 }
     ensures whole { IfOk result (λ left. IsWhole
-        (string_bytes text.old) (numbered number (model_lines lines.now))
-        (string_bytes text.new) (numbered left.1 (model_lines left.0.now))) }
+        (string_bytes text.old) (numbered number (text_lines lines.now))
+        (string_bytes text.new) (numbered left.1 (text_lines left.0.now))) }
     ensures fewer { IfOk result (λ left.
         left.1 + length left.0.now ≤ number + length lines.now) }
     ensures shorter { IfOk result (λ left. length left.0.now ≤ length lines.now) }
@@ -24,7 +23,7 @@ pub(crate) fn join_lines<'a>(
     let mut rest = lines;
     let mut next = number;
     while drop_open(text) {
-        let Some((line, after)) = next_model_line(rest) else {
+        let Some((line, after)) = next_text_line(rest) else {
             drop_all_open(text);
             return Ok((rest, next));
         };

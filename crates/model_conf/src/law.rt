@@ -1,8 +1,10 @@
 ghost use Rattle.std.specs.Prelude.{◌≡◌, ◌≤◌, ℕ, List, length};
+ghost use Rattle.matcher_read.specs.Expression.{Expression};
 ghost use Rattle.model_conf.specs.Faults.{IsModelFault};
 ghost use Rattle.model_conf.specs.Kept.{IsKept};
 ghost use Rattle.model_conf.specs.ModelText.{IsModel, ModelParts, most_bytes};
 ghost use Rattle.model_conf.specs.Printed.{printed};
+ghost use Rattle.model_conf.specs.RuleText.{IsRuleText};
 ghost use Rattle.model_conf.specs.declared.fault.ModelFault.{ModelFault};
 
 use matcher_read::{faulty_text_is_no_matcher, text_has_one_fault, text_says_one_matcher};
@@ -35,6 +37,14 @@ pub fn faulty_text_is_no_model()
     text_says_one_matcher();
     text_has_one_fault();
     faulty_text_is_no_matcher();
+}
+
+/// The law that a text says one rule at most.
+pub fn text_says_one_rule()
+    ensures { (model : ModelParts) (text : List ℕ) (first second : Expression)
+        → IsRuleText model text first → IsRuleText model text second → first ≡ second }
+{
+    text_says_one_matcher();
 }
 
 /// The law that the printed text of a model says this model, where it has no more bytes than a model may have.

@@ -8,12 +8,12 @@ mod fault;
 mod joining;
 mod key;
 mod law;
-mod lines;
 mod model;
 mod outline;
 mod printing;
 mod reading;
 mod relations;
+mod rule_text;
 mod saying;
 mod sections;
 mod shapes;
@@ -23,8 +23,10 @@ pub use fault::ModelFault;
 pub use key::Key;
 pub use law::{
     faulty_text_is_no_model, printed_model_is_read, text_has_one_model_fault, text_says_one_model,
+    text_says_one_rule,
 };
 pub use model::Model;
 pub use printing::print_model;
 pub use reading::read_model;
+pub use rule_text::{RuleTextFault, has_eval, read_rule_text};
 pub use shapes::{ShapeFault, shapes_of};

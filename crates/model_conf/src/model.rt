@@ -4,6 +4,7 @@ ghost use Rattle.matcher_read.specs.Matcher.{IsMatcher};
 ghost use Rattle.model_conf.specs.Columns.{AreColumns};
 ghost use Rattle.model_conf.specs.Kept.{AreRelations, IsKept, IsPartOfLine};
 ghost use Rattle.model_conf.specs.ModelText.{parts_of};
+ghost use Rattle.model_conf.specs.Shapes.{is_ranked};
 ghost use Rattle.model_conf.specs.Uses.{first_undeclared, uses};
 
 use effect_fold::Effect;
@@ -11,7 +12,8 @@ use matcher_read::Tree;
 use outside::{Share, Text};
 use perm_base::{RoleShape, Rule};
 
-/// A model: the columns of a request and of a policy, the role relations, the effect and the matcher.
+/// A model: the columns of a request and of a policy, the role relations, the effect and the matcher. Contracts see
+/// these parts, the matcher as a text and as an expression.
 #[derive(Drop)]
 pub struct Model {
     request: Rule,
@@ -92,11 +94,26 @@ impl Model {
         &self.relations
     }
 
-    /// How the rules that match settle the answer.
+    /// How the rules that match settle the answer. Where it is the priority of subjects, `g` is declared, and where `g`
+    /// has domains, the policy has a column `dom`.
     pub fn effect(&self) -> Effect
         ensures { result ≡ self.now.effect }
     {
         self.effect
+    }
+
+    /// The rules of a policy stand by rising rank: the effect is priority, and the first policy column is named
+    /// `priority`.
+    pub fn is_ranked(&self) -> bool
+        ensures { result ≡ is_ranked self.now.effect self.now.policy }
+    {
+        match self.effect {
+            Effect::Priority => self.policy.field(0) == b"priority".as_slice(),
+            Effect::AllowOverride
+            | Effect::DenyOverride
+            | Effect::AllowAndDeny
+            | Effect::SubjectPriority => false,
+        }
     }
 
     /// The matcher as it was written. All that a model keeps holds of this one.

@@ -4,7 +4,7 @@ ghost use Rattle.model_conf.specs.Helps.Seen.{entries_seen};
 ghost use Rattle.model_conf.specs.Helps.Outlines.{IsMissingIn, OutlinesOf, values_seen};
 
 use crate::columns::read_columns;
-use crate::effects::read_effect;
+use crate::effects::{may_have, read_effect};
 use crate::entries::{Entry, value_of};
 use crate::fault::ModelFault;
 use crate::key::Key;
@@ -76,10 +76,13 @@ pub(crate) fn read_outline(
     if let Some(relation) = first_bad_shape(entries) {
         return Err(ModelFault::RoleShape { relation });
     }
+    let relations = read_relations(alloc, entries)?;
     let Some(effect) = read_effect(alloc, values.effect)? else {
         return Err(ModelFault::UnknownEffect);
     };
-    let relations = read_relations(alloc, entries)?;
+    if !may_have(&relations, &policy, effect) {
+        return Err(ModelFault::UnknownEffect);
+    }
     Ok(Outline {
         request,
         policy,

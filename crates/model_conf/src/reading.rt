@@ -1,7 +1,6 @@
-ghost use Rattle.std.specs.Prelude.{◌≡◌, ◌≢◌, ◌≤◌, ℕ, List, false, IfErr, IfOk, IsErrOf, IsTrue, MatchResult, length, IsUtf8};
+ghost use Rattle.std.specs.Prelude.{◌≡◌, ◌≢◌, IfErr, IfOk, MatchResult};
 ghost use Rattle.effect_fold.specs.declared.effect.Effect.{Effect};
 ghost use Rattle.model_conf.specs.Faults as faults;
-ghost use Rattle.model_conf.specs.Later.{is_later};
 ghost use Rattle.model_conf.specs.Helps.Misuses.{misuse_fault};
 ghost use Rattle.model_conf.specs.ModelText.{HasEffect, IsModel, ModelParts, SayModel};
 ghost use Rattle.model_conf.specs.ModelText as text;
@@ -24,40 +23,17 @@ const MOST_BYTES: usize = 65536;
 
 /// Reads the text of a model. Lines are cut at LF or CR LF. A line of blanks alone, or one whose first byte that is no
 /// blank is `#` or `;`, is passed over; any other is continued by the next as long as it ends in `\`, and dropped from
-/// the first `#` on that stands outside a quoted text. What is left is `[section]` or `key = value`.
+/// the first `#` on that stands outside a quoted text. What is left is `[section]` or `key = value`: the columns `r`
+/// and `p`, the effect `e`, the matcher `m`, and role relations `g` and `g2` to `g8`, of which there may be none. Where a
+/// text is no model, its first `ModelFault` is told.
 pub fn read_model(alloc: Global, bytes: &[u8]) -> Result<Model, ModelFault>
     // What is read is what the bytes say.
     ensures found { IfOk result (IsModel bytes.now) }
     // What the bytes say is read, unless memory runs out.
-    ensures only { (model : ModelParts) → IsModel bytes.now model → is_later model ≡ false
+    ensures only { (model : ModelParts) → IsModel bytes.now model
         → MatchResult result (λ read. read ≡ model) (λ fault. fault ≡ ModelFault.NoMemory) }
 
     // Each fault is the first of the bytes, and their first fault is told.
-    ensures fault { IfErr result (λ fault.
-        fault ≢ ModelFault.NoMemory → fault ≢ ModelFault.NotYet
-        → faults.IsModelFault bytes.now fault) }
-    ensures only_fault { (first : fault.ModelFault) → faults.IsModelFault bytes.now first
-        → MatchResult result (λ read. ⊥) (λ fault. fault ≢ ModelFault.NoMemory → fault ≡ first) }
-
-    // Models that are not answered by yet.
-    ensures not_yet { IsErrOf result ModelFault.NotYet
-        → (model : ModelParts) × IsModel bytes.now model × IsTrue (is_later model) }
-    ensures only_not_yet { (model : ModelParts) → IsModel bytes.now model → IsTrue (is_later model)
-        → MatchResult result (λ read. ⊥)
-        (λ fault. fault ≢ ModelFault.NoMemory → fault ≡ ModelFault.NotYet) }
-{
-    let model = read_whole(alloc, bytes)?;
-    if is_later(&model) {
-        return Err(ModelFault::NotYet);
-    }
-    Ok(model)
-}
-
-// Reads any model.
-fn read_whole(alloc: Global, bytes: &[u8]) -> Result<Model, ModelFault>
-    ensures found { IfOk result (IsModel bytes.now) }
-    ensures only { (model : ModelParts) → IsModel bytes.now model
-        → MatchResult result (λ read. read ≡ model) (λ fault. fault ≡ ModelFault.NoMemory) }
     ensures fault { IfErr result (λ fault.
         fault ≢ ModelFault.NoMemory → faults.IsModelFault bytes.now fault) }
     ensures only_fault { (first : fault.ModelFault) → faults.IsModelFault bytes.now first
@@ -114,11 +90,4 @@ fn misuse_fault(misuse: Misuse) -> ModelFault
         Misuse::Column { at } => ModelFault::UnknownColumn { at },
         Misuse::Role { at } => ModelFault::RoleUse { at },
     }
-}
-
-// A model that is not answered by yet: it declares some relation.
-fn is_later(model: &Model) -> bool
-    ensures { result ≡ is_later model.now }
-{
-    !model.relations().is_empty()
 }

@@ -31,7 +31,9 @@ impl From<NoMemory> for ShapeFault {
 
 /// The shapes of the tables of a model's policies. The effect's column is `eft`, and the subject's is `sub`, else the
 /// first. Names of a relation are compared by the function that `names` gives for its number, and domains by that of
-/// `domains`; where a list does not name it, byte by byte.
+/// `domains`; where a list does not name it, byte by byte. No list names a relation twice. A name has a role by at most
+/// `limit` links, from 1 to 250. The table `p` is ranked where the effect is priority and the first column is named
+/// `priority`.
 pub fn shapes_of(
     alloc: Global,
     model: &Model,
@@ -65,6 +67,7 @@ pub fn shapes_of(
         subject_column: columns.place_of(b"sub").unwrap_or(0),
         roles,
         limit,
+        ranked: model.is_ranked(),
     })
 }
 

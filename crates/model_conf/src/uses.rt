@@ -33,7 +33,9 @@ impl<'a> Declared<'a> {
             Tree::Request { at, column, .. } => {
                 column_misuse(self.request, *at, column.as_str())
             }
-            Tree::Policy { at, column } => column_misuse(self.policy, *at, column.as_str()),
+            Tree::Policy { at, column } | Tree::Eval { at, column } => {
+                column_misuse(self.policy, *at, column.as_str())
+            }
             Tree::Not { operand, .. } | Tree::Negate { operand, .. } => self.first_misuse(operand),
             Tree::Binary { left, right, .. } => {
                 earlier(self.first_misuse(left), self.first_misuse(right))

@@ -5,3 +5,4 @@ pub mod SpellingLemmas
 pub mod ReadLemmas
 pub mod WrittenLemmas
 pub mod FieldLineLemmas
+pub mod TableLemmas

@@ -6,4 +6,5 @@ pub mod Helps
 pub mod Rule
 pub mod RoleShapes
 pub mod Shapes
+pub mod TableNames
 pub mod Patterns

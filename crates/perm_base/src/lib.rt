@@ -10,6 +10,7 @@ mod role_shapes;
 mod rule;
 mod rules;
 mod shapes;
+mod table_names;
 
 pub use fields::{
     PlainFault, cut_joined, joined_texts_are_unique, plain_fields_are_unique, push_texts,
@@ -29,3 +30,4 @@ pub use role_shapes::RoleShapes;
 pub use rule::{Rule, RuleFault};
 pub use rules::Rules;
 pub use shapes::{Fit, RoleShape, Shapes, TableId};
+pub use table_names::tables_and_names_agree;

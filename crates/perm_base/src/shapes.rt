@@ -36,8 +36,8 @@ pub enum TableId {
 }
 
 /// The shapes of a policy's tables: how many columns the rules of `p` have, the place of the effect's column, where
-/// there is one, and of the subject's, each counted from 0; the role relations; and the greatest number of links by
-/// which a name has a role.
+/// there is one, and of the subject's, each counted from 0; the role relations; the greatest number of links by which
+/// a name has a role; and whether the table `p` is ranked.
 #[derive(Drop)]
 pub struct Shapes {
     pub columns: u32,
@@ -45,6 +45,8 @@ pub struct Shapes {
     pub subject_column: u32,
     pub roles: RoleShapes,
     pub limit: u8,
+    /// The rules of `p` stand by rising rank, which is the number of their first field.
+    pub ranked: bool,
 }
 
 impl Share for Fit {}

@@ -1,6 +1,7 @@
 -- Values that were made one by one of the parts of another value.
-use Rattle.std.proofs.Common.{◌≡◌, List, [], ◌∷◌, ◌++◌, String, Global, string_bytes, Less, Greater, string_cmp, nat_cmp, sym, ap, ◌∙◌, subst}
+use Rattle.std.proofs.Common.{◌≡◌, List, [], ◌∷◌, ◌++◌, String, Global, string_bytes, Less, Greater, string_cmp, nat_cmp, sym, ap, ◌∙◌, subst, append_assoc}
 use Rattle.std.proofs.lemmas.Cmp.{nat_list_cmp_total}
+use Rattle.std.proofs.lemmas.List.{append-nil}
 use Rattle.std.specs.Prelude.{⊤}
 use Rattle.std.specs.BTreeMap.{insert_entry}
 use Rattle.std.specs.Cmp.Lexicographic.{slice_cmp}
@@ -64,3 +65,20 @@ made_last P (first ∷ done) (c ∷ cs) e more name v made named is sorted =
     let beyond : string_cmp name c.0 ≡ Greater = rw (named, made.0) above in
     subst (λ o. MembersMade P (first ∷ done ++ e ∷ []) (match_ordering o ((name, v) ∷ c ∷ cs) ((c.0, v) ∷ cs) (c ∷ insert_entry string_cmp cs name v))) (sym beyond)
     (made.0, made.1, made_last P done cs e more name v made.2 named is sorted.1)
+
+-- one more of the entries, in their order, is a member under its name
+pub members_step : {A : Type 0} (P : A → Value → Type 0) (entries done rest left : List (String Global × A)) (e : String Global × A) (cs now : List Named) (name : String Global) (v : Value)
+    → entries ≡ done ++ rest → rest ≡ e ∷ left → IsStrictlySortedBy string_cmp (keys_of entries) → MembersMade P done cs → string_bytes name ≡ string_bytes e.0 → P e.1 v → now ≡ insert_entry string_cmp cs name v
+    → (more : List (String Global × A)) × (entries ≡ more ++ left) × MembersMade P more now
+members_step P entries done rest left e cs now name v parts next sorted made named is inserted =
+    let all = parts ∙ ap (λ es. done ++ es) next in (
+      done ++ e ∷ [],
+      all ∙ sym (append_assoc done (e ∷ []) left),
+      subst (MembersMade P (done ++ e ∷ [])) (sym inserted) (made_last P done cs e left name v made named is (subst (λ es. IsStrictlySortedBy string_cmp (keys_of es)) all sorted)),
+    )
+
+-- behind the last of the entries all are done
+pub all_done : {A : Type 0} (entries done rest : List (String Global × A)) → entries ≡ done ++ rest → rest ≡ [] → IsStrictlySortedBy string_cmp (keys_of entries) → (entries ≡ done) × IsStrictlySortedBy string_cmp (keys_of done)
+all_done entries done rest parts none sorted =
+    let all = parts ∙ ap (λ es. done ++ es) none ∙ append-nil done in
+    (all, subst (λ es. IsStrictlySortedBy string_cmp (keys_of es)) all sorted)

@@ -1,33 +1,14 @@
 -- Prepared steps that are made one after the other.
-use Rattle.std.proofs.Common.{◌≡◌, ℕ, ◌+◌, ◌≤◌, Bool, true, false, ◌&&◌, cond, List, [], ◌∷◌, ◌++◌, length, filter, get_or, refl, sym, ap, subst, ◌∙◌, arith, true≢false}
-use Rattle.policy_table.specs.Changes.{applies, changed, edited, is_possible}
-use Rattle.policy_table.specs.Held.{HasRoom, Held, IsPreparedFor, Rows, needed, puts_at}
-use Rattle.policy_table.specs.Helps.Steps.{all_changes, changes_of, lists_of, spare_of}
-use Rattle.policy_table.specs.Tables.{Lists}
+use Rattle.std.proofs.Common.{◌≡◌, ℕ, ◌+◌, ◌≤◌, Bool, true, false, cond, List, [], ◌∷◌, ◌++◌, length, filter, get_or, refl, sym, ap, subst, ◌∙◌, arith}
+use Rattle.std.proofs.lemmas.Bool.{and_parts}
+use Rattle.policy_table.specs.Changes.{applies, edited}
+use Rattle.policy_table.specs.Held.{HasRoom, Held, IsPreparedFor, needed, puts_at}
+use Rattle.policy_table.specs.Helps.Rows.{Rows, policy_of, spare_of}
+use Rattle.policy_table.specs.Helps.Steps.{all_changes, changes_of}
+use Rattle.policy_table.specs.Tables.{AreLists, AreOrdered, IsKept, Policy}
 use Rattle.policy_table.specs.declared.change.Change.{Change}
 use Rattle.policy_table.specs.declared.prepared.Step.{Step}
-
--- the tables after the changes of two lists
-pub edited_both : (first second : List Change) (lists : Lists) → edited (first ++ second) lists ≡ edited second (edited first lists)
-unfolding edited
-edited_both [] second lists = refl
-edited_both (change ∷ first) second lists = edited_both first second (changed change lists)
-
--- what applies in two parts
-pub applies_both : (first second : List Change) (lists : Lists) → applies (first ++ second) lists ≡ true → (applies first lists ≡ true) × (applies second (edited first lists) ≡ true)
-unfolding applies edited
-applies_both [] second lists is = (refl, is)
-applies_both (change ∷ first) second lists is =
-    let parts = both (is_possible change lists) (applies (first ++ second) (changed change lists)) is in
-    let rest = applies_both first second (changed change lists) parts.1 in
-    (join parts.0 rest.0, rest.1)
-  where
-    both : (a b : Bool) → (a && b) ≡ true → (a ≡ true) × (b ≡ true)
-    both true b e = (refl, e)
-    both false b e = absurd (true≢false (sym e))
-
-    join : {a b : Bool} → a ≡ true → b ≡ true → (a && b) ≡ true
-    join {a} {b} x y = rw (x, y) refl
+use Rattle.policy_table.proofs.LawLemmas.{applies_both, edited_both, kept_of, order_of, ordered_edited}
 
 -- the room that two lists need
 pub needed_both : (at : ℕ) (first second : List Change) → needed at (first ++ second) ≡ needed at first + needed at second
@@ -39,43 +20,55 @@ needed_both at (change ∷ first) second = by_test (puts_at at change) (needed_b
     by_test true e = omega (arith, e)
     by_test false e = e
 
--- the steps that are left can be made in these tables, and lead to these lists
-pub record Lead (whole : Lists) (steps : List Step) (tables : List Rows) : Type 0 where
-  pub possible : applies (all_changes steps) (lists_of tables) ≡ true
+-- the steps that are left can be made in these tables, and lead to the whole
+pub record Lead (whole : Policy) (ranked : Bool) (steps : List Step) (tables : List Rows) : Type 0 where
+  pub order : AreOrdered (policy_of ranked tables)
+  pub possible : applies (all_changes steps) (policy_of ranked tables) ≡ true
   pub room : HasRoom (spare_of tables) (all_changes steps)
-  pub reached : edited (all_changes steps) (lists_of tables) ≡ whole
+  pub reached : edited (all_changes steps) (policy_of ranked tables) ≡ whole
 
-pub first_possible : (whole : Lists) (step : Step) (steps : List Step) (tables : List Rows) → Lead whole (step ∷ steps) tables → applies (changes_of step) (lists_of tables) ≡ true
-first_possible whole step steps tables l = (applies_both (changes_of step) (all_changes steps) (lists_of tables) l.possible).0
+-- what applies in two parts
+both_apply : (first second : List Change) (policy : Policy) → applies (first ++ second) policy ≡ true → (applies first policy ≡ true) × (applies second (edited first policy) ≡ true)
+both_apply first second policy is = and_parts (applies first policy) (applies second (edited first policy)) (sym (applies_both first second policy) ∙ is)
 
-pub first_room : (whole : Lists) (step : Step) (steps : List Step) (tables : List Rows) → Lead whole (step ∷ steps) tables → HasRoom (spare_of tables) (changes_of step)
-first_room whole step steps tables l = λ at few. omega (arith, l.room at few, needed_both at (changes_of step) (all_changes steps))
+pub first_possible : (whole : Policy) (ranked : Bool) (step : Step) (steps : List Step) (tables : List Rows) → Lead whole ranked (step ∷ steps) tables → applies (changes_of step) (policy_of ranked tables) ≡ true
+first_possible whole ranked step steps tables l = (both_apply (changes_of step) (all_changes steps) (policy_of ranked tables) l.possible).0
+
+pub first_room : (whole : Policy) (ranked : Bool) (step : Step) (steps : List Step) (tables : List Rows) → Lead whole ranked (step ∷ steps) tables → HasRoom (spare_of tables) (changes_of step)
+first_room whole ranked step steps tables l = λ at few. omega (arith, l.room at few, needed_both at (changes_of step) (all_changes steps))
 
 -- a step is made
-pub step_made : (whole : Lists) (step : Step) (steps : List Step) (tables after : List Rows) → Lead whole (step ∷ steps) tables → lists_of after ≡ edited (changes_of step) (lists_of tables)
-    → ((at : ℕ) → get_or (spare_of tables) at 0 ≤ get_or (spare_of after) at 0 + needed at (changes_of step)) → Lead whole steps after
-step_made whole step steps tables after l made spare = record {
-  possible = ap (applies (all_changes steps)) made ∙ (applies_both (changes_of step) (all_changes steps) (lists_of tables) l.possible).1;
+pub step_made : (whole : Policy) (ranked : Bool) (step : Step) (steps : List Step) (tables after : List Rows) → Lead whole ranked (step ∷ steps) tables → policy_of ranked after ≡ edited (changes_of step) (policy_of ranked tables)
+    → ((at : ℕ) → get_or (spare_of tables) at 0 ≤ get_or (spare_of after) at 0 + needed at (changes_of step)) → Lead whole ranked steps after
+step_made whole ranked step steps tables after l made spare = record {
+  order = subst AreOrdered (sym made) (ordered_edited (changes_of step) (policy_of ranked tables) l.order (first_possible whole ranked step steps tables l));
+  possible = ap (applies (all_changes steps)) made ∙ (both_apply (changes_of step) (all_changes steps) (policy_of ranked tables) l.possible).1;
   room = λ at few. omega (arith, l.room at few, spare at, needed_both at (changes_of step) (all_changes steps));
-  reached = ap (edited (all_changes steps)) made ∙ sym (edited_both (changes_of step) (all_changes steps) (lists_of tables)) ∙ l.reached;
+  reached = ap (edited (all_changes steps)) made ∙ sym (edited_both (changes_of step) (all_changes steps) (policy_of ranked tables)) ∙ l.reached;
 }
 
 -- no step is left
-pub all_made : (whole : Lists) (tables : List Rows) → Lead whole [] tables → lists_of tables ≡ whole
+pub all_made : (whole : Policy) (ranked : Bool) (tables : List Rows) → Lead whole ranked [] tables → policy_of ranked tables ≡ whole
 unfolding edited
-all_made whole tables l = l.reached
+all_made whole ranked tables l = l.reached
 
 -- prepared edits lead to what they make
-pub begins : (held : Held) (prepared : List Change) (steps : List Step) (tables : List Rows) → all_changes steps ≡ prepared → record { lists = lists_of tables; spare = spare_of tables } ≡ held → IsPreparedFor held prepared
-    → Lead (edited prepared held.lists) steps tables
-begins held prepared steps tables same view ready = record {
-  possible = ap (λ (changes : List Change). applies changes (lists_of tables)) same ∙ ap (applies prepared) lists ∙ ready.possible;
+pub begins : (held : Held) (prepared : List Change) (steps : List Step) (ranked : Bool) (tables : List Rows) → all_changes steps ≡ prepared → record { policy = policy_of ranked tables; spare = spare_of tables } ≡ held → IsKept (policy_of ranked tables) → IsPreparedFor held prepared
+    → Lead (edited prepared held.policy) ranked steps tables
+begins held prepared steps ranked tables same view kept ready = record {
+  order = order_of (policy_of ranked tables) kept;
+  possible = ap (λ (changes : List Change). applies changes (policy_of ranked tables)) same ∙ ap (applies prepared) policy ∙ ready.possible;
   room = subst (λ (changes : List Change). HasRoom (spare_of tables) changes) (sym same) (subst (λ (spare : List ℕ). HasRoom spare prepared) (sym (ap (λ (h : Held). h.spare) view)) ready.room);
-  reached = ap (λ (changes : List Change). edited changes (lists_of tables)) same ∙ ap (edited prepared) lists;
+  reached = ap (λ (changes : List Change). edited changes (policy_of ranked tables)) same ∙ ap (edited prepared) policy;
 }
   where
-    lists : lists_of tables ≡ held.lists
-    lists = ap (λ (h : Held). h.lists) view
+    policy : policy_of ranked tables ≡ held.policy
+    policy = ap (λ (h : Held). h.policy) view
+
+-- and at the end these are kept
+pub kept_at_end : (held : Held) (prepared : List Change) (ranked : Bool) (tables : List Rows) → IsPreparedFor held prepared → Lead (edited prepared held.policy) ranked [] tables → IsKept (policy_of ranked tables)
+kept_at_end held prepared ranked tables ready l =
+    kept_of (policy_of ranked tables) l.order (subst (λ (policy : Policy). AreLists policy.lists) (sym (all_made (edited prepared held.policy) ranked tables l)) ready.few)
 
 -- no step is left in a list without any
 pub empty_of : {X : Type 0} (xs : List X) → length xs ≡ 0 → xs ≡ []

@@ -1,5 +1,5 @@
 -- Lists of distinct items whose `eq` decides equality: what a set's changes make of them.
-use Rattle.std.proofs.Common.{◌≡◌, ℕ, suc, ◌+◌, ◌-◌, ◌<◌, Bool, true, false, not, ◌||◌, cond, if◌then◌else◌, eqb, refl, sym, ap, subst, ◌∙◌, true≢false, arith}
+use Rattle.std.proofs.Common.{◌≡◌, ℕ, suc, ◌+◌, ◌-◌, ◌<◌, ◌≤◌, Bool, true, false, not, ◌||◌, cond, if◌then◌else◌, eqb, refl, sym, ap, subst, ◌∙◌, true≢false, arith}
 use Rattle.std.proofs.Common.{List, [], ◌∷◌, ◌++◌, length, get_or, take, drop, set, filter, map, position, Some, Decides}
 use Rattle.std.proofs.lemmas.Bool.{lt-ltb}
 use Rattle.std.proofs.lemmas.Bool.Decides.{same_from_decides, nat_tests}
@@ -10,8 +10,9 @@ use Rattle.std.proofs.Math.Bool.{or-false}
 use Rattle.std.specs.List.{list_any, position_or_len, swap_remove, AllByRecursion, IsDistinct}
 use Rattle.std.specs.Option.{option_map_or}
 use Rattle.std.specs.Set.{remove_key}
-use Rattle.indexmap.specs.IndexMap.{swap_remove_by}
+use Rattle.indexmap.specs.IndexMap.{move_index, swap_remove_by}
 use Rattle.indexmap.specs.IndexSet.{insert_key}
+use Rattle.indexmap.proofs.MoveLemmas.{push_moved}
 use Rattle.policy_table.specs.Tables.{Fields, same}
 
 -- two rules are the same where their fields are
@@ -76,9 +77,25 @@ module _ {T : Type 0} (eq : T → T → Bool) where
   abbrev pub renamed : T → T → List T → List T
   renamed old new keys = map (λ other. if eq old other then new else other) keys
 
+  -- an absent key would stand behind all
+  pub absent_last : (keys : List T) (key : T) → list_any (eq key) keys ≡ false → position_or_len (eq key) keys ≡ length keys
+  absent_last [] key absent = refl
+  absent_last (x ∷ xs) key absent = by (eq key x) refl absent (λ none. absent_last xs key none)
+    where
+      by : (b : Bool) → eq key x ≡ b → (b || list_any (eq key) xs) ≡ false → (list_any (eq key) xs ≡ false → position_or_len (eq key) xs ≡ length xs) → position_or_len (eq key) (x ∷ xs) ≡ length (x ∷ xs)
+      by true e none rest = absurd (true≢false none)
+      by false e none rest = rw e (omega (arith, rest none))
+
   -- an absent key goes last
   pub insert_key-absent : (keys : List T) (key : T) → list_any (eq key) keys ≡ false → insert_key eq keys key ≡ keys ++ key ∷ []
   insert_key-absent keys key absent = rw absent
+
+  -- and from there to another place
+  pub shifted_in : (keys : List T) (key : T) (at : ℕ) → at ≤ length keys → list_any (eq key) keys ≡ false
+      → move_index (insert_key eq keys key) (position_or_len (eq key) keys) at ≡ take at keys ++ key ∷ drop at keys
+  shifted_in keys key at within absent =
+      ap (λ l. move_index l (position_or_len (eq key) keys) at) (insert_key-absent keys key absent)
+      ∙ ap (λ n. move_index (keys ++ key ∷ []) n at) (absent_last keys key absent) ∙ push_moved keys key at within
 
   -- those in front of distinct keys are distinct
   pub IsDistinct-front : (front back : List T) → IsDistinct eq (front ++ back) → IsDistinct eq front
@@ -87,12 +104,12 @@ module _ {T : Type 0} (eq : T → T → Bool) where
   IsDistinct-front (x ∷ xs) back distinct = (all_front (λ other. eq x other ≡ false) xs back distinct.0, IsDistinct-front xs back distinct.1)
 
   -- where none is the key, none goes
-  without-absent : (key : T) (keys : List T) → AllByRecursion (λ other. eq key other ≡ false) keys → without key keys ≡ keys
+  pub without-absent : (key : T) (keys : List T) → AllByRecursion (λ other. eq key other ≡ false) keys → without key keys ≡ keys
   without-absent key [] apart = refl
   without-absent key (x ∷ xs) apart = rw apart.0 (ap (λ l. x ∷ l) (without-absent key xs apart.1))
 
   -- and none is renamed
-  renamed-absent : (old new : T) (keys : List T) → AllByRecursion (λ other. eq old other ≡ false) keys → renamed old new keys ≡ keys
+  pub renamed-absent : (old new : T) (keys : List T) → AllByRecursion (λ other. eq old other ≡ false) keys → renamed old new keys ≡ keys
   renamed-absent old new [] apart = refl
   renamed-absent old new (x ∷ xs) apart = rw apart.0 (ap (λ l. x ∷ l) (renamed-absent old new xs apart.1))
 
@@ -102,7 +119,7 @@ module _ {T : Type 0} (eq : T → T → Bool) where
     flipped a b = same_from_decides (eq a b) (eq b a) (decides a b) ((λ e. sym ((decides b a).0 e)), (λ e. (decides b a).1 (sym e)))
 
     -- what is apart from an item is apart from what it equals
-    apart_from : (key x : T) (xs : List T) → eq key x ≡ true → AllByRecursion (λ other. eq x other ≡ false) xs → AllByRecursion (λ other. eq key other ≡ false) xs
+    pub apart_from : (key x : T) (xs : List T) → eq key x ≡ true → AllByRecursion (λ other. eq x other ≡ false) xs → AllByRecursion (λ other. eq key other ≡ false) xs
     apart_from key x xs e apart = subst (λ k. AllByRecursion (λ other. eq k other ≡ false) xs) (sym ((decides key x).0 e)) apart
 
     -- among distinct keys there is one at most to take out

@@ -1,84 +1,83 @@
 -- What an action on one table is to all tables.
-use Rattle.std.proofs.Common.{◌≡◌, ℕ, suc, ◌+◌, ◌<◌, ◌≤◌, ◌^◌, Bool, true, false, not, ◌&&◌, eqb, zero, List, [], ◌∷◌, length, map, filter, get_or, Option, Some, None, refl, sym, ap, subst, ◌∙◌, arith, true≢false}
-use Rattle.std.specs.Prelude.{if◌then◌else◌, is_some, nat_lt}
+use Rattle.std.proofs.Common.{◌≡◌, ℕ, ◌+◌, ◌<◌, ◌≤◌, ◌^◌, Bool, true, false, not, ◌&&◌, eqb, List, [], ◌∷◌, length, map, filter, get_or, Option, Some, None, refl, sym, ap, subst, ◌∙◌, arith, true≢false}
+use Rattle.std.specs.Prelude.{is_some}
 use Rattle.std.specs.List.{IsDistinct}
 use Rattle.std.proofs.Math.ListN.{set}
-use Rattle.std.proofs.lemmas.Bool.{eqb-true, eqb-false, ltb-true}
+use Rattle.std.proofs.lemmas.Bool.{and_parts, eqb-true, eqb-false}
 use Rattle.std.proofs.lemmas.Bool.Decides.{Decides-eqb}
-use Rattle.std.proofs.lemmas.List.{map-set, get_or-map, get_or-set_same, get_or-set_other, set-get_or, length-map, length-set}
-use Rattle.std.proofs.lemmas.Option.{same_Some}
+use Rattle.std.proofs.lemmas.List.{map-set, get_or-map, get_or-set_same, get_or-set_other, set-get_or, set-set, length-map, length-set}
 use Rattle.perm_base.specs.declared.shapes.TableId.{TableId}
 use Rattle.perm_base.specs.declared.shapes.TableId.TheVariants.{P, G}
 use Rattle.std.specs.Option.{option_map_or}
-use Rattle.policy_table.specs.Changes.{applies, changed, edited, is_possible, suits, table_of}
-use Rattle.policy_table.specs.Held.{HasRoom, Rows, needed}
-use Rattle.policy_table.specs.Helps.Steps.{acted, changes_by, lists_of, may_act, puts, spare_of}
-use Rattle.policy_table.specs.Tables.{AreLists, Fields, Lists, most_tables, place, rows, same, stands}
-use Rattle.policy_table.proofs.CallerLemmas.{keeps_all, out_and_out}
+use Rattle.policy_table.specs.Changes.{applies, changed, edited, is_possible, suits, table_of, without}
+use Rattle.policy_table.specs.Held.{HasRoom, needed}
+use Rattle.policy_table.specs.Helps.Rows.{RiseWhere, Rows, lists_of, policy_of, spare_of}
+use Rattle.policy_table.specs.Helps.Steps.{acted, changes_by, may_act, puts}
+use Rattle.policy_table.specs.Tables.{AreLists, AreOrdered, Fields, Policy, is_ranked, most_tables, place, rows, same, stands}
+use Rattle.policy_table.proofs.RuleLemmas.{keeps_all, out_and_out}
+use Rattle.policy_table.proofs.PlaceLemmas.{place_few, rows_at}
 use Rattle.policy_table.specs.declared.change.Change.{Change}
 use Rattle.policy_table.specs.declared.change.Change.TheVariants as change
 use Rattle.policy_table.specs.declared.prepared.Action.{Action}
 use Rattle.policy_table.specs.declared.prepared.Action.TheVariants.{Insert, Remove, Replace}
 
--- a write over a write
-set_set : (lists : Lists) (at : ℕ) (x y : List Fields) → set (set lists at x) at y ≡ set lists at y
-set_set [] at x y = refl
-set_set (l ∷ lists) zero x y = refl
-set_set (l ∷ lists) (suc at) x y = ap (λ (r : Lists). l ∷ r) (set_set lists at x y)
+-- the tables with other rules in one place
+abbrev written : Policy → ℕ → List Fields → Policy
+written policy at rules = record policy { lists = set policy.lists at rules }
 
 -- rules that are taken out of a table one after the other
-removed : (table : TableId) (at : ℕ) (lists : Lists) (gone : List Fields) → place table ≡ Some at → at < length lists
-    → edited (map (λ (rule : Fields). change.Remove table rule) gone) lists ≡ set lists at (filter (λ (other : Fields). not (stands other gone)) (get_or lists at []))
+removed : (table : TableId) (at : ℕ) (policy : Policy) (gone : List Fields) → place table ≡ Some at → at < length policy.lists
+    → edited (map (λ (rule : Fields). change.Remove table rule) gone) policy ≡ written policy at (filter (λ (other : Fields). not (stands other gone)) (get_or policy.lists at []))
 unfolding edited
-removed table at lists [] here within = sym (ap (set lists at) (keeps_all (get_or lists at [])) ∙ set-get_or lists at [])
-removed table at lists (rule ∷ gone) here within =
-    let after : Lists = set lists at (filter (λ (other : Fields). not (same rule other)) (get_or lists at [])) in
-    let first : changed (change.Remove table rule) lists ≡ after = rw here refl in
+removed table at policy [] here within = sym (ap (written policy at) (keeps_all (get_or policy.lists at [])) ∙ ap (λ l. record policy { lists = l }) (set-get_or policy.lists at []))
+removed table at policy (rule ∷ gone) here within =
+    let after : Policy = written policy at (without rule (get_or policy.lists at [])) in
+    let first : changed (change.Remove table rule) policy ≡ after = rw here refl in
     ap (edited (map (λ (r : Fields). change.Remove table r) gone)) first
-    ∙ removed table at after gone here (subst (λ n. at < n) (sym (length-set lists at _)) within)
-    ∙ ap (λ (l : List Fields). set after at (filter (λ (other : Fields). not (stands other gone)) l)) (get_or-set_same lists at _ [] within)
-    ∙ ap (set after at) (out_and_out rule gone (get_or lists at []))
-    ∙ set_set lists at _ _
+    ∙ removed table at after gone here (subst (λ n. at < n) (sym (length-set policy.lists at _)) within)
+    ∙ ap (λ (l : List Fields). written after at (filter (λ (other : Fields). not (stands other gone)) l)) (get_or-set_same policy.lists at _ [] within)
+    ∙ ap (written after at) (out_and_out rule gone (get_or policy.lists at []))
+    ∙ ap (λ l. record policy { lists = l }) (set-set policy.lists at _ _)
 
 -- an action on the table at a place is its changes of all tables
-pub action_edits : (table : TableId) (at : ℕ) (lists : Lists) (action : Action) → place table ≡ Some at → at < length lists → edited (changes_by table action) lists ≡ set lists at (acted action (get_or lists at []))
+pub action_edits : (table : TableId) (at : ℕ) (policy : Policy) (action : Action) → place table ≡ Some at → at < length policy.lists
+    → edited (changes_by table action) policy ≡ written policy at (acted (is_ranked policy table) action (get_or policy.lists at []))
 unfolding edited
-action_edits table at lists (Insert rule) here within = rw here refl
-action_edits table at lists (Remove gone) here within = removed table at lists gone.rules here within
-action_edits table at lists (Replace old new) here within = rw here refl
-
-right_of : (a b : Bool) → (a && b) ≡ true → b ≡ true
-right_of true b e = e
-right_of false b e = absurd (true≢false (sym e))
-
-left_of : (a b : Bool) → (a && b) ≡ true → a ≡ true
-left_of true b e = refl
-left_of false b e = e
+action_edits table at policy (Insert rule) here within = rw here refl
+action_edits table at policy (Remove gone) here within = removed table at policy gone.rules here within
+action_edits table at policy (Replace old new) here within = rw here refl
 
 -- where its changes apply, the action may be done
-pub action_may : (table : TableId) (at : ℕ) (lists : Lists) (action : Action) → place table ≡ Some at → applies (changes_by table action) lists ≡ true → may_act action (get_or lists at []) ≡ true
+pub action_may : (table : TableId) (at : ℕ) (policy : Policy) (action : Action) → place table ≡ Some at → applies (changes_by table action) policy ≡ true → may_act action (get_or policy.lists at []) ≡ true
 unfolding applies
-action_may table at lists action here possible = by action possible
+action_may table at policy action here possible = by action possible
   where
-    suited : (c : Change) → place (table_of c) ≡ Some at → (is_possible c lists && true) ≡ true → suits c (get_or lists at []) ≡ true
+    suited : (c : Change) → place (table_of c) ≡ Some at → (is_possible c policy && true) ≡ true → suits c (get_or policy.lists at []) ≡ true
     suited c there is =
-        left_of _ _ (subst (λ (p : Option ℕ). ((is_some p && suits c (option_map_or (λ (i : ℕ). get_or lists i []) p [])) && true) ≡ true) there is)
+        (and_parts (suits c (get_or policy.lists at [])) true (subst (λ (p : Option ℕ). ((is_some p && suits c (option_map_or (λ (i : ℕ). get_or policy.lists i []) p [])) && true) ≡ true) there is)).0
 
-    by : (a : Action) → applies (changes_by table a) lists ≡ true → may_act a (get_or lists at []) ≡ true
+    by : (a : Action) → applies (changes_by table a) policy ≡ true → may_act a (get_or policy.lists at []) ≡ true
     by (Insert rule) is = suited (change.Insert table rule) here is
     by (Remove gone) is = refl
     by (Replace old new) is = suited (change.Replace table old new) here is
 
 -- without a place for its table it changes nothing
-pub action_nowhere : (table : TableId) (lists : Lists) (action : Action) → place table ≡ None → applies (changes_by table action) lists ≡ true → lists ≡ edited (changes_by table action) lists
+pub action_nowhere : (table : TableId) (policy : Policy) (action : Action) → place table ≡ None → applies (changes_by table action) policy ≡ true → policy ≡ edited (changes_by table action) policy
 unfolding applies edited
-action_nowhere table lists (Insert rule) none is = absurd (true≢false (sym (subst (λ (p : Option ℕ). ((is_some p && suits (change.Insert table rule) (option_map_or (λ (i : ℕ). get_or lists i []) p [])) && true) ≡ true) none is)))
-action_nowhere table lists (Remove gone) none is = by gone.rules is
+action_nowhere table policy action none possible = by action possible
   where
-    by : (rules : List Fields) → applies (map (λ (rule : Fields). change.Remove table rule) rules) lists ≡ true → lists ≡ edited (map (λ (rule : Fields). change.Remove table rule) rules) lists
-    by [] e = refl
-    by (rule ∷ rules) e = absurd (true≢false (sym (subst (λ (p : Option ℕ). ((is_some p && suits (change.Remove table rule) (option_map_or (λ (i : ℕ). get_or lists i []) p [])) && applies (map (λ (r : Fields). change.Remove table r) rules) (changed (change.Remove table rule) lists)) ≡ true) none e)))
-action_nowhere table lists (Replace old new) none is = absurd (true≢false (sym (subst (λ (p : Option ℕ). ((is_some p && suits (change.Replace table old new) (option_map_or (λ (i : ℕ). get_or lists i []) p [])) && true) ≡ true) none is)))
+    absurdly : (c : Change) (more : Bool) (X : Type 0) → place (table_of c) ≡ None → (is_possible c policy && more) ≡ true → X
+    absurdly c more X there is =
+        absurd (true≢false (sym (subst (λ (p : Option ℕ). ((is_some p && suits c (option_map_or (λ (i : ℕ). get_or policy.lists i []) p [])) && more) ≡ true) there is)))
+
+    by_gone : (rules : List Fields) → applies (map (λ (rule : Fields). change.Remove table rule) rules) policy ≡ true → policy ≡ edited (map (λ (rule : Fields). change.Remove table rule) rules) policy
+    by_gone [] e = refl
+    by_gone (rule ∷ rules) e = absurdly (change.Remove table rule) _ _ none e
+
+    by : (a : Action) → applies (changes_by table a) policy ≡ true → policy ≡ edited (changes_by table a) policy
+    by (Insert rule) is = absurdly (change.Insert table rule) true _ none is
+    by (Remove gone) is = by_gone gone.rules is
+    by (Replace old new) is = absurdly (change.Replace table old new) true _ none is
 
 -- changes that take rules out need no room
 no_room : (table : TableId) (at : ℕ) (rules : List Fields) → needed at (map (λ (rule : Fields). change.Remove table rule) rules) ≡ 0
@@ -122,32 +121,38 @@ pub room_needed : (tables : List Rows) (at : ℕ) (d : Rows) (table : TableId) (
 room_needed tables at d table action here within few room =
     omega (arith, room at few, room_here table at action here, get_or-map (λ (r : Rows). r.spare) tables at d 0 within)
 
--- the lists after an action on the table at a place
-pub lists_after : (tables : List Rows) (at : ℕ) (after : Rows) (d : Rows) (table : TableId) (action : Action) → place table ≡ Some at → at < length tables → after.rules ≡ acted action (get_or tables at d).rules
-    → lists_of (set tables at after) ≡ edited (changes_by table action) (lists_of tables)
-lists_after tables at after d table action here within made =
-    map-set (λ (r : Rows). r.rules) tables at after
-    ∙ ap (set (lists_of tables) at) (made ∙ ap (acted action) (sym (get_or-map (λ (r : Rows). r.rules) tables at d [] within)))
-    ∙ sym (action_edits table at (lists_of tables) action here (subst (λ n. at < n) (sym (length-map tables (λ (r : Rows). r.rules))) within))
+-- the rules of the table at a place
+pub rows_here : (ranked : Bool) (tables : List Rows) (at : ℕ) (d : Rows) (table : TableId) → place table ≡ Some at → at < length tables → rows (policy_of ranked tables) table ≡ (get_or tables at d).rules
+rows_here ranked tables at d table here within = rows_at (policy_of ranked tables) table at here ∙ get_or-map (λ (r : Rows). r.rules) tables at d [] within
+
+-- the tables after an action on the table at a place
+pub policy_after : (ranked here_ranked : Bool) (tables : List Rows) (at : ℕ) (after : Rows) (d : Rows) (table : TableId) (action : Action) → place table ≡ Some at → at < length tables
+    → here_ranked ≡ is_ranked (policy_of ranked tables) table → after.rules ≡ acted here_ranked action (get_or tables at d).rules → policy_of ranked (set tables at after) ≡ edited (changes_by table action) (policy_of ranked tables)
+policy_after ranked here_ranked tables at after d table action here within told made =
+    ap (λ l. record { lists = l; ranked = ranked })
+    (map-set (λ (r : Rows). r.rules) tables at after
+    ∙ ap (set (lists_of tables) at) (made ∙ ap (λ b. acted b action (get_or tables at d).rules) told ∙ ap (acted (is_ranked (policy_of ranked tables) table) action) (sym (get_or-map (λ (r : Rows). r.rules) tables at d [] within))))
+    ∙ sym (action_edits table at (policy_of ranked tables) action here (subst (λ n. at < n) (sym (length-map tables (λ (r : Rows). r.rules))) within))
 
 -- the action may be done on the table at a place
-pub may_here : (tables : List Rows) (at : ℕ) (d : Rows) (table : TableId) (action : Action) → place table ≡ Some at → at < length tables → applies (changes_by table action) (lists_of tables) ≡ true → may_act action (get_or tables at d).rules ≡ true
-may_here tables at d table action here within possible =
-    ap (may_act action) (sym (get_or-map (λ (r : Rows). r.rules) tables at d [] within)) ∙ action_may table at (lists_of tables) action here possible
+pub may_here : (ranked : Bool) (tables : List Rows) (at : ℕ) (d : Rows) (table : TableId) (action : Action) → place table ≡ Some at → at < length tables → applies (changes_by table action) (policy_of ranked tables) ≡ true → may_act action (get_or tables at d).rules ≡ true
+may_here ranked tables at d table action here within possible =
+    ap (may_act action) (sym (get_or-map (λ (r : Rows). r.rules) tables at d [] within)) ∙ action_may table at (policy_of ranked tables) action here possible
 
--- the place of a table is below nine
-pub place_few : (table : TableId) (at : ℕ) → place table ≡ Some at → at < most_tables
-place_few P at e = subst (λ n. n < most_tables) (same_Some 0 at e) (omega arith)
-place_few (G number) at e = by_test (nat_lt 0 number && nat_lt number most_tables) refl e
+-- the rules at a place rise where they are ranked
+pub rise_here : (ranked here_ranked : Bool) (tables : List Rows) (at : ℕ) (d : Rows) (table : TableId) → place table ≡ Some at → at < length tables
+    → AreOrdered (policy_of ranked tables) → here_ranked ≡ is_ranked (policy_of ranked tables) table → RiseWhere here_ranked (get_or tables at d).rules
+rise_here ranked here_ranked tables at d table here within order told =
+    subst (λ (b : Bool). RiseWhere b (get_or tables at d).rules) (sym told) (subst (RiseWhere (is_ranked (policy_of ranked tables) table)) (rows_here ranked tables at d table here within) (by table))
   where
-    by_test : (test : Bool) → (nat_lt 0 number && nat_lt number most_tables) ≡ test → (if test then Some number else None) ≡ Some at → at < most_tables
-    by_test true t there = subst (λ n. n < most_tables) (same_Some number at there) (ltb-true number most_tables (right_of _ _ t))
-    by_test false t there = absurd cc
+    by : (t : TableId) → RiseWhere (is_ranked (policy_of ranked tables) t) (rows (policy_of ranked tables) t)
+    by P = order.rising
+    by (G number) = λ e. absurd (true≢false (sym e))
 
 -- a table without a place has no rules, and so none twice
-pub nowhere_once : (lists : Lists) (table : TableId) → place table ≡ None → IsDistinct same (rows lists table)
+pub nowhere_once : (policy : Policy) (table : TableId) → place table ≡ None → IsDistinct same (rows policy table)
 unfolding IsDistinct
-nowhere_once lists table none = subst (λ (p : Option ℕ). IsDistinct same (option_map_or (λ (at : ℕ). get_or lists at []) p [])) (sym none) tt
+nowhere_once policy table none = subst (λ (p : Option ℕ). IsDistinct same (option_map_or (λ (at : ℕ). get_or policy.lists at []) p [])) (sym none) tt
 
 -- the place of a table lies among nine tables
 pub few_tables : (tables : List Rows) → length (lists_of tables) ≡ most_tables → (table : TableId) (at : ℕ) → place table ≡ Some at → at < length tables

@@ -3,18 +3,13 @@ use Rattle.std.specs.Prelude.{◌≡◌, ℕ, ◌==◌, ◌<◌, ◌≤◌, Bool
 use Rattle.std.specs.Option.{option_map_or}
 use Rattle.perm_base.specs.declared.shapes.TableId.{TableId}
 use Rattle.policy_table.specs.Changes.{applies, edited}
-use Rattle.policy_table.specs.Tables.{AreLists, Fields, Lists, most_tables, place}
+use Rattle.policy_table.specs.Tables.{AreLists, Policy, most_tables, place}
 use Rattle.policy_table.specs.declared.change.Change.{Change}
 use Rattle.policy_table.specs.declared.change.Change.TheVariants.{Insert, Remove, Replace}
 
--- the rules of one table, and its room
-pub record Rows : Type 0 where
-  pub rules : List Fields
-  pub spare : ℕ
-
--- the lists of rules, and the room of each
+-- the tables, and the room of each
 pub record Held : Type 0 where
-  pub lists : Lists
+  pub policy : Policy
   pub spare : List ℕ
 
 -- the table stands at this place
@@ -37,6 +32,6 @@ HasRoom spare changes = (at : ℕ) → at < most_tables → needed at changes �
 
 -- the changes can be made in these tables: they apply, no table gets too long, and there is room
 pub record IsPreparedFor (held : Held) (changes : List Change) : Type 0 where
-  pub possible : applies changes held.lists ≡ true
-  pub few : AreLists (edited changes held.lists)
+  pub possible : applies changes held.policy ≡ true
+  pub few : AreLists (edited changes held.policy).lists
   pub room : HasRoom held.spare changes

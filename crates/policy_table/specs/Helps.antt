@@ -1,2 +1,4 @@
 -- What only private functions and proofs say.
+pub mod Rows
 pub mod Steps
+pub mod Counts

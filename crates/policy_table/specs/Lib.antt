@@ -1,5 +1,7 @@
+pub mod Ranks
 pub mod Tables
 pub mod Changes
 pub mod Held
+pub mod Limits
 pub mod Filters
 pub mod Helps

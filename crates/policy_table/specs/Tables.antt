@@ -1,11 +1,13 @@
--- The tables of a policy: for p, and for each role relation g to g8, a list of rules without repeats (Casbin, policy).
-use Rattle.std.specs.Prelude.{◌≡◌, ℕ, ◌<◌, ◌^◌, ◌&&◌, Bool, nat_lt, List, [], length, All, Option, Some, None, if◌then◌else◌, get_or}
+-- The tables of a policy: for p, and for each role relation g to g8, a list of rules without repeats (Casbin, policy); where
+-- p is ranked, it stands in rising order of rank (Casbin, priority model).
+use Rattle.std.specs.Prelude.{◌≡◌, ℕ, ◌<◌, ◌^◌, ◌&&◌, Bool, false, not, nat_lt, IsTrue, List, [], length, All, AllPairs, Option, Some, None, if◌then◌else◌, get_or}
 use Rattle.std.specs.Cmp.Lexicographic.{pointwise}
-use Rattle.std.specs.List.{list_any}
+use Rattle.std.specs.List.{list_any, IsDistinct}
 use Rattle.std.specs.Option.{option_map_or}
 use Rattle.std.specs.Str.{bytes_eq}
 use Rattle.perm_base.specs.declared.shapes.TableId.{TableId}
 use Rattle.perm_base.specs.declared.shapes.TableId.TheVariants.{P, G}
+use Rattle.policy_table.specs.Ranks.{is_above}
 
 -- the fields of a rule
 abbrev pub Fields : Type 0
@@ -24,9 +26,14 @@ abbrev pub place : TableId → Option ℕ
 place P = Some 0
 place (G number) = if nat_lt 0 number && nat_lt number most_tables then Some number else None
 
+-- the rules of all tables, and whether p is ranked
+pub record Policy : Type 0 where
+  pub lists : Lists
+  pub ranked : Bool
+
 -- the rules of a table
-abbrev pub rows : Lists → TableId → List Fields
-rows lists table = option_map_or (λ (at : ℕ). get_or lists at []) (place table) []
+abbrev pub rows : Policy → TableId → List Fields
+rows policy table = option_map_or (λ (at : ℕ). get_or policy.lists at []) (place table) []
 
 -- two rules with the same fields
 abbrev pub same : Fields → Fields → Bool
@@ -40,3 +47,25 @@ stands rule rules = list_any (same rule) rules
 pub record AreLists (lists : Lists) : Type 0 where
   pub counted : length lists ≡ most_tables
   pub few : All (λ (rules : List Fields). length rules < 2 ^ 32) lists
+
+-- the table is ranked: p may be, relations never are
+abbrev pub is_ranked : Policy → TableId → Bool
+is_ranked policy P = policy.ranked
+is_ranked policy (G number) = false
+
+-- no rule stands behind one of a higher rank
+abbrev pub AreRising : List Fields → Type 0
+AreRising rules = AllPairs (λ (first second : Fields). IsTrue (not (is_above first second))) rules
+
+-- what tables keep whatever their lengths: there are nine, no rule stands twice in one, and a ranked p stands in rising
+-- order of rank
+pub record AreOrdered (policy : Policy) : Type 0 where
+  pub counted : length policy.lists ≡ most_tables
+  pub once : (table : TableId) → IsDistinct same (rows policy table)
+  pub rising : IsTrue policy.ranked → AreRising (rows policy P)
+
+-- what all tables keep: beside that none has 2^32 rules
+pub record IsKept (policy : Policy) : Type 0 where
+  pub lists : AreLists policy.lists
+  pub once : (table : TableId) → IsDistinct same (rows policy table)
+  pub rising : IsTrue policy.ranked → AreRising (rows policy P)

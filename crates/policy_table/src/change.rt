@@ -8,7 +8,7 @@ use std::marker::Model;
 /// A change of one rule of a table.
 #[derive(Drop)]
 pub enum Change {
-    /// A rule that goes last.
+    /// A rule that goes last; in a ranked p, behind the last whose rank is not above its own.
     Insert {
         table: TableId,
         rule: Rule,
@@ -18,7 +18,8 @@ pub enum Change {
         table: TableId,
         rule: Rule,
     },
-    /// A rule whose place a new one takes.
+    /// A rule whose place a new one takes; in a ranked p only where the two are of one rank, and else the old one is
+    /// removed and the new one inserted.
     Replace {
         table: TableId,
         old: Rule,
@@ -69,6 +70,13 @@ impl Edit {
         ensures { result.now ≡ self.now }
     {
         &self.changes
+    }
+
+    /// The changes as a `Vec`. It takes no memory.
+    pub fn into_vec(self) -> Vec<Change>
+        ensures { result.items ≡ self }
+    {
+        self.changes
     }
 }
 

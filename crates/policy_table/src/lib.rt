@@ -1,13 +1,24 @@
-//! The tables of a policy: ordered lists of rules without repeats, and the edits that change them.
+//! The tables of a policy: ordered lists of rules without repeats, that of p ranked or not, and the edits that change them.
 #![tactic(auto)]
 
 mod change;
+mod counts;
 mod filter;
+mod laws;
+mod limit;
+mod passed;
 mod prepared;
+mod rank;
+mod rows_after;
 mod table;
 mod tables;
 
 pub use change::{Change, Edit, copy_edit};
 pub use filter::fits_filter;
+pub use laws::{
+    edits_by_table, edits_compose, edits_keep_order, replay_is_edited,
+    tables_within_limits_are_lists,
+};
+pub use limit::{Limit, has_short_fields};
 pub use prepared::Prepared;
-pub use tables::{Tables, no_tables};
+pub use tables::{Tables, no_tables, ranked_tables};

@@ -141,12 +141,12 @@ fn removed_rules(
         ≡ Change.Remove table rule.now ∷ take n changes.now)) }
 {
     let mut gone = Table::new(alloc);
-    let _new = gone.insert(rule.copy(alloc)?)?;
+    let _new = gone.insert(false, rule.copy(alloc)?)?;
     for change in changes {
         let Change::Remove { table: other, rule } = change else {
             break;
         };
-        if *other != table || !gone.insert(rule.copy(alloc)?)? {
+        if *other != table || !gone.insert(false, rule.copy(alloc)?)? {
             break;
         }
     }

@@ -1,9 +1,11 @@
-ghost use Rattle.std.specs.Prelude.{◌≡◌, ℕ, ◌+◌, ◌<◌, ◌≤◌, ◌^◌, [], All, IfOk, IsSome, OnErr, OnOk, Some, if◌then◌else◌, get_or, length, map, not, slice_get, true};
+ghost use Rattle.std.specs.Prelude.{◌≡◌, ℕ, ◌+◌, ◌<◌, ◌≤◌, ◌^◌, [], IfOk, IsSome, List, OnErr, OnOk, Some, false, if◌then◌else◌, get_or, length, not, replicate, slice_get, true};
 ghost use Rattle.std.specs.List.{IsDistinct};
-ghost use Rattle.policy_table.specs.Changes.{changed, edited, flat, is_possible, applies};
+ghost use Rattle.policy_table.specs.Changes.{applies, changed, edited, flat, is_possible};
 ghost use Rattle.policy_table.specs.Held.{HasRoom, IsPreparedFor, needed};
-ghost use Rattle.policy_table.specs.Helps.Steps.{changes_of, lists_of, spare_of};
-ghost use Rattle.policy_table.specs.Tables.{AreLists, place, rows, same, stands};
+ghost use Rattle.policy_table.specs.Helps.Rows.{lists_of, policy_of, spare_of};
+ghost use Rattle.policy_table.specs.Helps.Steps.{changes_of};
+ghost use Rattle.policy_table.specs.Tables.{AreLists, AreOrdered, IsKept, Policy, is_ranked, most_tables, place, rows, same, stands};
+ghost use Rattle.policy_table.specs.declared.change.Change.{Change};
 
 use crate::change::{Change, Edit};
 use crate::prepared::{Prepared, Step};
@@ -15,48 +17,64 @@ use std::marker::Model;
 const TABLES: usize = 9;
 
 /// The tables of a policy: for p and for each of the relations g to g8 an ordered list of rules without repeats, fewer
-/// than 2^32. Contracts see the lists, and for each the room.
+/// than 2^32. p may be ranked: then its rules stand in rising order of rank, the number of their first field, and a rule
+/// whose first field is no number ranks behind every number. Contracts see the lists, the mark, and the room of each.
 #[derive(Drop)]
 pub struct Tables {
     // That of p, then those of g to g8.
     tables: [Table; TABLES],
+    // Whether p is ranked.
+    ranked: bool,
 }
 
 impl Model for Tables {
     ghost use Rattle.policy_table.specs.Held.{Held};
-    ghost use Rattle.policy_table.specs.Helps.Steps.{lists_of, spare_of};
-    ghost use Rattle.policy_table.specs.Tables.{AreLists};
+    ghost use Rattle.policy_table.specs.Helps.Rows.{policy_of, spare_of};
+    ghost use Rattle.policy_table.specs.Tables.{IsKept};
 
     ghost Value = { Held };
 
-    ghost view = { λ t. record { lists = lists_of t.tables; spare = spare_of t.tables } };
+    ghost view = { λ t. record {
+      policy = policy_of t.ranked t.tables;
+      spare = spare_of t.tables;
+    } };
 
-    ghost invariant = { λ t. AreLists (lists_of t.tables) };
+    ghost invariant = { λ t. IsKept (policy_of t.ranked t.tables) };
 }
 
-/// Tables without rules.
+/// Tables without rules, and p is not ranked.
 pub fn no_tables(alloc: Global) -> Tables
-    ensures { (table : TableId) → rows result.lists table ≡ [] }
+    ensures rows { (table : TableId) → rows result.policy table ≡ [] }
+    ensures unranked { result.policy.ranked ≡ false }
 {
     Tables {
-        tables: [
-            Table::new(alloc),
-            Table::new(alloc),
-            Table::new(alloc),
-            Table::new(alloc),
-            Table::new(alloc),
-            Table::new(alloc),
-            Table::new(alloc),
-            Table::new(alloc),
-            Table::new(alloc),
-        ],
+        tables: empty(alloc),
+        ranked: false,
+    }
+}
+
+/// Tables without rules, and p is ranked.
+pub fn ranked_tables(alloc: Global) -> Tables
+    ensures rows { (table : TableId) → rows result.policy table ≡ [] }
+    ensures ranked { result.policy.ranked ≡ true }
+{
+    Tables {
+        tables: empty(alloc),
+        ranked: true,
     }
 }
 
 impl Tables {
+    /// Whether p is ranked.
+    pub fn is_ranked(&self) -> bool
+        ensures { result ≡ self.now.policy.ranked }
+    {
+        self.ranked
+    }
+
     /// Whether a rule stands in a table.
     pub fn has(&self, table: TableId, rule: &Rule) -> bool
-        ensures { result ≡ stands rule.now (rows self.now.lists table) }
+        ensures { result ≡ stands rule.now (rows self.now.policy table) }
     {
         match place(table) {
             Some(at) => self.tables[at].has(rule),
@@ -64,19 +82,18 @@ impl Tables {
         }
     }
 
-    /// What the tables keep: there are nine of them, each of fewer than 2^32 rules, and no rule stands twice in this one.
-    pub fn kept(&self, table: TableId)
-        ensures lists { AreLists self.now.lists }
-        ensures once { IsDistinct same (rows self.now.lists table) }
+    /// What the tables keep: there are nine of them, each of fewer than 2^32 rules, no rule stands twice in one, and a
+    /// ranked p stands in rising order of rank.
+    pub fn kept(&self)
+        ensures { IsKept self.now.policy }
     {
         let _tables = &self.tables;
-        let _rules = self.rows(table);
     }
 
     /// How many rules a table has.
     pub fn len(&self, table: TableId) -> u32
-        ensures value { result ≡ length (rows self.now.lists table) }
-        ensures kept { AreLists self.now.lists }
+        ensures value { result ≡ length (rows self.now.policy table) }
+        ensures kept { AreLists self.now.policy.lists }
     {
         let tables = &self.tables;
         match place(table) {
@@ -87,17 +104,17 @@ impl Tables {
 
     /// The rule of a table at a place, counted from 0.
     pub fn row(&self, table: TableId, at: u32) -> &Rule
-        requires { at < length (rows self.now.lists table) }
-        ensures { slice_get (rows self.now.lists table) at ≡ Some result.now }
+        requires { at < length (rows self.now.policy table) }
+        ensures { slice_get (rows self.now.policy table) at ≡ Some result.now }
     {
         &self.rows(table)[at as usize]
     }
 
     /// The rules of a table in their order, none of them twice.
     pub fn rows(&self, table: TableId) -> &[Rule]
-        ensures value { result.now ≡ rows self.now.lists table }
-        ensures once { IsDistinct same (rows self.now.lists table) }
-        ensures few { length (rows self.now.lists table) < 2 ^ 32 }
+        ensures value { result.now ≡ rows self.now.policy table }
+        ensures once { IsDistinct same (rows self.now.policy table) }
+        ensures few { length (rows self.now.policy table) < 2 ^ 32 }
     {
         match place(table) {
             Some(at) => self.tables[at].rules(),
@@ -108,7 +125,7 @@ impl Tables {
     /// Whether a change can be made in these tables: an inserted rule and a new one are absent, a removed rule and an old
     /// one stand, and its table is p or one of g to g8.
     pub fn allows(&self, change: &Change) -> bool
-        ensures { result ≡ is_possible change.now self.now.lists }
+        ensures { result ≡ is_possible change.now self.now.policy }
     {
         let Some(at) = place(change.table()) else {
             return false;
@@ -121,31 +138,35 @@ impl Tables {
         }
     }
 
-    /// Puts a rule behind the others of its table, unless it stands there already; whether it did so. Where memory runs
-    /// out the rules are as before, and the rule is dropped.
+    /// Puts a rule behind the others of its table, in a ranked p behind the last whose rank is not above its own, unless
+    /// it stands there already; whether it did so. Where memory runs out the rules are as before, and the rule is dropped.
     pub fn insert(&mut self, table: TableId, rule: Rule) -> Result<bool, NoMemory>
         requires table { IsSome (place table) }
-        requires few { length (rows self.old.lists table) + 1 < 2 ^ 32 }
+        requires few { length (rows self.old.policy table) + 1 < 2 ^ 32 }
         ensures inserted { IfOk result (λ new.
-            new ≡ not (stands rule (rows self.old.lists table))) }
-        ensures lists { IfOk result (λ new. self.new.lists
-            ≡ (if new then changed (Change.Insert table rule) self.old.lists
-            else self.old.lists)) }
-        ensures refused { OnErr result (self.new.lists ≡ self.old.lists) }
+            new ≡ not (stands rule (rows self.old.policy table))) }
+        ensures policy { IfOk result (λ new. self.new.policy
+            ≡ (if new then changed (Change.Insert table rule) self.old.policy
+            else self.old.policy)) }
+        ensures refused { OnErr result (self.new.policy ≡ self.old.policy) }
     {
         let Some(at) = place(table) else {
             return Ok(false);
         };
-        self.tables[at].insert(rule)
+        let ranked = is_ranked(self.ranked, table);
+        self.tables[at].insert(ranked, rule)
     }
 
-    /// Makes edits ready, so that `commit` needs no memory. The rules are as before, whatever the answer.
+    /// Makes edits ready, so that `commit` needs no memory. The rules are as before, whatever the answer, and edits that
+    /// were prepared before stay so.
     pub fn prepare(&mut self, alloc: Global, edits: &[Edit]) -> Result<Prepared, NoMemory>
-        requires possible { applies (flat edits.now) self.old.lists ≡ true }
-        requires few { AreLists (edited (flat edits.now) self.old.lists) }
-        ensures unchanged { self.new.lists ≡ self.old.lists }
+        requires possible { applies (flat edits.now) self.old.policy ≡ true }
+        requires few { AreLists (edited (flat edits.now) self.old.policy).lists }
+        ensures unchanged { self.new.policy ≡ self.old.policy }
         ensures edits { IfOk result (λ prepared. prepared ≡ flat edits.now) }
         ensures ready { IfOk result (IsPreparedFor self.new) }
+        ensures stays { (changes : List Change)
+            → IsPreparedFor self.old changes → IsPreparedFor self.new changes }
     {
         let prepared = Prepared::of_edits(alloc, edits)?;
         reserve(&mut self.tables, &prepared)?;
@@ -155,22 +176,23 @@ impl Tables {
     /// Makes the edits that were prepared for these tables as they stand. It takes no memory.
     pub fn commit(&mut self, prepared: Prepared)
         requires { IsPreparedFor self.old prepared }
-        ensures { self.new.lists ≡ edited prepared self.old.lists }
+        ensures { self.new.policy ≡ edited prepared self.old.policy }
     {
         for step in prepared.into_steps() {
-            make(&mut self.tables, step);
+            make(&mut self.tables, self.ranked, step);
         }
     }
 
     /// The same rules once more.
     pub fn copy(&self, alloc: Global) -> Result<Tables, NoMemory>
-        ensures { IfOk result (λ copy. copy.lists ≡ self.now.lists) }
+        ensures { IfOk result (λ copy. copy.policy ≡ self.now.policy) }
     {
-        let mut copy = no_tables(alloc);
+        let mut tables = empty(alloc);
         for at in 0..TABLES {
-            copy.tables[at] = self.tables[at].copy(alloc)?;
+            tables[at] = self.tables[at].copy(alloc)?;
         }
-        Ok(copy)
+        let ranked = self.ranked;
+        Ok(Tables { tables, ranked })
     }
 }
 
@@ -193,10 +215,39 @@ pub(crate) fn place(table: TableId) -> Option<usize>
     }
 }
 
+// Nine tables without rules.
+fn empty(alloc: Global) -> [Table; TABLES]
+    ensures { lists_of result ≡ replicate most_tables [] }
+{
+    [
+        Table::new(alloc),
+        Table::new(alloc),
+        Table::new(alloc),
+        Table::new(alloc),
+        Table::new(alloc),
+        Table::new(alloc),
+        Table::new(alloc),
+        Table::new(alloc),
+        Table::new(alloc),
+    ]
+}
+
+// Whether a table is ranked, where p has this mark.
+fn is_ranked(ranked: bool, table: TableId) -> bool
+    ensures { (policy : Policy) → ranked ≡ policy.ranked → result ≡ is_ranked policy table }
+{
+    match table {
+        TableId::P => ranked,
+        TableId::G(_) => false,
+    }
+}
+
 // Makes the room that the changes need.
 fn reserve(tables: &mut [Table; TABLES], prepared: &Prepared) -> Result<(), NoMemory>
     ensures unchanged { lists_of tables.new ≡ lists_of tables.old }
     ensures room { OnOk result (HasRoom (spare_of tables.new) prepared.now) }
+    ensures more { (at : ℕ) → get_or (spare_of tables.old) at 0
+        ≤ get_or (spare_of tables.new) at 0 }
 {
     for at in 0..TABLES {
         tables[at].reserve(prepared.needed(at))?;
@@ -205,14 +256,16 @@ fn reserve(tables: &mut [Table; TABLES], prepared: &Prepared) -> Result<(), NoMe
 }
 
 // Makes one step.
-fn make(tables: &mut [Table; TABLES], step: Step)
-    requires possible { applies (changes_of step) (lists_of tables.old) ≡ true }
+fn make(tables: &mut [Table; TABLES], ranked: bool, step: Step)
+    requires order { AreOrdered (policy_of ranked tables.old) }
+    requires possible { applies (changes_of step) (policy_of ranked tables.old) ≡ true }
     requires room { HasRoom (spare_of tables.old) (changes_of step) }
-    ensures made { lists_of tables.new ≡ edited (changes_of step) (lists_of tables.old) }
+    ensures made { policy_of ranked tables.new
+        ≡ edited (changes_of step) (policy_of ranked tables.old) }
     ensures room { (at : ℕ) → get_or (spare_of tables.old) at 0
         ≤ get_or (spare_of tables.new) at 0 + needed at (changes_of step) }
 {
     if let Some(at) = place(step.table) {
-        tables[at].make(step.action);
+        tables[at].make(is_ranked(ranked, step.table), step.action);
     }
 }

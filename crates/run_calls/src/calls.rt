@@ -2,16 +2,17 @@
 
 ghost use Rattle.perm_base.specs.RoleShapes.{AreRoles};
 ghost use Rattle.perm_base.specs.Shapes.{AreValid};
-ghost use Rattle.edit_calls.specs.Limits.{AreSound};
+ghost use Rattle.policy_table.specs.Limits.{AreSound};
 ghost use Rattle.std.specs.Prelude.{◌≡◌, IfOk};
 
+use crate::changes::empty_tables;
 use crate::shown::{changes, fit_of, rules, table_of};
-use crate::words::{call, cut};
+use crate::words::{call, cut, edits, is_ranked};
 use anyhow::{Context, Result, bail, ensure};
 use case_list::Case;
-use edit_calls::{Call, CallRefused, edits_keep_tables, resolve, tables_within_limits_are_lists};
-use perm_base::{Fit, RoleShape, RoleShapes, Shapes, TableId};
-use policy_table::{Edit, Tables, copy_edit, no_tables};
+use edit_calls::{Call, CallRefused, admits, resolve};
+use perm_base::{Fit, RoleShape, RoleShapes, Shapes};
+use policy_table::{Edit, Tables, copy_edit, edits_keep_order, tables_within_limits_are_lists};
 use std::alloc::Global;
 use std::io::Write;
 use std::str;
@@ -27,7 +28,7 @@ pub fn answer(alloc: Global, case: &Case, out: &mut impl Write) -> Result<()> {
 }
 
 // The shapes that stand behind `tables`: the columns of p, the place of the subject, and the columns of g and of g2. The
-// domains of both are compared by the function behind `domains`.
+// domains of both are compared by the function behind `domains`, and p is ranked where `ranked` names it.
 fn shapes(alloc: Global, case: &Case) -> Result<Shapes>
     ensures { IfOk result (λ shapes. AreValid shapes) }
 {
@@ -39,13 +40,13 @@ fn shapes(alloc: Global, case: &Case) -> Result<Shapes>
     match numbers.as_slice() {
         [columns, subject, relations @ ..] => {
             let roles = roles(alloc, relations, domains)?;
-            shapes_of(*columns, *subject, roles)
+            shapes_of(*columns, *subject, roles, is_ranked(alloc, case)?)
         }
         _ => bail!("no columns of p, or no subject"),
     }
 }
 
-fn shapes_of(columns: u32, subject_column: u32, roles: RoleShapes) -> Result<Shapes>
+fn shapes_of(columns: u32, subject_column: u32, roles: RoleShapes, ranked: bool) -> Result<Shapes>
     requires { AreRoles roles }
     ensures { IfOk result (λ shapes. AreValid shapes) }
 {
@@ -57,6 +58,7 @@ fn shapes_of(columns: u32, subject_column: u32, roles: RoleShapes) -> Result<Sha
         subject_column,
         roles,
         limit: 10,
+        ranked,
     })
 }
 
@@ -91,7 +93,7 @@ fn relation(number: u8, columns: u32, domains: Fit) -> RoleShape
 fn answer_lines(alloc: Global, text: &str, shapes: &Shapes, out: &mut impl Write) -> Result<()>
     requires { AreValid shapes.now }
 {
-    let mut tables = no_tables(alloc);
+    let mut tables = empty_tables(alloc, shapes.ranked);
     for line in text.lines() {
         let answer = answer_line(alloc, &mut tables, shapes, line)?;
         writeln!(out, "  {line} = {answer}")?;
@@ -101,19 +103,31 @@ fn answer_lines(alloc: Global, text: &str, shapes: &Shapes, out: &mut impl Write
 
 fn answer_line(alloc: Global, tables: &mut Tables, shapes: &Shapes, line: &str) -> Result<String>
     requires valid { AreValid shapes.now }
-    requires sound { AreSound shapes.now tables.old.lists }
-    ensures sound { AreSound shapes.now tables.new.lists }
+    requires sound { AreSound shapes.now tables.old.policy }
+    ensures sound { AreSound shapes.now tables.new.policy }
 {
     let (word, rest) = cut(line, ' ');
     match word {
         "rows" => rules(alloc, tables.rows(table_of(rest)?)),
         "count" => Ok(format!(in alloc; "{}", tables.len(table_of(rest)?))?),
+        "admits" => are_admitted(alloc, tables, shapes, rest),
         _ => {
             let call = call(alloc, line).context(format_args!("no such call: {line}"))?;
             let answer = make(alloc, tables, shapes, &call);
             told(alloc, answer)
         }
     }
+}
+
+// Whether the tables admit edits, as `edits` reads them.
+fn are_admitted(alloc: Global, tables: &Tables, shapes: &Shapes, text: &str) -> Result<String>
+    requires { AreSound shapes.now tables.now.policy }
+{
+    let edits = edits(alloc, text).context(format_args!("no such edits: {text}"))?;
+    let admitted = admits(alloc, &edits, tables, shapes)
+        .ok()
+        .context("memory ran out")?;
+    Ok(format!(in alloc; "{admitted}")?)
 }
 
 // Makes the edit of a call, where there is one.
@@ -124,12 +138,12 @@ fn make(
     call: &Call,
 ) -> Result<Option<Edit>, CallRefused>
     requires valid { AreValid shapes.now }
-    requires sound { AreSound shapes.now tables.old.lists }
-    ensures sound { AreSound shapes.now tables.new.lists }
+    requires sound { AreSound shapes.now tables.old.policy }
+    ensures sound { AreSound shapes.now tables.new.policy }
 {
-    edits_keep_tables();
+    edits_keep_order();
     tables_within_limits_are_lists();
-    tables.kept(TableId::P);
+    tables.kept();
     let Some(edit) = resolve(alloc, call, tables, shapes)? else {
         return Ok(None);
     };

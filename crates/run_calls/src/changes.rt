@@ -1,11 +1,15 @@
 //! Changes of tables, made one by one.
 
+ghost use Rattle.std.specs.Prelude.{◌≡◌, []};
+ghost use Rattle.perm_base.specs.declared.shapes.TableId.{TableId};
+ghost use Rattle.policy_table.specs.Tables.{rows};
+
 use crate::shown::{rules, table_of};
-use crate::words::{cut, filter, rule};
-use anyhow::{Context, Result, bail, ensure};
+use crate::words::{change, cut, filter, is_ranked, rule};
+use anyhow::{Context, Result, ensure};
 use case_list::Case;
 use perm_base::{Rule, TableId};
-use policy_table::{Change, Edit, Tables, fits_filter, no_tables};
+use policy_table::{Change, Edit, Tables, fits_filter, no_tables, ranked_tables};
 use std::alloc::Global;
 use std::io::Write;
 use std::str;
@@ -13,7 +17,7 @@ use std::str;
 /// Makes the changes of a case in tables that are empty before, and writes each line with what it comes to.
 pub fn answer(alloc: Global, case: &Case, out: &mut impl Write) -> Result<()> {
     let text = case.text(alloc, "changes")?;
-    let mut tables = no_tables(alloc);
+    let mut tables = empty_tables(alloc, is_ranked(alloc, case)?);
     for line in str::from_utf8(&text)?.lines() {
         let answer = answer_line(alloc, &mut tables, line).context(format_args!(
             "no such change: {line}"
@@ -21,6 +25,18 @@ pub fn answer(alloc: Global, case: &Case, out: &mut impl Write) -> Result<()> {
         writeln!(out, "  {line} = {answer}")?;
     }
     Ok(())
+}
+
+/// Tables without rules, in which p is ranked or not.
+pub fn empty_tables(alloc: Global, ranked: bool) -> Tables
+    ensures rows { (table : TableId) → rows result.policy table ≡ [] }
+    ensures mark { result.policy.ranked ≡ ranked }
+{
+    if ranked {
+        ranked_tables(alloc)
+    } else {
+        no_tables(alloc)
+    }
 }
 
 fn answer_line(alloc: Global, tables: &mut Tables, line: &str) -> Result<String> {
@@ -41,10 +57,7 @@ fn answer_line(alloc: Global, tables: &mut Tables, line: &str) -> Result<String>
             let found = tables.has(table, &rule(alloc, fields)?);
             Ok(format!(in alloc; "{found}")?)
         }
-        _ => {
-            let change = change(alloc, word, table, fields)?;
-            make(alloc, tables, change)
-        }
+        _ => make(alloc, tables, change(alloc, line)?),
     }
 }
 
@@ -58,26 +71,6 @@ fn fits(alloc: Global, text: &str) -> Result<bool> {
         "the filter goes past the rule"
     );
     Ok(fits_filter(&rule, at, &values))
-}
-
-fn change(alloc: Global, word: &str, table: TableId, fields: &str) -> Result<Change> {
-    match word {
-        "+" => Ok(Change::Insert {
-            table,
-            rule: rule(alloc, fields)?,
-        }),
-        "-" => Ok(Change::Remove {
-            table,
-            rule: rule(alloc, fields)?,
-        }),
-        ">" => {
-            let (old, new) = cut(fields, '>');
-            let new = rule(alloc, new)?;
-            let old = rule(alloc, old)?;
-            Ok(Change::Replace { table, old, new })
-        }
-        _ => bail!("no change has this name"),
-    }
 }
 
 // Makes a change, where the tables allow it.

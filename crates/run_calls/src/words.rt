@@ -1,9 +1,11 @@
-//! Rules and management calls, read from the lines of a case.
+//! Rules, changes and management calls, read from the lines of a case.
 
 use crate::shown::table_of;
 use anyhow::{Context, Result, bail, ensure};
+use case_list::Case;
 use edit_calls::{Call, Pairs};
 use perm_base::{Rule, Rules, TableId, Text, read_fields};
+use policy_table::{Change, Edit};
 use std::alloc::Global;
 
 const MOST: usize = 1_000_000;
@@ -66,6 +68,53 @@ fn update_filtered(alloc: Global, table: TableId, text: &str) -> Result<Call> {
         values,
         rules,
     })
+}
+
+/// The edits between `;`, each of the changes between `|`.
+pub fn edits(alloc: Global, text: &str) -> Result<Vec<Edit>> {
+    let mut edits = Vec::new(alloc);
+    for part in text.split(';') {
+        edits.push(edit(alloc, part)?)?;
+    }
+    Ok(edits)
+}
+
+fn edit(alloc: Global, text: &str) -> Result<Edit> {
+    let mut changes = Vec::new(alloc);
+    for part in text.split('|') {
+        changes.push(change(alloc, part.trim())?)?;
+    }
+    Ok(Edit::from_vec(changes))
+}
+
+/// The change of a line: `+` or `-` with a table and a rule, or `>` with a table and `old > new`.
+pub fn change(alloc: Global, line: &str) -> Result<Change> {
+    let (word, rest) = cut(line, ' ');
+    let (name, fields) = cut(rest, ' ');
+    let table = table_of(name)?;
+    match word {
+        "+" => Ok(Change::Insert {
+            table,
+            rule: rule(alloc, fields)?,
+        }),
+        "-" => Ok(Change::Remove {
+            table,
+            rule: rule(alloc, fields)?,
+        }),
+        ">" => {
+            let (old, new) = cut(fields, '>');
+            let new = rule(alloc, new)?;
+            let old = rule(alloc, old)?;
+            Ok(Change::Replace { table, old, new })
+        }
+        _ => bail!("no change has this name"),
+    }
+}
+
+/// Whether p is ranked in the tables of a case.
+pub fn is_ranked(alloc: Global, case: &Case) -> Result<bool> {
+    let names = case.words(alloc, "ranked")?;
+    Ok(names.iter().any(|name| name.as_str() == "p"))
 }
 
 /// The text before and behind the first such sign, or all of it.

@@ -3,7 +3,7 @@ use crate::truth::truth;
 use anyhow::{Context, Result, ensure};
 use casbin_run::run_casbin;
 use case_list::{Case, Field};
-use outside::{ListShelf, ListSink, ListSource, Shelf, Sink, Source, Text};
+use outside::{ListShelf, ListSink, ListSource, Text};
 use regex_gate::ListFinder;
 use std::alloc::Global;
 use std::io::Write;
@@ -40,7 +40,7 @@ const SHOWN_AT_END: usize = 40;
 
 /// Runs a case, and says what it came to. A case with `matchers` is run for each of these lines, with the line as the
 /// matcher at the end of its model; one with `sure` over objects that never fail, and keep nothing. A case with a
-/// `request` and a `rule` asks for the truth of its model's matcher alone.
+/// `request` asks for the truth of its model's matcher alone, with a `rule` or without.
 pub fn report(alloc: Global, case: &Case) -> Result<Vec<u8>> {
     case.check_keys(&KEYS, &KEYS_OF_TEXTS)?;
     let matchers = case.text(alloc, "matchers")?;
@@ -107,14 +107,14 @@ fn run(
     )
 }
 
-/// Runs the program. What its contract says is of no use here, so this function keeps it from the others.
-pub(crate) fn run_over(
+// Runs the program. What its contract says is of no use here, so this function keeps it from the others.
+fn run_over(
     alloc: Global,
     words: &[String],
-    shelf: &mut impl Shelf,
-    input: &mut impl Source,
-    out: &mut impl Sink,
-    err: &mut impl Sink,
+    shelf: &mut ListShelf,
+    input: &mut ListSource,
+    out: &mut ListSink,
+    err: &mut ListSink,
     finders: &mut Vec<ListFinder>,
 ) -> Result<u8> {
     ensure!(finders.len() == 9, "a run has nine finders");

@@ -1,37 +1,42 @@
-use crate::report::{file_of, finders, run_over};
-use anyhow::{Context, Result};
+use crate::report::{file_of, finders};
+use anyhow::{Context, Result, ensure};
+use casbin_run::run_casbin;
 use case_list::Case;
 use outside::{SureShelf, SureSink, SureSource};
+use regex_gate::ListFinder;
 use std::alloc::Global;
 
 /// Runs a case over objects that never fail, and gives its exit status.
 pub(crate) fn run_sure(alloc: Global, case: &Case) -> Result<u8> {
     let words = case.words(alloc, "words")?;
-    let mut shelf = SureShelf::new(alloc);
-    put_files(alloc, &mut shelf, case)?;
+    let mut shelf = shelf(alloc, case)?;
     let mut input = SureSource::new(case.text(alloc, "input")?);
     let mut finders = finders(alloc, case)?;
-    let mut out = SureSink::new();
-    let mut err = SureSink::new();
-    run_over(
-        alloc,
-        &words,
-        &mut shelf,
-        &mut input,
-        &mut out,
-        &mut err,
-        &mut finders,
-    )
+    run_over(alloc, &words, &mut shelf, &mut input, &mut finders)
 }
 
-fn put_files(alloc: Global, shelf: &mut SureShelf, case: &Case) -> Result<()> {
-    for field in case
-        .fields
-        .iter()
-        .filter(|field| field.key.as_str() == "file")
-    {
-        let (name, bytes) = file_of(alloc, field, b"")?;
-        shelf.put(name, bytes).ok().context("memory ran out")?;
+// Runs the program. What its contract says is of no use here, so this function keeps it from the others.
+fn run_over(
+    alloc: Global,
+    words: &[String],
+    shelf: &mut SureShelf,
+    input: &mut SureSource,
+    finders: &mut Vec<ListFinder>,
+) -> Result<u8> {
+    ensure!(finders.len() == 9, "a run has nine finders");
+    let mut out = SureSink::new();
+    let mut err = SureSink::new();
+    Ok(run_casbin(alloc, words, shelf, input, &mut out, &mut err, finders).code())
+}
+
+// A shelf with the files of a case.
+fn shelf(alloc: Global, case: &Case) -> Result<SureShelf> {
+    let mut shelf = SureShelf::new(alloc);
+    for field in &case.fields {
+        if field.key.as_str() == "file" {
+            let (name, bytes) = file_of(alloc, field, b"")?;
+            shelf.put(name, bytes).ok().context("memory ran out")?;
+        }
     }
-    Ok(())
+    Ok(shelf)
 }

@@ -7,25 +7,25 @@ use perm_value::{Request, View, request_of_fields};
 use regex_gate::ListFinder;
 use std::alloc::Global;
 
-/// What the matcher of a case's model comes to, for the case's request and rule.
+/// What the matcher of a case's model comes to, for the case's request and rule, or without a rule.
 pub(crate) fn truth(alloc: Global, case: &Case) -> Result<String> {
     let model = read_model(alloc, &case.text(alloc, "file")?);
     let model = model.ok().context("the file is no model")?;
-    let request = request_of_fields(alloc, line_of(case, "request")?);
+    let line = line_of(case, "request").context("no request")?;
+    let request = request_of_fields(alloc, line);
     let request = request.ok().context("the line is no request")?;
-    let rule = rule_of(alloc, line_of(case, "rule")?)?;
+    let rule = match line_of(case, "rule") {
+        Some(line) => Some(rule_of(alloc, line)?),
+        None => None,
+    };
     let mut finder = ListFinder::new(alloc, case.numbers(alloc, "finder-fails")?);
-    asked(alloc, &model, &request, &rule, &mut finder)
+    asked(alloc, &model, &request, rule.as_ref(), &mut finder)
 }
 
 // What stands behind a key.
-fn line_of<'a>(case: &'a Case, key: &str) -> Result<&'a str> {
-    for field in &case.fields {
-        if field.key.as_str() == key {
-            return Ok(field.rest.as_str());
-        }
-    }
-    bail!("a field is missing")
+fn line_of<'a>(case: &'a Case, key: &str) -> Option<&'a str> {
+    let field = case.fields.iter().find(|field| field.key.as_str() == key)?;
+    Some(field.rest.as_str())
 }
 
 fn rule_of(alloc: Global, line: &str) -> Result<Rule> {
@@ -43,10 +43,10 @@ fn asked(
     alloc: Global,
     model: &Model,
     request: &Request,
-    rule: &Rule,
+    rule: Option<&Rule>,
     finder: &mut ListFinder,
 ) -> Result<String> {
-    match tree_value(model, request, Some(rule), finder) {
+    match tree_value(model, request, rule, finder) {
         Ok(View::Truth(truth)) => Ok(format!(in alloc; "truth {truth}")?),
         Ok(_) => bail!("the matcher has a value that is no truth"),
         Err(Stop::Fault(fault)) => Ok(format!(in alloc; "{:?} at {}", fault.cause, fault.at)?),

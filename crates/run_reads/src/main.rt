@@ -6,51 +6,53 @@ mod models;
 mod read;
 mod requests;
 mod rules;
+mod shapes;
 mod texts;
 mod trees;
 
 use anyhow::Result;
-use case_list::{Case, Field, read_cases};
-use read::read;
+use case_list::{Case, Field, answer_cases};
+use read::push_read;
 use std::alloc::Global;
 use std::io::Write;
+use texts::push_all;
 
 fn main(rt: HostRuntime) -> Result<()> {
-    answer(
-        rt.alloc(),
-        &read_cases(rt.alloc(), rt.stdin())?,
-        &mut rt.stdout(),
-    )
+    answer_cases(rt.alloc(), rt.stdin(), &mut rt.stdout(), |case, out| {
+        answer(rt.alloc(), case, out)
+    })
 }
 
-fn answer(alloc: Global, cases: &[Case], out: &mut impl Write) -> Result<()> {
-    for case in cases {
-        writeln!(out, "case {}", case.name)?;
-        answer_fields(alloc, &case.fields, out)?;
-    }
+fn answer(alloc: Global, case: &Case, out: &mut impl Write) -> Result<()> {
+    let answers = answers(alloc, case)?;
+    out.write_all(answers.as_str().as_bytes())?;
     Ok(())
 }
 
-fn answer_fields(alloc: Global, fields: &[Field], out: &mut impl Write) -> Result<()> {
-    for field in fields {
-        let answer = read(alloc, field)?;
-        write_answer(field, answer.as_str(), out)?;
+// The name of a case, and each of its fields with its answer.
+fn answers(alloc: Global, case: &Case) -> Result<String> {
+    let mut text = String::new(alloc);
+    push_all(&mut text, &["case ", case.name.as_str(), "\n"])?;
+    for field in &case.fields {
+        let mut answer = String::new(alloc);
+        push_read(alloc, &mut answer, case, field)?;
+        push_answer(&mut text, field, answer.as_str())?;
     }
-    Ok(())
+    Ok(text)
 }
 
 // The field and its answer; further lines of the answer stand below.
-fn write_answer(field: &Field, answer: &str, out: &mut impl Write) -> Result<()> {
+fn push_answer(text: &mut String, field: &Field, answer: &str) -> Result<()> {
+    let blank = if field.rest.is_empty() { "" } else { " " };
+    push_all(
+        text,
+        &["  ", field.key.as_str(), blank, field.rest.as_str(), " => "],
+    )?;
     let mut lines = answer.split('\n');
-    let first = lines.next().unwrap_or("");
-    if field.rest.is_empty() {
-        writeln!(out, "  {} => {first}", field.key)?;
-    } else {
-        writeln!(out, "  {} {} => {first}", field.key, field.rest)?;
-    }
+    push_all(text, &[lines.next().unwrap_or(""), "\n"])?;
     for line in lines {
         let indent = if line.is_empty() { "" } else { "    " };
-        writeln!(out, "{indent}{line}")?;
+        push_all(text, &[indent, line, "\n"])?;
     }
     Ok(())
 }

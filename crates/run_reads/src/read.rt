@@ -1,44 +1,51 @@
-use crate::matchers::{grouped, matcher, nodes};
-use crate::models::{model, parts, shapes};
+use crate::matchers::{matcher, nodes, rule_text};
+use crate::models::{model, parts};
 use crate::requests::{attribute, json, member, request, same, texts};
 use crate::rules::{fields, joined, line, plain, policy, rule, rules};
+use crate::shapes::shapes;
 use anyhow::{Result, bail};
-use case_list::Field;
+use case_list::{Case, Field};
 use std::alloc::Global;
 
-/// What the text of a field is read as.
-pub(crate) fn read(alloc: Global, field: &Field) -> Result<String> {
+/// Adds what the text of a field is read as. A rule text is one of the model below the case's `parts`.
+pub(crate) fn push_read(
+    alloc: Global,
+    answer: &mut String,
+    case: &Case,
+    field: &Field,
+) -> Result<()> {
     match field.key.as_str() {
         // The text stands below, any bytes.
-        "model" => model(alloc, &field.text),
-        "parts" => parts(alloc, &field.text),
-        "policy" => policy(alloc, &field.text, field.rest.as_str()),
-        "rules" => rules(alloc, &field.text, field.rest.as_str()),
-        "shapes" => shapes(alloc, &field.text, field.rest.as_str()),
-        "texts" => texts(alloc, field.bytes()),
-        "rule" => rule(alloc, field.bytes()),
-        _ => read_text(alloc, field),
+        "model" => model(alloc, answer, &field.text),
+        "parts" => parts(alloc, answer, &field.text),
+        "policy" => policy(alloc, answer, &field.text, field.rest.as_str()),
+        "rules" => rules(alloc, answer, &field.text, field.rest.as_str()),
+        "shapes" => shapes(alloc, answer, &field.text, field.rest.as_str()),
+        "texts" => texts(answer, field.bytes()),
+        "rule" => rule(alloc, answer, field.bytes()),
+        _ => push_read_text(alloc, answer, case, field),
     }
 }
 
-// What the text of a field is read as by a reader of UTF-8.
-fn read_text(alloc: Global, field: &Field) -> Result<String> {
+// Adds what the text of a field is read as by a reader of UTF-8.
+fn push_read_text(alloc: Global, answer: &mut String, case: &Case, field: &Field) -> Result<()> {
     let Ok(text) = str::from_utf8(field.bytes()) else {
         bail!("line {}: the text is not UTF-8", field.line);
     };
     match field.key.as_str() {
-        "fields" => fields(alloc, text),
-        "plain" => plain(alloc, text),
-        "joined" => joined(alloc, text),
-        "line" => line(alloc, text),
-        "request" => request(alloc, text),
-        "json" => json(alloc, text),
-        "same" => same(alloc, text),
-        "attribute" => attribute(alloc, text, field.rest.as_str()),
-        "member" => member(alloc, text, field.rest.as_str()),
-        "matcher" => matcher(alloc, text),
-        "grouped" => grouped(alloc, text),
-        "nodes" => nodes(alloc, text),
+        "fields" => fields(alloc, answer, text),
+        "plain" => plain(alloc, answer, text),
+        "joined" => joined(alloc, answer, text),
+        "line" => line(answer, text),
+        "request" => request(alloc, answer, text),
+        "json" => json(alloc, answer, text),
+        "same" => same(alloc, answer, text),
+        "attribute" => attribute(alloc, answer, text, field.rest.as_str()),
+        "member" => member(alloc, answer, text, field.rest.as_str()),
+        "matcher" => matcher(alloc, answer, text, true),
+        "grouped" => matcher(alloc, answer, text, false),
+        "nodes" => nodes(alloc, answer, text),
+        "rule-text" => rule_text(alloc, answer, &case.text(alloc, "parts")?, text),
         _ => bail!("line {}: no such field", field.line),
     }
 }

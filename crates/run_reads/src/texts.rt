@@ -1,44 +1,51 @@
 use anyhow::{Context, Result};
-use perm_base::{Rule, Text};
-use std::alloc::Global;
-use std::fmt::Debug;
+use perm_base::{Rule, Text, push_fields};
+use std::fmt::{Debug, Write};
 
-/// A text of its own.
-pub(crate) fn plain(alloc: Global, text: &str) -> Result<String> {
-    Ok(String::from_str(alloc, text)?)
-}
+// A longer text is shown by its length alone.
+const LONGEST_SHOWN: usize = 99;
 
-/// A fault by its name, with what it tells.
-pub(crate) fn fault_text(alloc: Global, fault: impl Debug + Drop) -> Result<String> {
-    Ok(format!(in alloc; "{fault:?}")?)
-}
-
-/// The fields of a rule, each in quotes.
-pub(crate) fn rule_text(alloc: Global, rule: &Rule) -> Result<String> {
-    list_text(alloc, rule.fields())
-}
-
-/// The texts, each in quotes.
-pub(crate) fn list_text(alloc: Global, texts: &[Text]) -> Result<String> {
-    let mut list = String::from_str(alloc, "[")?;
-    for text in texts {
-        push_quoted(alloc, &mut list, text.bytes())?;
+/// Adds the parts one after the other.
+pub(crate) fn push_all(text: &mut String, parts: &[&str]) -> Result<()> {
+    for part in parts {
+        text.push_str(part)?;
     }
-    list.push_str("]")?;
-    Ok(list)
+    Ok(())
 }
 
-/// The text in quotes, with Rust's escapes.
-pub(crate) fn quoted(alloc: Global, bytes: &[u8]) -> Result<String> {
-    let text = str::from_utf8(bytes).ok().context("the text is not UTF-8")?;
-    Ok(format!(in alloc; "{text:?}")?)
+/// Adds a fault by its name, with what it tells.
+pub(crate) fn push_fault(text: &mut String, fault: impl Debug + Drop) -> Result<()> {
+    write!(text, "{fault:?}")?;
+    Ok(())
 }
 
-/// Adds a text to a list that is begun.
-pub(crate) fn push_quoted(alloc: Global, list: &mut String, bytes: &[u8]) -> Result<()> {
-    if list.len() > 1 {
-        list.push_str(", ")?;
+/// Adds the printed form of a rule.
+pub(crate) fn push_printed(text: &mut String, rule: &Rule) -> Result<()> {
+    push_fields(text, rule).ok().context("memory ran out")
+}
+
+/// Adds the texts, each in quotes.
+pub(crate) fn push_list(text: &mut String, texts: &[Text]) -> Result<()> {
+    text.push_str("[")?;
+    let mut is_first = true;
+    for item in texts {
+        if !is_first {
+            text.push_str(", ")?;
+        }
+        is_first = false;
+        push_quoted(text, item.bytes())?;
     }
-    list.push_str(quoted(alloc, bytes)?.as_str())?;
+    text.push_str("]")?;
+    Ok(())
+}
+
+/// Adds a text in quotes, with Rust's escapes.
+pub(crate) fn push_quoted(text: &mut String, bytes: &[u8]) -> Result<()> {
+    if bytes.len() > LONGEST_SHOWN {
+        write!(text, "{} bytes", bytes.len())?;
+        return Ok(());
+    }
+    let bytes = str::from_utf8(bytes).ok().context("the text is not UTF-8")?;
+    write!(text, "{bytes:?}")?;
     Ok(())
 }

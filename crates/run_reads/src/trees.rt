@@ -1,100 +1,100 @@
+use crate::texts::push_all;
 use anyhow::Result;
 use matcher_read::{Function, Operator, Tree};
 use perm_base::Text;
-use std::alloc::Global;
 use std::fmt::Write;
 
-/// The tree, with a parenthesis round each node that has operands, and where it is wanted the place of each node.
+/// Adds a tree, with a parenthesis round each node that has operands, and where it is wanted the place of each node.
 #[cycle(print)]
-pub(crate) fn tree_text(alloc: Global, tree: &Tree, places: bool) -> Result<String> {
-    let mut text = match tree {
-        Tree::Not { operand, .. } => signed_text(alloc, "!", operand, places)?,
-        Tree::Negate { operand, .. } => signed_text(alloc, "-", operand, places)?,
+pub(crate) fn push_tree(text: &mut String, tree: &Tree, places: bool) -> Result<()> {
+    match tree {
+        Tree::Not { operand, .. } => push_signed(text, "(! ", operand, places)?,
+        Tree::Negate { operand, .. } => push_signed(text, "(- ", operand, places)?,
         Tree::Binary {
             operator,
             left,
             right,
             ..
         } => {
-            let left = tree_text(alloc, left, places)?;
-            let right = tree_text(alloc, right, places)?;
-            format!(in alloc; "({left} {} {right})", sign_text(*operator))?
+            text.push_str("(")?;
+            push_tree(text, left, places)?;
+            push_all(text, &[" ", sign_text(*operator), " "])?;
+            push_tree(text, right, places)?;
+            text.push_str(")")?;
         }
         Tree::Among { value, members, .. } => {
-            let value = tree_text(alloc, value, places)?;
-            let members = list_text(alloc, members, places)?;
-            format!(in alloc; "({value} in {members})")?
+            text.push_str("(")?;
+            push_tree(text, value, places)?;
+            text.push_str(" in ")?;
+            push_trees(text, members, places)?;
+            text.push_str(")")?;
         }
         Tree::Call {
             function,
             arguments,
             ..
-        } => called_text(alloc, function_text(*function), arguments, places)?,
+        } => {
+            text.push_str(function_text(*function))?;
+            push_trees(text, arguments, places)?;
+        }
         Tree::Role {
             relation,
             arguments,
             ..
-        } => role_text(alloc, *relation, arguments, places)?,
-        _ => operand_text(alloc, tree)?,
-    };
+        } => {
+            write!(text, "role{relation}")?;
+            push_trees(text, arguments, places)?;
+        }
+        _ => push_operand(text, tree)?,
+    }
     if places {
         write!(text, ":{}", tree.place())?;
     }
-    Ok(text)
-}
-
-// A literal or a name.
-fn operand_text(alloc: Global, tree: &Tree) -> Result<String> {
-    let mut text = String::new(alloc);
-    match tree {
-        Tree::Text { text: literal, .. } => write!(text, "'{}'", literal.as_str())?,
-        Tree::Whole { number, .. } => write!(text, "{number}")?,
-        Tree::Truth { truth, .. } => write!(text, "{truth}")?,
-        Tree::Policy { column, .. } => write!(text, "p.{}", column.as_str())?,
-        Tree::Request { column, path, .. } => {
-            write!(text, "r.{}", column.as_str())?;
-            push_path(&mut text, path)?;
-        }
-        _ => {}
-    }
-    Ok(text)
+    Ok(())
 }
 
 #[cycle(print)]
-fn signed_text(alloc: Global, sign: &str, operand: &Tree, places: bool) -> Result<String> {
-    let operand = tree_text(alloc, operand, places)?;
-    Ok(format!(in alloc; "({sign} {operand})")?)
+fn push_signed(text: &mut String, sign: &str, operand: &Tree, places: bool) -> Result<()> {
+    text.push_str(sign)?;
+    push_tree(text, operand, places)?;
+    text.push_str(")")?;
+    Ok(())
 }
 
 #[cycle(print)]
-fn called_text(alloc: Global, name: &str, arguments: &Vec<Tree>, places: bool) -> Result<String> {
-    let arguments = list_text(alloc, arguments, places)?;
-    Ok(format!(in alloc; "{name}{arguments}")?)
-}
-
-#[cycle(print)]
-fn role_text(alloc: Global, relation: u8, arguments: &Vec<Tree>, places: bool) -> Result<String> {
-    let arguments = list_text(alloc, arguments, places)?;
-    Ok(format!(in alloc; "role{relation}{arguments}")?)
-}
-
-#[cycle(print)]
-fn list_text(alloc: Global, trees: &Vec<Tree>, places: bool) -> Result<String> {
-    let mut all = String::from_str(alloc, "(")?;
+fn push_trees(text: &mut String, trees: &Vec<Tree>, places: bool) -> Result<()> {
+    text.push_str("(")?;
+    let mut is_first = true;
     for tree in trees {
-        if all.len() > 1 {
-            all.push_str(", ")?;
+        if !is_first {
+            text.push_str(", ")?;
         }
-        all.push_str(tree_text(alloc, tree, places)?.as_str())?;
+        is_first = false;
+        push_tree(text, tree, places)?;
     }
-    all.push_str(")")?;
-    Ok(all)
+    text.push_str(")")?;
+    Ok(())
 }
 
-fn push_path(text: &mut String, path: &Vec<Text>) -> Result<()> {
+// A literal, a name, or the column of `eval`.
+fn push_operand(text: &mut String, tree: &Tree) -> Result<()> {
+    match tree {
+        Tree::Text { text: literal, .. } => push_all(text, &["'", literal.as_str(), "'"]),
+        Tree::Whole { number, .. } => Ok(write!(text, "{number}")?),
+        Tree::Truth { truth, .. } => Ok(write!(text, "{truth}")?),
+        Tree::Policy { column, .. } => push_all(text, &["p.", column.as_str()]),
+        Tree::Eval { column, .. } => push_all(text, &["eval(p.", column.as_str(), ")"]),
+        Tree::Request { column, path, .. } => {
+            push_all(text, &["r.", column.as_str()])?;
+            push_path(text, path)
+        }
+        _ => Ok(()),
+    }
+}
+
+fn push_path(text: &mut String, path: &[Text]) -> Result<()> {
     for name in path {
-        text.push_str(".")?;
-        text.push_str(name.as_str())?;
+        push_all(text, &[".", name.as_str()])?;
     }
     Ok(())
 }

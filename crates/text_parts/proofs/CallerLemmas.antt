@@ -15,6 +15,7 @@ use Rattle.std.proofs.lemmas.Str.{IsCharBoundary-start, IsCharBoundary-after_asc
 use Rattle.text_parts.specs.Blanks.{is_blank, behind_blanks}
 use Rattle.text_parts.specs.Lines.{has_byte, lines_of, with_ends, without_cr}
 use Rattle.text_parts.specs.Names.{is_identifier, is_letter, is_word}
+use Rattle.text_parts.specs.Numbered.{text_lines}
 use Rattle.text_parts.specs.Passed.{is_passed_by}
 
 -- ---- the first place that passes a test
@@ -169,6 +170,15 @@ pub without_cr-other : (text : List ℕ) → ((front : List ℕ) → ¬ (text �
 without_cr-other [] none = refl
 without_cr-other (byte ∷ []) none = last_is byte (eqb byte 13) refl none
 without_cr-other (byte ∷ next ∷ bytes) none = ap (λ (t : List ℕ). byte ∷ t) (without_cr-other (next ∷ bytes) (λ front e. none (byte ∷ front) (ap (λ (t : List ℕ). byte ∷ t) e)))
+
+-- the lines cut at LF or CR LF, at the first of them
+pub text_lines-none : (text : List ℕ) → lines_of text ≡ [] → text_lines text ≡ []
+unfolding text_lines
+text_lines-none text e = rw e refl
+
+pub text_lines-first : (text rest line : List ℕ) → lines_of text ≡ line ∷ lines_of rest → text_lines text ≡ without_cr line ∷ text_lines rest
+unfolding text_lines
+text_lines-first text rest line e = rw e refl
 
 -- ---- lines that are passed over
 

@@ -1,4 +1,5 @@
 pub mod Lines
+pub mod Numbered
 pub mod Blanks
 pub mod Passed
 pub mod Names

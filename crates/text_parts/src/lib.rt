@@ -9,6 +9,6 @@ mod passed;
 
 pub use blanks::{before_blanks, behind_blanks, is_blank, trimmed};
 pub use cutting::{behind, cut_at, has_byte};
-pub use lines::{lines_with_ends, lines_without_last_end, next_line, without_cr};
+pub use lines::{lines_with_ends, lines_without_last_end, next_line, next_text_line, without_cr};
 pub use names::{is_identifier, is_letter, is_word};
 pub use passed::{is_passed, is_passed_in_model};

@@ -1,5 +1,6 @@
 ghost use Rattle.std.specs.Prelude.{◌≡◌, ◌<◌, ◌++◌, ℕ, List, [], ◌∷◌, false, IfNone, IfSome, length};
 ghost use Rattle.text_parts.specs.Lines.{AreLines, has_byte, lines_of, with_ends, without_cr};
+ghost use Rattle.text_parts.specs.Numbered.{text_lines};
 
 use crate::cutting::cut_at;
 
@@ -26,6 +27,16 @@ pub fn without_cr(line: &str) -> &str
         Some(line) => line,
         None => line,
     }
+}
+
+/// The first line of a text, without its LF or CR LF, and what stands behind it.
+pub fn next_text_line(text: &str) -> Option<(&str, &str)>
+    ensures none { IfNone result (text_lines text.now ≡ []) }
+    ensures first { IfSome result (λ cut. text_lines text.now ≡ cut.0.now ∷ text_lines cut.1.now) }
+    ensures shorter { IfSome result (λ cut. length cut.1.now < length text.now) }
+{
+    let (line, after) = next_line(text)?;
+    Some((without_cr(line), after))
 }
 
 /// The law that texts without LF, each followed by LF, have exactly these lines.

@@ -1,12 +1,13 @@
 -- Why a part of a run was not read, by cases on the stop.
 use Rattle.std.specs.Prelude.{◌≡◌, ◌⊎◌, ℕ, ◌<◌, List, Option, IfSome, length, ⊤}
+use Rattle.model_conf.specs.Faults.{IsModelFault}
 use Rattle.outside.specs.Files.{Files, Lacks, OfFile}
 use Rattle.casbin_run.specs.declared.stop.Part.{Part}
 use Rattle.casbin_run.specs.declared.stop.Part.TheVariants.{Model, Policy, Input}
 use Rattle.casbin_run.specs.declared.stop.Stop.{Stop}
-use Rattle.casbin_run.specs.declared.stop.Stop.TheVariants.{NoModel, NoPolicy, NoScript, CannotRead, TooLong, NoMemory}
+use Rattle.casbin_run.specs.declared.stop.Stop.TheVariants.{NoModel, LaterModel, NoPolicy, NoScript, CannotRead, TooLong, NoMemory}
 use Rattle.casbin_run.specs.Parts.{model_limit, policy_limit, input_limit, FileIs, InputIs}
-use Rattle.casbin_run.specs.Cause.{SaysNoModel, SaysNoPolicy, SaysNoText}
+use Rattle.casbin_run.specs.Cause.{IsLater, SaysNoPolicy, SaysNoText}
 
 -- a file was not fetched
 abbrev pub FetchStops : Option Files → List ℕ → ℕ → (rose : Type 0) → Part → Stop → Type 0
@@ -19,7 +20,8 @@ FetchStops files name most rose part _ = ⊥
 abbrev pub ModelStops : Option Files → List ℕ → (rose : Type 0) → Stop → Type 0
 ModelStops files name rose (CannotRead Model) = Lacks files name ⊎ rose
 ModelStops files name rose (TooLong Model) = OfFile files name (λ bytes. model_limit < length bytes)
-ModelStops files name rose (NoModel fault) = FileIs files name model_limit (SaysNoModel fault)
+ModelStops files name rose (NoModel fault) = FileIs files name model_limit (λ bytes. IsModelFault bytes fault)
+ModelStops files name rose LaterModel = FileIs files name model_limit IsLater
 ModelStops files name rose NoMemory = ⊤
 ModelStops files name rose _ = ⊥
 

@@ -3,7 +3,7 @@ use Rattle.std.specs.Prelude.{ℕ, suc, ◌+◌, nat_le, nat_lt, pos, Bool, true
 use Rattle.std.specs.Str.{bytes_eq}
 use Rattle.std.specs.Str.Parse.{digits_value}
 use Rattle.matcher_read.specs.Calls.{callee_of, is_known, takes}
-use Rattle.matcher_read.specs.Expression.{Expression, text, whole, negation, opposite, binary, among, call, expressions_of}
+use Rattle.matcher_read.specs.Expression.{Expression, text, whole, evaluated, negation, opposite, binary, among, call, expressions_of}
 use Rattle.matcher_read.specs.Helps.Naming.{policy_of, request_of, truth_of}
 use Rattle.matcher_read.specs.Matcher.{first_wide, most_levels}
 use Rattle.matcher_read.specs.Tokens.{Placed, Token, name, called, number, unclosed, operator, exclamation, opening, closing, comma}
@@ -182,6 +182,7 @@ is_in (first ∷ next ∷ rest) = false
 abbrev pub step_wants : ℕ → Token → Lefts → List Frame → Option State
 step_wants at (name names) lefts frames = option_map (with_operand lefts frames) (name_operand at names)
 step_wants at (called names) lefts frames = Some (state_of (opens (arguments at names)) lefts frames)
+step_wants at (token.eval at_opening column) lefts frames = Some (with_operand lefts frames (evaluated at column))
 step_wants at (number digits) lefts frames = Some (with_operand lefts frames (whole at (pos (digits_value 10 digits))))
 step_wants at (token.text bytes) lefts frames = Some (with_operand lefts frames (text at bytes))
 step_wants at (unclosed bytes) lefts frames = Some (with_operand lefts frames (text at bytes))
@@ -198,6 +199,7 @@ step_wants at comma lefts frames = None
 abbrev pub step_has : ℕ → Token → Lefts → List Frame → Expression → Option State
 step_has at (name names) lefts frames e = cond (is_in names) (asks at lefts frames e) None
 step_has at (called names) lefts frames e = None
+step_has at (token.eval at_opening column) lefts frames e = None
 step_has at (number digits) lefts frames e = None
 step_has at (token.text bytes) lefts frames e = None
 step_has at (unclosed bytes) lefts frames e = None
@@ -242,10 +244,15 @@ abbrev pub goes : State → List Placed → Option State
 goes s [] = Some s
 goes s (t ∷ ts) = option_and_then (λ next. goes next ts) (step s t)
 
--- the same, with so many levels at most behind each of the tokens
+-- how many levels stand round a token's last place: `eval ( p.column )` opens one and closes it, and others stand before the state that is next
+abbrev pub levels_at : State → Token → State → ℕ
+levels_at s (token.eval at_opening column) next = suc (depth s)
+levels_at s _ next = depth next
+
+-- the same, with so many levels at most behind each of the tokens and in it
 abbrev pub goes_within : ℕ → State → List Placed → Option State
 goes_within most s [] = Some s
-goes_within most s (t ∷ ts) = option_and_then (λ next. cond (nat_le (depth next) most) (goes_within most next ts) None) (step s t)
+goes_within most s (t ∷ ts) = option_and_then (λ next. cond (nat_le (levels_at s t.token next) most) (goes_within most next ts) None) (step s t)
 
 -- the call that a closing parenthesis ends, with the number of its arguments
 abbrev pub call_fault : List Frame → Option MatcherFault
@@ -261,6 +268,7 @@ abbrev pub token_fault : State → State → ℕ → Token → Option MatcherFau
 token_fault s next at (unclosed bytes) = Some (OpenText at)
 token_fault s next at (number digits) = cond (nat_lt (digits_value 10 digits) first_wide) None (Some (NumberTooWide at))
 token_fault s next at (called names) = cond (is_known (callee_of names)) None (Some (UnknownFunction at))
+token_fault s next at (token.eval at_opening column) = cond (nat_le (suc (depth s)) most_levels) None (Some (TooDeep at_opening))
 token_fault s next at closing = call_fault s.frames
 token_fault s next at _ = cond (nat_le (depth next) most_levels) None (Some (TooDeep at))
 

@@ -1,13 +1,14 @@
 -- Which tokens the parser takes.
-use Rattle.std.specs.Prelude.{◌≡◌, ℕ, suc, ◌<◌, ◌⊎◌, pos, Bool, true, false, nat_lt, cond, List, [], ◌∷◌, codes, Option, Result, Ok, Err, MatchOption, MatchResult, ok_or}
+use Rattle.std.specs.Prelude.{◌≡◌, ℕ, suc, ◌<◌, ◌⊎◌, ◌==◌, pos, Bool, true, false, nat_lt, cond, List, [], ◌∷◌, codes, Option, Result, Ok, Err, MatchOption, MatchResult, ok_or}
 use Rattle.std.specs.Str.Parse.{digits_value}
 use Rattle.matcher_read.specs.Calls.{callee_of, is_known}
-use Rattle.matcher_read.specs.Expression.{Expression, text, whole, negation, opposite, Callee, function, relation}
+use Rattle.matcher_read.specs.Expression.{Expression, text, whole, evaluated, negation, opposite, Callee, function, relation, unknown}
 use Rattle.matcher_read.specs.Grammar.{Rule, or_rule, and_rule, cmp_rule, sum_rule, term_rule, unary_rule, prim_rule}
 use Rattle.matcher_read.specs.Helps.Machine.{Rank, term_rank, sum_rank, comparing_rank, and_rank, or_rank, rank, is_in, name_operand}
 use Rattle.matcher_read.specs.Matcher.{first_wide}
 use Rattle.matcher_read.specs.Helps.TokenLists.{TokenList, end_of}
 use Rattle.matcher_read.specs.Tokens.{Placed, Token, placed}
+pub use Rattle.matcher_read.specs.Tokens.{is_opening, is_closing}
 use Rattle.matcher_read.specs.Tokens as token
 use Rattle.matcher_read.specs.declared.calls.Called.{Called}
 use Rattle.matcher_read.specs.declared.calls.Called.TheVariants as kind
@@ -74,14 +75,6 @@ goes_on_by rule _ = false
 abbrev pub head_is : (Token → Bool) → List Placed → Bool
 head_is test [] = false
 head_is test (t ∷ ts) = test t.token
-
-abbrev pub is_opening : Token → Bool
-is_opening token.opening = true
-is_opening _ = false
-
-abbrev pub is_closing : Token → Bool
-is_closing token.closing = true
-is_closing _ = false
 
 abbrev pub is_comma : Token → Bool
 is_comma token.comma = true
@@ -176,6 +169,7 @@ TakesSign levels before after result = MatchResult result
 abbrev pub callee : Called → Callee
 callee (kind.Function called) = function called
 callee (kind.Relation number) = relation number
+callee kind.Eval = unknown (codes "eval" ∷ [])
 
 -- a called name is taken, or what stands next is seen
 abbrev pub TakesOpener : TokenList → TokenList → Opener → Type 0
@@ -198,15 +192,16 @@ TakesOpening levels before after result = MatchResult result
 abbrev pub TakesClosing : TokenList → TokenList → Result (Unit {0}) MatcherFault → Type 0
 TakesClosing before after result = MatchResult result (λ done. (at : ℕ) × Takes (placed at token.closing) before after) (IsUnexpected is_closing before)
 
--- the operand that a token alone is
-abbrev pub operand_of : ℕ → Token → Result Expression MatcherFault
-operand_of at (token.text bytes) = Ok (text at bytes)
-operand_of at (token.unclosed bytes) = Err (OpenText at)
-operand_of at (token.number digits) = cond (nat_lt (digits_value 10 digits) first_wide) (Ok (whole at (pos (digits_value 10 digits)))) (Err (NumberTooWide at))
-operand_of at (token.name parts) = ok_or (name_operand at parts) (Unexpected at)
-operand_of at _ = Err (Unexpected at)
+-- the operand that a token alone is, with so many levels left
+abbrev pub operand_of : ℕ → ℕ → Token → Result Expression MatcherFault
+operand_of levels at (token.text bytes) = Ok (text at bytes)
+operand_of levels at (token.unclosed bytes) = Err (OpenText at)
+operand_of levels at (token.eval at_opening column) = cond (levels == 0) (Err (TooDeep at_opening)) (Ok (evaluated at column))
+operand_of levels at (token.number digits) = cond (nat_lt (digits_value 10 digits) first_wide) (Ok (whole at (pos (digits_value 10 digits)))) (Err (NumberTooWide at))
+operand_of levels at (token.name parts) = ok_or (name_operand at parts) (Unexpected at)
+operand_of levels at _ = Err (Unexpected at)
 
 -- what stands next does not say an operand
-abbrev pub first_operand : List Placed → ℕ → Result Expression MatcherFault
-first_operand [] end = Err (Unexpected end)
-first_operand (t ∷ ts) end = operand_of t.at t.token
+abbrev pub first_operand : ℕ → List Placed → ℕ → Result Expression MatcherFault
+first_operand levels [] end = Err (Unexpected end)
+first_operand levels (t ∷ ts) end = operand_of levels t.at t.token

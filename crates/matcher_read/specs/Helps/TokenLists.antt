@@ -2,7 +2,7 @@
 use Rattle.std.specs.Prelude.{ℕ, ◌+◌, ◌==◌, ◌<◌, IsTrue, List, length, Option, Some, None}
 use Rattle.std.specs.Char.{is_ascii_digit}
 use Rattle.std.specs.List.{list_all, slice_split}
-use Rattle.matcher_read.specs.Tokens.{Placed, placed, Token, name, called, number, text, unclosed, operator, exclamation, opening, closing, comma}
+use Rattle.matcher_read.specs.Tokens.{Placed, placed, Token, name, called, eval, number, text, unclosed, operator, exclamation, opening, closing, comma}
 use Rattle.matcher_read.specs.declared.token.Token as code
 use Rattle.matcher_read.specs.declared.token.Token.TheVariants as seen
 use Rattle.matcher_read.specs.declared.token.PlacedToken.{PlacedToken}
@@ -21,6 +21,7 @@ pieces bytes = slice_split (λ byte. byte == 46) bytes
 abbrev pub token_of : code.Token → Token
 token_of (seen.Name bytes) = name (pieces bytes.now)
 token_of (seen.Called bytes) = called (pieces bytes.now)
+token_of (seen.Eval at_opening column) = eval at_opening column.now
 token_of (seen.Number digits) = number digits.now
 token_of (seen.Text bytes) = text bytes.now
 token_of (seen.Unclosed bytes) = unclosed bytes.now

@@ -2,7 +2,7 @@
 use Rattle.std.specs.Prelude.{◌≡◌, ℕ, ℤ, Bool, false, List, [], ◌∷◌, refl}
 use Rattle.std.proofs.Common.{◌∙◌, ap}
 use Rattle.std.specs.Coded.{Coded, code_by, coded_list}
-use Rattle.matcher_read.specs.Expression.{Callee, Expression, Expressions, text, whole, truth, request, policy, negation, opposite, binary, among, call, no_more, one_more}
+use Rattle.matcher_read.specs.Expression.{Callee, Expression, Expressions, text, whole, truth, request, policy, evaluated, negation, opposite, binary, among, call, no_more, one_more}
 use Rattle.matcher_read.specs.declared.tree.Operator.{Operator}
 
 pub data Sign : Type 0 where
@@ -11,6 +11,7 @@ pub data Sign : Type 0 where
   truth_sign : ℕ → Bool → Sign
   request_sign : ℕ → List ℕ → List (List ℕ) → Sign
   policy_sign : ℕ → List ℕ → Sign
+  evaluated_sign : ℕ → List ℕ → Sign
   negation_sign : ℕ → Sign
   opposite_sign : ℕ → Sign
   binary_sign : ℕ → Operator → Sign
@@ -27,6 +28,7 @@ abbrev mutual
   signs (truth at b) others = truth_sign at b ∷ others
   signs (request at column path) others = request_sign at column path ∷ others
   signs (policy at column) others = policy_sign at column ∷ others
+  signs (evaluated at column) others = evaluated_sign at column ∷ others
   signs (negation at e) others = signs e (negation_sign at ∷ others)
   signs (opposite at e) others = signs e (opposite_sign at ∷ others)
   signs (binary at op e f) others = signs e (signs f (binary_sign at op ∷ others))
@@ -75,6 +77,7 @@ after_sign (whole_sign at n) w = waiting (whole at n ∷ w.single) w.lists
 after_sign (truth_sign at b) w = waiting (truth at b ∷ w.single) w.lists
 after_sign (request_sign at column path) w = waiting (request at column path ∷ w.single) w.lists
 after_sign (policy_sign at column) w = waiting (policy at column ∷ w.single) w.lists
+after_sign (evaluated_sign at column) w = waiting (evaluated at column ∷ w.single) w.lists
 after_sign (negation_sign at) w = with_one (negation at) w.single w.lists
 after_sign (opposite_sign at) w = with_one (opposite at) w.single w.lists
 after_sign (binary_sign at op) w = with_two (binary at op) w.single w.lists
@@ -98,6 +101,7 @@ mutual
   after_signs-signs (truth at b) others single lists = refl
   after_signs-signs (request at column path) others single lists = refl
   after_signs-signs (policy at column) others single lists = refl
+  after_signs-signs (evaluated at column) others single lists = refl
   after_signs-signs (negation at e) others single lists = after_signs-signs e (negation_sign at ∷ others) single lists
   after_signs-signs (opposite at e) others single lists = after_signs-signs e (opposite_sign at ∷ others) single lists
   after_signs-signs (binary at op e f) others single lists =

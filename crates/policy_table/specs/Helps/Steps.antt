@@ -1,9 +1,9 @@
 -- The steps by which prepared edits are made.
-use Rattle.std.specs.Prelude.{ℕ, Bool, true, not, ◌&&◌, List, [], ◌∷◌, ◌++◌, filter, if◌then◌else◌, map}
+use Rattle.std.specs.Prelude.{ℕ, Bool, true, not, ◌&&◌, List, [], ◌∷◌, filter, map}
 use Rattle.std.specs.List.{flat_map}
 use Rattle.perm_base.specs.declared.shapes.TableId.{TableId}
-use Rattle.policy_table.specs.Held.{Rows}
-use Rattle.policy_table.specs.Tables.{Fields, Lists, same, stands}
+use Rattle.policy_table.specs.Changes.{inserted, replaced}
+use Rattle.policy_table.specs.Tables.{Fields, stands}
 use Rattle.policy_table.specs.declared.change.Change.{Change}
 use Rattle.policy_table.specs.declared.change.Change.TheVariants as change
 use Rattle.policy_table.specs.declared.prepared.Action.{Action}
@@ -30,22 +30,14 @@ puts (Insert rule) = 1
 puts (Remove gone) = 0
 puts (Replace old new) = 1
 
--- the rules of a table after an action
-abbrev pub acted : Action → List Fields → List Fields
-acted (Insert rule) rules = rules ++ rule ∷ []
-acted (Remove gone) rules = filter (λ (other : Fields). not (stands other gone.rules)) rules
-acted (Replace old new) rules = map (λ (other : Fields). if same old other then new else other) rules
+-- the rules of a table after an action, ranked or not
+abbrev pub acted : Bool → Action → List Fields → List Fields
+acted ranked (Insert rule) rules = inserted ranked rule rules
+acted ranked (Remove gone) rules = filter (λ (other : Fields). not (stands other gone.rules)) rules
+acted ranked (Replace old new) rules = replaced ranked old new rules
 
 -- a rule that an action puts in is absent, and one whose place it takes stands
 abbrev pub may_act : Action → List Fields → Bool
 may_act (Insert rule) rules = not (stands rule rules)
 may_act (Remove gone) rules = true
 may_act (Replace old new) rules = stands old rules && not (stands new rules)
-
--- the rules of tables
-abbrev pub lists_of : List Rows → Lists
-lists_of tables = map (λ (rows : Rows). rows.rules) tables
-
--- the room of tables
-abbrev pub spare_of : List Rows → List ℕ
-spare_of tables = map (λ (rows : Rows). rows.spare) tables

@@ -1,21 +1,18 @@
 use Rattle.std.proofs.Common.{◌≡◌, true, false, sym, ◌∙◌, arith, rules}
-use Rattle.text_parts.specs.Lines.{without_cr}
 use Rattle.text_parts.specs.Passed.{is_passed}
 use Rattle.casbin_run.proofs.RequestLemmas.{requests_of-none, requests_of-passed, requests_of-first}
 use Rattle.casbin_run.proofs.requests.next_request.Goals as goal
 
 pub returns-then-not-is_passed-clause-first : goal.returns-then-not-is_passed-clause-first
 returns-then-not-is_passed-clause-first c =
-    let shown : c.without_cr-line.result.now ≡ without_cr c.in-Some.line.now = search rules in
-    let kept : is_passed c.without_cr-line.result.now ≡ false = sym c.is_passed.ensures ∙ c.if-not-is_passed.true in
-    sym c.loop-line.invariant.same ∙ requests_of-first _ c.in-Some.line.now _ _ c.in-Some.ensures.first shown kept
+    let kept : is_passed c.in-Some.line.now ≡ false = sym c.is_passed.ensures ∙ c.if-not-is_passed.true in
+    sym c.loop-line.invariant.same ∙ requests_of-first _ _ _ c.in-Some.ensures.first kept
 
 pub loop-line-preserved : goal.loop-line-preserved
 loop-line-preserved c =
-    let shown : c.without_cr-line.result.now ≡ without_cr c.in-Some.line.now = search rules in
-    let passed : is_passed c.without_cr-line.result.now ≡ true = sym c.is_passed.ensures ∙ c.if-not-is_passed.false in
+    let passed : is_passed c.in-Some.line.now ≡ true = sym c.is_passed.ensures ∙ c.if-not-is_passed.false in
     record {
-      same = sym (requests_of-passed _ c.in-Some.line.now _ _ c.in-Some.ensures.first shown passed) ∙ c.loop-line.invariant.same;
+      same = sym (requests_of-passed _ _ _ c.in-Some.ensures.first passed) ∙ c.loop-line.invariant.same;
       within = omega (arith, c.in-Some.ensures.shorter);
       utf8 = search rules;
     }

@@ -7,7 +7,7 @@ use Rattle.edit_calls.proofs.changes.inserts_absent.Goals as goal
 
 pub loop-at-preserved : goal.loop-at-preserved
 loop-at-preserved g c =
-    let test = λ (rule : Fields). (let t : Bool = not (stands rule (rows c.args.tables.now.lists c.args.table)) in t) in
+    let test = λ (rule : Fields). (let t : Bool = not (stands rule (rows c.args.tables.now.policy c.args.table)) in t) in
     elim c.if-not-has.branch [
       | then-not-has+in_ok-rule+in_ok-push w ↦ passed_next _ c.loop-at.at _ c.at-rule.ensures test (Insert c.args.table) [] _ c.loop-at.invariant _ (cc) (search rules)
       | else-not-has w ↦ passed_same _ c.loop-at.at _ c.at-rule.ensures test (Insert c.args.table) [] _ c.loop-at.invariant _ (cc) (cc)

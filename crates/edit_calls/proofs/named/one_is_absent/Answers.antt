@@ -5,8 +5,8 @@ use Rattle.edit_calls.proofs.named.one_is_absent.Goals as goal
 
 pub returns-then-not-has : goal.returns-then-not-has
 returns-then-not-has g c =
-    any_here _ c.loop-at.at _ c.at.ensures (λ (rule : Fields). not (stands rule (rows c.args.tables.now.lists c.args.table))) c.loop-at.invariant (cc)
+    any_here _ c.loop-at.at _ c.at.ensures (λ (rule : Fields). not (stands rule (rows c.args.tables.now.policy c.args.table))) c.loop-at.invariant (cc)
 
 pub loop-at-preserved : goal.loop-at-preserved
 loop-at-preserved g c =
-    any_next _ c.loop-at.at _ c.at.ensures (λ (rule : Fields). not (stands rule (rows c.args.tables.now.lists c.args.table))) c.loop-at.invariant (cc)
+    any_next _ c.loop-at.at _ c.at.ensures (λ (rule : Fields). not (stands rule (rows c.args.tables.now.policy c.args.table))) c.loop-at.invariant (cc)

@@ -4,8 +4,8 @@ use Rattle.edit_calls.proofs.named.one_stands.Goals as goal
 
 pub returns-then-has : goal.returns-then-has
 returns-then-has g c =
-    any_here _ c.loop-at.at _ c.at.ensures (λ (rule : Fields). stands rule (rows c.args.tables.now.lists c.args.table)) c.loop-at.invariant (cc)
+    any_here _ c.loop-at.at _ c.at.ensures (λ (rule : Fields). stands rule (rows c.args.tables.now.policy c.args.table)) c.loop-at.invariant (cc)
 
 pub loop-at-preserved : goal.loop-at-preserved
 loop-at-preserved g c =
-    any_next _ c.loop-at.at _ c.at.ensures (λ (rule : Fields). stands rule (rows c.args.tables.now.lists c.args.table)) c.loop-at.invariant (cc)
+    any_next _ c.loop-at.at _ c.at.ensures (λ (rule : Fields). stands rule (rows c.args.tables.now.policy c.args.table)) c.loop-at.invariant (cc)

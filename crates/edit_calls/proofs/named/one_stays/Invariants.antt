@@ -5,4 +5,4 @@ use Rattle.edit_calls.proofs.named.one_stays.Given as goal
 
 -- what is left of the rules decides
 abbrev pub invariant-loop-place : goal.invariant-loop-place
-invariant-loop-place l = one_stays l.at l.values l.rules (rows l.tables.lists l.table) ≡ one_stays l.at l.values (drop l.place l.rules) (rows l.tables.lists l.table)
+invariant-loop-place l = one_stays l.at l.values l.rules (rows l.tables.policy l.table) ≡ one_stays l.at l.values (drop l.place l.rules) (rows l.tables.policy l.table)

@@ -1,8 +1,8 @@
-use Rattle.std.proofs.Common.{◌∷◌, get_or, drop, ◌∙◌, arith}
+use Rattle.std.proofs.Common.{get_or, drop, ◌∙◌, arith}
 use Rattle.key_match.specs.Pieces.{Stretch, Rest}
 use Rattle.key_match.specs.Helps.Fits.{fits, end_fits, pieces_from}
 use Rattle.key_match.proofs.Bools.{false_by}
-use Rattle.key_match.proofs.Leads.{stretch-here, end-stretch, LeadsTo-trans, LeadsTo-stretch, keeps-rest, keeps-stretch, LeadsTo-past_at, not_slash-other}
+use Rattle.key_match.proofs.Leads.{stretch-here, end-stretch, LeadsTo-behind, LeadsTo-trans, keeps-rest, keeps-stretch, LeadsTo-past_at, not_slash-other}
 use Rattle.key_match.proofs.fit.stretch.Goals as goal
 
 pub returns-in-Fits : goal.returns-in-Fits
@@ -18,25 +18,17 @@ returns-in-KeyEnded c =
 
 pub returns-in-Rest : goal.returns-in-Rest
 returns-in-Rest c =
-    let to = c.in-Rest.to in
-    let later = pieces_from c.args.dialect c.args.pattern.now to in
-    let left = drop to.key c.args.key.now in
-    let goes = c.in-Rest.ensures in
-    let ahead = goes.ahead in
+    let ahead = c.in-Rest.ensures.ahead in
     record {
-      leads = LeadsTo-trans _ _ _ _ _ _ c.loop-to.invariant.leads (LeadsTo-stretch _ (Rest ∷ later) _ left goes.leads (keeps-rest later left));
+      leads = LeadsTo-behind _ _ (pieces_from c.args.dialect c.args.pattern.now c.in-Rest.to) Rest _ _ (drop c.in-Rest.to.key c.args.key.now) c.loop-to.invariant.leads c.in-Rest.ensures.leads keeps-rest;
       ahead = record { pattern_after = omega arith; pattern_within = omega arith; key_from = omega arith; key_within = omega arith };
     }
 
 pub loop-to-preserved-in-Stretch : goal.loop-to-preserved-in-Stretch
 loop-to-preserved-in-Stretch c =
-    let to = c.in-Stretch.to in
-    let later = pieces_from c.args.dialect c.args.pattern.now to in
-    let left = drop to.key c.args.key.now in
-    let goes = c.in-Stretch.ensures in
-    let ahead = goes.ahead in
+    let ahead = c.in-Stretch.ensures.ahead in
     record {
-      leads = LeadsTo-trans _ _ _ _ _ _ c.loop-to.invariant.leads (LeadsTo-stretch _ (Stretch ∷ later) _ left goes.leads (keeps-stretch later left));
+      leads = LeadsTo-behind _ _ (pieces_from c.args.dialect c.args.pattern.now c.in-Stretch.to) Stretch _ _ (drop c.in-Stretch.to.key c.args.key.now) c.loop-to.invariant.leads c.in-Stretch.ensures.leads keeps-stretch;
       pattern_from = omega arith;
       key_from = omega arith;
       key_within = omega arith;

@@ -1,6 +1,6 @@
 use Rattle.key_match.specs.Helps.Tokens.{piece_of, pieces_at}
 use Rattle.key_match.specs.Helps.Parts.{order_of}
-use Rattle.key_match.proofs.Parts.{HasPart-from, HasFit-from, IsChosen-last, IsChosen-first}
+use Rattle.key_match.proofs.Parts.{HasPart-from, IsChosen-last, IsChosen-first}
 use Rattle.key_match.proofs.part.part_end.Goals as goal
 
 pub part_ends-ends-requires : goal.part_ends-ends-requires
@@ -9,16 +9,10 @@ part_ends-ends-requires c =
 
 pub returns-then-is_shortest : goal.returns-then-is_shortest
 returns-then-is_shortest c =
-    let piece = piece_of c.args.reading.token in
-    let pieces = pieces_at c.args.dialect c.args.pattern.now c.args.reading.next in
-    let key = c.args.key.now in
-    let fit = HasFit-from piece pieces key c.args.from c.requires.within c.requires.fitting in
-    IsChosen-first (order_of c.args.segments) piece pieces key c.args.from c.first_fit.result c.part_ends-ends.result c.if-is_shortest.ensures fit c.part_ends-ends.ensures c.first_fit.ensures.first c.first_fit.ensures.fitting
+    IsChosen-first (order_of c.args.segments) (piece_of c.args.reading.token) (pieces_at c.args.dialect c.args.pattern.now c.args.reading.next) c.args.key.now c.args.from c.first_fit.result c.part_ends-ends.result
+    c.if-is_shortest.ensures c.requires.within c.requires.fitting c.part_ends-ends.ensures c.first_fit.ensures.first c.first_fit.ensures.fitting
 
 pub returns-else-is_shortest : goal.returns-else-is_shortest
 returns-else-is_shortest c =
-    let piece = piece_of c.args.reading.token in
-    let pieces = pieces_at c.args.dialect c.args.pattern.now c.args.reading.next in
-    let key = c.args.key.now in
-    let fit = HasFit-from piece pieces key c.args.from c.requires.within c.requires.fitting in
-    IsChosen-last (order_of c.args.segments) piece pieces key c.args.from c.last_fit.result c.part_ends-ends.result c.if-is_shortest.ensures fit c.part_ends-ends.ensures c.last_fit.ensures.last c.last_fit.ensures.fitting
+    IsChosen-last (order_of c.args.segments) (piece_of c.args.reading.token) (pieces_at c.args.dialect c.args.pattern.now c.args.reading.next) c.args.key.now c.args.from c.last_fit.result c.part_ends-ends.result
+    c.if-is_shortest.ensures c.requires.within c.requires.fitting c.part_ends-ends.ensures c.last_fit.ensures.last c.last_fit.ensures.fitting

@@ -1,13 +1,18 @@
-use Rattle.std.proofs.Common.{sym, ap, ◌∙◌, subst}
+use Rattle.std.proofs.Common.{ℕ, List, sym, ap, ◌∙◌, subst}
 use Rattle.std.proofs.lemmas.Result.{err_from_is_err_and}
+use Rattle.perm_base.specs.declared.shapes.RoleShape.{RoleShape}
 use Rattle.model_conf.specs.Columns.{AreColumns}
+use Rattle.model_conf.specs.Effects.{may_have}
+use Rattle.model_conf.specs.Relations.{relations_of}
 use Rattle.model_conf.specs.Kept.{AreRelations, IsPartOfLine}
 use Rattle.matcher_read.specs.Matcher.{IsMatcher}
 use Rattle.matcher_read.specs.Expression.{expression}
 use Rattle.std.specs.Prelude.{option_map, IsUtf8}
 use Rattle.model_conf.specs.Helps.Misuses.{misuse_of}
 use Rattle.model_conf.specs.Helps.Outlines.{values_seen}
+use Rattle.model_conf.specs.Helps.Seen.{entries_seen}
 use Rattle.model_conf.specs.Uses.{first_undeclared, uses}
+use Rattle.model_conf.proofs.EffectLemmas.{has_allowed}
 use Rattle.model_conf.proofs.KeptLemmas.{relations_kept}
 use Rattle.model_conf.proofs.MatcherLemmas.{all_declared, missing_settled, no_memory_of, settled_by_fault, settled_by_tree, settled_for, stops_matcher, stops_misuse, stops_missing}
 use Rattle.model_conf.proofs.reading.model_of.Goals as goal
@@ -59,6 +64,9 @@ from_parts-requires c =
       request = subst AreColumns (sym o.request) o.has.has.request;
       policy = subst AreColumns (sym o.policy) o.has.has.policy;
       relations = subst AreRelations (sym o.relations) (relations_kept _);
+      effect =
+          ap (λ (relations : List RoleShape). may_have relations outline.policy outline.effect) o.relations
+          ∙ ap (λ (columns : List (List ℕ)). may_have (relations_of (entries_seen c.args.entries.now)) columns outline.effect) o.policy ∙ has_allowed _ _ _ outline.effect o.has.effect_is;
       part = subst IsPartOfLine (sym text) part;
       utf8 = subst IsUtf8 (sym text) c.in_ok-values.ensures.utf8;
       matcher = subst (λ t. IsMatcher t e) (sym text) c.in_ok-tree.ensures.found;

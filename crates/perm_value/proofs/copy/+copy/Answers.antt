@@ -1,12 +1,8 @@
-use Rattle.std.proofs.Common.{◌≡◌, ◌+◌, [], ◌∷◌, ◌++◌, map, take, string_bytes, sym, ap, ◌∙◌, subst, append_assoc}
-use Rattle.std.proofs.lemmas.List.{append-nil, take_all, take_more}
-use Rattle.std.specs.List.Sorted.{IsStrictlySortedBy}
-use Rattle.std.specs.Map.{keys_of}
-use Rattle.std.specs.String.{string_cmp}
+use Rattle.std.proofs.Common.{◌≡◌, ◌+◌, [], ◌∷◌, ◌++◌, map, take, sym, ap, ◌∙◌, subst}
+use Rattle.std.proofs.lemmas.List.{take_all, take_more}
 use Rattle.perm_value.specs.Seen.{datum}
 use Rattle.perm_value.proofs.CopyLemmas.{IsCopyOf, copied_values, copied_members}
-use Rattle.perm_value.proofs.MadeLemmas.{Made, made_end, MembersMade, made_last}
-use Rattle.perm_value.proofs.MemberLemmas.{Named}
+use Rattle.perm_value.proofs.MadeLemmas.{Made, all_done, made_end, members_step}
 use Rattle.perm_value.proofs.copy.+copy.Goals as goal
 
 pub copy_values-loop-value-preserved : goal.copy_values-loop-value-preserved
@@ -26,21 +22,10 @@ copy_values-returns t c =
 
 pub copy_members-loop-name-preserved : goal.copy_members-loop-name-preserved
 copy_members-loop-name-preserved t c =
-    let done = c.loop-name.invariant.0 in
-    let e : Named = (c.in-Some.name.now, c.in-Some.member.now) in
-    let left = c.next.new.self in
-    let all : c.args.object.now.entries ≡ done ++ e ∷ left = c.loop-name.invariant.1 ∙ ap (λ es. done ++ es) c.in-Some.ensures.steps in
-    let sorted = subst (λ es. IsStrictlySortedBy string_cmp (keys_of es)) all c.iter-name-items.ensures.ordered in
-    let named : string_bytes c.in_ok-key.key ≡ string_bytes e.0 = c.in_ok-key.ensures.ok ∙ c.as_str.ensures.value in (
-      done ++ e ∷ [],
-      all ∙ sym (append_assoc done (e ∷ []) left),
-      subst (MembersMade IsCopyOf (done ++ e ∷ [])) (sym c.in_ok-insert.ensures.entries)
-          (made_last IsCopyOf done c.loop-name.copies.entries e left c.in_ok-key.key c.in_ok-value.value c.loop-name.invariant.2 named c.in_ok-value.ensures sorted),
-    )
+    members_step IsCopyOf c.args.object.now.entries c.loop-name.invariant.0 _ c.next.new.self (c.in-Some.name.now, c.in-Some.member.now) c.loop-name.copies.entries _ c.in_ok-key.key c.in_ok-value.value
+    c.loop-name.invariant.1 c.in-Some.ensures.steps c.iter-name-items.ensures.ordered c.loop-name.invariant.2 (c.in_ok-key.ensures.ok ∙ c.as_str.ensures.value) c.in_ok-value.ensures c.in_ok-insert.ensures.entries
 
 pub copy_members-returns : goal.copy_members-returns
 copy_members-returns t c =
-    let done = c.loop-name.invariant.0 in
-    let all : c.args.object.now.entries ≡ done = c.loop-name.invariant.1 ∙ ap (λ es. done ++ es) c.in-None.ensures.steps.0 ∙ append-nil done in
-    let sorted = subst (λ es. IsStrictlySortedBy string_cmp (keys_of es)) all c.iter-name-items.ensures.ordered in
-    rw all (copied_members done c.loop-name.copies.entries c.loop-name.invariant.2 sorted)
+    let done = all_done c.args.object.now.entries c.loop-name.invariant.0 _ c.loop-name.invariant.1 c.in-None.ensures.steps.0 c.iter-name-items.ensures.ordered in
+    rw done.0 (copied_members c.loop-name.invariant.0 c.loop-name.copies.entries c.loop-name.invariant.2 done.1)

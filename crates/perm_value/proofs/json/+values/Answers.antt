@@ -1,13 +1,10 @@
-use Rattle.std.proofs.Common.{◌≡◌, ◌+◌, [], ◌∷◌, ◌++◌, get_or, take, Some, None, option_map, string_bytes, sym, ap, ◌∙◌, subst, append_assoc}
-use Rattle.std.proofs.lemmas.List.{append-nil, take_all, take_more}
-use Rattle.std.specs.List.Sorted.{IsStrictlySortedBy}
-use Rattle.std.specs.Map.{keys_of}
-use Rattle.std.specs.String.{string_cmp}
+use Rattle.std.proofs.Common.{◌≡◌, ◌+◌, [], ◌∷◌, ◌++◌, get_or, take, Some, None, option_map, sym, ap, ◌∙◌, subst}
+use Rattle.std.proofs.lemmas.List.{take_all, take_more}
 use Rattle.serde_json.specs.View.{view, items_view}
 use Rattle.serde_json.proofs.Views.{Entry}
 use Rattle.perm_value.specs.Json.{datum_of, items_of_json}
 use Rattle.perm_value.specs.Seen.{datum, items}
-use Rattle.perm_value.proofs.MadeLemmas.{Made, made_end, MembersMade, made_last}
+use Rattle.perm_value.proofs.MadeLemmas.{Made, all_done, made_end, members_step}
 use Rattle.perm_value.proofs.ValueLemmas.{IsOfJson, made_items, one_item_not_whole, made_members, one_member_not_whole}
 use Rattle.perm_value.proofs.json.+values.Goals as goal
 
@@ -44,21 +41,10 @@ members_of-returns-in_default t c =
 
 pub members_of-loop-key-preserved : goal.members_of-loop-key-preserved
 members_of-loop-key-preserved t c =
-    let done = c.loop-key.invariant.0 in
-    let e : Entry = (c.in-Some.key.now, c.in-Some.member.now) in
-    let left = c.next.new.self in
-    let all : c.args.object.now.entries ≡ done ++ e ∷ left = c.loop-key.invariant.1 ∙ ap (λ es. done ++ es) c.in-Some.ensures.steps in
-    let sorted = subst (λ es. IsStrictlySortedBy string_cmp (keys_of es)) all c.iter-key-items.ensures.ordered in
-    let named : string_bytes c.in_ok-name.name ≡ string_bytes e.0 = c.in_ok-name.ensures.ok ∙ c.as_str.ensures.value in
-    let made : datum_of (view e.1) ≡ Some (datum c.in-Some-2.value) = c.in_ok-value.ensures ∙ ap (option_map datum) c.in-Some-2.is in (
-      done ++ e ∷ [],
-      all ∙ sym (append_assoc done (e ∷ []) left),
-      subst (MembersMade IsOfJson (done ++ e ∷ [])) (sym c.in_ok-insert.ensures.entries) (made_last IsOfJson done c.loop-key.copies.entries e left c.in_ok-name.name c.in-Some-2.value c.loop-key.invariant.2 named made sorted),
-    )
+    members_step IsOfJson c.args.object.now.entries c.loop-key.invariant.0 _ c.next.new.self (c.in-Some.key.now, c.in-Some.member.now) c.loop-key.copies.entries _ c.in_ok-name.name c.in-Some-2.value
+    c.loop-key.invariant.1 c.in-Some.ensures.steps c.iter-key-items.ensures.ordered c.loop-key.invariant.2 (c.in_ok-name.ensures.ok ∙ c.as_str.ensures.value) (c.in_ok-value.ensures ∙ ap (option_map datum) c.in-Some-2.is) c.in_ok-insert.ensures.entries
 
 pub members_of-returns : goal.members_of-returns
 members_of-returns t c =
-    let done = c.loop-key.invariant.0 in
-    let all : c.args.object.now.entries ≡ done = c.loop-key.invariant.1 ∙ ap (λ es. done ++ es) c.in-None.ensures.steps.0 ∙ append-nil done in
-    let sorted = subst (λ es. IsStrictlySortedBy string_cmp (keys_of es)) all c.iter-key-items.ensures.ordered in
-    rw all (made_members done c.loop-key.copies.entries c.loop-key.invariant.2 sorted)
+    let done = all_done c.args.object.now.entries c.loop-key.invariant.0 _ c.loop-key.invariant.1 c.in-None.ensures.steps.0 c.iter-key-items.ensures.ordered in
+    rw done.0 (made_members c.loop-key.invariant.0 c.loop-key.copies.entries c.loop-key.invariant.2 done.1)

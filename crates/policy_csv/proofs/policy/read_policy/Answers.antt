@@ -1,8 +1,8 @@
-use Rattle.std.proofs.Common.{◌≡◌, ℕ, List, [], Err, refl, ap, ◌∙◌, sym, subst, length, All, rules}
+use Rattle.std.proofs.Common.{◌≡◌, ℕ, List, [], Result, Err, refl, ap, ◌∙◌, sym, subst, length, All, rules}
 use Rattle.std.proofs.lemmas.Result.{err_from_is_err_and}
 use Rattle.policy_csv.specs.Policy.{IsPolicy}
 use Rattle.policy_csv.specs.declared.policy.PolicyFault.{PolicyFault}
-use Rattle.policy_csv.specs.declared.policy.PolicyFault.TheVariants.{NoMemory}
+use Rattle.policy_csv.specs.declared.policy.PolicyFault.TheVariants.{NoMemory, NotYet}
 use Rattle.policy_csv.proofs.LineLemmas.{IsPolicy-utf8}
 use Rattle.policy_csv.proofs.PolicyLemmas.{ReadsTo, ReadsTo-begin, ReadsTo-columns, ReadsTo-end_only, ReadsTo-full, ReadsTo-more, next_rule, only_memory}
 use Rattle.policy_csv.proofs.policy.read_policy.Goals as goal
@@ -14,6 +14,10 @@ loop-line-init c =
       reads = rw c.new-rules.ensures.empty (subst (λ (text : List ℕ). ReadsTo c.args.columns c.args.bytes.now [] text) (sym same) (ReadsTo-begin c.args.columns c.args.bytes.now));
       utf8 = search rules;
     }
+
+-- what stops for want of memory tells no rule that is not read yet
+lacks_memory : {A : Type 0} (result : Result A PolicyFault) → result ≡ Err NotYet → result ≡ Err NoMemory → ⊥
+lacks_memory result told stopped = absurd cc
 
 -- where the text is a policy, only want of memory stops the reader
 line_stop : (c : goal.After-drop-rules-inside-in_err-rule-3) (rules : List (List (List ℕ))) → IsPolicy c.args.columns c.args.bytes.now rules → c.from_residual.result ≡ Err NoMemory
@@ -35,17 +39,13 @@ pub returns-in_err-rule-clause-only : goal.returns-in_err-rule-clause-only
 returns-in_err-rule-clause-only c = λ rules is. rw (line_stop c rules is) refl
 
 pub returns-in_err-rule-clause-not_yet : goal.returns-in_err-rule-clause-not_yet
-returns-in_err-rule-clause-not_yet c = λ e rules is.
-    let memory = line_stop c rules is in
-    absurd cc
+returns-in_err-rule-clause-not_yet c = λ e rules is. lacks_memory _ e (line_stop c rules is)
 
 pub returns-in_err-keep-clause-only : goal.returns-in_err-keep-clause-only
 returns-in_err-keep-clause-only c = λ rules is. rw (keep_stop c rules is) refl
 
 pub returns-in_err-keep-clause-not_yet : goal.returns-in_err-keep-clause-not_yet
-returns-in_err-keep-clause-not_yet c = λ e rules is.
-    let memory = keep_stop c rules is in
-    absurd cc
+returns-in_err-keep-clause-not_yet c = λ e rules is. lacks_memory _ e (keep_stop c rules is)
 
 pub loop-line-preserved : goal.loop-line-preserved
 loop-line-preserved c = record {

@@ -3,8 +3,8 @@ use Rattle.std.proofs.lemmas.List.{length-map}
 use Rattle.matcher_read.specs.Expression.{Expression, expression, count, expressions_of}
 use Rattle.model_conf.specs.Helps.Misuses.{column_misuse, earlier, role_misuse}
 use Rattle.model_conf.specs.Uses.{uses, of_relation}
-use Rattle.model_conf.proofs.TreeLemmas.{literal_uses, expression-Request, expression-Policy, expression-Binary, expression-Among, expression-Role}
-use Rattle.model_conf.proofs.UseLemmas.{count-expressions_of, misuse_begin, misuse_end, misuse_in, misuse_in-append, misuse_in-none, misuse_in-policy, misuse_in-request, misuse_in-role, misuse_step}
+use Rattle.model_conf.proofs.TreeLemmas.{literal_uses, policy_uses, expression-Request, expression-Binary, expression-Among, expression-Role}
+use Rattle.model_conf.proofs.UseLemmas.{count-expressions_of, misuse_begin, misuse_end, misuse_in, misuse_in-append, misuse_in-none, misuse_in-request, misuse_in-role, misuse_step, policy_misuse}
 use Rattle.model_conf.proofs.uses.Declared.+first_misuse.Goals as goal
 
 pub returns-in-Text : goal.returns-in-Text
@@ -30,11 +30,7 @@ returns-in-Request t c =
     ∙ ap (λ (e : Expression). misuse_in d.request.now d.policy.now d.relations.now (uses e)) (sym is)
 
 pub returns-in-Policy : goal.returns-in-Policy
-returns-in-Policy t c =
-    let d = c.args.self.now in
-    let is = ap expression c.in-Policy.is ∙ expression-Policy c.in-Policy.at c.in-Policy.column in
-    c.column_misuse-in-Policy.ensures ∙ ap (column_misuse d.policy.now c.in-Policy.at) c.as_str-in-Policy.ensures ∙ sym (misuse_in-policy d.request.now d.policy.now d.relations.now c.in-Policy.at c.in-Policy.column)
-    ∙ ap (λ (e : Expression). misuse_in d.request.now d.policy.now d.relations.now (uses e)) (sym is)
+returns-in-Policy t c = policy_misuse c.args.self.now.request.now c.args.self.now.policy.now c.args.self.now.relations.now c.args.tree.now c.in-Policy.at c.in-Policy.column _ _ (policy_uses c.args.tree.now c.in-Policy.at c.in-Policy.column c.in-Policy.is) c.as_str-in-Policy.ensures c.column_misuse-in-Policy.ensures
 
 pub returns-in-Binary : goal.returns-in-Binary
 returns-in-Binary t c =

@@ -9,4 +9,4 @@ returns-in-len1-clause-rules c =
     let rule = c.rule-item.result in
     let gone = c.in-Remove.gone.rules in
     let alone : gone ≡ rule ∷ [] = sym c.rules.ensures.value ∙ one_item c.rules.result.now rule (omega (arith, c.in-len1.len_at_least, c.in-len1.len_below)) c.rule-item.is in
-    c.remove.ensures.rules ∙ without-alone same same-Decides rule gone c.args.self.now.rules alone ∙ ap (λ action. acted action c.args.self.now.rules) (sym c.in-Remove.is)
+    c.remove.ensures.rules ∙ without-alone same same-Decides rule gone c.args.self.now.rules alone ∙ ap (λ action. acted c.args.ranked action c.args.self.now.rules) (sym c.in-Remove.is)

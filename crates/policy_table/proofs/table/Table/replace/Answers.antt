@@ -1,14 +1,19 @@
-use Rattle.std.proofs.Common.{◌≡◌, ◌++◌, ◌∷◌, [], ap, subst, ◌∙◌}
-use Rattle.std.specs.List.{IsDistinct}
-use Rattle.indexmap.specs.IndexSet.{swap_remove_by}
-use Rattle.policy_table.specs.Tables.{same}
-use Rattle.policy_table.proofs.RowLemmas.{IsDistinct-front, same-Decides, swap_remove_by-renamed}
+use Rattle.std.proofs.Common.{Bool, ◌&&◌, not, sym, ap, ◌∙◌, subst, List}
+use Rattle.policy_table.specs.Helps.Rows.{RiseWhere}
+use Rattle.policy_table.specs.Tables.{Fields, same, stands}
+use Rattle.policy_table.proofs.RuleLemmas.{stands-without}
+use Rattle.policy_table.proofs.RankLemmas.{rising_without}
 use Rattle.policy_table.proofs.table.Table.replace.Goals as goal
 
-pub returns-clause-rules : goal.returns-clause-rules
-returns-clause-rules c =
+pub push-requires-clause-rising : goal.push-requires-clause-rising
+push-requires-clause-rising c =
+    let old = c.args.old.now in
     let rules = c.args.self.now.rules in
-    let pushed : c.self.inside.rules.keys ≡ rules ++ c.args.new ∷ [] = ap (λ table. table.rules) c.self.view_is ∙ c.push.ensures.rules in
-    let distinct = IsDistinct-front same rules (c.args.new ∷ []) (subst (IsDistinct same) pushed c.self.invariant) in
-    c.swap_remove-found.ensures.keys ∙ ap (swap_remove_by (same c.args.old.now)) pushed
-    ∙ swap_remove_by-renamed same same-Decides c.args.old.now c.args.new rules distinct c.requires.stands
+    λ mark. subst (λ (l : List Fields). RiseWhere c.args.ranked l) (sym c.remove.ensures.rules) (λ e. rising_without old rules (c.requires.rising e)) c.if-ranked.true
+
+pub push-requires-clause-absent : goal.push-requires-clause-absent
+push-requires-clause-absent c =
+    let old = c.args.old.now in
+    let new = c.args.new in
+    let rules = c.args.self.now.rules in
+    ap (stands new) c.remove.ensures.rules ∙ stands-without new old rules ∙ ap (λ (b : Bool). b && not (same old new)) c.requires.absent

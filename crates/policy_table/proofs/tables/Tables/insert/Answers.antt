@@ -1,21 +1,39 @@
-use Rattle.std.proofs.Common.{◌≡◌, Some, sym, ◌∙◌}
+use Rattle.std.proofs.Common.{◌≡◌, Some, sym, ◌∙◌, refl}
+use Rattle.policy_table.specs.Helps.Rows.{policy_of}
 use Rattle.policy_table.specs.Tables.{place}
-use Rattle.policy_table.proofs.InsertLemmas.{lists_inserted, lists_kept, lists_refused, one_more}
-use Rattle.policy_table.proofs.TableLemmas.{few_tables}
+use Rattle.policy_table.proofs.InsertLemmas.{IsAt, kept_inserted, policy_inserted, policy_refused}
+use Rattle.policy_table.proofs.LawLemmas.{order_of}
+use Rattle.policy_table.proofs.TableLemmas.{few_tables, rise_here}
 use Rattle.policy_table.proofs.tables.Tables.insert.Goals as goal
+
+-- the place of the table
+at_table : (c : goal.After-insert) → IsAt c.self.inside.ranked c.is_ranked-ranked.result c.self.inside.tables c.in-Some.at c.args.table c.args.self.now
+at_table c =
+    let here : place c.args.table ≡ Some c.in-Some.at = sym c.place.ensures ∙ c.in-Some.is in
+    record {
+      here = here;
+      within = few_tables c.self.inside.tables c.self.invariant.lists.counted c.args.table c.in-Some.at here;
+      told = c.is_ranked-ranked.ensures (policy_of c.self.inside.ranked c.self.inside.tables) refl;
+      view = c.self.view_is;
+    }
+
+pub insert-requires : goal.insert-requires
+insert-requires c =
+    let here : place c.args.table ≡ Some c.in-Some.at = sym c.place.ensures ∙ c.in-Some.is in
+    rise_here c.self.inside.ranked c.is_ranked-ranked.result c.self.inside.tables c.in-Some.at c.index-self-at.result c.args.table here
+    (few_tables c.self.inside.tables c.self.invariant.lists.counted c.args.table c.in-Some.at here) (order_of (policy_of c.self.inside.ranked c.self.inside.tables) c.self.invariant)
+    (c.is_ranked-ranked.ensures (policy_of c.self.inside.ranked c.self.inside.tables) refl)
 
 pub invariant_of-self : goal.invariant_of-self
 invariant_of-self c =
-    let here : place c.args.table ≡ Some c.in-Some.at = sym c.place.ensures ∙ c.in-Some.is in
-    lists_kept c.self.inside.tables c.in-Some.at _ c.self.invariant
-    (one_more c.self.inside.tables c.in-Some.at c.insert.new.self _ c.args.table c.args.rule c.args.self.now c.insert.result here (few_tables _ c.self.invariant.counted c.args.table c.in-Some.at here) c.self.view_is c.insert.ensures.rules c.insert.ensures.refused c.requires.few)
+    kept_inserted c.self.inside.ranked c.is_ranked-ranked.result c.self.inside.tables c.in-Some.at c.args.table c.args.self.now (at_table c) c.args.rule _ _ c.insert.result
+    c.insert.ensures.rules c.insert.ensures.refused c.requires.few c.self.invariant
 
-pub returns-clause-lists : goal.returns-clause-lists
-returns-clause-lists c =
-    let here : place c.args.table ≡ Some c.in-Some.at = sym c.place.ensures ∙ c.in-Some.is in
-    lists_inserted c.self.inside.tables c.in-Some.at _ _ c.args.table c.args.rule c.args.self.now c.insert.result here (few_tables _ c.self.invariant.counted c.args.table c.in-Some.at here) c.self.view_is c.insert.ensures.inserted c.insert.ensures.rules
+pub returns-clause-policy : goal.returns-clause-policy
+returns-clause-policy c =
+    policy_inserted c.self.inside.ranked c.is_ranked-ranked.result c.self.inside.tables c.in-Some.at c.args.table c.args.self.now (at_table c) c.args.rule _ _ c.insert.result
+    c.insert.ensures.inserted c.insert.ensures.rules
 
 pub returns-clause-refused : goal.returns-clause-refused
 returns-clause-refused c =
-    let here : place c.args.table ≡ Some c.in-Some.at = sym c.place.ensures ∙ c.in-Some.is in
-    lists_refused c.self.inside.tables c.in-Some.at _ _ c.args.self.now c.insert.result (few_tables _ c.self.invariant.counted c.args.table c.in-Some.at here) c.self.view_is c.insert.ensures.refused
+    policy_refused c.self.inside.ranked c.is_ranked-ranked.result c.self.inside.tables c.in-Some.at c.args.table c.args.self.now (at_table c) c.args.rule _ _ c.insert.result c.insert.ensures.refused

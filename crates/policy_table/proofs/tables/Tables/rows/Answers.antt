@@ -3,4 +3,4 @@ use Rattle.policy_table.proofs.TableLemmas.{nowhere_once}
 use Rattle.policy_table.proofs.tables.Tables.rows.Goals as goal
 
 pub returns-in-None-clause-once : goal.returns-in-None-clause-once
-returns-in-None-clause-once c = nowhere_once c.args.self.now.lists c.args.table (sym c.place.ensures ∙ c.in-None.is)
+returns-in-None-clause-once c = nowhere_once c.args.self.now.policy c.args.table (sym c.place.ensures ∙ c.in-None.is)

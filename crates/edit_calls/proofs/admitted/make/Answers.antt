@@ -1,0 +1,24 @@
+use Rattle.std.proofs.Common.{rules, arith, ◌≡◌, ◌+◌, ◌<◌, ◌^◌, [], ◌∷◌, length, ap, ◌∙◌}
+use Rattle.policy_table.specs.Changes.{table_of}
+use Rattle.policy_table.specs.Tables.{rows}
+use Rattle.policy_table.proofs.CallerLemmas.{one_applies, one_few}
+use Rattle.edit_calls.proofs.AdmitLemmas.{one_made}
+use Rattle.edit_calls.proofs.admitted.make.Goals as goal
+
+pub prepare-requires-clause-possible : goal.prepare-requires-clause-possible
+prepare-requires-clause-possible c =
+    let alone : c.from_vec.result ≡ c.args.change ∷ [] = search rules in
+    one_applies c.args.change _ _ alone c.requires
+
+pub prepare-requires-clause-few : goal.prepare-requires-clause-few
+prepare-requires-clause-few c =
+    let alone : c.from_vec.result ≡ c.args.change ∷ [] = search rules in
+    let size : c.len.result ≡ length (rows c.args.tables.now.policy (table_of c.args.change)) = c.len.ensures.value ∙ ap (λ table. length (rows c.args.tables.now.policy table)) c.table.ensures in
+    let below : c.len.result < 4294967295 = search (rules, arith) in
+    let few : length (rows c.args.tables.now.policy (table_of c.args.change)) + 1 < 2 ^ 32 = omega (arith, size, below) in
+    one_few c.args.change _ _ alone c.len.ensures.kept few
+
+pub returns : goal.returns
+returns c =
+    let alone : c.from_vec.result ≡ c.args.change ∷ [] = search rules in
+    one_made c.args.change _ c.in_ok-prepared.prepared c.args.tables.now.policy _ _ alone c.in_ok-prepared.ensures.edits c.in_ok-prepared.ensures.unchanged c.commit.ensures

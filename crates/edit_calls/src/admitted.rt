@@ -1,0 +1,98 @@
+ghost use Rattle.std.specs.Prelude.{◌≡◌, IfOk, OnOk, true};
+ghost use Rattle.std.specs.List.{list_all};
+ghost use Rattle.policy_table.specs.Changes.{applies, changed, flat, is_possible};
+ghost use Rattle.policy_table.specs.Limits.{AreSound};
+ghost use Rattle.edit_calls.specs.Admitted.{admits, is_fitting, may_stand};
+
+use crate::refusals::columns_of;
+use perm_base::{NoMemory, Rule, Shapes, TableId};
+use policy_table::{Change, Edit, Tables, copy_edit, has_short_fields};
+use std::alloc::Global;
+
+/// Whether edits can be made in these tables, one after the other: each rule that they put in has its table's number of
+/// columns and no field of more than 4,096 bytes, they apply, and the tables after all of them pass no limit. The tables
+/// stay as they are; it takes memory for copies of them.
+pub fn admits(
+    alloc: Global,
+    edits: &[Edit],
+    tables: &Tables,
+    shapes: &Shapes,
+) -> Result<bool, NoMemory>
+    requires { AreSound shapes.now tables.now.policy }
+    ensures { IfOk result (λ admitted.
+        admitted ≡ admits shapes.now tables.now.policy (flat edits.now)) }
+{
+    let whole = joined(alloc, edits)?;
+    if !are_fitting(&whole, shapes) || !applies(alloc, &whole, tables)? {
+        return Ok(false);
+    }
+    Ok(tables.passed_after(alloc, &whole, shapes)?.is_none())
+}
+
+// One edit of all changes, one edit after the other.
+fn joined(alloc: Global, edits: &[Edit]) -> Result<Edit, NoMemory>
+    ensures { IfOk result (λ whole. whole ≡ flat edits.now) }
+{
+    let mut changes = Vec::new(alloc);
+    for edit in edits {
+        changes.append(&mut copy_edit(alloc, edit)?.into_vec())?;
+    }
+    Ok(Edit::from_vec(changes))
+}
+
+// Whether each rule that is put in may stand in its table.
+fn are_fitting(edit: &Edit, shapes: &Shapes) -> bool
+    ensures { result ≡ list_all (is_fitting shapes.now) edit.now }
+{
+    edit.as_slice()
+        .iter()
+        .all(|change| is_fitting(change, shapes))
+}
+
+fn is_fitting(change: &Change, shapes: &Shapes) -> bool
+    ensures { result ≡ is_fitting shapes.now change.now }
+{
+    match change {
+        Change::Insert { table, rule } => may_stand(shapes, *table, rule),
+        Change::Remove { .. } => true,
+        Change::Replace { table, new, .. } => may_stand(shapes, *table, new),
+    }
+}
+
+fn may_stand(shapes: &Shapes, table: TableId, rule: &Rule) -> bool
+    ensures { result ≡ may_stand shapes.now table rule.now }
+{
+    match columns_of(shapes, table) {
+        Some(columns) => rule.len() == columns && has_short_fields(rule),
+        None => false,
+    }
+}
+
+// Whether the changes apply one after the other.
+fn applies(alloc: Global, edit: &Edit, tables: &Tables) -> Result<bool, NoMemory>
+    ensures { IfOk result (λ applied. applied ≡ applies edit.now tables.now.policy) }
+{
+    let mut after = tables.copy(alloc)?;
+    for change in copy_edit(alloc, edit)?.into_vec() {
+        if !after.allows(&change) {
+            return Ok(false);
+        }
+        make(alloc, &mut after, change)?;
+    }
+    Ok(true)
+}
+
+// Makes a change that is possible.
+fn make(alloc: Global, tables: &mut Tables, change: Change) -> Result<(), NoMemory>
+    requires { is_possible change tables.old.policy ≡ true }
+    ensures { OnOk result (tables.new.policy ≡ changed change tables.old.policy) }
+{
+    // No table takes more rules than this: the limits are far below, and memory ends before.
+    if tables.len(change.table()) == u32::MAX {
+        return Err(NoMemory);
+    }
+    let edits = [Edit::from_vec(vec![in alloc; change]?)];
+    let prepared = tables.prepare(alloc, &edits)?;
+    tables.commit(prepared);
+    Ok(())
+}

@@ -1,9 +1,0 @@
-use Rattle.std.proofs.Common.{ap, ◌∙◌}
-use Rattle.std.specs.Prelude.{option_map}
-use Rattle.matcher_read.specs.Helps.TokenLists.{TokenList, placed_of}
-use Rattle.matcher_read.proofs.ListLemmas.{advance-is}
-use Rattle.matcher_read.proofs.tokens.Tokens.advance.Goals as goal
-
-pub returns-clause-tokens : goal.returns-clause-tokens
-returns-clause-tokens c =
-    ap (λ (list : TokenList). list.tokens) c.self-2.view_is ∙ c.tokens_from.ensures.tokens ∙ advance-is (option_map placed_of c.self.inside.current) c.self.inside.place c.self.inside.rest.now c.args.self.now c.self.view_is c.self.invariant c.requires

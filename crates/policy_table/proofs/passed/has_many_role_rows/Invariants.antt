@@ -1,0 +1,13 @@
+use Rattle.std.proofs.Common.{◌≡◌, ◌≤◌, length, take}
+use Rattle.std.specs.List.{sum_by}
+use Rattle.perm_base.specs.declared.shapes.RoleShape.{RoleShape}
+use Rattle.perm_base.specs.declared.shapes.TableId.TheVariants.{G}
+use Rattle.policy_table.specs.Changes.{edited}
+use Rattle.policy_table.specs.Tables.{rows}
+use Rattle.policy_table.proofs.passed.has_many_role_rows.Given as goal
+
+abbrev pub invariant-loop-shape : goal.invariant-loop-shape
+invariant-loop-shape l = record {
+  counted : l.count ≡ sum_by (λ (shape : RoleShape). length (rows (edited l.edit l.tables.policy) (G shape.number))) (take l.shape-index l.shape-items);
+  few : l.count ≤ 200000;
+}

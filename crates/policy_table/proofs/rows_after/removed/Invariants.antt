@@ -1,0 +1,10 @@
+use Rattle.std.proofs.Common.{◌≡◌, ◌≤◌, take}
+use Rattle.std.specs.List.{count_by}
+use Rattle.policy_table.specs.Helps.Counts.{removes}
+use Rattle.policy_table.proofs.rows_after.removed.Given as goal
+
+abbrev pub invariant-loop-change : goal.invariant-loop-change
+invariant-loop-change l = record {
+  counted : l.count ≡ count_by (removes l.table) (take l.change-index l.changes);
+  few : l.count ≤ l.change-index;
+}

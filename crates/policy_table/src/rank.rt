@@ -1,0 +1,49 @@
+ghost use Rattle.std.specs.Prelude.{◌≡◌, ◌≤◌, drop, filter, length, not, take};
+ghost use Rattle.policy_table.specs.Ranks.{is_above_rank, number_of, rank};
+ghost use Rattle.policy_table.specs.Tables.{AreRising};
+
+use perm_base::Rule;
+
+/// The rank of a rule: the number of its first field, where that is one.
+pub(crate) fn rank(rule: &Rule) -> Option<i64>
+    ensures { result ≡ rank rule.now }
+{
+    if rule.len() == 0 {
+        return None;
+    }
+    number_of(rule.text(0))
+}
+
+/// How many of rising rules are not above a rank.
+pub(crate) fn count_up_to(rules: &[Rule], limit: Option<i64>) -> usize
+    requires { AreRising rules.now }
+    ensures few { result ≤ length rules.now }
+    ensures low { take result rules.now
+        ≡ filter (λ rule. not (is_above_rank (rank rule) limit)) rules.now }
+    ensures high { drop result rules.now
+        ≡ filter (λ rule. is_above_rank (rank rule) limit) rules.now }
+{
+    rules.partition_point(|rule| !is_above_rank(rank(rule), limit))
+}
+
+/// Whether one rank is above another.
+pub(crate) fn is_above_rank(first: Option<i64>, second: Option<i64>) -> bool
+    ensures { result ≡ is_above_rank first second }
+{
+    match (first, second) {
+        (Some(first), Some(second)) => second < first,
+        (None, Some(_)) => true,
+        (_, None) => false,
+    }
+}
+
+// The whole number that a text writes in digits, with `-` before them or not, where it fits 64 bits.
+fn number_of(text: &str) -> Option<i64>
+    ensures { result ≡ number_of text.now }
+{
+    // `parse` takes a `+` too.
+    if text.starts_with('+') {
+        return None;
+    }
+    text.parse().ok()
+}
