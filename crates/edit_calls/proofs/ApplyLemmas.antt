@@ -3,6 +3,8 @@ use Rattle.std.proofs.Common.{◌≡◌, ℕ, Bool, true, false, not, ◌&&◌, 
 use Rattle.std.proofs.Common.{List, [], ◌∷◌, ◌++◌, length, map, filter, Some, is_some, refl, sym, ap, subst, ◌∙◌, true≢false}
 use Rattle.std.specs.Prelude.{if◌then◌else◌}
 use Rattle.std.specs.List.{list_any, AllByRecursion, IsDistinct}
+use Rattle.std.proofs.Math.Bool.{or-true}
+use Rattle.std.proofs.lemmas.Bool.{and_parts, or_parts}
 use Rattle.std.proofs.lemmas.Option.{same_Some}
 use Rattle.perm_base.specs.declared.shapes.Shapes.{Shapes}
 use Rattle.perm_base.specs.declared.shapes.TableId.{TableId}
@@ -13,24 +15,11 @@ use Rattle.policy_table.specs.Ranks.{is_level}
 use Rattle.policy_table.specs.Tables.{Fields, Policy, is_ranked, most_tables, place, rows, same, stands}
 use Rattle.policy_table.specs.declared.change.Change.{Change}
 use Rattle.policy_table.specs.declared.change.Change.TheVariants as change
+use Rattle.policy_table.proofs.CallerLemmas.{applies_both, counted_edited, keeps_all, out_and_out, rows_other, rows_possible, same-Decides, same_symm, stands-filter, stands-inserted, stands-without}
 use Rattle.edit_calls.specs.Edits.{edit_by, fitting, has_repeat, inserts, one_is_absent, one_stands, removes, rows_with, unless, without_name}
 use Rattle.edit_calls.specs.Refusals.{table_of as call_table}
 use Rattle.edit_calls.specs.declared.call.Call.{Call}
 use Rattle.edit_calls.specs.declared.call.Call.TheVariants.{Add, AddAll, AddEx, Remove, RemoveAll, Update, RemoveFiltered, UpdateFiltered, DeleteUser, DeleteRole}
-use Rattle.policy_table.proofs.CallerLemmas.{applies_both, counted_edited, keeps_all, out_and_out, rows_other, rows_possible, same-Decides, same_symm, stands-filter, stands-inserted, stands-without}
-
--- neither of two tests
-neither : (a b : Bool) → (a || b) ≡ false → (a ≡ false) × (b ≡ false)
-neither true b e = absurd (true≢false e)
-neither false b e = (refl, e)
-
-and_false : (a : Bool) → (a && false) ≡ false
-and_false true = refl
-and_false false = refl
-
-or_true : (a : Bool) → (a || true) ≡ true
-or_true true = refl
-or_true false = refl
 
 -- what is not false is true
 not_false : (a : Bool) → not a ≡ false → a ≡ true
@@ -39,11 +28,6 @@ not_false false e = absurd (true≢false e)
 
 both_true : (a b : Bool) → a ≡ true → b ≡ true → (a && b) ≡ true
 both_true a b x y = rw (x, y) refl
-
--- both tests
-pub both : (a b : Bool) → (a && b) ≡ true → (a ≡ true) × (b ≡ true)
-both true b e = (refl, e)
-both false b e = absurd (true≢false (sym e))
 
 same_self : (x : Fields) → same x x ≡ true
 same_self x = (same-Decides x x).1 refl
@@ -80,7 +64,7 @@ applies_here : (table : TableId) (changes : List Change) (policy : Policy) → l
 unfolding applies
 applies_here table [] policy counted there of suited = refl
 applies_here table (first ∷ changes) policy counted there of suited =
-    let parts = both (suits first (rows policy table)) (suit (is_ranked policy table) changes (changed_rules (is_ranked policy table) first (rows policy table))) suited in
+    let parts = and_parts (suits first (rows policy table)) (suit (is_ranked policy table) changes (changed_rules (is_ranked policy table) first (rows policy table))) suited in
     let here : is_some (place (table_of first)) ≡ true = ap (λ (t : TableId). is_some (place t)) of.0 ∙ there in
     let now : is_possible first policy ≡ true = both_true _ _ here (ap (λ (t : TableId). suits first (rows policy t)) of.0 ∙ parts.0) in
     let after : rows (changed first policy) table ≡ changed_rules (is_ranked policy table) first (rows policy table)
@@ -104,7 +88,7 @@ AreOf-append table (first ∷ front) back of ofs = (of.0, AreOf-append table fro
 suit-append : (ranked : Bool) (front back : List Change) (rules : List Fields) → suit ranked front rules ≡ true → suit ranked back (made ranked front rules) ≡ true → suit ranked (front ++ back) rules ≡ true
 suit-append ranked [] back rules first second = second
 suit-append ranked (change ∷ front) back rules first second =
-    let parts = both (suits change rules) (suit ranked front (changed_rules ranked change rules)) first in
+    let parts = and_parts (suits change rules) (suit ranked front (changed_rules ranked change rules)) first in
     both_true _ _ parts.0 (suit-append ranked front back (changed_rules ranked change rules) parts.1 second)
 
 -- none of those that pass is named twice where none is
@@ -114,7 +98,7 @@ has_repeat-filter test [] once = refl
 has_repeat-filter test (x ∷ xs) once = by (test x) (has_repeat-filter test xs parts.1)
   where
     parts : (stands x xs ≡ false) × (has_repeat xs ≡ false)
-    parts = neither (stands x xs) (has_repeat xs) once
+    parts = or_parts (stands x xs) (has_repeat xs) once
 
     by : (kept : Bool) → has_repeat (filter test xs) ≡ false → has_repeat (cond kept (x ∷ filter test xs) (filter test xs)) ≡ false
     by true rest = rw (stands-filter test x xs, parts.0, rest) refl
@@ -136,7 +120,7 @@ none_filtered test kept [] none = refl
 none_filtered test kept (x ∷ xs) none = by (kept x) (none_filtered test kept xs parts.1)
   where
     parts : (test x ≡ false) × (list_any test xs ≡ false)
-    parts = neither (test x) (list_any test xs) none
+    parts = or_parts (test x) (list_any test xs) none
 
     by : (b : Bool) → list_any test (filter kept xs) ≡ false → list_any test (cond b (x ∷ filter kept xs) (filter kept xs)) ≡ false
     by true rest = rw (parts.0, rest) refl
@@ -156,8 +140,8 @@ none_passes test (x ∷ xs) = by (test x) refl (none_passes test xs)
 still_stand : (named rules : List Fields) (x : Fields) → one_is_absent named rules ≡ false → one_is_absent named (x ∷ rules) ≡ false
 still_stand [] rules x none = refl
 still_stand (n ∷ named) rules x none =
-    let parts = neither (not (stands n rules)) (one_is_absent named rules) none in
-    rw (not_false (stands n rules) parts.0, or_true (same n x), still_stand named rules x parts.1) refl
+    let parts = or_parts (not (stands n rules)) (one_is_absent named rules) none in
+    rw (not_false (stands n rules) parts.0, or-true (same n x), still_stand named rules x parts.1) refl
 
 -- each of some rules stands among them
 all_stand : (rules : List Fields) → one_is_absent rules rules ≡ false
@@ -173,8 +157,8 @@ made_removes ranked table (rule ∷ gone) rules = made_removes ranked table gone
 absent_beside : (ranked : Bool) (new : Fields) (news rules : List Fields) → stands new news ≡ false → one_stands news rules ≡ false → one_stands news (inserted ranked new rules) ≡ false
 absent_beside ranked new [] rules apart absent = refl
 absent_beside ranked new (x ∷ xs) rules apart absent =
-    let one = neither (same new x) (stands new xs) apart in
-    let parts = neither (stands x rules) (one_stands xs rules) absent in
+    let one = or_parts (same new x) (stands new xs) apart in
+    let parts = or_parts (stands x rules) (one_stands xs rules) absent in
     let first : stands x (inserted ranked new rules) ≡ false = stands-inserted ranked x new rules ∙ rw (same_symm x new, one.0, parts.0) refl in
     rw (first, absent_beside ranked new xs rules one.1 parts.1) refl
 
@@ -183,16 +167,16 @@ suit_inserts : (ranked : Bool) (table : TableId) (news rules : List Fields) → 
 unfolding has_repeat
 suit_inserts ranked table [] rules once absent = refl
 suit_inserts ranked table (new ∷ news) rules once absent =
-    let one = neither (stands new news) (has_repeat news) once in
-    let parts = neither (stands new rules) (one_stands news rules) absent in
+    let one = or_parts (stands new news) (has_repeat news) once in
+    let parts = or_parts (stands new rules) (one_stands news rules) absent in
     both_true _ _ (ap not parts.0) (suit_inserts ranked table news (inserted ranked new rules) one.1 (absent_beside ranked new news rules one.0 parts.1))
 
 -- rules that stand do so without another rule
 stand_without : (rule : Fields) (gone rules : List Fields) → stands rule gone ≡ false → one_is_absent gone rules ≡ false → one_is_absent gone (without rule rules) ≡ false
 stand_without rule [] rules apart present = refl
 stand_without rule (x ∷ xs) rules apart present =
-    let one = neither (same rule x) (stands rule xs) apart in
-    let parts = neither (not (stands x rules)) (one_is_absent xs rules) present in
+    let one = or_parts (same rule x) (stands rule xs) apart in
+    let parts = or_parts (not (stands x rules)) (one_is_absent xs rules) present in
     let first : stands x (without rule rules) ≡ true = stands-without x rule rules ∙ both_true _ _ (not_false (stands x rules) parts.0) (ap not one.0) in
     rw (first, stand_without rule xs rules one.1 parts.1) refl
 
@@ -201,8 +185,8 @@ suit_removes : (ranked : Bool) (table : TableId) (gone rules : List Fields) → 
 unfolding has_repeat
 suit_removes ranked table [] rules once present = refl
 suit_removes ranked table (rule ∷ gone) rules once present =
-    let one = neither (stands rule gone) (has_repeat gone) once in
-    let parts = neither (not (stands rule rules)) (one_is_absent gone rules) present in
+    let one = or_parts (stands rule gone) (has_repeat gone) once in
+    let parts = or_parts (not (stands rule rules)) (one_is_absent gone rules) present in
     both_true _ _ (not_false (stands rule rules) parts.0) (suit_removes ranked table gone (without rule rules) one.1 (stand_without rule gone rules one.0 parts.1))
 
 -- the rules that pass a test can be removed from distinct rules
@@ -255,7 +239,7 @@ stays_in_place old new rule (x ∷ xs) other present = by (same rule x) refl pre
     by true e here rest =
         let kept : same old x ≡ false = ap (same old) (sym ((same-Decides rule x).0 e)) ∙ other in
         rw (kept, e) refl
-    by false e here rest = rw (rest here) (or_true _)
+    by false e here rest = rw (rest here) (or-true _)
 
 -- another absent rule stays absent there
 away_in_place : (old new rule : Fields) (rules : List Fields) → same rule new ≡ false → stands rule rules ≡ false → stands rule (in_place old new rules) ≡ false
@@ -263,7 +247,7 @@ away_in_place old new rule [] other absent = refl
 away_in_place old new rule (x ∷ xs) other absent = by (same old x) (away_in_place old new rule xs other parts.1)
   where
     parts : (same rule x ≡ false) × (stands rule xs ≡ false)
-    parts = neither (same rule x) (stands rule xs) absent
+    parts = or_parts (same rule x) (stands rule xs) absent
 
     by : (b : Bool) → stands rule (in_place old new xs) ≡ false → (same rule (if b then new else x) || stands rule (in_place old new xs)) ≡ false
     by true rest = rw (other, rest) refl
@@ -277,7 +261,7 @@ stays ranked old new rule rules other present = by (ranked && not (is_level old 
     left = stands-without rule old rules ∙ both_true _ _ present (ap not other)
 
     by : (b : Bool) → stands rule (if b then ranked_in new (without old rules) else in_place old new rules) ≡ true
-    by true = stands-inserted true rule new (without old rules) ∙ ap (λ (b : Bool). same rule new || b) left ∙ or_true (same rule new)
+    by true = stands-inserted true rule new (without old rules) ∙ ap (λ (b : Bool). same rule new || b) left ∙ or-true (same rule new)
     by false = stays_in_place old new rule rules other present
 
 stays_away : (ranked : Bool) (old new rule : Fields) (rules : List Fields) → same rule new ≡ false → stands rule rules ≡ false → stands rule (replaced ranked old new rules) ≡ false
@@ -294,15 +278,15 @@ stays_away ranked old new rule rules other absent = by (ranked && not (is_level 
 all_stay : (ranked : Bool) (old new : Fields) (named rules : List Fields) → stands old named ≡ false → one_is_absent named rules ≡ false → one_is_absent named (replaced ranked old new rules) ≡ false
 all_stay ranked old new [] rules apart present = refl
 all_stay ranked old new (x ∷ xs) rules apart present =
-    let one = neither (same old x) (stands old xs) apart in
-    let parts = neither (not (stands x rules)) (one_is_absent xs rules) present in
+    let one = or_parts (same old x) (stands old xs) apart in
+    let parts = or_parts (not (stands x rules)) (one_is_absent xs rules) present in
     rw (stays ranked old new x rules one.0 (not_false (stands x rules) parts.0), all_stay ranked old new xs rules one.1 parts.1) refl
 
 all_stay_away : (ranked : Bool) (old new : Fields) (named rules : List Fields) → stands new named ≡ false → one_stands named rules ≡ false → one_stands named (replaced ranked old new rules) ≡ false
 all_stay_away ranked old new [] rules apart absent = refl
 all_stay_away ranked old new (x ∷ xs) rules apart absent =
-    let one = neither (same new x) (stands new xs) apart in
-    let parts = neither (stands x rules) (one_stands xs rules) absent in
+    let one = or_parts (same new x) (stands new xs) apart in
+    let parts = or_parts (stands x rules) (one_stands xs rules) absent in
     rw (stays_away ranked old new x rules (same_symm x new ∙ one.0) parts.0, all_stay_away ranked old new xs rules one.1 parts.1) refl
 
 -- distinct rules that are absent can take the places of distinct rules that stand
@@ -311,10 +295,10 @@ suit_replaces : (ranked : Bool) (table : TableId) (pairs : List (Fields × Field
 unfolding has_repeat
 suit_replaces ranked table [] rules olds news present absent = refl
 suit_replaces ranked table (pair ∷ pairs) rules olds news present absent =
-    let old = neither (stands pair.0 (olds_of pairs)) (has_repeat (olds_of pairs)) olds in
-    let new = neither (stands pair.1 (news_of pairs)) (has_repeat (news_of pairs)) news in
-    let here = neither (not (stands pair.0 rules)) (one_is_absent (olds_of pairs) rules) present in
-    let there = neither (stands pair.1 rules) (one_stands (news_of pairs) rules) absent in
+    let old = or_parts (stands pair.0 (olds_of pairs)) (has_repeat (olds_of pairs)) olds in
+    let new = or_parts (stands pair.1 (news_of pairs)) (has_repeat (news_of pairs)) news in
+    let here = or_parts (not (stands pair.0 rules)) (one_is_absent (olds_of pairs) rules) present in
+    let there = or_parts (stands pair.1 rules) (one_stands (news_of pairs) rules) absent in
     both_true _ _ (both_true _ _ (not_false (stands pair.0 rules) here.0) (ap not there.0))
     (suit_replaces ranked table pairs (replaced ranked pair.0 pair.1 rules) old.1 new.1
     (all_stay ranked pair.0 pair.1 (olds_of pairs) rules old.0 here.1) (all_stay_away ranked pair.0 pair.1 (news_of pairs) rules new.0 there.1))
@@ -379,37 +363,37 @@ edit_applies shapes policy (Add table rule) edit counted once base there is =
     applies_at table (inserts table (rule ∷ [])) edit policy counted there (of_inserts table (rule ∷ [])) (suit_inserts (is_ranked policy table) table (rule ∷ []) (rows policy table) refl (rw found.0 refl)) found.1
 edit_applies shapes policy (AddAll table rules) edit counted once base there is =
     let found = edit_of _ _ edit is in
-    let last = neither _ _ found.0 in
-    applies_at table (inserts table rules) edit policy counted there (of_inserts table _) (suit_inserts (is_ranked policy table) table rules (rows policy table) (neither _ _ last.0).1 last.1) found.1
+    let last = or_parts _ _ found.0 in
+    applies_at table (inserts table rules) edit policy counted there (of_inserts table _) (suit_inserts (is_ranked policy table) table rules (rows policy table) (or_parts _ _ last.0).1 last.1) found.1
 edit_applies shapes policy (AddEx table rules) edit counted once base there is =
     let found = edit_of _ _ edit is in
     let now = rows policy table in
     let absent : Fields → Bool = λ rule. not (stands rule now) in
     applies_at table (inserts table (filter absent rules)) edit policy counted there (of_inserts table (filter absent rules))
-    (suit_inserts (is_ranked policy table) table (filter absent rules) now (has_repeat-filter absent rules (neither _ _ found.0).0) (none_passes (λ (rule : Fields). stands rule now) rules)) found.1
+    (suit_inserts (is_ranked policy table) table (filter absent rules) now (has_repeat-filter absent rules (or_parts _ _ found.0).0) (none_passes (λ (rule : Fields). stands rule now) rules)) found.1
 edit_applies shapes policy (Remove table rule) edit counted once base there is =
     let found = edit_of _ _ edit is in
     applies_at table (removes table (rule ∷ [])) edit policy counted there (of_removes table (rule ∷ [])) (suit_removes (is_ranked policy table) table (rule ∷ []) (rows policy table) refl (rw found.0 refl)) found.1
 edit_applies shapes policy (RemoveAll table rules) edit counted once base there is =
     let found = edit_of _ _ edit is in
-    let last = neither _ _ found.0 in
-    applies_at table (removes table rules) edit policy counted there (of_removes table _) (suit_removes (is_ranked policy table) table rules (rows policy table) (neither _ _ last.0).1 last.1) found.1
+    let last = or_parts _ _ found.0 in
+    applies_at table (removes table rules) edit policy counted there (of_removes table _) (suit_removes (is_ranked policy table) table rules (rows policy table) (or_parts _ _ last.0).1 last.1) found.1
 edit_applies shapes policy (Update table pairs) edit counted once base there is =
     let found = edit_of _ _ edit is in
-    let news = neither _ _ found.0 in
-    let olds = neither _ _ news.0 in
-    let absent = neither _ _ olds.0 in
-    applies_at table (replaces table pairs) edit policy counted there (of_replaces table _) (suit_replaces (is_ranked policy table) table pairs (rows policy table) olds.1 news.1 (neither _ _ absent.0).1 absent.1) found.1
+    let news = or_parts _ _ found.0 in
+    let olds = or_parts _ _ news.0 in
+    let absent = or_parts _ _ olds.0 in
+    applies_at table (replaces table pairs) edit policy counted there (of_replaces table _) (suit_replaces (is_ranked policy table) table pairs (rows policy table) olds.1 news.1 (or_parts _ _ absent.0).1 absent.1) found.1
 edit_applies shapes policy (RemoveFiltered table at values) edit counted once base there is =
     let found = edit_of _ _ edit is in
     applies_at table (removes table (fitting at values (rows policy table))) edit policy counted there (of_removes table _)
     (suit_filtered (is_ranked policy table) table (λ (rule : Fields). fits_filter rule at values) (rows policy table) once) found.1
 edit_applies shapes policy (UpdateFiltered table at values rules) edit counted once base there is =
     let found = edit_of _ _ edit is in
-    let last = neither _ _ found.0 in
+    let last = or_parts _ _ found.0 in
     let gone = fitting at values (rows policy table) in
     applies_at table (removes table gone ++ inserts table rules) edit policy counted there
     (AreOf-append table (removes table gone) (inserts table rules) (of_removes table gone) (of_inserts table rules))
-    (suit_exchanged (is_ranked policy table) table (λ (rule : Fields). fits_filter rule at values) rules (rows policy table) once (neither _ _ last.0).1 last.1) found.1
+    (suit_exchanged (is_ranked policy table) table (λ (rule : Fields). fits_filter rule at values) rules (rows policy table) once (or_parts _ _ last.0).1 last.1) found.1
 edit_applies shapes policy (DeleteUser name) edit counted once base there is = name_applies 0 shapes policy name edit counted once base (edit_of _ _ edit is).1
 edit_applies shapes policy (DeleteRole name) edit counted once base there is = name_applies 1 shapes policy name edit counted once base (edit_of _ _ edit is).1

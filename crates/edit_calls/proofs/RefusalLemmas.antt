@@ -1,7 +1,7 @@
 -- Searches that go over a list place by place: what is left of the list has the answer of the whole.
-use Rattle.std.proofs.Common.{◌≡◌, ℕ, ◌+◌, Bool, true, false, not, ◌||◌, ◌&&◌, cond, eqb, refl, sym, ap, ◌∙◌}
+use Rattle.std.proofs.Common.{◌≡◌, ℕ, ◌+◌, Bool, true, false, not, ◌||◌, cond, eqb, refl, sym, ap, ◌∙◌}
 use Rattle.std.proofs.Common.{List, [], ◌∷◌, length, drop, slice_get, Option, Some, None}
-use Rattle.std.specs.List.{find, flat_map, list_all, list_any}
+use Rattle.std.specs.List.{find, flat_map, list_any}
 use Rattle.std.specs.Option.{option_map_or, option_or}
 use Rattle.std.proofs.lemmas.List.{drop_more}
 use Rattle.std.proofs.lemmas.Option.{get_or_from_slice_get, slice_get_within}
@@ -10,10 +10,6 @@ use Rattle.policy_table.specs.Tables.{Fields}
 use Rattle.edit_calls.specs.Refusals.{other_length}
 use Rattle.edit_calls.specs.declared.refused.CallRefused.{CallRefused}
 use Rattle.edit_calls.specs.declared.refused.CallRefused.TheVariants.{Columns}
-
--- the field is empty
-abbrev pub is_empty : List ℕ → Bool
-is_empty field = eqb (length field) 0
 
 -- a field of the rule is too long
 abbrev pub is_long_rule : Fields → Bool
@@ -39,18 +35,6 @@ module _ {X : Type 0} (p : X → Bool) (xs : List X) (at : ℕ) (x : X) (there :
   -- one that fails leaves it open
   pub any-fails : list_any p (drop at xs) ≡ whole → p x ≡ false → list_any p (drop (at + 1) xs) ≡ whole
   any-fails left is = sym (ap (λ b. b || list_any p (drop (at + 1) xs)) is) ∙ any_there left
-
-  -- whether all pass, from this place on
-  all_there : list_all p (drop at xs) ≡ whole → (p x && list_all p (drop (at + 1) xs)) ≡ whole
-  all_there left = sym (ap (list_all p) (drop_there xs at x there)) ∙ left
-
-  -- one that passes leaves it open
-  pub all-passes : list_all p (drop at xs) ≡ whole → p x ≡ true → list_all p (drop (at + 1) xs) ≡ whole
-  all-passes left is = sym (ap (λ b. b && list_all p (drop (at + 1) xs)) is) ∙ all_there left
-
-  -- one that fails settles it
-  pub all-fails : list_all p (drop at xs) ≡ whole → p x ≡ false → false ≡ whole
-  all-fails left is = sym (ap (λ b. b && list_all p (drop (at + 1) xs)) is) ∙ all_there left
 
 module _ (columns : ℕ) where
   -- the refusal for a rule that was found

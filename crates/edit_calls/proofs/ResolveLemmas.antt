@@ -15,9 +15,9 @@ use Rattle.perm_base.specs.declared.shapes.TableId.TheVariants.{P, G}
 use Rattle.policy_table.specs.Changes.{applies}
 use Rattle.policy_table.specs.Tables.{Fields, IsKept, Policy, place, rows}
 use Rattle.policy_table.specs.declared.change.Change.{Change}
+use Rattle.policy_table.specs.Limits.{HaveShapes, columns_of, role_columns}
 use Rattle.edit_calls.specs.Edits.{edit_by}
 use Rattle.edit_calls.specs.Helps.Kept.{AreFitted}
-use Rattle.policy_table.specs.Limits.{HaveShapes, columns_of, role_columns}
 use Rattle.edit_calls.specs.Refusals.{added_rules, bad_filter, filter_fault, has_long_field, named_rules, other_length, refusal, table_of}
 use Rattle.edit_calls.specs.declared.call.Call.{Call}
 use Rattle.edit_calls.specs.declared.call.Call.TheVariants.{Add, AddAll, AddEx, Remove, RemoveAll, Update, RemoveFiltered, UpdateFiltered, DeleteUser, DeleteRole}

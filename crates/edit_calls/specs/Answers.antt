@@ -5,11 +5,11 @@ use Rattle.perm_base.specs.declared.shapes.Shapes.{Shapes}
 use Rattle.policy_table.specs.Changes.{edited}
 use Rattle.policy_table.specs.Tables.{Policy}
 use Rattle.policy_table.specs.declared.change.Change.{Change}
-use Rattle.edit_calls.specs.Edits.{edit_by}
 use Rattle.policy_table.specs.Limits.{passed}
+use Rattle.policy_table.specs.declared.limit.Limit.{Limit}
+use Rattle.edit_calls.specs.Edits.{edit_by}
 use Rattle.edit_calls.specs.Refusals.{refusal}
 use Rattle.edit_calls.specs.declared.call.Call.{Call}
-use Rattle.policy_table.specs.declared.limit.Limit.{Limit}
 use Rattle.edit_calls.specs.declared.refused.CallRefused.{CallRefused}
 use Rattle.edit_calls.specs.declared.refused.CallRefused.TheVariants.{Full}
 

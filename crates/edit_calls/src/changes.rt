@@ -3,18 +3,17 @@ ghost use Rattle.edit_calls.specs.Edits.{fitting, inserts, removes, rows_with};
 ghost use Rattle.policy_table.specs.Tables.{rows, stands};
 ghost use Rattle.policy_table.specs.declared.change.Change.TheVariants as change;
 
-use crate::listed::RuleList;
 use perm_base::{NoMemory, Rule, TableId};
 use policy_table::{Change, Tables, fits_filter};
 use std::alloc::Global;
 
 /// The changes that put rules into a table.
-pub(crate) fn inserts<L: RuleList>(
+pub(crate) fn inserts(
     alloc: Global,
     table: TableId,
-    rules: &L,
+    rules: &[Rule],
 ) -> Result<Vec<Change>, NoMemory>
-    ensures { IfOk result (λ changes. changes.items ≡ inserts table (L.rules rules.now)) }
+    ensures { IfOk result (λ changes. changes.items ≡ inserts table rules.now) }
 {
     let mut changes = Vec::new(alloc);
     push_inserts(alloc, &mut changes, table, rules)?;
@@ -22,35 +21,33 @@ pub(crate) fn inserts<L: RuleList>(
 }
 
 /// Puts behind changes those that put rules into a table.
-pub(crate) fn push_inserts<L: RuleList>(
+pub(crate) fn push_inserts(
     alloc: Global,
     changes: &mut Vec<Change>,
     table: TableId,
-    rules: &L,
+    rules: &[Rule],
 ) -> Result<(), NoMemory>
-    ensures { OnOk result (changes.new.items
-        ≡ changes.old.items ++ inserts table (L.rules rules.now)) }
+    ensures { OnOk result (changes.new.items ≡ changes.old.items ++ inserts table rules.now) }
 {
-    for at in 0..rules.len() {
-        let rule = rules.at(at).copy(alloc)?;
+    for rule in rules {
+        let rule = rule.copy(alloc)?;
         changes.push(Change::Insert { table, rule })?;
     }
     Ok(())
 }
 
 /// The changes that put the absent ones of rules into a table.
-pub(crate) fn inserts_absent<L: RuleList>(
+pub(crate) fn inserts_absent(
     alloc: Global,
     tables: &Tables,
     table: TableId,
-    rules: &L,
+    rules: &[Rule],
 ) -> Result<Vec<Change>, NoMemory>
     ensures { IfOk result (λ changes. changes.items ≡ inserts table
-        (filter (λ rule. not (stands rule (rows tables.now.policy table))) (L.rules rules.now))) }
+        (filter (λ rule. not (stands rule (rows tables.now.policy table))) rules.now)) }
 {
     let mut changes = Vec::new(alloc);
-    for at in 0..rules.len() {
-        let rule = rules.at(at);
+    for rule in rules {
         if !tables.has(table, rule) {
             let rule = rule.copy(alloc)?;
             changes.push(Change::Insert { table, rule })?;
@@ -60,16 +57,16 @@ pub(crate) fn inserts_absent<L: RuleList>(
 }
 
 /// The changes that take rules out of a table.
-pub(crate) fn removes<L: RuleList>(
+pub(crate) fn removes(
     alloc: Global,
     table: TableId,
-    rules: &L,
+    rules: &[Rule],
 ) -> Result<Vec<Change>, NoMemory>
-    ensures { IfOk result (λ changes. changes.items ≡ removes table (L.rules rules.now)) }
+    ensures { IfOk result (λ changes. changes.items ≡ removes table rules.now) }
 {
     let mut changes = Vec::new(alloc);
-    for at in 0..rules.len() {
-        let rule = rules.at(at).copy(alloc)?;
+    for rule in rules {
+        let rule = rule.copy(alloc)?;
         changes.push(Change::Remove { table, rule })?;
     }
     Ok(changes)

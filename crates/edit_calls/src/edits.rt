@@ -76,7 +76,7 @@ fn add_all(
     if rules.len() == 0 || has_repeat(alloc, rules)? || one_stands(tables, table, rules) {
         return Ok(None);
     }
-    Ok(Some(Edit::from_vec(inserts(alloc, table, rules)?)))
+    Ok(Some(Edit::from_vec(inserts(alloc, table, rules.as_slice())?)))
 }
 
 fn add_absent(
@@ -93,7 +93,7 @@ fn add_absent(
     if has_repeat(alloc, rules)? {
         return Ok(None);
     }
-    Ok(unless_empty(inserts_absent(alloc, tables, table, rules)?))
+    Ok(unless_empty(inserts_absent(alloc, tables, table, rules.as_slice())?))
 }
 
 fn remove(
@@ -126,7 +126,7 @@ fn remove_all(
     if rules.len() == 0 || has_repeat(alloc, rules)? || one_is_absent(tables, table, rules) {
         return Ok(None);
     }
-    Ok(Some(Edit::from_vec(removes(alloc, table, rules)?)))
+    Ok(Some(Edit::from_vec(removes(alloc, table, rules.as_slice())?)))
 }
 
 fn update(
@@ -194,7 +194,7 @@ fn update_filtered(
     {
         return Ok(None);
     }
-    push_inserts(alloc, &mut changes, table, rules)?;
+    push_inserts(alloc, &mut changes, table, rules.as_slice())?;
     Ok(Some(Edit::from_vec(changes)))
 }
 

@@ -140,12 +140,7 @@ fn bad_filter(columns: u32, at: u32, values: &Rule) -> Option<CallRefused>
 fn is_open(values: &Rule) -> bool
     ensures { result ≡ list_all (λ value. length value == 0) values.now }
 {
-    for at in 0..values.len() {
-        if !values.field(at).is_empty() {
-            return false;
-        }
-    }
-    true
+    values.fields().iter().all(|value| value.bytes().is_empty())
 }
 
 // Whether a field of a rule that the call adds is too long.

@@ -3,5 +3,5 @@ use Rattle.policy_table.specs.Tables.{Fields, rows, stands}
 use Rattle.edit_calls.specs.Edits.{inserts}
 use Rattle.edit_calls.proofs.changes.inserts_absent.Given as goal
 
-abbrev pub invariant-loop-at : goal.invariant-loop-at
-invariant-loop-at g l = l.changes.items ≡ inserts l.table (filter (λ (rule : Fields). not (stands rule (rows l.tables.policy l.table))) (take l.at (g.L.RuleList.rules l.rules)))
+abbrev pub invariant-loop-rule : goal.invariant-loop-rule
+invariant-loop-rule l = l.changes.items ≡ inserts l.table (filter (λ (rule : Fields). not (stands rule (rows l.tables.policy l.table))) (take l.rule-index l.rules))

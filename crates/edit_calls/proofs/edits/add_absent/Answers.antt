@@ -6,4 +6,4 @@ use Rattle.edit_calls.proofs.edits.add_absent.Goals as goal
 
 pub returns : goal.returns
 returns c =
-    unless_none (λ (rule : Fields). not (stands rule (rows c.args.tables.now.policy c.args.table))) (Insert c.args.table) _ _ _ _ (search rules) c.in_ok-inserts_absent.ensures c.unless_empty.ensures
+    unless_none (λ (rule : Fields). not (stands rule (rows c.args.tables.now.policy c.args.table))) (Insert c.args.table) _ _ _ _ (search rules) (search rules) c.unless_empty.ensures
