@@ -19,7 +19,8 @@ use Rattle.perm_value.specs.Json.{values_of}
 use Rattle.perm_value.specs.declared.request.RequestFault.{RequestFault}
 use Rattle.perm_value.specs.declared.request.RequestFault.TheVariants as fault
 use Rattle.casbin_run.specs.Answer.{AreAnswers, IsAnswer, IsReply, Reply, arity, arity_text, is_refused_search, judged, line_text, refusal, refused, refusals_in, reply_text, shown, text_of_replies, verdict_text}
-use Rattle.casbin_run.specs.Request.{Reading, Says}
+use Rattle.script_read.specs.Reads.{Says}
+use Rattle.script_read.specs.Said.{Reading}
 
 -- lists of rules
 abbrev pub Rules : Type 0

@@ -1,5 +1,4 @@
 pub mod WordLemmas
-pub mod RequestLemmas
 pub mod ReplyLemmas
 pub mod GatheredLemmas
 pub mod AnswerLemmas

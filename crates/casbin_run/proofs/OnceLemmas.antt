@@ -15,7 +15,8 @@ use Rattle.perm_value.specs.declared.request.RequestFault.{RequestFault}
 use Rattle.perm_value.specs.declared.request.RequestFault.TheVariants as fault
 use Rattle.casbin_run.specs.Answer.{AreAnswers, IsAnswer, IsReply, Reply, arity, judged, refused}
 use Rattle.casbin_run.specs.Finders.{NoneBad}
-use Rattle.casbin_run.specs.Request.{Reading, Says, SaysFields}
+use Rattle.script_read.specs.Reads.{Says, SaysFields}
+use Rattle.script_read.specs.Said.{Reading}
 use Rattle.casbin_run.proofs.AnswerLemmas.{Rules}
 
 -- a line is one list of fields or has one fault, and a request has one verdict

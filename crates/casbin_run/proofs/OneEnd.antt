@@ -5,17 +5,23 @@ use Rattle.outside.specs.Files.{Files}
 use Rattle.model_conf.specs.Faults.{IsModelFault}
 use Rattle.model_conf.specs.ModelText.{ModelParts, IsModel}
 use Rattle.model_conf.specs.declared.fault.ModelFault.{ModelFault}
+use Rattle.perm_base.specs.declared.shapes.Shapes.{Shapes}
+use Rattle.perm_base.specs.declared.shapes.TableId.TheVariants.{P}
+use Rattle.policy_csv.specs.Faults.{IsPolicyFault}
 use Rattle.policy_csv.specs.Policy.{IsPolicy}
+use Rattle.policy_csv.specs.declared.fault.PolicyFault.{PolicyFault}
+use Rattle.policy_table.specs.Tables as table
+use Rattle.policy_table.specs.Tables.{rows}
 use Rattle.casbin_run.specs.declared.stop.Part.TheVariants.{Model, Policy, Input}
 use Rattle.casbin_run.specs.declared.stop.Stop.{Stop}
 use Rattle.casbin_run.specs.declared.stop.Stop.TheVariants.{Words, NoModel, LaterModel, NoPolicy, NoScript, CannotRead, TooLong}
 use Rattle.casbin_run.specs.Answer.{AreAnswers, text_of_replies}
 use Rattle.casbin_run.specs.Answers.{IsAnswered, IsInOrder}
-use Rattle.casbin_run.specs.Cause.{Cause, IsLater, SaysNoPolicy, SaysNoText}
+use Rattle.casbin_run.specs.Cause.{Cause, IsLater, SaysNoText}
 use Rattle.casbin_run.specs.Finders.{NoneBad}
 use Rattle.casbin_run.specs.Judging.{is_later, IsAnsweredBy}
-use Rattle.casbin_run.specs.Parts.{model_limit, policy_limit, input_limit}
-use Rattle.casbin_run.specs.Script.{requests_of}
+use Rattle.casbin_run.specs.Parts.{model_limit, policy_limit, policy_shapes, input_limit}
+use Rattle.script_read.specs.Lines.{requests_of}
 use Rattle.casbin_run.specs.Words.{Command, command_of}
 use Rattle.casbin_run.proofs.OnceLemmas.{SaysLinesOnce, answers_once}
 use Rattle.casbin_run.proofs.AnswerLemmas.{Rules}
@@ -81,7 +87,7 @@ abbrev ModelState : Type 0
 ModelState = State ModelParts Stop
 
 abbrev PolicyState : Type 0
-PolicyState = State Rules One
+PolicyState = State table.Policy PolicyFault
 
 abbrev InputState : Type 0
 InputState = State One One
@@ -90,7 +96,7 @@ abbrev IsModelState : Option (List ℕ) → ModelState → Type 0
 IsModelState content state = IsState content model_limit IsAnsweredBy IsNoModel state
 
 abbrev IsPolicyState : Option (List ℕ) → ModelParts → PolicyState → Type 0
-IsPolicyState content parts state = IsState content policy_limit (IsPolicy (length parts.policy)) (λ bytes _. SaysNoPolicy (length parts.policy) bytes) state
+IsPolicyState content parts state = IsState content policy_limit (IsPolicy (policy_shapes parts)) (IsPolicyFault (policy_shapes parts)) state
 
 abbrev IsInputState : Option (List ℕ) → InputState → Type 0
 IsInputState content state = IsState content input_limit (λ bytes _. IsUtf8 bytes) (λ bytes _. SaysNoText bytes) state
@@ -108,8 +114,8 @@ InputEnds input end = (state : InputState) × IsInputState input state × (end �
 abbrev AfterPolicy : Option (List ℕ) → Option Stop → PolicyState → Type 0
 AfterPolicy input end absent = end ≡ Some (CannotRead Policy)
 AfterPolicy input end long = end ≡ Some (TooLong Policy)
-AfterPolicy input end (bad f) = end ≡ Some NoPolicy
-AfterPolicy input end (good rules) = InputEnds input end
+AfterPolicy input end (bad f) = end ≡ Some (NoPolicy f)
+AfterPolicy input end (good tables) = InputEnds input end
 
 abbrev PolicyEnds : Files → List ℕ → Option (List ℕ) → ModelParts → Option Stop → Type 0
 PolicyEnds files name input parts end = (state : PolicyState) × IsPolicyState (files name) parts state × AfterPolicy input end state
@@ -133,7 +139,9 @@ pub record SaysOnce : Type 0 where
   pub model : (bytes : List ℕ) (first second : ModelParts) → IsModel bytes first → IsModel bytes second → first ≡ second
   pub fault : (bytes : List ℕ) (first second : ModelFault) → IsModelFault bytes first → IsModelFault bytes second → first ≡ second
   pub either : (bytes : List ℕ) (fault : ModelFault) (model : ModelParts) → IsModelFault bytes fault → ¬ (IsModel bytes model)
-  pub policy : (columns : ℕ) (bytes : List ℕ) (first second : Rules) → IsPolicy columns bytes first → IsPolicy columns bytes second → first ≡ second
+  pub policy : (shapes : Shapes) (bytes : List ℕ) (first second : table.Policy) → IsPolicy shapes bytes first → IsPolicy shapes bytes second → first ≡ second
+  pub policy_fault : (shapes : Shapes) (bytes : List ℕ) (first second : PolicyFault) → IsPolicyFault shapes bytes first → IsPolicyFault shapes bytes second → first ≡ second
+  pub policy_either : (shapes : Shapes) (bytes : List ℕ) (fault : PolicyFault) (policy : table.Policy) → IsPolicyFault shapes bytes fault → ¬ (IsPolicy shapes bytes policy)
   pub lines : SaysLinesOnce
 
 not_both : (a : Bool) → a ≡ true → a ≡ false → ⊥
@@ -156,8 +164,8 @@ answered_or_not once bytes x _ p q = absurd q
 model_is_one : SaysOnce → IsOne IsAnsweredBy IsNoModel
 model_is_one once = record { said = λ bytes x y p q. once.model bytes x y p.is_model q.is_model; fault = no_model_once once; either = answered_or_not once }
 
-policy_is_one : SaysOnce → (columns : ℕ) → IsOne (IsPolicy columns) (λ (bytes : List ℕ) (_ : One). SaysNoPolicy columns bytes)
-policy_is_one once columns = record { said = λ bytes x y p q. once.policy columns bytes x y p q; fault = λ bytes f g p q. refl; either = λ bytes x f p q. q x p }
+policy_is_one : SaysOnce → (shapes : Shapes) → IsOne (IsPolicy shapes) (IsPolicyFault shapes)
+policy_is_one once shapes = record { said = once.policy shapes; fault = once.policy_fault shapes; either = λ bytes x f p q. once.policy_either shapes bytes f x q p }
 
 input_is_one : IsOne (λ (bytes : List ℕ) (_ : One). IsUtf8 bytes) (λ (bytes : List ℕ) (_ : One). SaysNoText bytes)
 input_is_one = record { said = λ bytes x y p q. refl; fault = λ bytes f g p q. refl; either = λ bytes x f p q. q p }
@@ -169,11 +177,11 @@ after_policy_once : (input : Option (List ℕ)) (a b : Option Stop) (state : Pol
 after_policy_once input a b absent p q = p ∙ sym q
 after_policy_once input a b long p q = p ∙ sym q
 after_policy_once input a b (bad f) p q = p ∙ sym q
-after_policy_once input a b (good rules) p q = input_once input a b p q
+after_policy_once input a b (good tables) p q = input_once input a b p q
 
 policy_once : SaysOnce → (files : Files) (name : List ℕ) (input : Option (List ℕ)) (parts : ModelParts) (a b : Option Stop) → PolicyEnds files name input parts a → PolicyEnds files name input parts b → a ≡ b
 policy_once once files name input parts a b (s, s-is, p) (t, t-is, q) =
-    let same : t ≡ s = one_state (files name) policy_limit _ _ (policy_is_one once (length parts.policy)) t s t-is s-is in
+    let same : t ≡ s = one_state (files name) policy_limit _ _ (policy_is_one once (policy_shapes parts)) t s t-is s-is in
     after_policy_once input a b s p (subst (AfterPolicy input b) same q)
 
 after_model_once : SaysOnce → (files : Files) (name : List ℕ) (input : Option (List ℕ)) (a b : Option Stop) (state : ModelState) → AfterModel files name input a state → AfterModel files name input b state → a ≡ b
@@ -201,9 +209,9 @@ cause_ends words files input (NoModel fault) (command, told, none) = (Some comma
 cause_ends words files input LaterModel (command, told, later) = (Some command, told, (bad LaterModel, later, refl))
 cause_ends words files input (CannotRead Policy) (command, told, (parts, model, lacks)) = (Some command, told, (good parts, model, (absent, lacks, refl)))
 cause_ends words files input (TooLong Policy) (command, told, (parts, model, wide)) = (Some command, told, (good parts, model, (long, wide, refl)))
-cause_ends words files input NoPolicy (command, told, (parts, model, none)) = (Some command, told, (good parts, model, (bad tt, none, refl)))
-cause_ends words files input (TooLong Input) (command, told, (parts, model, (rules, policy, wide))) = (Some command, told, (good parts, model, (good rules, policy, (long, (input, refl, wide), refl))))
-cause_ends words files input NoScript (command, told, (parts, model, (rules, policy, (bytes, same, within, none)))) = (Some command, told, (good parts, model, (good rules, policy, (bad tt, (bytes, ap (λ (b : List ℕ). Some b) same, within, none), refl))))
+cause_ends words files input (NoPolicy fault) (command, told, (parts, model, none)) = (Some command, told, (good parts, model, (bad fault, none, refl)))
+cause_ends words files input (TooLong Input) (command, told, (parts, model, (tables, policy, wide))) = (Some command, told, (good parts, model, (good tables, policy, (long, (input, refl, wide), refl))))
+cause_ends words files input NoScript (command, told, (parts, model, (tables, policy, (bytes, same, within, none)))) = (Some command, told, (good parts, model, (good tables, policy, (bad tt, (bytes, ap (λ (b : List ℕ). Some b) same, within, none), refl))))
 cause_ends words files input _ cause = absurd cause
 
 in_order_ends : (words : List (List ℕ)) (files : Files) (input : List ℕ) → IsInOrder words (Some files) (Some input) → Ends words files (Some input) None
@@ -213,7 +221,7 @@ in_order_ends words files input is = (
   (
     good is.parts,
     (is.model_bytes, is.model, is.model_within, is.is_model),
-    (good is.rules, (is.policy_bytes, is.policy, is.policy_within, is.is_policy), (good tt, (is.input_bytes, ap (λ (b : List ℕ). Some b) is.script, is.input_within, is.is_script), refl)),
+    (good is.tables, (is.policy_bytes, is.policy, is.policy_within, is.is_policy), (good tt, (is.input_bytes, ap (λ (b : List ℕ). Some b) is.script, is.input_within, is.is_script), refl)),
   ),
 )
 
@@ -233,11 +241,11 @@ one_text once words files input first second p q =
     let policy : x.policy_bytes ≡ y.policy_bytes = same_bytes (files x.command.policy) x.policy_bytes y.policy_bytes x.policy (ap (λ (c : Command). files c.policy) command ∙ y.policy) in
     let script : x.input_bytes ≡ y.input_bytes = sym x.script ∙ y.script in
     let parts : x.parts ≡ y.parts = once.model y.model_bytes x.parts y.parts (subst (λ (b : List ℕ). IsModel b x.parts) model x.is_model.is_model) y.is_model.is_model in
-    let x-policy : IsPolicy (length y.parts.policy) y.policy_bytes x.rules = subst (λ (m : ModelParts). IsPolicy (length m.policy) y.policy_bytes x.rules) parts (subst (λ (b : List ℕ). IsPolicy (length x.parts.policy) b x.rules) policy x.is_policy) in
-    let rules : x.rules ≡ y.rules = once.policy (length y.parts.policy) y.policy_bytes x.rules y.rules x-policy y.is_policy in
-    let a : AreAnswers y.parts x.rules x.command.json NoneBad (requests_of x.input_bytes) p.replies = subst (λ (m : ModelParts). AreAnswers m x.rules x.command.json NoneBad (requests_of x.input_bytes) p.replies) parts p.answers in
-    let b : AreAnswers y.parts y.rules x.command.json NoneBad (requests_of x.input_bytes) p.replies = subst (λ (r : Rules). AreAnswers y.parts r x.command.json NoneBad (requests_of x.input_bytes) p.replies) rules a in
-    let d : AreAnswers y.parts y.rules y.command.json NoneBad (requests_of x.input_bytes) p.replies = subst (λ (c : Command). AreAnswers y.parts y.rules c.json NoneBad (requests_of x.input_bytes) p.replies) command b in
-    let e : AreAnswers y.parts y.rules y.command.json NoneBad (requests_of y.input_bytes) p.replies = subst (λ (b : List ℕ). AreAnswers y.parts y.rules y.command.json NoneBad (requests_of b) p.replies) script d in
-    let same : p.replies ≡ q.replies = answers_once once.lines y.parts y.rules y.command.json (requests_of y.input_bytes) p.replies q.replies e q.answers in
-    p.spelled ∙ ap (λ (r : Rules). text_of_replies r 1 p.replies) rules ∙ ap (text_of_replies y.rules 1) same ∙ sym q.spelled
+    let x-policy : IsPolicy (policy_shapes y.parts) y.policy_bytes x.tables = subst (λ (m : ModelParts). IsPolicy (policy_shapes m) y.policy_bytes x.tables) parts (subst (λ (b : List ℕ). IsPolicy (policy_shapes x.parts) b x.tables) policy x.is_policy) in
+    let rules : rows x.tables P ≡ rows y.tables P = ap (λ (t : table.Policy). rows t P) (once.policy (policy_shapes y.parts) y.policy_bytes x.tables y.tables x-policy y.is_policy) in
+    let a : AreAnswers y.parts (rows x.tables P) x.command.json NoneBad (requests_of x.input_bytes) p.replies = subst (λ (m : ModelParts). AreAnswers m (rows x.tables P) x.command.json NoneBad (requests_of x.input_bytes) p.replies) parts p.answers in
+    let b : AreAnswers y.parts (rows y.tables P) x.command.json NoneBad (requests_of x.input_bytes) p.replies = subst (λ (r : Rules). AreAnswers y.parts r x.command.json NoneBad (requests_of x.input_bytes) p.replies) rules a in
+    let d : AreAnswers y.parts (rows y.tables P) y.command.json NoneBad (requests_of x.input_bytes) p.replies = subst (λ (c : Command). AreAnswers y.parts (rows y.tables P) c.json NoneBad (requests_of x.input_bytes) p.replies) command b in
+    let e : AreAnswers y.parts (rows y.tables P) y.command.json NoneBad (requests_of y.input_bytes) p.replies = subst (λ (b : List ℕ). AreAnswers y.parts (rows y.tables P) y.command.json NoneBad (requests_of b) p.replies) script d in
+    let same : p.replies ≡ q.replies = answers_once once.lines y.parts (rows y.tables P) y.command.json (requests_of y.input_bytes) p.replies q.replies e q.answers in
+    p.spelled ∙ ap (λ (r : Rules). text_of_replies r 1 p.replies) rules ∙ ap (text_of_replies (rows y.tables P) 1) same ∙ sym q.spelled

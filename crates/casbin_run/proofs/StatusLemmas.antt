@@ -3,6 +3,7 @@ use Rattle.std.proofs.Common.{◌≡◌, ℕ, List, inl, inr, ⊎_elim, refl}
 use Rattle.std.specs.Prelude.{◌⊎◌, ◌↔◌, Option, Some, None}
 use Rattle.model_conf.specs.declared.fault.ModelFault.{ModelFault}
 use Rattle.outside.specs.Files.{Files}
+use Rattle.policy_csv.specs.declared.fault.PolicyFault.{PolicyFault}
 use Rattle.casbin_run.specs.declared.status.Status.TheVariants as statuses
 use Rattle.casbin_run.specs.declared.stop.Part.{Part}
 use Rattle.casbin_run.specs.declared.stop.Part.TheVariants.{Model, Policy, Input}
@@ -20,9 +21,9 @@ model_cause words files input s out out_now shelf source sink (NoModel fault) e 
 model_cause words files input s out out_now shelf source sink LaterModel e ends = inr (⊎_elim (λ cause. cause) (λ f. absurd f) ends)
 model_cause words files input s out out_now shelf source sink _ e ends = absurd cc
 
-pub policy_cause : (words : List (List ℕ)) (files : Option Files) (input : Option (List ℕ)) (s : Searches) (out out_now : Option (List ℕ)) (shelf source sink : Type 0) (stop : Stop) → status_of stop ≡ statuses.Policy → EndsBy words files input s out out_now shelf source sink stop → Cause words files input NoPolicy
+pub policy_cause : (words : List (List ℕ)) (files : Option Files) (input : Option (List ℕ)) (s : Searches) (out out_now : Option (List ℕ)) (shelf source sink : Type 0) (stop : Stop) → status_of stop ≡ statuses.Policy → EndsBy words files input s out out_now shelf source sink stop → (fault : PolicyFault) × Cause words files input (NoPolicy fault)
 unfolding EndsBy
-policy_cause words files input s out out_now shelf source sink NoPolicy e ends = ⊎_elim (λ cause. cause) (λ fault. absurd fault) ends
+policy_cause words files input s out out_now shelf source sink (NoPolicy fault) e ends = (fault, ⊎_elim (λ cause. cause) (λ f. absurd f) ends)
 policy_cause words files input s out out_now shelf source sink _ e ends = absurd cc
 
 pub script_cause : (words : List (List ℕ)) (files : Option Files) (input : Option (List ℕ)) (s : Searches) (out out_now : Option (List ℕ)) (shelf source sink : Type 0) (stop : Stop) → status_of stop ≡ statuses.Script → EndsBy words files input s out out_now shelf source sink stop → Cause words files input NoScript
@@ -64,7 +65,7 @@ unfolding EndsBy
 words_only words files input s out out_now shelf source sink Words none ends = refl
 words_only words files input s out out_now shelf source sink (NoModel m) none ends = ⊎_elim (λ cause. is_command words cause.0 cause.1 none) (λ fault. absurd fault) ends
 words_only words files input s out out_now shelf source sink LaterModel none ends = ⊎_elim (λ cause. is_command words cause.0 cause.1 none) (λ fault. absurd fault) ends
-words_only words files input s out out_now shelf source sink NoPolicy none ends = ⊎_elim (λ cause. is_command words cause.0 cause.1 none) (λ fault. absurd fault) ends
+words_only words files input s out out_now shelf source sink (NoPolicy p) none ends = ⊎_elim (λ cause. is_command words cause.0 cause.1 none) (λ fault. absurd fault) ends
 words_only words files input s out out_now shelf source sink NoScript none ends = ⊎_elim (λ cause. is_command words cause.0 cause.1 none) (λ fault. absurd fault) ends
 words_only words files input s out out_now shelf source sink (CannotRead Model) none ends = ⊎_elim (λ cause. is_command words cause.0 cause.1 none) (λ fault. is_command words fault.0 fault.1 none) ends
 words_only words files input s out out_now shelf source sink (CannotRead Policy) none ends = ⊎_elim (λ cause. is_command words cause.0 cause.1 none) (λ fault. is_command words fault.0 fault.1 none) ends

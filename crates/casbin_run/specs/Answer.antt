@@ -11,7 +11,8 @@ use Rattle.model_conf.specs.ModelText.{ModelParts}
 use Rattle.perm_base.specs.FieldLine.{printed}
 use Rattle.perm_value.specs.declared.request.RequestFault.{RequestFault}
 use Rattle.perm_value.specs.declared.request.RequestFault.TheVariants as fault
-use Rattle.casbin_run.specs.Request.{Reading, Says}
+use Rattle.script_read.specs.Reads.{Says}
+use Rattle.script_read.specs.Said.{Reading}
 
 -- a number above 2^32 - 1 is given as 2^32 - 1
 abbrev pub shown : ℕ → ℕ

@@ -3,12 +3,14 @@ use Rattle.std.specs.Prelude.{◌≡◌, ◌≤◌, ℕ, List, Option, Some, len
 use Rattle.outside.specs.Files.{Files, Holds}
 use Rattle.outside.specs.Told.{TookFront, with_back}
 use Rattle.model_conf.specs.ModelText.{ModelParts}
+use Rattle.perm_base.specs.declared.shapes.TableId.TheVariants.{P}
 use Rattle.policy_csv.specs.Policy.{IsPolicy}
+use Rattle.policy_table.specs.Tables.{Policy, rows}
 use Rattle.casbin_run.specs.Answer.{AreAnswers, Reply, refusals_in, text_of_replies}
 use Rattle.casbin_run.specs.Finders.{IsBad, RoseBy, Searches}
 use Rattle.casbin_run.specs.Judging.{IsAnsweredBy}
-use Rattle.casbin_run.specs.Parts.{Tells, model_limit, policy_limit, input_limit}
-use Rattle.casbin_run.specs.Script.{requests_of}
+use Rattle.casbin_run.specs.Parts.{Tells, model_limit, policy_limit, policy_shapes, input_limit}
+use Rattle.script_read.specs.Lines.{requests_of}
 use Rattle.casbin_run.specs.Words.{Command, command_of}
 
 -- the words are a command, and the files that they name and the input are in order and within their limits; where files or
@@ -26,17 +28,17 @@ pub record IsInOrder (words : List (List ℕ)) (files : Option Files) (input : O
   pub policy_within : length policy_bytes ≤ policy_limit
   pub input_within : length input_bytes ≤ input_limit
   pub parts : ModelParts
-  pub rules : List (List (List ℕ))
+  pub tables : Policy
   pub is_model : IsAnsweredBy model_bytes parts
-  pub is_policy : IsPolicy (length parts.policy) policy_bytes rules
+  pub is_policy : IsPolicy (policy_shapes parts) policy_bytes tables
   pub is_script : IsUtf8 input_bytes
 
--- they are in order, and the text is that of the replies to the requests of the input by the model and the policy, where some patterns count as refused
+-- they are in order, and the text is that of the replies to the requests of the input by the model and the rules of p, where some patterns count as refused
 pub record IsAnswered (words : List (List ℕ)) (files : Option Files) (input : Option (List ℕ)) (IsBad : List ℕ → Type 0) (text : List ℕ) : Type 0 where
   pub in_order : IsInOrder words files input
   pub replies : List Reply
-  pub answers : AreAnswers in_order.parts in_order.rules in_order.command.json IsBad (requests_of in_order.input_bytes) replies
-  pub spelled : text ≡ text_of_replies in_order.rules 1 replies
+  pub answers : AreAnswers in_order.parts (rows in_order.tables P) in_order.command.json IsBad (requests_of in_order.input_bytes) replies
+  pub spelled : text ≡ text_of_replies (rows in_order.tables P) 1 replies
 
 -- the sink took the text that answers the requests, and nothing else; the finders refused as often as it tells at least
 pub record TookAll (words : List (List ℕ)) (files : Option Files) (input : Option (List ℕ)) (s : Searches) (out out_now : Option (List ℕ)) : Type 0 where

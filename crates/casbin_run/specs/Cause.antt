@@ -3,7 +3,7 @@ use Rattle.std.specs.Prelude.{◌≡◌, ◌⊎◌, ℕ, ◌<◌, List, Option, 
 use Rattle.outside.specs.Files.{Files, Lacks, OfFile}
 use Rattle.model_conf.specs.Faults.{IsModelFault}
 use Rattle.model_conf.specs.ModelText.{ModelParts, IsModel}
-use Rattle.policy_csv.specs.Policy.{IsPolicy}
+use Rattle.policy_csv.specs.Faults.{IsPolicyFault}
 use Rattle.casbin_run.specs.declared.stop.Part.TheVariants.{Model, Policy, Input}
 use Rattle.casbin_run.specs.declared.stop.Stop.{Stop}
 use Rattle.casbin_run.specs.declared.stop.Stop.TheVariants.{Words, NoModel, LaterModel, NoPolicy, NoScript, CannotRead, CannotWrite, TooLong, NoMemory}
@@ -11,15 +11,11 @@ use Rattle.casbin_run.specs.Answers.{TookSome}
 use Rattle.casbin_run.specs.Finders.{Searches}
 use Rattle.casbin_run.specs.Judging.{is_later}
 use Rattle.casbin_run.specs.Words.{command_of}
-use Rattle.casbin_run.specs.Parts.{model_limit, policy_limit, input_limit, FileIs, InputIs, Asks, WithModel, WithPolicy}
+use Rattle.casbin_run.specs.Parts.{model_limit, policy_limit, policy_shapes, input_limit, FileIs, InputIs, Asks, WithModel, WithPolicy}
 
 -- the bytes are a model, but none that is answered by yet
 abbrev pub IsLater : List ℕ → Type 0
 IsLater bytes = (parts : ModelParts) × IsModel bytes parts × IsTrue (is_later parts)
-
--- the bytes are no policy with so many columns
-abbrev pub SaysNoPolicy : ℕ → List ℕ → Type 0
-SaysNoPolicy columns bytes = (rules : List (List (List ℕ))) → ¬ (IsPolicy columns bytes rules)
 
 -- the bytes are no UTF-8
 abbrev pub SaysNoText : List ℕ → Type 0
@@ -34,7 +30,7 @@ Cause words files input (NoModel fault) = Asks words (λ command. FileIs files c
 Cause words files input LaterModel = Asks words (λ command. FileIs files command.model model_limit IsLater)
 Cause words files input (CannotRead Policy) = WithModel words files (λ command parts. Lacks files command.policy)
 Cause words files input (TooLong Policy) = WithModel words files (λ command parts. OfFile files command.policy (λ bytes. policy_limit < length bytes))
-Cause words files input NoPolicy = WithModel words files (λ command parts. FileIs files command.policy policy_limit (SaysNoPolicy (length parts.policy)))
+Cause words files input (NoPolicy fault) = WithModel words files (λ command parts. FileIs files command.policy policy_limit (λ bytes. IsPolicyFault (policy_shapes parts) bytes fault))
 Cause words files input (TooLong Input) = WithPolicy words files (IfSome input (λ bytes. input_limit < length bytes))
 Cause words files input NoScript = WithPolicy words files (InputIs input SaysNoText)
 Cause words files input _ = ⊥

@@ -1,6 +1,4 @@
 pub mod Words
-pub mod Script
-pub mod Request
 pub mod Judging
 pub mod Finders
 pub mod Answer

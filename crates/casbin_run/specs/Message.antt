@@ -6,6 +6,8 @@ use Rattle.model_conf.specs.declared.fault.ModelFault.{ModelFault}
 use Rattle.model_conf.specs.declared.fault.ModelFault.TheVariants as model
 use Rattle.model_conf.specs.declared.key.Key.{Key}
 use Rattle.model_conf.specs.declared.key.Key.TheVariants as k
+use Rattle.policy_csv.specs.declared.fault.PolicyFault.{PolicyFault}
+use Rattle.policy_csv.specs.declared.fault.PolicyFault.TheVariants as policy
 use Rattle.casbin_run.specs.declared.status.Status.{Status}
 use Rattle.casbin_run.specs.declared.status.Status.TheVariants as statuses
 use Rattle.casbin_run.specs.declared.stop.Part.TheVariants.{Model, Policy, Input}
@@ -17,7 +19,7 @@ abbrev pub status_of : Stop → Status
 status_of Words = statuses.Words
 status_of (NoModel fault) = statuses.Model
 status_of LaterModel = statuses.Model
-status_of NoPolicy = statuses.Policy
+status_of (NoPolicy fault) = statuses.Policy
 status_of NoScript = statuses.Script
 status_of (CannotRead part) = statuses.ReadFault
 status_of CannotWrite = statuses.WriteFault
@@ -80,12 +82,30 @@ model_line (model.UnknownColumn at) = in_matcher at (codes ": unknown column\n")
 model_line (model.RoleUse at) = in_matcher at (codes ": role use\n")
 model_line model.NoMemory = codes "no memory\n"
 
+-- a line of a policy that has a fault
+abbrev pub in_policy_line : ℕ → List ℕ → List ℕ
+in_policy_line line what = codes "policy: line " ++ decimal line ++ what
+
+-- a quote that is out of place in a line of a policy
+abbrev pub quote_line : (line column : ℕ) → List ℕ
+quote_line line column = in_policy_line line (codes ", column " ++ decimal column ++ codes ": quote\n")
+
+-- why a text is no policy
+abbrev pub policy_line : PolicyFault → List ℕ
+policy_line policy.NotUtf8 = codes "policy: not UTF-8\n"
+policy_line (policy.Quote line column) = quote_line line column
+policy_line (policy.UnknownTable line) = in_policy_line line (codes ": unknown table\n")
+policy_line (policy.Columns line) = in_policy_line line (codes ": columns\n")
+policy_line (policy.FieldTooLong line) = in_policy_line line (codes ": field too long\n")
+policy_line (policy.Full line what) = in_policy_line line (codes ": full\n")
+policy_line policy.NoMemory = codes "no memory\n"
+
 -- the line on standard error
 abbrev pub line_of : Stop → List ℕ
 line_of Words = codes "usage: casbin_cli COMMAND [OPTION]... [WORD]...\n"
 line_of (NoModel fault) = model_line fault
 line_of LaterModel = codes "model: not yet\n"
-line_of NoPolicy = codes "policy: not yet\n"
+line_of (NoPolicy fault) = policy_line fault
 line_of NoScript = codes "script: not UTF-8\n"
 line_of (CannotRead Model) = codes "cannot read: model\n"
 line_of (CannotRead Policy) = codes "cannot read: policy\n"

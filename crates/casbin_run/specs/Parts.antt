@@ -1,9 +1,12 @@
 -- What the words, the files and the input of a run say, where they are in order. Where files or an input are not
 -- told, some bytes stand for what was read.
-use Rattle.std.specs.Prelude.{◌≡◌, ℕ, ◌≤◌, List, Option, Some, None, length, ⊤}
+use Rattle.std.specs.Prelude.{◌≡◌, ℕ, ◌≤◌, List, [], Option, Some, None, length, ⊤}
 use Rattle.outside.specs.Files.{Files, Holds}
 use Rattle.model_conf.specs.ModelText.{ModelParts}
+use Rattle.model_conf.specs.Shapes.{shapes_of}
+use Rattle.perm_base.specs.declared.shapes.Shapes.{Shapes}
 use Rattle.policy_csv.specs.Policy.{IsPolicy}
+use Rattle.policy_table.specs.Tables.{Policy}
 use Rattle.casbin_run.specs.Judging.{IsAnsweredBy}
 use Rattle.casbin_run.specs.Words.{Command, command_of}
 
@@ -16,6 +19,10 @@ policy_limit = 16777216
 
 abbrev pub input_limit : ℕ
 input_limit = 16777216
+
+-- the shapes of a model's policies: names and domains are equal byte by byte, and a role is reached over ten links at most
+abbrev pub policy_shapes : ModelParts → Shapes
+policy_shapes parts = shapes_of parts [] [] 10
 
 -- the bytes are those that are told
 abbrev pub Tells : Option (List ℕ) → List ℕ → Type 0
@@ -40,4 +47,4 @@ WithModel words files fact = Asks words (λ command. (parts : ModelParts) × Fil
 
 -- besides, the second file is a policy for that model
 abbrev pub WithPolicy : List (List ℕ) → Option Files → Type 0 → Type 0
-WithPolicy words files fact = WithModel words files (λ command parts. (rules : List (List (List ℕ))) × FileIs files command.policy policy_limit (λ bytes. IsPolicy (length parts.policy) bytes rules) × fact)
+WithPolicy words files fact = WithModel words files (λ command parts. (policy : Policy) × FileIs files command.policy policy_limit (λ bytes. IsPolicy (policy_shapes parts) bytes policy) × fact)

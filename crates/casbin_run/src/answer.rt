@@ -7,26 +7,27 @@ ghost use Rattle.regex_gate.specs.Refusals.{IsRefused, IsUsed};
 ghost use Rattle.casbin_run.specs.Answer.{IsAnswer, IsReply, Reply, is_refused_search, line_text, refusals_in, reply_text, shown};
 ghost use Rattle.casbin_run.specs.Helps.Gathering.{Appends};
 ghost use Rattle.casbin_run.specs.Helps.Print.{Answering, PrintStops, RoseTo};
-ghost use Rattle.casbin_run.specs.Script.{requests_of};
+ghost use Rattle.script_read.specs.Lines.{requests_of};
 
+use crate::policy_rows::PolicyRows;
 use crate::reply::{push_arity, push_number, push_refusal, push_verdict};
-use crate::requests::{next_request, read_request};
 use crate::stop::Stop;
 use enforce_core::{Program, Scratch, decide_rows};
 use matcher_meaning::{only_a_refusal_is_a_pattern, verdict_is_there};
-use perm_base::{NoMemory, Rules, Sink, every_line_is_fields_or_at_fault, push_all};
+use perm_base::{NoMemory, Sink, every_line_is_fields_or_at_fault, push_all};
 use perm_value::Request;
 use regex_gate::{Finder, uses_add_up};
+use script_read::{next_request, read_request};
 use std::alloc::Global;
 
 // How many bytes of answers are gathered before they are pushed.
 const GATHERED: usize = 16_384;
 
-/// What requests are answered by: a program, the policy's rules, and whether requests are JSON.
+/// What requests are answered by: a program, the rules of p, and whether requests are JSON.
 #[derive(Clone, Copy)]
 pub(crate) struct Court<'a> {
     pub program: &'a Program,
-    pub rules: &'a Rules,
+    pub rules: &'a PolicyRows<'a>,
     pub json: bool,
 }
 

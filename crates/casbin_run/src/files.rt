@@ -1,16 +1,19 @@
-ghost use Rattle.std.specs.Prelude.{◌≡◌, ◌≤◌, ◌<◌, ◌^◌, IfOk, IfErr, OnErr, OnOk, IfSome, All, [], length, string_bytes};
+ghost use Rattle.std.specs.Prelude.{◌≡◌, ◌≤◌, ◌<◌, ◌^◌, IfOk, IfErr, OnErr, OnOk, IfSome, [], length, string_bytes};
 ghost use Rattle.outside.specs.Faults.{Rose};
 ghost use Rattle.outside.specs.Files.{Holds};
+ghost use Rattle.perm_base.specs.Shapes.{AreValid};
 ghost use Rattle.policy_csv.specs.Policy.{IsPolicy};
-ghost use Rattle.casbin_run.specs.Parts.{FileIs, InputIs, model_limit, policy_limit};
+ghost use Rattle.policy_table.specs.Limits.{AreSound};
+ghost use Rattle.casbin_run.specs.Parts.{FileIs, InputIs, model_limit, policy_limit, policy_shapes};
 ghost use Rattle.casbin_run.specs.Judging.{IsAnsweredBy};
 ghost use Rattle.casbin_run.specs.Helps.Reading.{FetchStops, ModelStops, PolicyStops, InputStops};
 
 use crate::later::is_later;
 use crate::stop::{Part, Stop};
-use model_conf::{Model, read_model};
-use perm_base::{Fetch, ReadStop, Rules, Shelf, Source, read_all};
+use model_conf::{Model, ShapeFault, read_model, shapes_of};
+use perm_base::{Fetch, NoMemory, ReadStop, Shapes, Shelf, Source, read_all};
 use policy_csv::read_policy;
+use policy_table::Tables;
 use std::alloc::Global;
 
 // The most bytes of a model, of a policy and of an input.
@@ -19,6 +22,9 @@ const MODEL_LIMIT: u64 = 65_536;
 const POLICY_LIMIT: u64 = 16_777_216;
 
 const INPUT_LIMIT: u64 = 16_777_216;
+
+// By how many links a name has a role at most.
+const MOST_LINKS: u8 = 10;
 
 /// Fetches and reads the model. One that is not answered by yet stops the run.
 pub(crate) fn read_model_file<F: Shelf>(
@@ -41,22 +47,36 @@ pub(crate) fn read_model_file<F: Shelf>(
     Ok(model)
 }
 
+/// The shapes of the model's policies.
+pub(crate) fn policy_shapes(alloc: Global, model: &Model) -> Result<Shapes, NoMemory>
+    ensures found { IfOk result (λ shapes. shapes ≡ policy_shapes model.now) }
+    ensures valid { IfOk result (λ shapes. AreValid shapes) }
+{
+    match shapes_of(alloc, model, &[], &[], MOST_LINKS) {
+        Ok(shapes) => Ok(shapes),
+        // No relation is named here.
+        Err(ShapeFault::NoRelation { .. }) => unreachable!(),
+        Err(ShapeFault::NoMemory) => Err(NoMemory),
+    }
+}
+
 /// Fetches and reads the policy.
 pub(crate) fn read_policy_file<F: Shelf>(
     alloc: Global,
     shelf: &mut F,
     name: &str,
-    columns: u32,
-) -> Result<Rules, Stop>
-    ensures read { IfOk result (λ rules. FileIs (F.files shelf.old) name.now policy_limit
-        (λ bytes. IsPolicy columns bytes rules)) }
-    ensures columns { IfOk result (λ rules. All (λ rule. length rule ≡ columns) rules) }
-    ensures stopped { IfErr result (PolicyStops (F.files shelf.old) name.now columns
+    shapes: &Shapes,
+) -> Result<Tables, Stop>
+    requires { AreValid shapes.now }
+    ensures read { IfOk result (λ tables. FileIs (F.files shelf.old) name.now policy_limit
+        (λ bytes. IsPolicy shapes.now bytes tables.policy)) }
+    ensures sound { IfOk result (λ tables. AreSound shapes.now tables.policy) }
+    ensures stopped { IfErr result (PolicyStops (F.files shelf.old) name.now shapes.now
         (Rose (F.faults shelf.old) (F.faults shelf.new))) }
     ensures counted { F.faults shelf.old ≤ F.faults shelf.new }
 {
     let bytes = fetch(alloc, shelf, name, POLICY_LIMIT, Part::Policy)?;
-    Ok(read_policy(alloc, &bytes, columns)?)
+    Ok(read_policy(alloc, &bytes, shapes)?)
 }
 
 /// Reads the input to its end.

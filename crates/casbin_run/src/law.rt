@@ -10,7 +10,7 @@ use model_conf::{faulty_text_is_no_model, text_has_one_model_fault, text_says_on
 use perm_base::{
     fault_of_a_line_is_unique, fields_of_a_line_are_unique, line_at_fault_is_no_fields,
 };
-use policy_csv::policies_are_unique;
+use policy_csv::{faulty_text_is_no_policy, text_has_one_policy_fault, text_says_one_policy};
 
 /// The law that told words, files and input have one end: one cause at most, none where they are in order, and one
 /// text that answers them where no search is refused.
@@ -29,7 +29,9 @@ pub fn one_end()
     text_says_one_model();
     text_has_one_model_fault();
     faulty_text_is_no_model();
-    policies_are_unique();
+    text_says_one_policy();
+    text_has_one_policy_fault();
+    faulty_text_is_no_policy();
     fields_of_a_line_are_unique();
     fault_of_a_line_is_unique();
     line_at_fault_is_no_fields();

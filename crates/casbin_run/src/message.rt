@@ -1,16 +1,24 @@
-ghost use Rattle.std.specs.Prelude.{◌≡◌, ◌++◌, decimal};
-ghost use Rattle.casbin_run.specs.Message.{in_line, in_matcher, key_end, line_of, matcher_line, model_line, shape_line};
-ghost use Rattle.casbin_run.specs.Helps.Pieces.{text_of};
+ghost use Rattle.std.specs.Prelude.{◌≡◌, ◌++◌, [], decimal};
+ghost use Rattle.casbin_run.specs.Message.{in_line, in_matcher, in_policy_line, key_end, line_of, matcher_line, model_line, policy_line, quote_line, shape_line};
+ghost use Rattle.casbin_run.specs.Helps.Pieces.{piece_text, text_of};
 
 use crate::stop::{Part, Stop};
 use matcher_read::MatcherFault;
 use model_conf::{Key, ModelFault};
+use policy_csv::PolicyFault;
 
-/// A line with a number in it, or without one.
+/// A text, and a number behind it or none.
+#[derive(Clone, Copy)]
+pub(crate) struct Piece {
+    pub text: &'static [u8],
+    pub number: Option<u32>,
+}
+
+/// A line with up to two numbers in it: two pieces and what stands behind them.
 #[derive(Clone, Copy)]
 pub(crate) struct Message {
-    pub head: &'static [u8],
-    pub number: Option<u32>,
+    pub first: Piece,
+    pub second: Piece,
     pub tail: &'static [u8],
 }
 
@@ -22,7 +30,7 @@ pub(crate) fn message_of(stop: Stop) -> Message
         Stop::Words => whole(b"usage: casbin_cli COMMAND [OPTION]... [WORD]...\n"),
         Stop::NoModel(fault) => model_message(fault),
         Stop::LaterModel => whole(b"model: not yet\n"),
-        Stop::NoPolicy => whole(b"policy: not yet\n"),
+        Stop::NoPolicy(fault) => policy_message(fault),
         Stop::NoScript => whole(b"script: not UTF-8\n"),
         Stop::CannotRead(Part::Model) => whole(b"cannot read: model\n"),
         Stop::CannotRead(Part::Policy) => whole(b"cannot read: policy\n"),
@@ -62,8 +70,11 @@ fn of_key(head: &'static [u8], key: Key) -> Message
     ensures { text_of result ≡ head.now ++ key_end key }
 {
     Message {
-        head,
-        number: None,
+        first: nothing(),
+        second: Piece {
+            text: head,
+            number: None,
+        },
         tail: key_end(key),
     }
 }
@@ -107,6 +118,43 @@ fn matcher_message(fault: MatcherFault) -> Message
     }
 }
 
+// Why a text is no policy.
+fn policy_message(fault: PolicyFault) -> Message
+    ensures { text_of result ≡ policy_line fault }
+{
+    match fault {
+        PolicyFault::NotUtf8 => whole(b"policy: not UTF-8\n"),
+        PolicyFault::Quote { line, column } => quote_message(line, column),
+        PolicyFault::UnknownTable { line } => in_policy_line(line, b": unknown table\n"),
+        PolicyFault::Columns { line } => in_policy_line(line, b": columns\n"),
+        PolicyFault::FieldTooLong { line } => in_policy_line(line, b": field too long\n"),
+        PolicyFault::Full { line, .. } => in_policy_line(line, b": full\n"),
+        PolicyFault::NoMemory => whole(b"no memory\n"),
+    }
+}
+
+fn quote_message(line: u32, column: u32) -> Message
+    ensures { text_of result ≡ quote_line line column }
+{
+    Message {
+        first: Piece {
+            text: b"policy: line ",
+            number: Some(line),
+        },
+        second: Piece {
+            text: b", column ",
+            number: Some(column),
+        },
+        tail: b": quote\n",
+    }
+}
+
+fn in_policy_line(line: u32, what: &'static [u8]) -> Message
+    ensures { text_of result ≡ in_policy_line line what.now }
+{
+    with_number(b"policy: line ", line, what)
+}
+
 fn in_line(line: u32, what: &'static [u8]) -> Message
     ensures { text_of result ≡ in_line line what.now }
 {
@@ -123,9 +171,9 @@ fn whole(text: &'static [u8]) -> Message
     ensures { text_of result ≡ text.now }
 {
     Message {
-        head: text,
-        number: None,
-        tail: b"",
+        first: nothing(),
+        second: nothing(),
+        tail: text,
     }
 }
 
@@ -133,8 +181,21 @@ fn with_number(head: &'static [u8], number: u32, tail: &'static [u8]) -> Message
     ensures { text_of result ≡ head.now ++ decimal number ++ tail.now }
 {
     Message {
-        head,
-        number: Some(number),
+        first: nothing(),
+        second: Piece {
+            text: head,
+            number: Some(number),
+        },
         tail,
+    }
+}
+
+// The piece that adds nothing.
+fn nothing() -> Piece
+    ensures { piece_text result ≡ [] }
+{
+    Piece {
+        text: b"",
+        number: None,
     }
 }

@@ -3,15 +3,17 @@ ghost use Rattle.casbin_run.specs.Answer.{arity_text, cause_text, fault_text, pl
 ghost use Rattle.casbin_run.specs.Answer.{verdict_text};
 ghost use Rattle.casbin_run.specs.Helps.Gathering.{Appends};
 
+use crate::policy_rows::PolicyRows;
 use effect_fold::{Cause, Fault, Verdict};
+use enforce_core::Rows;
 use itoa::Buffer;
-use perm_base::{NoMemory, Rule, Rules, push_fields};
+use perm_base::{NoMemory, Rule, push_fields};
 use perm_value::RequestFault;
 
 /// Appends a verdict, behind the number of its request.
 pub(crate) fn push_verdict(
     text: &mut String,
-    rules: &Rules,
+    rules: &PolicyRows<'_>,
     verdict: Verdict,
 ) -> Result<(), NoMemory>
     ensures { OnOk result (Appends text.old text.new (verdict_text rules.now verdict)) }
@@ -97,7 +99,7 @@ fn push_place(text: &mut String, row: Option<u32>) -> Result<(), NoMemory>
 }
 
 // Appends the place of a row and the rule that stands there, or that there is none.
-fn push_rule(text: &mut String, rules: &Rules, row: Option<u32>) -> Result<(), NoMemory>
+fn push_rule(text: &mut String, rules: &PolicyRows<'_>, row: Option<u32>) -> Result<(), NoMemory>
     ensures { OnOk result (Appends text.old text.new (rule_text rules.now row)) }
 {
     push_place(text, row)?;
@@ -113,7 +115,7 @@ fn push_rule(text: &mut String, rules: &Rules, row: Option<u32>) -> Result<(), N
 }
 
 // The rule of a row, counted from 1.
-fn rule_at(rules: &Rules, row: u32) -> Option<&Rule>
+fn rule_at<'a>(rules: &'a PolicyRows<'a>, row: u32) -> Option<&'a Rule>
     ensures { option_map (λ rule. rule.now) result ≡ slice_get rules.now (row - 1) }
 {
     let at = row.saturating_sub(1);

@@ -6,16 +6,18 @@ ghost use Rattle.casbin_run.specs.Answers.{IsAnswered, IsInOrder, TookAll, TookS
 ghost use Rattle.casbin_run.specs.Cause.{Cause, EndsBy, IsBeforeOutput};
 ghost use Rattle.casbin_run.specs.Finders.{AreUsed, IsBad, NoneBad, RoseBy, searches};
 ghost use Rattle.casbin_run.specs.Helps.Print.{Answering, PrintStops};
-ghost use Rattle.casbin_run.specs.Script.{requests_of};
+ghost use Rattle.script_read.specs.Lines.{requests_of};
 ghost use Rattle.casbin_run.specs.declared.stop.Part.{Part};
 ghost use Rattle.model_conf.specs.declared.fault.ModelFault.{ModelFault};
+ghost use Rattle.policy_csv.specs.declared.fault.PolicyFault.{PolicyFault};
 ghost use Rattle.casbin_run.specs.declared.stop.Stop.{Stop};
 ghost use Rattle.casbin_run.specs.Message.{line_of, status_of};
 ghost use Rattle.casbin_run.specs.Words.{command_of, texts};
 
 use crate::answer::{Court, print_answers};
-use crate::files::{read_input, read_model_file, read_policy_file};
+use crate::files::{policy_shapes, read_input, read_model_file, read_policy_file};
 use crate::law::one_end;
+use crate::policy_rows::PolicyRows;
 use crate::status::Status;
 use crate::stop::Stop;
 use crate::telling::tell;
@@ -51,8 +53,8 @@ pub fn run_casbin<F: Shelf, S: Source, K: Sink, E: Sink, P: Finder>(
     ensures model { result ≡ Status.Model → ((fault : ModelFault)
         × Cause (texts words.now) (F.files shelf.old) (S.left input.old) (Stop.NoModel fault))
         ⊎ Cause (texts words.now) (F.files shelf.old) (S.left input.old) Stop.LaterModel }
-    ensures policy { result ≡ Status.Policy
-        → Cause (texts words.now) (F.files shelf.old) (S.left input.old) Stop.NoPolicy }
+    ensures policy { result ≡ Status.Policy → (fault : PolicyFault)
+        × Cause (texts words.now) (F.files shelf.old) (S.left input.old) (Stop.NoPolicy fault) }
     ensures script { result ≡ Status.Script
         → Cause (texts words.now) (F.files shelf.old) (S.left input.old) Stop.NoScript }
     ensures too_long { result ≡ Status.TooLong → (part : Part)
@@ -157,9 +159,11 @@ fn answer<F: Shelf, S: Source, K: Sink, P: Finder>(
         return Err(Stop::Words);
     };
     let model = read_model_file(alloc, shelf, command.model)?;
-    let rules = read_policy_file(alloc, shelf, command.policy, model.policy_columns().len())?;
+    let shapes = policy_shapes(alloc, &model)?;
+    let tables = read_policy_file(alloc, shelf, command.policy, &shapes)?;
     let requests = read_input(alloc, input)?;
     let program = make_program(model)?;
+    let rules = PolicyRows::of(&tables);
     let court = Court {
         program: &program,
         rules: &rules,

@@ -24,7 +24,7 @@ pub enum Stop {
     /// The model's file is a model that is not answered by yet.
     LaterModel,
     /// The policy's file is no policy.
-    NoPolicy,
+    NoPolicy(PolicyFault),
     /// The input is not UTF-8.
     NoScript,
     /// A file is absent, or a file or the input could not be read.
@@ -77,8 +77,8 @@ impl From<PolicyFault> for Stop {
 
     fn from(fault: PolicyFault) -> Stop {
         match fault {
-            PolicyFault::NotYet => Stop::NoPolicy,
             PolicyFault::NoMemory => Stop::NoMemory,
+            fault => Stop::NoPolicy(fault),
         }
     }
 }
@@ -91,7 +91,7 @@ impl Stop {
         match self {
             Stop::Words => Status::Words,
             Stop::NoModel(_) | Stop::LaterModel => Status::Model,
-            Stop::NoPolicy => Status::Policy,
+            Stop::NoPolicy(_) => Status::Policy,
             Stop::NoScript => Status::Script,
             Stop::CannotRead(_) => Status::ReadFault,
             Stop::CannotWrite => Status::WriteFault,

@@ -3,9 +3,9 @@ ghost use Rattle.outside.specs.Faults.{Rose};
 ghost use Rattle.outside.specs.Pushes.{PushesAll};
 ghost use Rattle.outside.specs.Told.{TookFront, with_back};
 ghost use Rattle.casbin_run.specs.Message.{line_of};
-ghost use Rattle.casbin_run.specs.Helps.Pieces.{number_text, text_of};
+ghost use Rattle.casbin_run.specs.Helps.Pieces.{number_text, piece_text, text_of};
 
-use crate::message::{Message, message_of};
+use crate::message::{Message, Piece, message_of};
 use crate::stop::Stop;
 use itoa::Buffer;
 use perm_base::{Failed, Sink, push_all};
@@ -24,9 +24,18 @@ fn push_message<E: Sink>(err: &mut E, message: Message) -> Result<(), Failed>
     ensures { PushesAll (E.taken err.old) (E.taken err.new)
         (E.faults err.old) (E.faults err.new) (text_of message) result }
 {
-    push_all(err, message.head)?;
-    push_number(err, message.number)?;
+    push_piece(err, message.first)?;
+    push_piece(err, message.second)?;
     push_all(err, message.tail)
+}
+
+// Pushes a text, and the number behind it.
+fn push_piece<E: Sink>(err: &mut E, piece: Piece) -> Result<(), Failed>
+    ensures { PushesAll (E.taken err.old) (E.taken err.new)
+        (E.faults err.old) (E.faults err.new) (piece_text piece) result }
+{
+    push_all(err, piece.text)?;
+    push_number(err, piece.number)
 }
 
 // Pushes a number, where there is one.

@@ -1,5 +1,5 @@
 -- What is admitted.
-use Rattle.std.proofs.Common.{◌≡◌, ℕ, ◌+◌, Bool, true, false, ◌==◌, ◌&&◌, List, [], ◌∷◌, ◌++◌, length, take, slice_get, All, Option, Some, None, append_assoc, refl, sym, ap, ◌∙◌, true≢false, arith}
+use Rattle.std.proofs.Common.{◌≡◌, ℕ, ◌+◌, true, false, ◌==◌, ◌&&◌, List, [], ◌∷◌, ◌++◌, length, take, slice_get, All, Option, Some, None, append_assoc, refl, sym, ap, ◌∙◌, true≢false}
 use Rattle.std.specs.Prelude.{IsTrue, is_none}
 use Rattle.std.specs.List.{list_all}
 use Rattle.std.specs.Option.{option_map_or}
@@ -9,7 +9,7 @@ use Rattle.std.proofs.lemmas.List.{append-nil}
 use Rattle.perm_base.specs.declared.shapes.Shapes.{Shapes}
 use Rattle.perm_base.specs.declared.shapes.TableId.{TableId}
 use Rattle.policy_table.proofs.CallerLemmas.{PutAll, Puts, shapes_edited, short_edited}
-use Rattle.policy_table.specs.Changes.{applies, changed, edited, flat, is_possible}
+use Rattle.policy_table.specs.Changes.{applies, edited, flat}
 use Rattle.policy_table.specs.Limits.{AreSound, HaveShapes, columns_of, has_short_fields, passed}
 use Rattle.policy_table.specs.Tables.{Fields, Policy}
 use Rattle.policy_table.specs.declared.change.Change.{Change}
@@ -32,36 +32,6 @@ pub flat_next : (edits : List (List Change)) (at : ℕ) (edit : List Change) →
 flat_next edits at edit here old new before more =
     more ∙ ap (λ (l : List Change). l ++ edit) before
     ∙ sym (ap flat (taken edits at edit here) ∙ flat-append (take at edits) (edit ∷ []) ∙ ap (λ (l : List Change). flat (take at edits) ++ l) (append-nil edit))
-
--- a prepared edit of one change makes it
-pub one_made : (change : Change) (changes prepared : List Change) (policy before after : Policy) → changes ≡ change ∷ [] → prepared ≡ changes ++ [] → before ≡ policy → after ≡ edited prepared before
-    → after ≡ changed change policy
-unfolding edited
-one_made change changes prepared policy before after alone ready same made =
-    made ∙ ap (edited prepared) same ∙ ap (λ (l : List Change). edited l policy) (ready ∙ ap (λ (l : List Change). l ++ []) alone)
-
--- nothing is left in a list without any
-empty_of : {X : Type 0} (xs : List X) → length xs ≡ 0 → xs ≡ []
-empty_of [] none = refl
-empty_of (x ∷ xs) none = absurd (omega (arith, none))
-
--- what is left of an edit decides whether the whole applies
-module _ (whole : Bool) (left : List Change) (policy : Policy) (decides : whole ≡ applies left policy) where
-  -- it does not where its first change is not possible
-  pub not_applied : (change : Change) (changes : List Change) → left ≡ change ∷ changes → is_possible change policy ≡ false → false ≡ whole
-  unfolding applies
-  not_applied change changes first fails = sym (decides ∙ ap (λ (l : List Change). applies l policy) first ∙ ap (λ (b : Bool). b && applies changes (changed change policy)) fails)
-
-  -- behind one that is possible the others decide
-  pub first_applied : (change : Change) (changes : List Change) (after : Policy) → left ≡ change ∷ changes → is_possible change policy ≡ true → after ≡ changed change policy → whole ≡ applies changes after
-  unfolding applies
-  first_applied change changes after first passes made =
-      decides ∙ ap (λ (l : List Change). applies l policy) first ∙ ap (λ (b : Bool). b && applies changes (changed change policy)) passes ∙ ap (applies changes) (sym made)
-
-  -- where none is left it does
-  pub all_applied : length left ≡ 0 → true ≡ whole
-  unfolding applies
-  all_applied none = sym (decides ∙ ap (λ (l : List Change). applies l policy) (empty_of left none))
 
 -- the rule may stand in the table
 abbrev MayStand : Shapes → TableId → Fields → Type 0

@@ -22,7 +22,7 @@ module _ {X : Type 0} (items : List X) (at : ℕ) (item : X) (here : slice_get i
   taken = take_more items at item (slice_get_within items at item here) ∙ ap (λ x. take at items ++ x ∷ []) (get_or_from_slice_get items at item item here)
 
   -- the item at a place is the first of those that are left there
-  left : drop at items ≡ item ∷ drop (at + 1) items
+  pub left : drop at items ≡ item ∷ drop (at + 1) items
   left = drop_more items at item (slice_get_within items at item here) ∙ ap (λ x. x ∷ drop (at + 1) items) (get_or_from_slice_get items at item item here)
 
   module _ (test : X → Bool) where

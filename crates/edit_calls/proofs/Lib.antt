@@ -4,3 +4,4 @@ mod ApplyLemmas
 mod ShapeLemmas
 mod ResolveLemmas
 mod AdmitLemmas
+mod StandingLemmas

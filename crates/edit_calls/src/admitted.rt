@@ -1,17 +1,18 @@
-ghost use Rattle.std.specs.Prelude.{◌≡◌, IfOk, OnOk, true};
+ghost use Rattle.std.specs.Prelude.{◌≡◌, IfOk};
 ghost use Rattle.std.specs.List.{list_all};
-ghost use Rattle.policy_table.specs.Changes.{applies, changed, flat, is_possible};
+ghost use Rattle.policy_table.specs.Changes.{applies, flat};
 ghost use Rattle.policy_table.specs.Limits.{AreSound};
 ghost use Rattle.edit_calls.specs.Admitted.{admits, is_fitting, may_stand};
 
-use crate::refusals::columns_of;
+use crate::standing::tell_change;
+use indexmap::IndexMap;
 use perm_base::{NoMemory, Rule, Shapes, TableId};
-use policy_table::{Change, Edit, Tables, copy_edit, has_short_fields};
+use policy_table::{Change, Edit, Tables, columns_of, copy_edit, has_short_fields};
 use std::alloc::Global;
 
 /// Whether edits can be made in these tables, one after the other: each rule that they put in has its table's number of
 /// columns and no field of more than 4,096 bytes, they apply, and the tables after all of them pass no limit. The tables
-/// stay as they are; it takes memory for copies of them.
+/// stay as they are. Time and memory grow with the edits, and not with the tables.
 pub fn admits(
     alloc: Global,
     edits: &[Edit],
@@ -72,27 +73,23 @@ fn may_stand(shapes: &Shapes, table: TableId, rule: &Rule) -> bool
 fn applies(alloc: Global, edit: &Edit, tables: &Tables) -> Result<bool, NoMemory>
     ensures { IfOk result (λ applied. applied ≡ applies edit.now tables.now.policy) }
 {
-    let mut after = tables.copy(alloc)?;
-    for change in copy_edit(alloc, edit)?.into_vec() {
-        if !after.allows(&change) {
-            return Ok(false);
-        }
-        make(alloc, &mut after, change)?;
+    let changes = edit.as_slice();
+    if changes.len() == 1 {
+        return Ok(tables.allows(&changes[0]));
     }
-    Ok(true)
+    told_apply(alloc, changes, tables)
 }
 
-// Makes a change that is possible.
-fn make(alloc: Global, tables: &mut Tables, change: Change) -> Result<(), NoMemory>
-    requires { is_possible change tables.old.policy ≡ true }
-    ensures { OnOk result (tables.new.policy ≡ changed change tables.old.policy) }
+// The same for any number of changes: none is made, but each is told to those behind it.
+fn told_apply(alloc: Global, changes: &[Change], tables: &Tables) -> Result<bool, NoMemory>
+    ensures { IfOk result (λ applied. applied ≡ applies changes.now tables.now.policy) }
 {
-    // No table takes more rules than this: the limits are far below, and memory ends before.
-    if tables.len(change.table()) == u32::MAX {
-        return Err(NoMemory);
+    tables.kept();
+    let mut told = IndexMap::new(alloc);
+    for change in changes {
+        if !tell_change(&mut told, tables, change)? {
+            return Ok(false);
+        }
     }
-    let edits = [Edit::from_vec(vec![in alloc; change]?)];
-    let prepared = tables.prepare(alloc, &edits)?;
-    tables.commit(prepared);
-    Ok(())
+    Ok(true)
 }

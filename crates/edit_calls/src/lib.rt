@@ -11,6 +11,7 @@ mod named;
 mod refusals;
 mod refused;
 mod resolving;
+mod standing;
 
 pub use admitted::admits;
 pub use call::{Call, Pairs};

@@ -1,13 +1,13 @@
 ghost use Rattle.std.specs.Prelude.{◌≡◌, ◌==◌, [], ◌∷◌, length, not};
 ghost use Rattle.std.specs.List.{flat_map, list_all};
-ghost use Rattle.policy_table.specs.Limits.{columns_of, has_short_fields};
+ghost use Rattle.policy_table.specs.Limits.{has_short_fields};
 ghost use Rattle.edit_calls.specs.Refusals.{bad_filter, filter_fault, has_long_field, named_rules, other_length, refusal, added_rules, table_of};
 
 use crate::call::Call;
 use crate::listed::{News, RuleList};
 use crate::refused::CallRefused;
 use perm_base::{Rule, Rules, Shapes, TableId};
-use policy_table::has_short_fields;
+use policy_table::{columns_of, has_short_fields};
 
 /// Why a call is refused, whatever stands in the tables.
 pub(crate) fn refusal(call: &Call, shapes: &Shapes) -> Option<CallRefused>
@@ -44,19 +44,6 @@ pub(crate) fn table_of(call: &Call) -> TableId
         | Call::RemoveFiltered { table, .. }
         | Call::UpdateFiltered { table, .. } => *table,
         Call::DeleteUser { .. } | Call::DeleteRole { .. } => TableId::G(1),
-    }
-}
-
-/// The columns of a table, where the shapes have it.
-pub(crate) fn columns_of(shapes: &Shapes, table: TableId) -> Option<u32>
-    ensures { result ≡ columns_of shapes.now table }
-{
-    match table {
-        TableId::P => Some(shapes.columns),
-        TableId::G(number) => {
-            let shape = shapes.roles.find(number)?;
-            Some(if shape.with_domain { 3 } else { 2 })
-        }
     }
 }
 

@@ -51,7 +51,7 @@ one_truth_value true false to from = absurd (true≢false (sym (to refl)))
 one_truth_value false true to from = absurd (true≢false (sym (from refl)))
 one_truth_value false false to from = refl
 
-one_whether : (fact : Type 0) → AtMostOne (IsWhether fact)
+pub one_whether : (fact : Type 0) → AtMostOne (IsWhether fact)
 one_whether fact r s (a, p, e) (b, q, g) = e ∙ ap (λ (t : Bool). Ok (datum.truth t)) (one_truth_value a b (λ h. q.1 (p.0 h)) (λ h. p.1 (q.0 h))) ∙ sym g
 
 one_text : (fact : List ℕ → Type 0) → AtMostOne fact → AtMostOne (IsText fact)
@@ -72,7 +72,7 @@ one_in_block agree at text block r s (inr (inr p)) (inr (inl q)) = absurd (q.1 p
 one_in_block agree at text block r s (inr (inr p)) (inr (inr q)) =
     one_whether (IsInside p.0 p.1.address p.1.bits) r s p.4 (same_inside p.0 q.0 p.1 q.1 (agree.address text p.0 q.0 p.2 q.2) (agree.block block p.1 q.1 p.3 q.3) s q.4)
 
-one_of_two : FunctionsAgree → (refused : Option (ℕ × List ℕ)) (at : ℕ) (called : Function) (s t : List ℕ) → AtMostOne (OfTwo refused at called s t)
+pub one_of_two : FunctionsAgree → (refused : Option (ℕ × List ℕ)) (at : ℕ) (called : Function) (s t : List ℕ) → AtMostOne (OfTwo refused at called s t)
 one_of_two agree refused at f.KeyMatch s t q r = one_whether (AgreesToStar s t) q r
 one_of_two agree refused at f.KeyMatch2 s t q r = one_whether (Covers (colon_pieces t) s) q r
 one_of_two agree refused at f.KeyMatch3 s t q r = one_whether (Covers (brace_pieces t) s) q r
@@ -85,7 +85,7 @@ one_of_two agree refused at f.KeyGet s t q r = λ e g. e ∙ sym g
 one_of_two agree refused at f.KeyGet2 s t q r = λ e g. e ∙ sym g
 one_of_two agree refused at f.KeyGet3 s t q r = λ e g. e ∙ sym g
 
-one_of_three : FunctionsAgree → (at : ℕ) (called : Function) (s t u : List ℕ) → AtMostOne (OfThree at called s t u)
+pub one_of_three : FunctionsAgree → (at : ℕ) (called : Function) (s t u : List ℕ) → AtMostOne (OfThree at called s t u)
 one_of_three agree at f.KeyGet2 s t u q r = one_text (IsNamedPart LongerFirst (colon_pieces t) s u) (agree.longer (colon_pieces t) s u) q r
 one_of_three agree at f.KeyGet3 s t u q r = one_text (IsNamedPart ShorterSegmentFirst (brace_pieces t) s u) (agree.shorter (brace_pieces t) s u) q r
 one_of_three agree at f.KeyMatch s t u q r = λ e g. e ∙ sym g
@@ -119,7 +119,7 @@ one_calls_texts agree env at callee (Some (s ∷ t ∷ u ∷ v ∷ more)) q r = 
 pub one_call : FunctionsAgree → (env : Environment) (at : ℕ) (callee : Callee) (ds : List Datum) → AtMostOne (Calls env at callee ds)
 one_call agree env at callee ds = one_calls_texts agree env at callee (texts_of ds)
 
-some_whether : (fact : Type 0) → (b : Bool) × (IsTrue b ↔ fact) → AtLeastOne (IsWhether fact)
+pub some_whether : (fact : Type 0) → (b : Bool) × (IsTrue b ↔ fact) → AtLeastOne (IsWhether fact)
 some_whether fact (b, p) = (Ok (datum.truth b), (b, p, refl))
 
 some_text : (fact : List ℕ → Type 0) → (t : List ℕ) × fact t → AtLeastOne (IsText fact)
@@ -139,7 +139,7 @@ some_in_block decide at text block = by_address (decide.address text) (decide.bl
     by_address (inl (a, p)) given = by_block a p given
     by_address (inr none) given = (fails BadAddress at, inl (none, refl))
 
-some_of_two : FunctionsDecide → (refused : Option (ℕ × List ℕ)) (at : ℕ) (called : Function) (s t : List ℕ) → AtLeastOne (OfTwo refused at called s t)
+pub some_of_two : FunctionsDecide → (refused : Option (ℕ × List ℕ)) (at : ℕ) (called : Function) (s t : List ℕ) → AtLeastOne (OfTwo refused at called s t)
 some_of_two decide refused at f.KeyMatch s t = some_whether (AgreesToStar s t) (decide.star s t)
 some_of_two decide refused at f.KeyMatch2 s t = some_whether (Covers (colon_pieces t) s) (decide.covers (colon_pieces t) s)
 some_of_two decide refused at f.KeyMatch3 s t = some_whether (Covers (brace_pieces t) s) (decide.covers (brace_pieces t) s)
@@ -152,7 +152,7 @@ some_of_two decide refused at f.KeyGet s t = (Ok (datum.text (part_at_star s t))
 some_of_two decide refused at f.KeyGet2 s t = (fails Kind at, refl)
 some_of_two decide refused at f.KeyGet3 s t = (fails Kind at, refl)
 
-some_of_three : FunctionsDecide → (at : ℕ) (called : Function) (s t u : List ℕ) → AtLeastOne (OfThree at called s t u)
+pub some_of_three : FunctionsDecide → (at : ℕ) (called : Function) (s t u : List ℕ) → AtLeastOne (OfThree at called s t u)
 some_of_three decide at f.KeyGet2 s t u = some_text (IsNamedPart LongerFirst (colon_pieces t) s u) (decide.longer (colon_pieces t) s u)
 some_of_three decide at f.KeyGet3 s t u = some_text (IsNamedPart ShorterSegmentFirst (brace_pieces t) s u) (decide.shorter (brace_pieces t) s u)
 some_of_three decide at f.KeyMatch s t u = (fails Kind at, refl)

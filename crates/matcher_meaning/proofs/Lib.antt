@@ -4,3 +4,15 @@ mod RefusalLemmas
 mod MeaningLemmas
 mod PermLemmas
 mod PatternLemmas
+mod CaseCallLemmas
+mod ComesLemmas
+mod CaseRefusalLemmas
+mod CasePatternLemmas
+mod VerdictLemmas
+mod PlainLemmas
+mod VerdictRefusalLemmas
+mod OrderLemmas
+mod WorkedLemmas
+mod PlaceLemmas
+mod JudgedLemmas
+mod WorkedOrder

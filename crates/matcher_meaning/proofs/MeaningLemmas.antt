@@ -12,18 +12,18 @@ use Rattle.matcher_meaning.specs.Meaning.{Means, IsAmong, AreArguments, IsTruth,
 use Rattle.matcher_meaning.proofs.CallLemmas.{AtMostOne, AtLeastOne, FunctionsAgree, FunctionsDecide, one_call, some_call}
 use Rattle.matcher_meaning.specs.Operators.{negated, opposed, settled, joined, found}
 
-one_next : {X Y : Type 0} (P : X → Type 0) (next : X → Y) → AtMostOne P → AtMostOne (λ r. (x : X) × P x × (r ≡ next x))
+pub one_next : {X Y : Type 0} (P : X → Type 0) (next : X → Y) → AtMostOne P → AtMostOne (λ r. (x : X) × P x × (r ≡ next x))
 one_next P next one r s (x, p, e) (y, q, f) = e ∙ ap next (one x y p q) ∙ sym f
 
-unless_one : (there : Option Answer) (P : Answer → Type 0) → AtMostOne P → AtMostOne (λ r. Unless there (P r) r)
+pub unless_one : (there : Option Answer) (P : Answer → Type 0) → AtMostOne P → AtMostOne (λ r. Unless there (P r) r)
 unless_one (Some answer) P one r s p q = p ∙ sym q
 unless_one None P one r s p q = one r s p q
 
-after_one : {X Y : Type 0} (x : Result X Fault) (P : Result Y Fault → X → Type 0) → ((d : X) → AtMostOne (λ r. P r d)) → AtMostOne (λ r. After x (P r) r)
+pub after_one : {X Y : Type 0} (x : Result X Fault) (P : Result Y Fault → X → Type 0) → ((d : X) → AtMostOne (λ r. P r d)) → AtMostOne (λ r. After x (P r) r)
 after_one (Ok d) P one r s p q = one d r s p q
 after_one (Err fault) P one r s p q = p ∙ sym q
 
-first_one : {X Y : Type 0} (L : X → Type 0) (P : Y → X → Type 0) → AtMostOne L → ((x : X) → AtMostOne (λ r. P r x)) → AtMostOne (λ r. (x : X) × L x × P r x)
+pub first_one : {X Y : Type 0} (L : X → Type 0) (P : Y → X → Type 0) → AtMostOne L → ((x : X) → AtMostOne (λ r. P r x)) → AtMostOne (λ r. (x : X) × L x × P r x)
 first_one L P left one r s (x, p, e) (y, q, f) = one y r s (subst (λ z. P r z) (left x y p q) e) f
 
 mutual
@@ -59,18 +59,18 @@ mutual
 pub one_truth : FunctionsAgree → (env : Environment) (e : Expression) (r s : Result Bool Fault) → IsTruth env e r → IsTruth env e s → r ≡ s
 one_truth agree env e r s (x, p, f) (y, q, g) = f ∙ ap (λ z. then z (truth_at (place e))) (one_answer agree env e x y p q) ∙ sym g
 
-some_next : {X Y : Type 0} (P : X → Type 0) (next : X → Y) → AtLeastOne P → AtLeastOne (λ r. (x : X) × P x × (r ≡ next x))
+pub some_next : {X Y : Type 0} (P : X → Type 0) (next : X → Y) → AtLeastOne P → AtLeastOne (λ r. (x : X) × P x × (r ≡ next x))
 some_next P next (x, p) = (next x, (x, p, refl))
 
-unless_some : (there : Option Answer) (P : Answer → Type 0) → AtLeastOne P → AtLeastOne (λ r. Unless there (P r) r)
+pub unless_some : (there : Option Answer) (P : Answer → Type 0) → AtLeastOne P → AtLeastOne (λ r. Unless there (P r) r)
 unless_some (Some answer) P some = (answer, refl)
 unless_some None P some = some
 
-after_some : {X Y : Type 0} (x : Result X Fault) (P : Result Y Fault → X → Type 0) → ((d : X) → AtLeastOne (λ r. P r d)) → AtLeastOne (λ r. After x (P r) r)
+pub after_some : {X Y : Type 0} (x : Result X Fault) (P : Result Y Fault → X → Type 0) → ((d : X) → AtLeastOne (λ r. P r d)) → AtLeastOne (λ r. After x (P r) r)
 after_some (Ok d) P some = some d
 after_some (Err fault) P some = (Err fault, refl)
 
-first_some : {X Y : Type 0} (L : X → Type 0) (P : Y → X → Type 0) → AtLeastOne L → ((x : X) → AtLeastOne (λ r. P r x)) → AtLeastOne (λ r. (x : X) × L x × P r x)
+pub first_some : {X Y : Type 0} (L : X → Type 0) (P : Y → X → Type 0) → AtLeastOne L → ((x : X) → AtLeastOne (λ r. P r x)) → AtLeastOne (λ r. (x : X) × L x × P r x)
 first_some L P (x, p) some = ((some x).0, (x, p, (some x).1))
 
 mutual

@@ -48,18 +48,18 @@ abbrev pub IsClearThere : Option Answer → Type 0
 IsClearThere (Some answer) = IsClear answer
 IsClearThere None = ⊤
 
-same_clear : {X : Type 0} (r s : Result X Fault) → r ≡ s → IsClear s → IsClear r
+pub same_clear : {X : Type 0} (r s : Result X Fault) → r ≡ s → IsClear s → IsClear r
 same_clear {X} r s e clear = subst (λ (x : Result X Fault). IsClear x) (sym e) clear
 
-then_clear : {X : Type 0} (x : Answer) (next : Datum → Result X Fault) → IsClear x → ((d : Datum) → IsClear (next d)) → IsClear (answers.then x next)
+pub then_clear : {X : Type 0} (x : Answer) (next : Datum → Result X Fault) → IsClear x → ((d : Datum) → IsClear (next d)) → IsClear (answers.then x next)
 then_clear (Ok d) next clear follows = follows d
 then_clear (Err fault) next clear follows = clear
 
-next_clear : {X Y : Type 0} (P : Result X Fault → Type 0) (next : Result X Fault → Result Y Fault) → AreClear P → ((x : Result X Fault) → IsClear x → IsClear (next x))
+pub next_clear : {X Y : Type 0} (P : Result X Fault → Type 0) (next : Result X Fault → Result Y Fault) → AreClear P → ((x : Result X Fault) → IsClear x → IsClear (next x))
     → AreClear (λ r. (x : Result X Fault) × P x × (r ≡ next x))
 next_clear P next clear follows r (x, p, e) = same_clear r (next x) e (follows x (clear x p))
 
-after_clear : {X Y : Type 0} (P : Result X Fault → Type 0) (R : X → Result Y Fault → Type 0) → AreClear P → ((x : X) → AreClear (R x))
+pub after_clear : {X Y : Type 0} (P : Result X Fault → Type 0) (R : X → Result Y Fault → Type 0) → AreClear P → ((x : X) → AreClear (R x))
     → AreClear (λ r. (x : Result X Fault) × P x × After x (λ d. R d r) r)
 after_clear {X} {Y} P R clear follows r (x, p, after) = go x (clear x p) after
   where
@@ -67,15 +67,15 @@ after_clear {X} {Y} P R clear follows r (x, p, after) = go x (clear x p) after
     go (Ok d) given q = follows d r q
     go (Err fault) given e = same_clear r (Err fault) e given
 
-unless_clear : (there : Option Answer) (P : Answer → Type 0) → IsClearThere there → AreClear P → AreClear (λ r. Unless there (P r) r)
+pub unless_clear : (there : Option Answer) (P : Answer → Type 0) → IsClearThere there → AreClear P → AreClear (λ r. Unless there (P r) r)
 unless_clear (Some answer) P there clear r e = same_clear r answer e there
 unless_clear None P there clear r p = clear r p
 
-first_clear : (d : Datum) (x : Result (List Datum) Fault) → IsClear x → IsClear (with_first d x)
+pub first_clear : (d : Datum) (x : Result (List Datum) Fault) → IsClear x → IsClear (with_first d x)
 first_clear d (Ok ds) clear = tt
 first_clear d (Err fault) clear = clear
 
-negated_clear : (at : ℕ) (d : Datum) → IsClear (negated at d)
+pub negated_clear : (at : ℕ) (d : Datum) → IsClear (negated at d)
 negated_clear at (datum.truth b) = tt
 negated_clear at _ = refl
 
@@ -91,7 +91,7 @@ divided_clear at n by given =
     cond_clear (int_eq by (pos 0)) (answers.fails ZeroDivisor at) (if fits (int_div n by) then Ok (datum.whole given) else answers.fails Overflow at) refl
     (cond_clear (fits (int_div n by)) (Ok (datum.whole given)) (answers.fails Overflow at) tt refl)
 
-opposed_clear : (at : ℕ) (d : Datum) → IsClear (opposed at d)
+pub opposed_clear : (at : ℕ) (d : Datum) → IsClear (opposed at d)
 opposed_clear at (datum.whole n) = fitted_clear at (neg_ℤ n)
 opposed_clear at _ = refl
 
@@ -99,7 +99,7 @@ wholes_clear : (at : ℕ) (give : ℤ → ℤ → Answer) → ((n m : ℤ) → I
 wholes_clear at give clear (datum.whole n) (datum.whole m) = clear n m
 wholes_clear at give clear _ _ = refl
 
-side_clear : (at : ℕ) (d : Datum) → IsClear (as_truth at d)
+pub side_clear : (at : ℕ) (d : Datum) → IsClear (as_truth at d)
 side_clear at (datum.truth b) = tt
 side_clear at _ = refl
 
@@ -108,7 +108,7 @@ ordered_clear at is_so (datum.whole n) (datum.whole m) = tt
 ordered_clear at is_so (datum.text s) (datum.text t) = tt
 ordered_clear at is_so _ _ = refl
 
-joined_clear : (at : ℕ) (o : Operator) (d e : Datum) → IsClear (joined at o d e)
+pub joined_clear : (at : ℕ) (o : Operator) (d e : Datum) → IsClear (joined at o d e)
 joined_clear at op.Or d e = side_clear at e
 joined_clear at op.And d e = side_clear at e
 joined_clear at op.Equal d e = tt
@@ -130,12 +130,12 @@ ended_clear at false (datum.truth false) = tt
 ended_clear at false (datum.truth true) = tt
 ended_clear at _ _ = refl
 
-settled_clear : (at : ℕ) (o : Operator) (d : Datum) → IsClearThere (settled at o d)
+pub settled_clear : (at : ℕ) (o : Operator) (d : Datum) → IsClearThere (settled at o d)
 settled_clear at op.Or d = ended_clear at true d
 settled_clear at op.And d = ended_clear at false d
 settled_clear at _ d = tt
 
-found_clear : (d : Datum) (x : Answer) → IsClear x → IsClearThere (found d x)
+pub found_clear : (d : Datum) (x : Answer) → IsClear x → IsClearThere (found d x)
 found_clear d (Ok e) clear = go (is_member d e)
   where
     go : (b : Bool) → IsClearThere (if b then Some (Ok (datum.truth true)) else None)
@@ -143,12 +143,12 @@ found_clear d (Ok e) clear = go (is_member d e)
     go false = tt
 found_clear d (Err fault) clear = clear
 
-along_clear : (at : ℕ) (d : Option Datum) (names : List (List ℕ)) → IsClear (along at d names)
+pub along_clear : (at : ℕ) (d : Option Datum) (names : List (List ℕ)) → IsClear (along at d names)
 along_clear at None names = refl
 along_clear at (Some d) [] = tt
 along_clear at (Some d) (name ∷ names) = along_clear at (attribute d name) names
 
-whether_clear : (fact : Type 0) → AreClear (IsWhether fact)
+pub whether_clear : (fact : Type 0) → AreClear (IsWhether fact)
 whether_clear fact r (b, p, e) = same_clear r (Ok (datum.truth b)) e tt
 
 text_clear : (fact : List ℕ → Type 0) → AreClear (IsText fact)
@@ -159,7 +159,7 @@ block_clear at s t r (inl p) = same_clear r (answers.fails BadAddress at) p.1 re
 block_clear at s t r (inr (inl p)) = same_clear r (answers.fails BadBlock at) p.2 refl
 block_clear at s t r (inr (inr p)) = whether_clear (IsInside p.0 p.1.address p.1.bits) r p.4
 
-two_clear : (at : ℕ) (called : Function) (s t : List ℕ) → AreClear (OfTwo None at called s t)
+pub two_clear : (at : ℕ) (called : Function) (s t : List ℕ) → AreClear (OfTwo None at called s t)
 two_clear at f.KeyMatch s t r p = whether_clear (AgreesToStar s t) r p
 two_clear at f.KeyMatch2 s t r p = whether_clear (Covers (colon_pieces t) s) r p
 two_clear at f.KeyMatch3 s t r p = whether_clear (Covers (brace_pieces t) s) r p
@@ -172,7 +172,7 @@ two_clear at f.KeyGet s t r e = same_clear r (Ok (datum.text (part_at_star s t))
 two_clear at f.KeyGet2 s t r e = same_clear r (answers.fails Kind at) e refl
 two_clear at f.KeyGet3 s t r e = same_clear r (answers.fails Kind at) e refl
 
-three_clear : (at : ℕ) (called : Function) (s t u : List ℕ) → AreClear (OfThree at called s t u)
+pub three_clear : (at : ℕ) (called : Function) (s t u : List ℕ) → AreClear (OfThree at called s t u)
 three_clear at f.KeyGet2 s t u r p = text_clear (IsNamedPart LongerFirst (colon_pieces t) s u) r p
 three_clear at f.KeyGet3 s t u r p = text_clear (IsNamedPart ShorterSegmentFirst (brace_pieces t) s u) r p
 three_clear at _ s t u r e = same_clear r (answers.fails Kind at) e refl
@@ -219,7 +219,7 @@ mutual
       after_clear (Means (unrefused env) e) (λ d r. (y : Result (List Datum) Fault) × AreArguments (unrefused env) es y × (r ≡ with_first d y)) (value_clear env e)
       (λ d. next_clear (AreArguments (unrefused env) es) (with_first d) (arguments_clear env es) (first_clear d)) r p
 
-truth_at_clear : (at : ℕ) (d : Datum) → IsClear (truth_at at d)
+pub truth_at_clear : (at : ℕ) (d : Datum) → IsClear (truth_at at d)
 truth_at_clear at (datum.truth b) = tt
 truth_at_clear at _ = refl
 
@@ -227,13 +227,13 @@ pub truth_clear : (env : Environment) (e : Expression) → AreClear (IsTruth (un
 truth_clear env e = next_clear (Means (unrefused env) e) (λ x. answers.then x (truth_at (place e))) (value_clear env e) (λ x clear. then_clear x (truth_at (place e)) clear (truth_at_clear (place e)))
 
 -- the outcome is not the fault of a pattern
-abbrev IsClearOutcome : Outcome → Type 0
+abbrev pub IsClearOutcome : Outcome → Type 0
 IsClearOutcome Unmatched = ⊤
 IsClearOutcome (Matched allow) = ⊤
 IsClearOutcome (Failed fault) = is_pattern fault.cause ≡ false
 
 -- none of these outcomes is the fault of a pattern
-abbrev AreClearOutcomes : List Taken → Type 0
+abbrev pub AreClearOutcomes : List Taken → Type 0
 AreClearOutcomes [] = ⊤
 AreClearOutcomes (taken ∷ others) = IsClearOutcome taken.1 × AreClearOutcomes others
 
@@ -242,7 +242,7 @@ abbrev IsClearFound : Option Taken → Type 0
 IsClearFound (Some taken) = IsClearOutcome taken.1
 IsClearFound None = ⊤
 
-outcome_of_clear : (t : Result Bool Fault) (word : Option Bool) → IsClear t → IsClearOutcome (outcome_of t word)
+pub outcome_of_clear : (t : Result Bool Fault) (word : Option Bool) → IsClear t → IsClearOutcome (outcome_of t word)
 outcome_of_clear (Err failed) word clear = clear
 outcome_of_clear (Ok false) word clear = tt
 outcome_of_clear (Ok true) None clear = tt
@@ -267,7 +267,7 @@ all_clear m q false rows outcomes p = once_clear m q outcomes p
 all_clear m q true [] outcomes p = once_clear m q outcomes p
 all_clear m q true (row ∷ rows) outcomes p = outcomes_clear m q 1 (row ∷ rows) outcomes p
 
-find_clear : (test : Taken → Bool) (outcomes : List Taken) → AreClearOutcomes outcomes → IsClearFound (find test outcomes)
+pub find_clear : (test : Taken → Bool) (outcomes : List Taken) → AreClearOutcomes outcomes → IsClearFound (find test outcomes)
 find_clear test [] clear = tt
 find_clear test (taken ∷ others) clear = go (test taken) (find_clear test others clear.1)
   where
@@ -292,7 +292,7 @@ unsettled_clear effect.AllowAndDeny outcomes = go (find allows outcomes)
 unsettled_clear effect.Priority outcomes = refl
 unsettled_clear effect.SubjectPriority outcomes = refl
 
-verdict_at_clear : (e : Effect) (outcomes : List Taken) (taken : Option Taken) → IsClearFound taken → is_refusal (verdict_at e outcomes taken) ≡ false
+pub verdict_at_clear : (e : Effect) (outcomes : List Taken) (taken : Option Taken) → IsClearFound taken → is_refusal (verdict_at e outcomes taken) ≡ false
 verdict_at_clear e outcomes (Some taken) clear = settled_by_clear taken.0 taken.1 clear
 verdict_at_clear e outcomes None clear = unsettled_clear e outcomes
 

@@ -20,7 +20,7 @@ SomeTruth = (env : Environment) (e : Expression) → (r : Result Bool Fault) × 
 one_outcome : OneTruth → (m : Judging) (q : List Datum) (refused : Option (ℕ × List ℕ)) (row : Option (List (List ℕ))) (word : Option Bool) (o p : Outcome) → IsOutcome m q refused row word o → IsOutcome m q refused row word p → o ≡ p
 one_outcome one m q refused row word o p (t, is, e) (u, was, f) = e ∙ ap (λ x. outcome_of x word) (one (without_roles m.request_columns q m.policy_columns row refused) m.matcher t u is was) ∙ sym f
 
-same_taken : (p s : Taken) → p.0 ≡ s.0 → p.1 ≡ s.1 → p ≡ s
+pub same_taken : (p s : Taken) → p.0 ≡ s.0 → p.1 ≡ s.1 → p ≡ s
 same_taken p s row outcome = ap (λ (r : Option ℕ). (r, p.1)) row ∙ ap (λ (o : Outcome). (s.0, o)) outcome
 
 one_list : OneTruth → (m : Judging) (q : List Datum) (refused : Option Refusal) (number : ℕ) (rows : List (List (List ℕ))) (ps ss : List Taken) → AreOutcomes m q refused number rows ps → AreOutcomes m q refused number rows ss → ps ≡ ss

@@ -24,7 +24,7 @@ Keeps {X} at P Q = (r : Result X Fault) → P r → Q r ⊎ Q (fails Pattern at)
 kept : {X : Type 0} (at : ℕ) (P : Result X Fault → Type 0) → Keeps at P P
 kept at P r p = inl p
 
-then_keeps : {X Y : Type 0} (at : ℕ) (P Q : Result X Fault → Type 0) (next : Result X Fault → Result Y Fault) → next (fails Pattern at) ≡ fails Pattern at → Keeps at P Q
+pub then_keeps : {X Y : Type 0} (at : ℕ) (P Q : Result X Fault → Type 0) (next : Result X Fault → Result Y Fault) → next (fails Pattern at) ≡ fails Pattern at → Keeps at P Q
     → Keeps at (λ r. (x : Result X Fault) × P x × (r ≡ next x)) (λ r. (x : Result X Fault) × Q x × (r ≡ next x))
 then_keeps {X} {Y} at P Q next stays keep r (x, p, e) = go (keep x p)
   where
@@ -32,7 +32,7 @@ then_keeps {X} {Y} at P Q next stays keep r (x, p, e) = go (keep x p)
     go (inl q) = inl (x, q, e)
     go (inr q) = inr (fails Pattern at, q, sym stays)
 
-after_keeps : {X Y : Type 0} (at : ℕ) (P Q : Result X Fault → Type 0) (R S : X → Result Y Fault → Type 0) → Keeps at P Q → ((x : X) → Keeps at (R x) (S x))
+pub after_keeps : {X Y : Type 0} (at : ℕ) (P Q : Result X Fault → Type 0) (R S : X → Result Y Fault → Type 0) → Keeps at P Q → ((x : X) → Keeps at (R x) (S x))
     → Keeps at (λ r. (x : Result X Fault) × P x × After x (λ d. R d r) r) (λ r. (x : Result X Fault) × Q x × After x (λ d. S d r) r)
 after_keeps {X} {Y} at P Q R S keep next r (x, p, after) = first (keep x p)
   where
@@ -51,7 +51,7 @@ after_keeps {X} {Y} at P Q R S keep next r (x, p, after) = first (keep x p)
     first (inl q) = second x q after
     first (inr q) = inr (fails Pattern at, q, refl)
 
-unless_keeps : (at : ℕ) (there : Option Answer) (P Q : Answer → Type 0) → Keeps at P Q → Keeps at (λ r. Unless there (P r) r) (λ r. Unless there (Q r) r)
+pub unless_keeps : (at : ℕ) (there : Option Answer) (P Q : Answer → Type 0) → Keeps at P Q → Keeps at (λ r. Unless there (P r) r) (λ r. Unless there (Q r) r)
 unless_keeps at (Some answer) P Q keep r p = inl p
 unless_keeps at None P Q keep r p = keep r p
 
@@ -70,7 +70,7 @@ test_keeps : (at place : ℕ) (pattern given : List ℕ) (r other : Answer) (sam
 test_keeps at place pattern given r other true here e = inr (ap (λ (n : ℕ). failing n) (sym (here refl)))
 test_keeps at place pattern given r other false here e = inl e
 
-two_keeps : (at : ℕ) (pattern : List ℕ) (place : ℕ) (called : Function) (s t : List ℕ) → Keeps at (OfTwo None place called s t) (OfTwo (Some (at, pattern)) place called s t)
+pub two_keeps : (at : ℕ) (pattern : List ℕ) (place : ℕ) (called : Function) (s t : List ℕ) → Keeps at (OfTwo None place called s t) (OfTwo (Some (at, pattern)) place called s t)
 two_keeps at pattern place f.RegexMatch s t r e =
     test_keeps at place pattern t r (Ok (datum.truth (unwrap_or (has_match t s) false))) (is_refused (Some (at, pattern)) place t) (same_place at place (bytes_eq pattern t)) e
 two_keeps at pattern place f.KeyMatch s t r p = inl p
@@ -100,7 +100,7 @@ calls_keep : (env : Environment) (at : ℕ) (pattern : List ℕ) (place : ℕ) (
 calls_keep env at pattern place callee ds = texts_keep env at pattern place callee (texts_of ds)
 
 -- the same with the premise that a value that was found may not be
-found_keeps : (at : ℕ) (P Q : Answer → Type 0) (R S : Answer → Type 0) (d : Datum) → Keeps at P Q → Keeps at R S
+pub found_keeps : (at : ℕ) (P Q : Answer → Type 0) (R S : Answer → Type 0) (d : Datum) → Keeps at P Q → Keeps at R S
     → Keeps at (λ r. (x : Answer) × P x × Unless (found d x) (R r) r) (λ r. (x : Answer) × Q x × Unless (found d x) (S r) r)
 found_keeps at P Q R S d keep rest r (x, p, unless) = first (keep x p)
   where

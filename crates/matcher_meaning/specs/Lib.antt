@@ -5,3 +5,9 @@ pub mod Operators
 pub mod Calls
 pub mod Meaning
 pub mod Perm
+pub mod Cases
+pub mod CaseCalls
+pub mod Comes
+pub mod Order
+pub mod Verdicts
+pub mod Worked

@@ -22,6 +22,7 @@ mod ReadWhole
 mod RunLists
 mod RunParts
 mod Runs
+mod SoundLemmas
 mod Standing
 mod StandingSteps
 mod TokenFaults

@@ -36,7 +36,7 @@ abbrev pub AreDerived : ℕ → List Placed → Option Expression → Type 0
 AreDerived n ts None = Unit {0}
 AreDerived n ts (Some e) = Derives n prim_rule ts e
 
-choose : {A : Type 0} (P : Option A → Type 0) (test : Bool) {x y : Option A} → (test ≡ true → P x) → P y → P (cond test x y)
+pub choose : {A : Type 0} (P : Option A → Type 0) (test : Bool) {x y : Option A} → (test ≡ true → P x) → P y → P (cond test x y)
 choose P true h k = h refl
 choose P false h k = k
 

@@ -14,7 +14,7 @@ use Rattle.matcher_read.proofs.Opens.{whole_within}
 use Rattle.matcher_read.proofs.Passes.{read_none, read_on, read_some, reads, reads_behind, within_goes}
 use Rattle.matcher_read.proofs.Runs.{derives_final}
 
-then_ok : {B : Type 0} (f : State → Result B MatcherFault) (r : Result State MatcherFault) (b : B) → read_on f r ≡ Ok b → (s : State) × (r ≡ Ok s) × (f s ≡ Ok b)
+pub then_ok : {B : Type 0} (f : State → Result B MatcherFault) (r : Result State MatcherFault) (b : B) → read_on f r ≡ Ok b → (s : State) × (r ≡ Ok s) × (f s ≡ Ok b)
 then_ok f (Ok s) b h = (s, refl, h)
 then_ok f (Err e) b h = absurd cc
 

@@ -1,4 +1,4 @@
-ghost use Rattle.std.specs.Prelude.{◌≡◌, ℕ, List};
+ghost use Rattle.std.specs.Prelude.{◌≡◌, ◌⊎◌, ℕ, List};
 ghost use Rattle.matcher_read.specs.Expression.{Expression};
 ghost use Rattle.matcher_read.specs.Faults.{IsFault};
 ghost use Rattle.matcher_read.specs.Matcher.{IsMatcher};
@@ -20,4 +20,10 @@ pub fn text_has_one_fault()
 pub fn faulty_text_is_no_matcher()
     ensures { (bytes : List ℕ) (fault : MatcherFault) (e : Expression)
         → IsFault bytes fault → ¬ (IsMatcher bytes e) }
+{}
+
+/// The law that every text is a matcher or has a fault.
+pub fn every_text_is_a_matcher_or_at_fault()
+    ensures { (bytes : List ℕ) → ((e : Expression) × IsMatcher bytes e)
+        ⊎ ((fault : MatcherFault) × IsFault bytes fault) }
 {}

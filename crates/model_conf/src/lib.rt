@@ -22,8 +22,8 @@ mod uses;
 pub use fault::ModelFault;
 pub use key::Key;
 pub use law::{
-    faulty_text_is_no_model, printed_model_is_read, text_has_one_model_fault, text_says_one_model,
-    text_says_one_rule,
+    every_text_says_a_rule_or_none, faulty_text_is_no_model, printed_model_is_read,
+    text_has_one_model_fault, text_says_one_model, text_says_one_rule,
 };
 pub use model::Model;
 pub use printing::print_model;

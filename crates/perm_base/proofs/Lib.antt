@@ -6,3 +6,4 @@ pub mod ReadLemmas
 pub mod WrittenLemmas
 pub mod FieldLineLemmas
 pub mod TableLemmas
+pub mod CallerLemmas

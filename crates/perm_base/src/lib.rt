@@ -12,10 +12,7 @@ mod rules;
 mod shapes;
 mod table_names;
 
-pub use fields::{
-    PlainFault, cut_joined, joined_texts_are_unique, plain_fields_are_unique, push_texts,
-    read_plain_fields,
-};
+pub use fields::push_texts;
 pub use outside::{
     Failed, Fetch, ListShelf, ListSink, ListSource, NoMemory, ReadStop, Share, Shelf, Sink, Source,
     SureShelf, SureSink, SureSource, Text, push_all, read_all,

@@ -1,3 +1,15 @@
-pub mod LineLemmas
-pub mod PlaceLemmas
+pub mod SpelledLemmas
+pub mod NameLemmas
+pub mod RelationLemmas
+pub mod PutLemmas
+pub mod LimitLemmas
+pub mod CountLemmas
+pub mod GrowthLemmas
+pub mod LineFaultLemmas
+pub mod ReadingLemmas
 pub mod PolicyLemmas
+pub mod RankedLemmas
+pub mod TakeLemmas
+pub mod FillLemmas
+pub mod PrintLemmas
+pub mod PushLemmas

@@ -1,120 +1,134 @@
--- The lines of a policy, read from the front.
-use Rattle.std.proofs.Common.{◌≡◌, ◌≤◌, ℕ, false, cond, List, [], ◌∷◌, ◌++◌, length, map, refl, sym, ap, ◌∙◌, subst, arith}
-use Rattle.std.specs.Prelude.{All}
-use Rattle.std.proofs.lemmas.List.{append_assoc, append-nil, length-append, map-append}
-use Rattle.std.proofs.lemmas.List.Elements.{All-head, All-nil, All-push, All-tail, All-weaker}
-use Rattle.policy_csv.specs.Lines.{full_lines}
-use Rattle.perm_base.specs.Fields.{IsPlainLine, joined}
-use Rattle.policy_csv.specs.FirstPlaces.{first_places, stands}
-use Rattle.policy_csv.specs.Policy.{IsPlainRule, IsPolicy, policy_line}
-use Rattle.policy_csv.specs.declared.policy.PolicyFault.{PolicyFault}
-use Rattle.policy_csv.specs.declared.policy.PolicyFault.TheVariants.{NotYet, NoMemory}
-use Rattle.policy_csv.proofs.PlaceLemmas.{All-first_places, first_places-new, first_places-nil, first_places-push, length-first_places-append, stands-first_places}
+-- A text of bytes is a policy or has a first fault, as reading its lines comes to.
+use Rattle.std.proofs.Common.{◌≡◌, ◌≢◌, ◌⊎◌, inl, inr, ℕ, Bool, true, false, List, [], ◌∷◌, append-nil, Result, Ok, Err, refl, sym, ap, subst, ◌∙◌, true≢false}
+use Rattle.std.specs.Prelude.{IsUtf8}
+use Rattle.std.specs.Str.{is_utf8}
+use Rattle.std.proofs.lemmas.Str.{IsUtf8-from_is_utf8, is_utf8-from_IsUtf8}
+use Rattle.perm_base.specs.declared.shapes.Shapes.{Shapes}
+use Rattle.policy_csv.proofs.CountLemmas.{rows_none}
+use Rattle.policy_csv.proofs.ReadingLemmas.{Ends, reading, reading_ends, reading_fault, reading_none, reading_past}
+use Rattle.policy_csv.specs.Faults.{IsFaultInLine, IsPolicyFault}
+use Rattle.policy_csv.specs.Faults.IsPolicyFault.{in_line, not_utf8}
+use Rattle.policy_csv.specs.Lines.{policy_lines}
+use Rattle.policy_csv.specs.Policy.{IsPolicy, filled}
+use Rattle.policy_csv.specs.declared.fault.PolicyFault.{PolicyFault}
+use Rattle.policy_csv.specs.declared.fault.PolicyFault.TheVariants.{NotUtf8, Quote, UnknownTable, Columns, FieldTooLong, Full, NoMemory}
+use Rattle.policy_table.proofs.CallerLemmas.{empty_is_sound}
+use Rattle.policy_table.specs.Limits.{AreSound, passed}
+use Rattle.policy_table.specs.Tables.{Policy, without_rules}
 
--- a line is plain fields in one way
-abbrev pub PlainOnce : Type 0
-PlainOnce = (columns width : ℕ) (line : List ℕ) (first second : List (List ℕ)) → IsPlainLine columns line first → IsPlainLine width line second → first ≡ second
+-- what reading the text comes to
+abbrev pub whole : Shapes → List ℕ → Result Policy PolicyFault
+whole shapes bytes = reading shapes (policy_lines bytes) (without_rules shapes.ranked)
 
--- so lines are of one list of plain rules
-pub policy_lines-once : PlainOnce → (columns : ℕ) (first second : List (List (List ℕ))) → All (IsPlainRule columns) first → All (IsPlainRule columns) second → map policy_line first ≡ map policy_line second → first ≡ second
-policy_lines-once once columns [] [] one two e = refl
-policy_lines-once once columns [] (s ∷ second) one two e = absurd cc
-policy_lines-once once columns (f ∷ first) [] one two e = absurd cc
-policy_lines-once once columns (f ∷ first) (s ∷ second) one two e =
-    let P : List (List ℕ) → Type 0 = IsPlainRule columns in
-    let here : joined f ≡ joined s = cc in
-    let same : f ≡ s = once columns columns (joined s) f s (subst (λ (line : List ℕ). IsPlainLine columns line f) here (All-head P f first one)) (All-head P s second two) in
-    let later : map policy_line first ≡ map policy_line second = cc in
-    let rest : first ≡ second = policy_lines-once once columns first second (All-tail P f first one) (All-tail P s second two) later in
-    cc
+pub empty_sound : (shapes : Shapes) → AreSound shapes (without_rules shapes.ranked)
+empty_sound shapes = empty_is_sound shapes (without_rules shapes.ranked) refl (rows_none shapes.ranked)
 
-pub IsPolicy-once : PlainOnce → (columns : ℕ) (bytes : List ℕ) (first second : List (List (List ℕ))) → IsPolicy columns bytes first → IsPolicy columns bytes second → first ≡ second
-IsPolicy-once once columns bytes first second one two =
-    let same : one.all ≡ two.all = policy_lines-once once columns one.all two.all one.plain two.plain (sym one.lines ∙ two.lines) in
-    one.once ∙ ap first_places same ∙ sym two.once
+module _ (shapes : Shapes) (bytes : List ℕ) where
+  whole_ends : Ends shapes (policy_lines bytes) (without_rules shapes.ranked) (whole shapes bytes)
+  whole_ends = reading_ends shapes (policy_lines bytes) (without_rules shapes.ranked) (empty_sound shapes).within
 
--- the rules that were kept are those of the lines read so far, and every list of rules with these lines goes on from there
-pub record ReadsTo (columns : ℕ) (bytes : List ℕ) (rules : List (List (List ℕ))) (rest : List ℕ) : Type 0 where
-  pub front : List (List (List ℕ))
-  pub kept : rules ≡ first_places front
-  pub plain : All (IsPlainRule columns) front
-  pub lines : full_lines bytes ≡ map policy_line front ++ full_lines rest
-  pub few : length rules ≤ 200000
-  pub only : (all : List (List (List ℕ))) → full_lines bytes ≡ map policy_line all → All (IsPlainRule columns) all → (tail : List (List (List ℕ))) × (all ≡ front ++ tail) × (full_lines rest ≡ map policy_line tail) × All (IsPlainRule columns) tail
+  -- ---- what the text says is what reading gives
 
-pub ReadsTo-begin : (columns : ℕ) (bytes : List ℕ) → ReadsTo columns bytes [] bytes
-ReadsTo-begin columns bytes = record {
-  front = [];
-  kept = sym first_places-nil;
-  plain = All-nil (IsPlainRule columns);
-  lines = refl;
-  few = omega arith;
-  only = λ all lines plain. (all, refl, lines, plain);
-}
+  pub policy_read : (policy : Policy) → IsPolicy shapes bytes policy → whole shapes bytes ≡ Ok policy
+  policy_read policy is =
+      ap (λ lines. reading shapes lines (without_rules shapes.ranked)) (sym (append-nil (policy_lines bytes)))
+      ∙ reading_past shapes (policy_lines bytes) [] is.entries (without_rules shapes.ranked) refl is.lines (ap (passed shapes) (sym is.tables) ∙ is.within)
+      ∙ reading_none shapes (filled shapes is.entries) ∙ ap (λ (p : Policy). Ok p) (sym is.tables)
 
--- the first of the rules that have these lines
-first_rule : (columns : ℕ) (line : List ℕ) (later : List (List ℕ)) (rules : List (List (List ℕ))) → line ∷ later ≡ map policy_line rules → All (IsPlainRule columns) rules → (rule : List (List ℕ)) × (more : List (List (List ℕ))) × (rules ≡ rule ∷ more) × (line ≡ policy_line rule) × IsPlainRule columns rule × (later ≡ map policy_line more) × All (IsPlainRule columns) more
-first_rule columns line later [] lines plain = absurd cc
-first_rule columns line later (rule ∷ more) lines plain =
-    (rule, more, refl, cc, All-head (IsPlainRule columns) rule more plain, cc, All-tail (IsPlainRule columns) rule more plain)
+  pub fault_read : (fault : PolicyFault) → IsFaultInLine shapes bytes fault → whole shapes bytes ≡ Err fault
+  fault_read fault is =
+      ap (λ lines. reading shapes lines (without_rules shapes.ranked)) is.parts ∙ reading_past shapes is.front (is.line ∷ is.behind) is.entries (without_rules shapes.ranked) refl is.says is.within
+      ∙ reading_fault shapes is.line is.behind (filled shapes is.entries) fault is.bad
 
--- the rule of the next line, where the text is a policy
-pub next_rule : (columns : ℕ) (bytes rest line after : List ℕ) (rules others : List (List (List ℕ))) → ReadsTo columns bytes rules rest → full_lines rest ≡ line ∷ full_lines after → IsPolicy columns bytes others → (rule : List (List ℕ)) × IsPlainRule columns rule × (line ≡ policy_line rule)
-next_rule columns bytes rest line after rules others reads cut is =
-    let tail = reads.only is.all is.lines is.plain in
-    let first = first_rule columns line (full_lines after) tail.0 (sym cut ∙ tail.2) tail.3 in
-    (first.0, first.4, first.3)
+  -- ---- and the other way
 
--- one more line
-pub ReadsTo-more : (columns : ℕ) (bytes rest line after : List ℕ) (rules new : List (List (List ℕ))) (rule : List (List ℕ)) → ReadsTo columns bytes rules rest → full_lines rest ≡ line ∷ full_lines after → line ≡ policy_line rule → IsPlainRule columns rule → ((other : List (List ℕ)) → IsPlainRule columns other → line ≡ policy_line other → rule ≡ other) → new ≡ cond (stands rules rule) rules (rules ++ rule ∷ []) → length new ≤ 200000 → ReadsTo columns bytes new after
-ReadsTo-more columns bytes rest line after rules new rule reads cut spelled plain sole kept few =
-    let among : stands rules rule ≡ stands reads.front rule = ap (λ (list : List (List (List ℕ))). stands list rule) reads.kept ∙ stands-first_places reads.front rule in
-    record {
-      front = reads.front ++ rule ∷ [];
-      kept = kept ∙ rw (among, reads.kept) (sym (first_places-push reads.front rule));
-      plain = All-push (IsPlainRule columns) reads.front rule reads.plain plain;
-      lines = reads.lines ∙ rw (map-append, append_assoc) (ap (λ (lines : List (List ℕ)). map policy_line reads.front ++ lines) (cut ∙ ap (λ (first : List ℕ). first ∷ full_lines after) spelled));
-      few = few;
-      only = λ all lines all_plain.
-          let tail = reads.only all lines all_plain in
-          let first = first_rule columns line (full_lines after) tail.0 (sym cut ∙ tail.2) tail.3 in
-          let same : rule ≡ first.0 = sole first.0 first.4 first.3 in
-          let parts : tail.0 ≡ rule ∷ first.1 = first.2 ∙ ap (λ (r : List (List ℕ)). r ∷ first.1) (sym same) in
-          (first.1, tail.1 ∙ rw append_assoc (ap (λ (back : List (List (List ℕ))). reads.front ++ back) parts), first.5, first.6);
-    }
+  ends_at : (read : Result Policy PolicyFault) → whole shapes bytes ≡ read → Ends shapes (policy_lines bytes) (without_rules shapes.ranked) read
+  ends_at read e = subst (Ends shapes (policy_lines bytes) (without_rules shapes.ranked)) e whole_ends
 
--- a further different rule where there are 200,000
-pub ReadsTo-full : (columns : ℕ) (bytes rest line after : List ℕ) (rules others : List (List (List ℕ))) (rule : List (List ℕ)) → ReadsTo columns bytes rules rest → full_lines rest ≡ line ∷ full_lines after → ((other : List (List ℕ)) → IsPlainRule columns other → line ≡ policy_line other → rule ≡ other) → stands rules rule ≡ false → length rules ≡ 200000 → ¬ (IsPolicy columns bytes others)
-ReadsTo-full columns bytes rest line after rules others rule reads cut sole another full is =
-    let tail = reads.only is.all is.lines is.plain in
-    let first = first_rule columns line (full_lines after) tail.0 (sym cut ∙ tail.2) tail.3 in
-    let same : rule ≡ first.0 = sole first.0 first.4 first.3 in
-    let parts : is.all ≡ (reads.front ++ rule ∷ []) ++ first.1 = tail.1 ∙ rw append_assoc (ap (λ (back : List (List (List ℕ))). reads.front ++ back) (first.2 ∙ ap (λ (r : List (List ℕ)). r ∷ first.1) (sym same))) in
-    let among : stands reads.front rule ≡ false = sym (ap (λ (list : List (List (List ℕ))). stands list rule) reads.kept ∙ stands-first_places reads.front rule) ∙ another in
-    let one_more : length (first_places (reads.front ++ rule ∷ [])) ≡ length (first_places reads.front ++ rule ∷ []) = ap (λ (list : List (List (List ℕ))). length list) (first_places-new reads.front rule among) in
-    let longer : length (first_places (reads.front ++ rule ∷ [])) ≤ length (first_places ((reads.front ++ rule ∷ []) ++ first.1)) = length-first_places-append (reads.front ++ rule ∷ []) first.1 in
-    let all : length others ≡ length (first_places ((reads.front ++ rule ∷ []) ++ first.1)) = ap (λ (list : List (List (List ℕ))). length list) (is.once ∙ ap first_places parts) in
-    let kept : length rules ≡ length (first_places reads.front) = ap (λ (list : List (List (List ℕ))). length list) reads.kept in
-    omega (arith, length-append (first_places reads.front) (rule ∷ []), is.within)
+  pub read_policy_is : (policy : Policy) → IsUtf8 bytes → whole shapes bytes ≡ Ok policy → IsPolicy shapes bytes policy
+  read_policy_is policy utf8 e =
+      let fill = ends_at (Ok policy) e in
+      record {
+        utf8 = utf8;
+        entries = fill.entries;
+        lines = fill.says;
+        tables = fill.tables;
+        within = fill.within;
+      }
 
--- where no line is left
-no_rules : (rules : List (List (List ℕ))) → [] ≡ map policy_line rules → rules ≡ []
-no_rules [] none = refl
-no_rules (rule ∷ rules) none = absurd cc
+  pub read_fault_is : (fault : PolicyFault) → IsUtf8 bytes → whole shapes bytes ≡ Err fault → IsPolicyFault shapes bytes fault
+  read_fault_is fault utf8 e =
+      let stops = ends_at (Err fault) e in
+      in_line utf8 (record {
+        front = stops.front;
+        line = stops.line;
+        behind = stops.behind;
+        entries = stops.entries;
+        parts = stops.parts;
+        says = stops.says;
+        within = stops.within;
+        bad = stops.bad;
+      })
 
-pub ReadsTo-end_only : (columns : ℕ) (bytes rest : List ℕ) (rules others : List (List (List ℕ))) → ReadsTo columns bytes rules rest → full_lines rest ≡ [] → IsPolicy columns bytes others → rules ≡ others
-ReadsTo-end_only columns bytes rest rules others reads none is =
-    let tail = reads.only is.all is.lines is.plain in
-    let nothing : tail.0 ≡ [] = no_rules tail.0 (sym none ∙ tail.2) in
-    let same : is.all ≡ reads.front = tail.1 ∙ ap (λ (back : List (List (List ℕ))). reads.front ++ back) nothing ∙ append-nil reads.front in
-    reads.kept ∙ ap first_places (sym same) ∙ sym is.once
+  -- ---- the laws
 
-pub ReadsTo-columns : (columns : ℕ) (bytes rest : List ℕ) (rules : List (List (List ℕ))) → ReadsTo columns bytes rules rest → All (λ (rule : List (List ℕ)). length rule ≡ columns) rules
-ReadsTo-columns columns bytes rest rules reads =
-    let each : All (λ (rule : List (List ℕ)). length rule ≡ columns) reads.front = All-weaker (IsPlainRule columns) (λ (rule : List (List ℕ)). length rule ≡ columns) (λ rule is. is.counted) reads.front reads.plain in
-    subst (All (λ (rule : List (List ℕ)). length rule ≡ columns)) (sym reads.kept) (All-first_places (λ (rule : List (List ℕ)). length rule ≡ columns) reads.front each)
+  pub one_policy : (first second : Policy) → IsPolicy shapes bytes first → IsPolicy shapes bytes second → first ≡ second
+  one_policy first second one two =
+      let a = policy_read first one in
+      let b = policy_read second two in
+      cc
 
--- a fault that is not NotYet
-pub only_memory : (fault : PolicyFault) → (fault ≡ NotYet → ⊥) → fault ≡ NoMemory
-only_memory NotYet other = absurd (other refl)
-only_memory NoMemory other = refl
+  pub no_policy : (fault : PolicyFault) (policy : Policy) → IsPolicyFault shapes bytes fault → IsPolicy shapes bytes policy → ⊥
+  no_policy fault policy (not_utf8 none e) is = none is.utf8
+  no_policy fault policy (in_line utf8 in_one) is =
+      let a = fault_read fault in_one in
+      let b = policy_read policy is in
+      absurd cc
+
+  pub one_fault : (first second : PolicyFault) → IsPolicyFault shapes bytes first → IsPolicyFault shapes bytes second → first ≡ second
+  one_fault first second (not_utf8 none e) (not_utf8 other f) = e ∙ sym f
+  one_fault first second (not_utf8 none e) (in_line utf8 in_one) = absurd (none utf8)
+  one_fault first second (in_line utf8 in_one) (not_utf8 none e) = absurd (none utf8)
+  one_fault first second (in_line utf8 in_one) (in_line same in_other) =
+      let a = fault_read first in_one in
+      let b = fault_read second in_other in
+      cc
+
+  pub policy_or_fault : ((policy : Policy) × IsPolicy shapes bytes policy) ⊎ ((fault : PolicyFault) × IsPolicyFault shapes bytes fault)
+  policy_or_fault = by_utf8 (is_utf8 bytes) refl
+    where
+      by_read : (read : Result Policy PolicyFault) → whole shapes bytes ≡ read → IsUtf8 bytes → ((policy : Policy) × IsPolicy shapes bytes policy) ⊎ ((fault : PolicyFault) × IsPolicyFault shapes bytes fault)
+      by_read (Ok policy) e utf8 = inl (policy, read_policy_is policy utf8 e)
+      by_read (Err fault) e utf8 = inr (fault, read_fault_is fault utf8 e)
+
+      by_utf8 : (test : Bool) → is_utf8 bytes ≡ test → ((policy : Policy) × IsPolicy shapes bytes policy) ⊎ ((fault : PolicyFault) × IsPolicyFault shapes bytes fault)
+      by_utf8 true e = by_read (whole shapes bytes) refl (IsUtf8-from_is_utf8 bytes e)
+      by_utf8 false e = inr (NotUtf8, not_utf8 (λ utf8. true≢false (sym (is_utf8-from_IsUtf8 bytes utf8) ∙ e)) refl)
+
+  -- ---- where reading has stopped or ended, and memory may have run out
+
+  pub only_memory : (fault : PolicyFault) (policy : Policy) → (fault ≢ NoMemory → whole shapes bytes ≡ Err fault) → IsPolicy shapes bytes policy → fault ≡ NoMemory
+  only_memory fault policy stop is = by fault stop
+    where
+      no_stop : (f : PolicyFault) → whole shapes bytes ≡ Err f → ⊥
+      no_stop f e = let read = policy_read policy is in absurd cc
+
+      by : (f : PolicyFault) → (f ≢ NoMemory → whole shapes bytes ≡ Err f) → f ≡ NoMemory
+      by NotUtf8 s = absurd (no_stop NotUtf8 (s (λ memory. absurd cc)))
+      by (Quote at column) s = absurd (no_stop (Quote at column) (s (λ memory. absurd cc)))
+      by (UnknownTable at) s = absurd (no_stop (UnknownTable at) (s (λ memory. absurd cc)))
+      by (Columns at) s = absurd (no_stop (Columns at) (s (λ memory. absurd cc)))
+      by (FieldTooLong at) s = absurd (no_stop (FieldTooLong at) (s (λ memory. absurd cc)))
+      by (Full at what) s = absurd (no_stop (Full at what) (s (λ memory. absurd cc)))
+      by NoMemory s = refl
+
+  pub stop_is_first : (fault first : PolicyFault) → IsUtf8 bytes → whole shapes bytes ≡ Err fault → IsPolicyFault shapes bytes first → fault ≡ first
+  stop_is_first fault first utf8 stop (not_utf8 none e) = absurd (none utf8)
+  stop_is_first fault first utf8 stop (in_line same in_one) = let read = fault_read first in_one in cc
+
+  pub no_fault : (policy : Policy) (first : PolicyFault) → IsUtf8 bytes → whole shapes bytes ≡ Ok policy → IsPolicyFault shapes bytes first → ⊥
+  no_fault policy first utf8 end (not_utf8 none e) = none utf8
+  no_fault policy first utf8 end (in_line same in_one) = let read = fault_read first in_one in absurd cc
+
+  pub end_is_policy : (policy other : Policy) → whole shapes bytes ≡ Ok policy → IsPolicy shapes bytes other → policy ≡ other
+  end_is_policy policy other end is = let read = policy_read other is in cc

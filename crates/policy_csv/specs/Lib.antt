@@ -1,3 +1,5 @@
-pub mod FirstPlaces
 pub mod Lines
 pub mod Policy
+pub mod Faults
+pub mod Printed
+pub mod Helps

@@ -1,7 +1,8 @@
--- The lines of a policy's text.
-use Rattle.std.specs.Prelude.{ℕ, ◌==◌, List, filter, length, not}
-use Rattle.text_parts.specs.Lines.{lines_of}
+-- The lines of a policy's text that count.
+use Rattle.std.specs.Prelude.{ℕ, List}
+use Rattle.text_parts.specs.Full.{full_lines}
+use Rattle.text_parts.specs.Numbered.{Line}
 
--- the lines that are not empty
-unfoldable pub full_lines : List ℕ → List (List ℕ)
-full_lines text = filter (λ line. not (length line == 0)) (lines_of text)
+-- the lines of the text that are neither blank nor comments, numbered from 1
+abbrev pub policy_lines : List ℕ → List Line
+policy_lines bytes = full_lines 1 bytes

@@ -1,30 +1,46 @@
--- The text of a policy: a line for each rule (Casbin, policy: `p` and the fields of the rule).
-use Rattle.std.specs.Prelude.{◌≡◌, ◌≤◌, ℕ, List, ◌++◌, length, map, All, codes}
-use Rattle.policy_csv.specs.Lines.{full_lines}
-use Rattle.perm_base.specs.Fields.{joined, IsPlainLine}
-use Rattle.perm_base.specs.declared.fields.PlainFault.{PlainFault}
-use Rattle.perm_base.specs.declared.fields.PlainFault.TheVariants as plain
-use Rattle.policy_csv.specs.FirstPlaces.{first_places}
-use Rattle.policy_csv.specs.declared.policy.PolicyFault.{PolicyFault}
-use Rattle.policy_csv.specs.declared.policy.PolicyFault.TheVariants.{NotYet, NoMemory}
+-- The text of a policy: a line for each rule, the name of its table and its fields (Casbin, policy).
+use Rattle.std.specs.Prelude.{◌≡◌, ℕ, List, [], ◌∷◌, length, Some, None, IsTrue, IsUtf8, if◌then◌else◌}
+use Rattle.std.specs.List.{AllZip}
+use Rattle.perm_base.specs.FieldLine.{IsFields}
+use Rattle.perm_base.specs.TableNames.{table_named}
+use Rattle.perm_base.specs.declared.shapes.Shapes.{Shapes}
+use Rattle.policy_csv.specs.Lines.{policy_lines}
+use Rattle.policy_csv.specs.declared.entry.Entry.{Entry}
+use Rattle.policy_table.specs.Changes.{changed}
+use Rattle.policy_table.specs.Limits.{columns_of, has_short_fields, passed}
+use Rattle.policy_table.specs.Tables.{Policy, rows, stands, without_rules}
+use Rattle.policy_table.specs.declared.change.Change.TheVariants.{Insert}
+use Rattle.text_parts.specs.Numbered.{Line}
 
--- the line of a rule: `p` and its fields, joined by a comma and a blank
-abbrev pub policy_line : List (List ℕ) → List ℕ
-policy_line rule = codes "p, " ++ joined rule
+-- the text of a line is the name of a table of the shapes and the fields of a rule, as many as its columns and none too long
+pub record SaysRule (shapes : Shapes) (text : List ℕ) (entry : Entry) : Type 0 where
+  pub name : List ℕ
+  pub fields : IsFields text (name ∷ entry.rule)
+  pub named : table_named name ≡ Some entry.table
+  pub columns : columns_of shapes entry.table ≡ Some (length entry.rule)
+  pub short : IsTrue (has_short_fields entry.rule)
 
--- the rule has this many fields, each of them plain
-abbrev pub IsPlainRule : ℕ → List (List ℕ) → Type 0
-IsPlainRule columns rule = IsPlainLine columns (joined rule) rule
+-- the lines say these rules, one each
+abbrev pub SayRules : Shapes → List Line → List Entry → Type 0
+SayRules shapes lines entries = AllZip (λ (line : Line) (entry : Entry). SaysRule shapes line.text entry) lines entries
 
--- the lines of the text that are not empty are lines of plain rules; these, each once, are its rules
-pub record IsPolicy (columns : ℕ) (bytes : List ℕ) (rules : List (List (List ℕ))) : Type 0 where
-  pub all : List (List (List ℕ))
-  pub lines : full_lines bytes ≡ map policy_line all
-  pub plain : All (IsPlainRule columns) all
-  pub once : rules ≡ first_places all
-  pub within : length rules ≤ 200000
+-- the tables with a rule, which is put in unless it stands
+abbrev pub with_entry : Entry → Policy → Policy
+with_entry entry policy = if stands entry.rule (rows policy entry.table) then policy else changed (Insert entry.table entry.rule) policy
 
--- a line that is not plain is not read yet
-abbrev pub policy_fault_of : PlainFault → PolicyFault
-policy_fault_of plain.NotPlain = NotYet
-policy_fault_of plain.NoMemory = NoMemory
+-- the tables with rules, in their order
+unfoldable pub with_entries : List Entry → Policy → Policy
+with_entries [] policy = policy
+with_entries (entry ∷ entries) policy = with_entries entries (with_entry entry policy)
+
+-- the tables that rules fill
+abbrev pub filled : Shapes → List Entry → Policy
+filled shapes entries = with_entries entries (without_rules shapes.ranked)
+
+-- the bytes are UTF-8, each line that counts says a rule, the rules fill the tables, and the tables pass no limit
+pub record IsPolicy (shapes : Shapes) (bytes : List ℕ) (policy : Policy) : Type 0 where
+  pub utf8 : IsUtf8 bytes
+  pub entries : List Entry
+  pub lines : SayRules shapes (policy_lines bytes) entries
+  pub tables : policy ≡ filled shapes entries
+  pub within : passed shapes policy ≡ None

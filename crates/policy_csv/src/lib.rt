@@ -1,11 +1,17 @@
-//! The reader of policies: a text with a line for each rule.
+//! The text of a policy: it is read into the tables of given shapes, and tables are printed.
 #![tactic(auto)]
 
-mod lines;
-mod places;
+mod entry;
+mod fault;
+mod filling;
+mod laws;
 mod policy;
+mod printing;
 
-pub use places::{
-    first_places_have_the_same_rules, first_places_keep_the_order, first_places_stand_once,
+pub use fault::PolicyFault;
+pub use laws::{
+    every_text_is_a_policy_or_at_fault, faulty_text_is_no_policy, printed_policy_is_read,
+    text_has_one_policy_fault, text_says_one_policy,
 };
-pub use policy::{PolicyFault, policies_are_unique, read_policy};
+pub use policy::read_policy;
+pub use printing::print_policy;

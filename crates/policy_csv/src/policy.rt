@@ -1,96 +1,75 @@
-ghost use Rattle.std.specs.Prelude.{◌≡◌, ◌++◌, ◌∷◌, ℕ, List, All, IfOk, IfSome, IfNone, IsErrOf, MatchResult, codes, length};
-ghost use Rattle.perm_base.specs.Fields.{joined};
-ghost use Rattle.policy_csv.specs.Policy.{IsPlainRule, IsPolicy, policy_line};
+ghost use Rattle.std.specs.Prelude.{◌≡◌, ◌≢◌, IfErr, IfOk, MatchResult, OnOk};
+ghost use Rattle.perm_base.specs.Shapes.{AreValid};
+ghost use Rattle.policy_csv.specs.Faults.{IsPolicyFault};
+ghost use Rattle.policy_csv.specs.Helps.Entries.{IsStop};
+ghost use Rattle.policy_csv.specs.Helps.Filling.{IsFilled, TookLine, ranked_if};
+ghost use Rattle.policy_csv.specs.Policy.{IsPolicy};
+ghost use Rattle.policy_csv.specs.declared.fault.PolicyFault as declared;
+ghost use Rattle.policy_table.specs.Limits.{AreSound};
+ghost use Rattle.policy_table.specs.Tables.{Policy};
 
-use crate::lines::next_full_line;
-use crate::places::{keep, listed};
-use indexmap::IndexSet;
-use perm_base::{NoMemory, PlainFault, Rule, Rules, plain_fields_are_unique, read_plain_fields};
+use crate::entry::read_entry;
+use crate::fault::PolicyFault;
+use crate::filling::{put, ranked_if};
+use perm_base::Shapes;
+use policy_table::{Tables, no_tables};
 use std::alloc::Global;
+use text_parts::{given_number, next_full_line};
 
-/// Why a text is not read as a policy.
-#[derive(Clone, Copy, Debug, PartialEq, Eq)]
-pub enum PolicyFault {
-    /// A line is of another form, or there are more than 200,000 different rules.
-    NotYet,
-    /// Memory ran out.
-    NoMemory,
-}
+/// Reads the rules of a policy into tables of the shapes. Lines are cut at LF or CR LF; a line of blanks alone, or one
+/// whose first byte that is no blank is `#`, is passed over. Any other is the name of a table, `p`, `g` or `g2` to `g8`,
+/// and the fields of a rule, as `read_fields` reads them. A rule that stands already is passed over. Where a text is no
+/// policy, its first `PolicyFault` is told.
+pub fn read_policy(alloc: Global, bytes: &[u8], shapes: &Shapes) -> Result<Tables, PolicyFault>
+    requires { AreValid shapes.now }
 
-impl From<NoMemory> for PolicyFault {
-    ghost use Rattle.policy_csv.specs.declared.policy.PolicyFault.TheVariants.{NoMemory};
+    // What is read is what the bytes say.
+    ensures found { IfOk result (λ tables. IsPolicy shapes.now bytes.now tables.policy) }
+    // What the bytes say is read, unless memory runs out.
+    ensures only { (policy : Policy) → IsPolicy shapes.now bytes.now policy
+        → MatchResult result (λ tables. tables.policy ≡ policy)
+        (λ fault. fault ≡ PolicyFault.NoMemory) }
 
-    ghost from_gives = { λ _ fault. fault ≡ NoMemory };
+    // Each fault is the first of the bytes, and their first fault is told.
+    ensures fault { IfErr result (λ fault.
+        fault ≢ PolicyFault.NoMemory → IsPolicyFault shapes.now bytes.now fault) }
+    ensures only_fault { (first : declared.PolicyFault) → IsPolicyFault shapes.now bytes.now first
+        → MatchResult result (λ tables. ⊥) (λ fault. fault ≢ PolicyFault.NoMemory → fault ≡ first) }
 
-    fn from(_: NoMemory) -> PolicyFault {
-        PolicyFault::NoMemory
-    }
-}
-
-impl From<PlainFault> for PolicyFault {
-    ghost use Rattle.policy_csv.specs.Policy.{policy_fault_of};
-
-    ghost from_gives = { λ plain fault. fault ≡ policy_fault_of plain };
-
-    fn from(fault: PlainFault) -> PolicyFault {
-        match fault {
-            PlainFault::NotPlain => PolicyFault::NotYet,
-            PlainFault::NoMemory => PolicyFault::NoMemory,
-        }
-    }
-}
-
-/// Reads the rules of a policy in their order, each once: a rule that stands already is passed over.
-///
-/// Each line is `p` and the fields of a rule, joined by a comma and a blank; empty lines are passed over, and the
-/// last line may lack its LF. A field is 1 to 4,096 bytes of UTF-8 without comma, double quote and CR, does not
-/// begin with `#` and has no blank at either end.
-pub fn read_policy(alloc: Global, bytes: &[u8], columns: u32) -> Result<Rules, PolicyFault>
-    ensures found { IfOk result (λ rules. IsPolicy columns bytes.now rules) }
-    ensures only { (rules : List (List (List ℕ))) → IsPolicy columns bytes.now rules
-        → MatchResult result (λ found. found ≡ rules) (λ fault. fault ≡ PolicyFault.NoMemory) }
-    ensures not_yet { IsErrOf result PolicyFault.NotYet → (rules : List (List (List ℕ)))
-        → ¬ (IsPolicy columns bytes.now rules) }
-    ensures columns { IfOk result (λ rules. All (λ rule. length rule ≡ columns) rules) }
+    ensures sound { IfOk result (λ tables. AreSound shapes.now tables.policy) }
 {
     let Ok(text) = str::from_utf8(bytes) else {
-        return Err(PolicyFault::NotYet);
+        return Err(PolicyFault::NotUtf8);
     };
-    let mut rules = IndexSet::new(alloc);
+    // A rule that goes among ranked ones shifts those behind it: they are ranked once, at the end.
+    let mut tables = no_tables(alloc);
+    let mut number = 1;
     let mut rest = text;
-    while let Some((line, after)) = next_full_line(rest) {
-        let rule = read_line(alloc, line, columns)?;
-        keep(&mut rules, rule)?;
+    while let Some((at, line, after)) = next_full_line(rest, number) {
+        take_line(alloc, &mut tables, shapes, given_number(at), line)?;
+        number = at + 1;
         rest = after;
     }
-    Ok(Rules::from_vec(listed(alloc, rules)?))
+    Ok(ranked_if(shapes.ranked, tables)?)
 }
 
-/// The law that a text has at most one list of rules.
-pub fn policies_are_unique()
-    ensures { (columns : ℕ) (bytes : List ℕ) (first second : List (List (List ℕ)))
-        → IsPolicy columns bytes first → IsPolicy columns bytes second → first ≡ second }
+// Puts in the rule that a line says. The line has this number.
+fn take_line(
+    alloc: Global,
+    tables: &mut Tables,
+    shapes: &Shapes,
+    number: u32,
+    line: &str,
+) -> Result<(), PolicyFault>
+    requires valid { AreValid shapes.now }
+    requires filled { IsFilled shapes.now tables.old.policy }
+    ensures taken { OnOk result (TookLine shapes.now line.now tables.old.policy tables.new.policy) }
+    ensures fault { IfErr result (IsStop shapes.now number line.now
+        (ranked_if shapes.now.ranked tables.old.policy)) }
 {
-    plain_fields_are_unique();
-}
-
-// Reads the line of a rule.
-fn read_line(alloc: Global, line: &str, columns: u32) -> Result<Rule, PolicyFault>
-    ensures spelled { IfOk result (λ rule. line.now ≡ policy_line rule) }
-    ensures plain { IfOk result (IsPlainRule columns) }
-    ensures only { (rule : List (List ℕ)) → IsPlainRule columns rule → line.now ≡ policy_line rule
-        → MatchResult result (λ found. found ≡ rule) (λ fault. fault ≡ PolicyFault.NoMemory) }
-{
-    let Some(fields) = behind_mark(line) else {
-        return Err(PolicyFault::NotYet);
-    };
-    Ok(read_plain_fields(alloc, fields, columns)?)
-}
-
-// What stands behind the mark of a rule's line.
-fn behind_mark(line: &str) -> Option<&str>
-    ensures found { IfSome result (λ fields. line.now ≡ codes "p, " ++ fields.now) }
-    ensures none { IfNone result ((fields : List ℕ) → ¬ (line.now ≡ codes "p, " ++ fields)) }
-{
-    line.strip_prefix("p, ")
+    let entry = read_entry(alloc, shapes, number, line)?;
+    match put(tables, shapes, entry)? {
+        None => Ok(()),
+        Some(what) => Err(PolicyFault::Full { line: number, what }),
+    }
 }

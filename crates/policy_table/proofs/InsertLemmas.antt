@@ -7,13 +7,13 @@ use Rattle.outside.specs.declared.fault.NoMemory.{NoMemory}
 use Rattle.perm_base.specs.declared.shapes.TableId.{TableId}
 use Rattle.policy_table.specs.Changes.{changed, edited, inserted, is_possible}
 use Rattle.policy_table.specs.Held.{Held}
-use Rattle.policy_table.specs.Helps.Rows.{Rows, lists_of, policy_of, spare_of}
+use Rattle.policy_table.specs.Helps.Rows.{AreTables, Rows, lists_of, policy_of, spare_of}
 use Rattle.policy_table.specs.Tables.{Fields, IsKept, is_ranked, place, rows, stands}
 use Rattle.policy_table.specs.declared.change.Change.TheVariants as change
 use Rattle.policy_table.specs.declared.prepared.Action.TheVariants as action
 use Rattle.policy_table.proofs.RuleLemmas.{changed_few}
 use Rattle.policy_table.proofs.LawLemmas.{kept_of, order_of, ordered_changed}
-use Rattle.policy_table.proofs.TableLemmas.{policy_after, rows_here}
+use Rattle.policy_table.proofs.TableLemmas.{counted_after, policy_after, rows_here}
 
 -- the lists with the same rules in one place
 pub same_lists : (tables : List Rows) (at : ℕ) (after d : Rows) → at < length tables → after.rules ≡ (get_or tables at d).rules → lists_of (set tables at after) ≡ lists_of tables
@@ -95,3 +95,13 @@ module _ (ranked here_ranked : Bool) (tables : List Rows) (at : ℕ) (table : Ta
           → OnErr result (after.rules ≡ (get_or tables at d).rules) → IsKept (policy_of ranked (set tables at after))
       by (Ok new) e _ = by_test (stands rule (get_or tables at d).rules) refl e
       by (Err _) _ e = stays e
+
+  -- and stay tables
+  pub tables_inserted : (r : Result Bool NoMemory)
+      → OnOk r (after.rules ≡ (if stands rule (get_or tables at d).rules then (get_or tables at d).rules else inserted here_ranked rule (get_or tables at d).rules))
+      → OnErr r (after.rules ≡ (get_or tables at d).rules) → after.counted ≡ (get_or tables at d).counted → length (rows held.policy table) + 1 < 2 ^ 32 → AreTables ranked tables
+      → AreTables ranked (set tables at after)
+  tables_inserted r made refused marked few are = record {
+    kept = kept_inserted r made refused few are.kept;
+    counted = counted_after tables at after d is.within marked ∙ are.counted;
+  }

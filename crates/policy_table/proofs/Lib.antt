@@ -12,6 +12,12 @@ mod RoleLemmas
 mod LimitLemmas
 mod SoundLemmas
 mod CountLemmas
+mod DomainLemmas
+mod SumLemmas
+mod SortLemmas
+mod CountedLemmas
+mod RankedLemmas
+mod MovedLemmas
 mod PassedLemmas
 mod RuleLemmas
 mod LawLemmas

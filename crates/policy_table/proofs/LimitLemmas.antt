@@ -1,14 +1,12 @@
--- Counts over the rules of relations: patterns among their domains, and different domains.
-use Rattle.std.proofs.Common.{◌≡◌, ℕ, ◌+◌, ◌<◌, ◌≤◌, Bool, true, false, not, ◌||◌, cond, append-nil, if◌then◌else◌, List, [], ◌∷◌, ◌++◌, length, get_or, take, filter, refl, sym, ap, ◌∙◌, arith, length-take}
+-- Texts that pass a test, and different texts, with one more.
+use Rattle.std.proofs.Common.{◌≡◌, ℕ, ◌+◌, ◌≤◌, Bool, true, false, not, ◌||◌, cond, append-nil, if◌then◌else◌, List, [], ◌∷◌, ◌++◌, length, filter, refl, sym, ap, ◌∙◌, arith}
 use Rattle.std.proofs.lemmas.Bool.Decides.{same_from_decides}
-use Rattle.std.proofs.lemmas.List.{length-map, map_push, take_more}
 use Rattle.std.proofs.lemmas.Slice.Eq.{bytes_eq-Decides}
 use Rattle.std.specs.List.{list_any}
 use Rattle.std.specs.Str.{bytes_eq}
 use Rattle.indexmap.specs.IndexSet.{insert_key}
 use Rattle.policy_table.proofs.RuleLemmas.{fewer}
-use Rattle.policy_table.specs.Tables.{Fields}
-use Rattle.policy_table.specs.Limits.{different, domains_of}
+use Rattle.policy_table.specs.Limits.{different}
 
 -- one more item passes a test or does not
 filter_push : {X : Type 0} (p : X → Bool) (xs : List X) (y : X) → filter p (xs ++ y ∷ []) ≡ filter p xs ++ cond (p y) (y ∷ []) []
@@ -21,7 +19,7 @@ filter_push p (x ∷ xs) y = by_test (p x) (filter_push p xs y)
     by_test false e = e
 
 -- and how many pass
-passing_push : {X : Type 0} (p : X → Bool) (xs : List X) (y : X) → length (filter p (xs ++ y ∷ [])) ≡ length (filter p xs) + cond (p y) 1 0
+pub passing_push : {X : Type 0} (p : X → Bool) (xs : List X) (y : X) → length (filter p (xs ++ y ∷ [])) ≡ length (filter p xs) + cond (p y) 1 0
 passing_push p [] y = by_test (p y)
   where
     by_test : (test : Bool) → length (cond test (y ∷ []) []) ≡ 0 + cond test 1 0
@@ -34,26 +32,16 @@ passing_push p (x ∷ xs) y = by_test (p x) (passing_push p xs y)
     by_test true e = omega (arith, e)
     by_test false e = e
 
--- the domains of one more rule
-domains_more : (rules : List Fields) (i : ℕ) (rule : Fields) → i < length rules → rule ≡ get_or rules i rule → domains_of (take (i + 1) rules) ≡ domains_of (take i rules) ++ get_or rule 2 [] ∷ []
-domains_more rules i rule within here =
-    ap domains_of (take_more rules i rule within ∙ ap (λ (r : Fields). take i rules ++ r ∷ []) (sym here)) ∙ map_push (λ (r : Fields). get_or r 2 []) (take i rules) rule
-
--- how many domains pass, with one more rule
-pub passing_more : (p : List ℕ → Bool) (rules : List Fields) (i : ℕ) (rule : Fields) → i < length rules → rule ≡ get_or rules i rule
-    → length (filter p (domains_of (take (i + 1) rules))) ≡ length (filter p (domains_of (take i rules))) + cond (p (get_or rule 2 [])) 1 0
-passing_more p rules i rule within here = ap (λ (l : List (List ℕ)). length (filter p l)) (domains_more rules i rule within here) ∙ passing_push p (domains_of (take i rules)) (get_or rule 2 [])
-
 -- equality of texts has two sides
-flipped : (a b : List ℕ) → bytes_eq a b ≡ bytes_eq b a
+pub flipped : (a b : List ℕ) → bytes_eq a b ≡ bytes_eq b a
 flipped a b = same_from_decides (bytes_eq a b) (bytes_eq b a) (bytes_eq-Decides a b) ((λ e. sym ((bytes_eq-Decides b a).0 e)), (λ e. (bytes_eq-Decides b a).1 (sym e)))
 
 -- the texts other than this one
-abbrev others : List ℕ → List (List ℕ) → List (List ℕ)
+abbrev pub others : List ℕ → List (List ℕ) → List (List ℕ)
 others text texts = filter (λ (other : List ℕ). not (bytes_eq text other)) texts
 
 -- another text stands among the others where it stands
-stands_still : (x y : List ℕ) (texts : List (List ℕ)) → bytes_eq y x ≡ false → list_any (bytes_eq y) (others x texts) ≡ list_any (bytes_eq y) texts
+pub stands_still : (x y : List ℕ) (texts : List (List ℕ)) → bytes_eq y x ≡ false → list_any (bytes_eq y) (others x texts) ≡ list_any (bytes_eq y) texts
 stands_still x y [] apart = refl
 stands_still x y (text ∷ texts) apart = by_test (bytes_eq x text) refl (stands_still x y texts apart)
   where
@@ -92,17 +80,10 @@ insert_others x y texts = by_first (bytes_eq y x) refl
         ∙ ap (λ b. if b then x ∷ others x texts else (x ∷ others x texts) ++ y ∷ []) (stands_still x y texts e))
 
 -- one more text is one more of the different ones, unless it stands there
-different_push : (texts : List (List ℕ)) (y : List ℕ) → different (texts ++ y ∷ []) ≡ insert_key bytes_eq (different texts) y
+pub different_push : (texts : List (List ℕ)) (y : List ℕ) → different (texts ++ y ∷ []) ≡ insert_key bytes_eq (different texts) y
 unfolding different
 different_push [] y = refl
 different_push (x ∷ texts) y = ap (λ (l : List (List ℕ)). x ∷ others x l) (different_push texts y) ∙ insert_others x y (different texts)
-
--- the different domains, with one more rule
-pub different_more : (rules : List Fields) (i : ℕ) (rule : Fields) (text : List ℕ) (keys new : List (List ℕ)) → i < length rules → rule ≡ get_or rules i rule
-    → keys ≡ different (domains_of (take i rules)) → text ≡ get_or rule 2 [] → new ≡ insert_key bytes_eq keys text → new ≡ different (domains_of (take (i + 1) rules))
-different_more rules i rule text keys new within here kept named inserted =
-    inserted ∙ ap (λ (l : List (List ℕ)). insert_key bytes_eq l text) kept ∙ ap (insert_key bytes_eq (different (domains_of (take i rules)))) named
-    ∙ sym (ap different (domains_more rules i rule within here) ∙ different_push (domains_of (take i rules)) (get_or rule 2 []))
 
 -- nothing stands in no list
 pub different_none : different [] ≡ []
@@ -110,15 +91,10 @@ unfolding different
 different_none = refl
 
 -- no more texts are different than there are
-different_fewer : (texts : List (List ℕ)) → length (different texts) ≤ length texts
+pub different_fewer : (texts : List (List ℕ)) → length (different texts) ≤ length texts
 unfolding different
 different_fewer [] = omega arith
 different_fewer (x ∷ texts) =
     let le = different_fewer texts in
     let kept = fewer (λ (other : List ℕ). not (bytes_eq x other)) (different texts) in
     omega (arith, le, kept)
-
--- and no more domains than rules
-pub different_few : (rules : List Fields) (i : ℕ) (keys : List (List ℕ)) → keys ≡ different (domains_of (take i rules)) → length keys ≤ length rules
-different_few rules i keys kept =
-    omega (arith, ap length kept, different_fewer (domains_of (take i rules)), length-map (take i rules) (λ (r : Fields). get_or r 2 []), length-take i rules)

@@ -28,7 +28,7 @@ few_roles (shape ∷ shapes) are =
     omega (arith, above, last.few, get_or-map (λ (s : RoleShape). s.number) all (length shapes) shape 0 (omega arith))
 
 -- the sum over those that pass a test is that over all, where another counts nothing
-sum_passing : {X : Type 0} (p : X → Bool) (f : X → ℕ) (xs : List X) → sum_by f (filter p xs) ≡ sum_by (λ x. if p x then f x else 0) xs
+pub sum_passing : {X : Type 0} (p : X → Bool) (f : X → ℕ) (xs : List X) → sum_by f (filter p xs) ≡ sum_by (λ x. if p x then f x else 0) xs
 sum_passing p f [] = refl
 sum_passing {X} p f (x ∷ xs) = by_test (p x) (sum_passing p f xs) ∙ sym (sum_by-cons (λ (y : X). if p y then f y else 0) x xs)
   where

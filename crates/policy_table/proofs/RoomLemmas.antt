@@ -9,11 +9,12 @@ use Rattle.std.specs.List.{IsDistinct}
 use Rattle.std.specs.Option.{option_map_or}
 use Rattle.perm_base.specs.declared.shapes.TableId.{TableId}
 use Rattle.policy_table.specs.Held.{needed}
-use Rattle.policy_table.specs.Helps.Rows.{Rows, lists_of, policy_of, spare_of}
+use Rattle.policy_table.specs.Helps.Rows.{AreTables, Rows, counted_of, counting, lists_of, policy_of, spare_of}
 use Rattle.policy_table.specs.Tables.{Fields, IsKept, Lists, Policy, most_tables, place, rows, same}
 use Rattle.policy_table.specs.declared.change.Change.{Change}
 use Rattle.policy_table.proofs.InsertLemmas.{same_lists}
 use Rattle.policy_table.proofs.PlaceLemmas.{place_few}
+use Rattle.policy_table.proofs.TableLemmas.{counted_after}
 
 -- a fact of each place below one more
 below_next : (P : ℕ → Type 0) (i : ℕ) → ((k : ℕ) → k < i → P k) → P i → (k : ℕ) → k < i + 1 → P k
@@ -30,16 +31,21 @@ below_next P i before here k few = by_test (eqb k i) refl
 pub record HaveRoom (old : List Rows) (changes : List Change) (i : ℕ) (tables : List Rows) : Type 0 where
   pub unchanged : lists_of tables ≡ lists_of old
   pub counted : length tables ≡ most_tables
+  pub counting : counted_of tables ≡ counted_of old
   pub room : (k : ℕ) → k < i → needed k changes ≤ get_or (spare_of tables) k 0
   pub more : (k : ℕ) → get_or (spare_of old) k 0 ≤ get_or (spare_of tables) k 0
 
 pub no_room_yet : (old : List Rows) (changes : List Change) → length old ≡ most_tables → HaveRoom old changes 0 old
-no_room_yet old changes counted = record { unchanged = refl; counted = counted; room = λ k few. absurd (omega arith); more = λ k. omega arith }
+no_room_yet old changes counted = record { unchanged = refl; counted = counted; counting = refl; room = λ k few. absurd (omega arith); more = λ k. omega arith }
 
 -- the same rules in one place leave the lists
 pub unchanged_at : (old : List Rows) (changes : List Change) (i : ℕ) (tables : List Rows) (after d : Rows) → HaveRoom old changes i tables → i < most_tables → after.rules ≡ (get_or tables i d).rules → lists_of (set tables i after) ≡ lists_of old
 unchanged_at old changes i tables after d have few same =
     same_lists tables i after d (subst (λ n. i < n) (sym have.counted) few) same ∙ have.unchanged
+
+-- and so does the same mark there leave which count domains
+pub counting_at : (old : List Rows) (changes : List Change) (i : ℕ) (tables : List Rows) (after d : Rows) → HaveRoom old changes i tables → i < most_tables → after.counted ≡ (get_or tables i d).counted → counted_of (set tables i after) ≡ counted_of old
+counting_at old changes i tables after d have few same = counted_after tables i after d (subst (λ n. i < n) (sym have.counted) few) same ∙ have.counting
 
 -- more room in one place takes none elsewhere
 pub room_at : (old : List Rows) (changes : List Change) (i : ℕ) (tables : List Rows) (after d : Rows) → HaveRoom old changes i tables → i < most_tables → (get_or tables i d).spare ≤ after.spare
@@ -65,11 +71,12 @@ room_at old changes i tables after d have few grown = λ k. by_test k (eqb k i) 
         omega (arith, other, have.more k)
 
 -- room for one table more
-pub more_room : (old : List Rows) (changes : List Change) (i : ℕ) (tables : List Rows) (after d : Rows) → HaveRoom old changes i tables → i < most_tables → after.rules ≡ (get_or tables i d).rules → needed i changes ≤ after.spare → (get_or tables i d).spare ≤ after.spare
+pub more_room : (old : List Rows) (changes : List Change) (i : ℕ) (tables : List Rows) (after d : Rows) → HaveRoom old changes i tables → i < most_tables → after.rules ≡ (get_or tables i d).rules → after.counted ≡ (get_or tables i d).counted → needed i changes ≤ after.spare → (get_or tables i d).spare ≤ after.spare
     → HaveRoom old changes (i + 1) (set tables i after)
-more_room old changes i tables after d have few same enough grown = record {
+more_room old changes i tables after d have few same marked enough grown = record {
   unchanged = unchanged_at old changes i tables after d have few same;
   counted = length-set tables i after ∙ have.counted;
+  counting = counting_at old changes i tables after d have few marked;
   room = below_next (λ (k : ℕ). needed k changes ≤ get_or (spare_of (set tables i after)) k 0) i
       (λ k before. subst (λ n. needed k changes ≤ n) (sym (ap (λ (l : List ℕ). get_or l k 0) moved ∙ get_or-set_other (spare_of tables) i k after.spare 0 (λ e. absurd (omega (arith, e))))) (have.room k before))
       (subst (λ n. needed i changes ≤ n) (sym (ap (λ (l : List ℕ). get_or l i 0) moved ∙ get_or-set_same (spare_of tables) i after.spare 0 within)) enough);
@@ -90,19 +97,30 @@ nine_empty tables none = sym (length-map tables (λ (r : Rows). r.rules)) ∙ ap
 pub record AreCopied (old : List Rows) (i : ℕ) (tables : List Rows) : Type 0 where
   pub counted : length tables ≡ most_tables
   pub copied : (k : ℕ) → k < i → get_or (lists_of tables) k [] ≡ get_or (lists_of old) k []
+  pub counting : counted_of tables ≡ counting
 
-pub none_copied : (old tables : List Rows) → length tables ≡ most_tables → AreCopied old 0 tables
-none_copied old tables counted = record { counted = counted; copied = λ k few. absurd (omega arith) }
+pub none_copied : (old tables : List Rows) → length tables ≡ most_tables → counted_of tables ≡ counting → AreCopied old 0 tables
+none_copied old tables counted marked = record { counted = counted; copied = λ k few. absurd (omega arith); counting = marked }
 
 -- one table more is copied
-pub more_copied : (old : List Rows) (i : ℕ) (tables : List Rows) (after d : Rows) → length (lists_of old) ≡ most_tables → AreCopied old i tables → i < most_tables → after.rules ≡ (get_or old i d).rules → AreCopied old (i + 1) (set tables i after)
-more_copied old i tables after d nine copies few same = record {
+pub more_copied : (old : List Rows) (i : ℕ) (tables : List Rows) (after d : Rows) → length (lists_of old) ≡ most_tables → AreCopied old i tables → i < most_tables → after.rules ≡ (get_or old i d).rules → counted_of old ≡ counting → after.counted ≡ (get_or old i d).counted
+    → AreCopied old (i + 1) (set tables i after)
+more_copied old i tables after d nine copies few same marks marked = record {
   counted = length-set tables i after ∙ copies.counted;
   copied = below_next (λ (k : ℕ). get_or (lists_of (set tables i after)) k [] ≡ get_or (lists_of old) k []) i
       (λ k before. ap (λ (l : Lists). get_or l k []) moved ∙ get_or-set_other (lists_of tables) i k after.rules [] (λ e. absurd (omega (arith, e))) ∙ copies.copied k before)
       (ap (λ (l : Lists). get_or l i []) moved ∙ get_or-set_same (lists_of tables) i after.rules [] within ∙ here);
+  counting = counted_after tables i after d among (marked ∙ there) ∙ copies.counting;
 }
   where
+    among : i < length tables
+    among = subst (λ n. i < n) (sym copies.counted) few
+
+    there : (get_or old i d).counted ≡ (get_or tables i d).counted
+    there =
+        sym (get_or-map (λ (r : Rows). r.counted) old i d false (subst (λ n. i < n) (sym nine ∙ length-map old (λ (r : Rows). r.rules)) few))
+        ∙ ap (λ (l : List Bool). get_or l i false) (marks ∙ sym copies.counting) ∙ get_or-map (λ (r : Rows). r.counted) tables i d false among
+
     moved : lists_of (set tables i after) ≡ set (lists_of tables) i after.rules
     moved = map-set (λ (r : Rows). r.rules) tables i after
 
@@ -127,6 +145,13 @@ all_copied old i tables nine copies past =
 pub policy_copied : (ranked : Bool) (old : List Rows) (i : ℕ) (tables : List Rows) → length (lists_of old) ≡ most_tables → AreCopied old i tables → most_tables ≤ i → policy_of ranked tables ≡ policy_of ranked old
 policy_copied ranked old i tables nine copies past = ap (λ l. record { lists = l; ranked = ranked }) (all_copied old i tables nine copies past)
 
+-- and they are tables
+pub tables_copied : (ranked : Bool) (old : List Rows) (i : ℕ) (tables : List Rows) → AreTables ranked old → AreCopied old i tables → most_tables ≤ i → AreTables ranked tables
+tables_copied ranked old i tables are copies past = record {
+  kept = subst IsKept (sym (policy_copied ranked old i tables are.kept.lists.counted copies past)) are.kept;
+  counted = copies.counting;
+}
+
 -- tables without rules keep what tables keep
 pub empty_kept : (ranked : Bool) (tables : List Rows) → lists_of tables ≡ replicate most_tables [] → IsKept (policy_of ranked tables)
 unfolding IsDistinct
@@ -148,3 +173,7 @@ empty_kept ranked tables none = subst (λ (l : Lists). IsKept (record { lists = 
 
     no_repeat : (rules : List Fields) → rules ≡ [] → IsDistinct same rules
     no_repeat rules e = subst (IsDistinct same) (sym e) tt
+
+-- and the relations count their domains
+pub empty_tables : (ranked : Bool) (tables : List Rows) → lists_of tables ≡ replicate most_tables [] → counted_of tables ≡ counting → AreTables ranked tables
+empty_tables ranked tables none marks = record { kept = empty_kept ranked tables none; counted = marks }

@@ -158,7 +158,7 @@ module _ {T : Type 0} (eq : T → T → Bool) where
         (λ j. filter (λ other. tests other j) keys) ∙ ap (λ l. filter (λ other. not (list_any (eq other) l)) keys) (sym alone)
 
     -- a distinct key does not stand among those before it
-    absent_before : (front back : List T) (x : T) → IsDistinct eq (front ++ x ∷ back) → list_any (eq x) front ≡ false
+    pub absent_before : (front back : List T) (x : T) → IsDistinct eq (front ++ x ∷ back) → list_any (eq x) front ≡ false
     unfolding IsDistinct
     absent_before [] back x distinct = refl
     absent_before (y ∷ ys) back x distinct = rw (flipped x y ∙ all_behind (λ other. eq y other ≡ false) ys back x distinct.0) (absent_before ys back x distinct.1)

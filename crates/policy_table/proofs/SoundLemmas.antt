@@ -28,7 +28,7 @@ use Rattle.policy_table.proofs.PlaceLemmas.{same_table}
 use Rattle.policy_table.proofs.RuleLemmas.{inserted-IsPermutation}
 
 -- the rules of p and of all relations are few
-few_rows : (shapes : Shapes) (policy : Policy) → passed shapes policy ≡ None → (length (rows policy P) ≤ 200000) × (role_rows shapes policy ≤ 200000)
+pub few_rows : (shapes : Shapes) (policy : Policy) → passed shapes policy ≡ None → (length (rows policy P) ≤ 200000) × (role_rows shapes policy ≤ 200000)
 few_rows shapes policy is = by (nat_lt 200000 (length (rows policy P))) refl (nat_lt 200000 (role_rows shapes policy)) refl is
   where
     rest : Option Limit
@@ -54,7 +54,7 @@ some_rows policy (role ∷ roles) number shape found =
     by_test false e is rest = omega (arith, rest is)
 
 -- each relation has few rules
-few_of_relation : (shapes : Shapes) (policy : Policy) (number : ℕ) → HaveShapes shapes policy → role_rows shapes policy ≤ 200000 → length (rows policy (G number)) ≤ 200000
+pub few_of_relation : (shapes : Shapes) (policy : Policy) (number : ℕ) → HaveShapes shapes policy → role_rows shapes policy ≤ 200000 → length (rows policy (G number)) ≤ 200000
 few_of_relation shapes policy number shaped few = by (shape_of shapes.roles number) refl
   where
     no_rules : (rules : List Fields) → All (λ (rule : Fields). None ≡ Some (length rule)) rules → length rules ≤ 200000
@@ -160,7 +160,7 @@ pub short_edited : (changes : List Change) (policy : Policy) → PutAll (λ (tab
 short_edited changes policy put short = all_edited (λ (table : TableId) (rule : Fields). IsTrue (has_short_fields rule)) changes policy put short
 
 -- a sum of nothing
-no_sum : (f : RoleShape → ℕ) (roles : List RoleShape) → ((role : RoleShape) → f role ≡ 0) → sum_by f roles ≡ 0
+pub no_sum : (f : RoleShape → ℕ) (roles : List RoleShape) → ((role : RoleShape) → f role ≡ 0) → sum_by f roles ≡ 0
 no_sum f [] none = refl
 no_sum f (role ∷ roles) none = sum_by-cons f role roles ∙ rw (none role, no_sum f roles none) refl
 

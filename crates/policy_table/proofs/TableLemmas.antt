@@ -1,21 +1,21 @@
 -- What an action on one table is to all tables.
-use Rattle.std.proofs.Common.{◌≡◌, ℕ, ◌+◌, ◌<◌, ◌≤◌, ◌^◌, Bool, true, false, not, ◌&&◌, eqb, List, [], ◌∷◌, length, map, filter, get_or, Option, Some, None, refl, sym, ap, subst, ◌∙◌, arith, true≢false}
+use Rattle.std.proofs.Common.{◌≡◌, ℕ, zero, suc, ◌+◌, ◌<◌, ◌≤◌, ◌^◌, Bool, true, false, not, ◌&&◌, eqb, List, [], ◌∷◌, length, map, filter, get_or, Option, Some, None, refl, sym, ap, subst, ◌∙◌, arith, true≢false}
 use Rattle.std.specs.Prelude.{is_some}
 use Rattle.std.specs.List.{IsDistinct}
 use Rattle.std.proofs.Math.ListN.{set}
 use Rattle.std.proofs.lemmas.Bool.{and_parts, eqb-true, eqb-false}
 use Rattle.std.proofs.lemmas.Bool.Decides.{Decides-eqb}
-use Rattle.std.proofs.lemmas.List.{map-set, get_or-map, get_or-set_same, get_or-set_other, set-get_or, set-set, length-map, length-set}
+use Rattle.std.proofs.lemmas.List.{map-set, get_or-map, get_or-replicate, get_or-set_same, get_or-set_other, set-get_or, set-set, length-map, length-set}
 use Rattle.perm_base.specs.declared.shapes.TableId.{TableId}
 use Rattle.perm_base.specs.declared.shapes.TableId.TheVariants.{P, G}
 use Rattle.std.specs.Option.{option_map_or}
 use Rattle.policy_table.specs.Changes.{applies, changed, edited, is_possible, suits, table_of, without}
 use Rattle.policy_table.specs.Held.{HasRoom, needed}
-use Rattle.policy_table.specs.Helps.Rows.{RiseWhere, Rows, lists_of, policy_of, spare_of}
-use Rattle.policy_table.specs.Helps.Steps.{acted, changes_by, may_act, puts}
+use Rattle.policy_table.specs.Helps.Rows.{RiseWhere, Rows, counted_of, counting, lists_of, policy_of, spare_of}
+use Rattle.policy_table.specs.Helps.Steps.{acted, all_stand, changes_by, may_act, puts}
 use Rattle.policy_table.specs.Tables.{AreLists, AreOrdered, Fields, Policy, is_ranked, most_tables, place, rows, same, stands}
 use Rattle.policy_table.proofs.RuleLemmas.{keeps_all, out_and_out}
-use Rattle.policy_table.proofs.PlaceLemmas.{place_few, rows_at}
+use Rattle.policy_table.proofs.PlaceLemmas.{place_few, place_number, rows_at}
 use Rattle.policy_table.specs.declared.change.Change.{Change}
 use Rattle.policy_table.specs.declared.change.Change.TheVariants as change
 use Rattle.policy_table.specs.declared.prepared.Action.{Action}
@@ -47,10 +47,26 @@ action_edits table at policy (Insert rule) here within = rw here refl
 action_edits table at policy (Remove gone) here within = removed table at policy gone.rules here within
 action_edits table at policy (Replace old new) here within = rw here refl
 
--- where its changes apply, the action may be done
-pub action_may : (table : TableId) (at : ℕ) (policy : Policy) (action : Action) → place table ≡ Some at → applies (changes_by table action) policy ≡ true → may_act action (get_or policy.lists at []) ≡ true
+-- rules that are taken out one after the other stand at their turn
+removed_stand : (table : TableId) (at : ℕ) (policy : Policy) (gone : List Fields) → place table ≡ Some at → at < length policy.lists
+    → applies (map (λ (rule : Fields). change.Remove table rule) gone) policy ≡ true → all_stand gone (get_or policy.lists at []) ≡ true
 unfolding applies
-action_may table at policy action here possible = by action possible
+removed_stand table at policy [] here within is = refl
+removed_stand table at policy (rule ∷ gone) here within is =
+    let both = and_parts (is_possible (change.Remove table rule) policy) (applies (map (λ (r : Fields). change.Remove table r) gone) (changed (change.Remove table rule) policy)) is in
+    let after : Policy = written policy at (without rule (get_or policy.lists at [])) in
+    let made : changed (change.Remove table rule) policy ≡ after = rw here refl in
+    let stood : stands rule (get_or policy.lists at []) ≡ true = ap (stands rule) (sym (rows_at policy table at here)) ∙ (and_parts (is_some (place table)) (stands rule (rows policy table)) both.0).1 in
+    let rest : all_stand gone (get_or after.lists at []) ≡ true =
+    removed_stand table at after gone here (subst (λ n. at < n) (sym (length-set policy.lists at _)) within)
+    (subst (λ (p : Policy). applies (map (λ (r : Fields). change.Remove table r) gone) p ≡ true) made both.1) in
+    let rest_here : all_stand gone (without rule (get_or policy.lists at [])) ≡ true = ap (all_stand gone) (sym (get_or-set_same policy.lists at _ [] within)) ∙ rest in
+    ap (λ (b : Bool). b && all_stand gone (without rule (get_or policy.lists at []))) stood ∙ rest_here
+
+-- where its changes apply, the action may be done
+pub action_may : (table : TableId) (at : ℕ) (policy : Policy) (action : Action) → place table ≡ Some at → at < length policy.lists → applies (changes_by table action) policy ≡ true → may_act action (get_or policy.lists at []) ≡ true
+unfolding applies
+action_may table at policy action here within possible = by action possible
   where
     suited : (c : Change) → place (table_of c) ≡ Some at → (is_possible c policy && true) ≡ true → suits c (get_or policy.lists at []) ≡ true
     suited c there is =
@@ -58,7 +74,7 @@ action_may table at policy action here possible = by action possible
 
     by : (a : Action) → applies (changes_by table a) policy ≡ true → may_act a (get_or policy.lists at []) ≡ true
     by (Insert rule) is = suited (change.Insert table rule) here is
-    by (Remove gone) is = refl
+    by (Remove gone) is = removed_stand table at policy gone.rules here within is
     by (Replace old new) is = suited (change.Replace table old new) here is
 
 -- without a place for its table it changes nothing
@@ -137,7 +153,7 @@ policy_after ranked here_ranked tables at after d table action here within told 
 -- the action may be done on the table at a place
 pub may_here : (ranked : Bool) (tables : List Rows) (at : ℕ) (d : Rows) (table : TableId) (action : Action) → place table ≡ Some at → at < length tables → applies (changes_by table action) (policy_of ranked tables) ≡ true → may_act action (get_or tables at d).rules ≡ true
 may_here ranked tables at d table action here within possible =
-    ap (may_act action) (sym (get_or-map (λ (r : Rows). r.rules) tables at d [] within)) ∙ action_may table at (policy_of ranked tables) action here possible
+    ap (may_act action) (sym (get_or-map (λ (r : Rows). r.rules) tables at d [] within)) ∙ action_may table at (policy_of ranked tables) action here (subst (λ n. at < n) (sym (length-map tables (λ (r : Rows). r.rules))) within) possible
 
 -- the rules at a place rise where they are ranked
 pub rise_here : (ranked here_ranked : Bool) (tables : List Rows) (at : ℕ) (d : Rows) (table : TableId) → place table ≡ Some at → at < length tables
@@ -162,3 +178,19 @@ few_tables tables counted table at here = subst (λ n. at < n) (sym counted ∙ 
 pub rules_few : (tables : List Rows) (at : ℕ) (d : Rows) → AreLists (lists_of tables) → at < length tables → length (get_or tables at d).rules < 2 ^ 32
 rules_few tables at d are within =
     subst (λ (rules : List Fields). length rules < 2 ^ 32) (get_or-map (λ (r : Rows). r.rules) tables at d [] within) (are.few at [] (subst (λ n. at < n) (sym (length-map tables (λ (r : Rows). r.rules))) within))
+
+-- a table that counts domains as the one in its place did leaves which do
+pub counted_after : (tables : List Rows) (at : ℕ) (after d : Rows) → at < length tables → after.counted ≡ (get_or tables at d).counted → counted_of (set tables at after) ≡ counted_of tables
+counted_after tables at after d within same =
+    map-set (λ (r : Rows). r.counted) tables at after
+    ∙ ap (set (counted_of tables) at) (same ∙ sym (get_or-map (λ (r : Rows). r.counted) tables at d false within))
+    ∙ set-get_or (counted_of tables) at false
+
+-- the table of a relation counts its domains
+pub counts_here : (tables : List Rows) (number at : ℕ) (d : Rows) → counted_of tables ≡ counting → place (G number) ≡ Some at → at < length tables → (get_or tables at d).counted ≡ true
+counts_here tables number at d marks here within =
+    sym (get_or-map (λ (r : Rows). r.counted) tables at d false within) ∙ ap (λ (l : List Bool). get_or l at false) marks ∙ marked at (place_number number at here).1 (place_number number at here).2
+  where
+    marked : (i : ℕ) → 0 < i → i < most_tables → get_or counting i false ≡ true
+    marked zero some few = absurd (omega (arith, some))
+    marked (suc i) some few = get_or-replicate 8 i true false (omega (arith, few))

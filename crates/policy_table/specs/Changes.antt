@@ -26,6 +26,19 @@ without rule rules = filter (λ (other : Fields). not (same rule other)) rules
 abbrev pub in_place : Fields → Fields → List Fields → List Fields
 in_place old new rules = map (λ (other : Fields). if same old other then new else other) rules
 
+-- ranked rules with others, each put behind the last whose rank is not above its own
+unfoldable pub ranked_behind : List Fields → List Fields → List Fields
+ranked_behind front [] = front
+ranked_behind front (rule ∷ rules) = ranked_behind (ranked_in rule front) rules
+
+-- the rules in rising order of rank, those of one rank in the order in which they stand
+abbrev pub by_rank : List Fields → List Fields
+by_rank rules = ranked_behind [] rules
+
+-- the tables with p ranked
+abbrev pub ranked_policy : Policy → Policy
+ranked_policy policy = record { lists = slice_set policy.lists 0 (by_rank (rows policy P)); ranked = true }
+
 -- the rules with one more, ranked or not: it goes last, or behind the last whose rank is not above its own
 abbrev pub inserted : Bool → Fields → List Fields → List Fields
 inserted ranked rule rules = if ranked then ranked_in rule rules else rules ++ rule ∷ []

@@ -2,3 +2,5 @@
 pub mod Rows
 pub mod Steps
 pub mod Counts
+pub mod Domains
+pub mod Moves

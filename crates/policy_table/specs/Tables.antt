@@ -1,6 +1,6 @@
 -- The tables of a policy: for p, and for each role relation g to g8, a list of rules without repeats (Casbin, policy); where
 -- p is ranked, it stands in rising order of rank (Casbin, priority model).
-use Rattle.std.specs.Prelude.{◌≡◌, ℕ, ◌<◌, ◌^◌, ◌&&◌, Bool, false, not, nat_lt, IsTrue, List, [], length, All, AllPairs, Option, Some, None, if◌then◌else◌, get_or}
+use Rattle.std.specs.Prelude.{◌≡◌, ℕ, ◌<◌, ◌^◌, ◌&&◌, Bool, false, not, nat_lt, IsTrue, List, [], length, All, AllPairs, Option, Some, None, if◌then◌else◌, get_or, replicate}
 use Rattle.std.specs.Cmp.Lexicographic.{pointwise}
 use Rattle.std.specs.List.{list_any, IsDistinct}
 use Rattle.std.specs.Option.{option_map_or}
@@ -47,6 +47,10 @@ stands rule rules = list_any (same rule) rules
 pub record AreLists (lists : Lists) : Type 0 where
   pub counted : length lists ≡ most_tables
   pub few : All (λ (rules : List Fields). length rules < 2 ^ 32) lists
+
+-- tables without rules, p ranked or not
+abbrev pub without_rules : Bool → Policy
+without_rules ranked = record { lists = replicate most_tables []; ranked = ranked }
 
 -- the table is ranked: p may be, relations never are
 abbrev pub is_ranked : Policy → TableId → Bool

@@ -2,11 +2,16 @@
 #![tactic(auto)]
 
 mod change;
+mod counted_table;
 mod counts;
+mod counts_after;
+mod domains;
 mod filter;
 mod laws;
 mod limit;
+mod moved;
 mod passed;
+mod patterns;
 mod prepared;
 mod rank;
 mod rows_after;
@@ -19,6 +24,6 @@ pub use laws::{
     edits_by_table, edits_compose, edits_keep_order, replay_is_edited,
     tables_within_limits_are_lists,
 };
-pub use limit::{Limit, has_short_fields};
+pub use limit::{Limit, columns_of, has_short_fields};
 pub use prepared::Prepared;
 pub use tables::{Tables, no_tables, ranked_tables};

@@ -1,7 +1,7 @@
 ghost use Rattle.std.specs.Prelude.{◌≡◌};
-ghost use Rattle.policy_table.specs.Limits.{has_short_fields};
+ghost use Rattle.policy_table.specs.Limits.{columns_of, has_short_fields};
 
-use perm_base::Rule;
+use perm_base::{Rule, Shapes, TableId};
 
 // The greatest number of bytes of a field.
 const MOST_FIELD_BYTES: usize = 4096;
@@ -19,6 +19,19 @@ pub enum Limit {
     Domains,
     /// 4,000,000,000 published and pending edits, which tables do not count.
     Edits,
+}
+
+/// The columns of a table's rules, where the shapes have the table. It takes no memory.
+pub fn columns_of(shapes: &Shapes, table: TableId) -> Option<u32>
+    ensures { result ≡ columns_of shapes.now table }
+{
+    match table {
+        TableId::P => Some(shapes.columns),
+        TableId::G(number) => {
+            let shape = shapes.roles.find(number)?;
+            Some(if shape.with_domain { 3 } else { 2 })
+        }
+    }
 }
 
 /// Whether no field of a rule has more than 4,096 bytes. It takes no memory.

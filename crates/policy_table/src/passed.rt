@@ -6,7 +6,8 @@ ghost use Rattle.policy_table.specs.Limits.{HaveShapes, passed, role_rows};
 ghost use Rattle.policy_table.specs.Tables.{AreLists};
 
 use crate::change::Edit;
-use crate::counts::{domain_pairs, pattern_rows};
+use crate::counts::{domain_pairs, pattern_rows, role_rows};
+use crate::counts_after::counts_after;
 use crate::limit::Limit;
 use crate::rows_after::rows_after;
 use crate::tables::Tables;
@@ -22,8 +23,28 @@ const MOST_PATTERN_ROWS: u64 = 64;
 const MOST_DOMAINS: u64 = 16_384;
 
 impl Tables {
-    /// The first limit that the tables pass after an edit, which leaves them as they are. It takes memory for a copy of
-    /// the tables where the edit changes a relation, and for their domains.
+    /// The first limit that the tables pass. It takes no memory, and its time does not grow with the tables.
+    pub fn passed(&self, shapes: &Shapes) -> Option<Limit>
+        ensures { result ≡ passed shapes.now self.now.policy }
+    {
+        if u64::from(self.len(TableId::P)) > MOST_POLICY_ROWS {
+            return Some(Limit::PolicyRows);
+        }
+        if role_rows(self, shapes) > MOST_ROLE_ROWS {
+            return Some(Limit::RoleRows);
+        }
+        if pattern_rows(self, shapes) > MOST_PATTERN_ROWS {
+            return Some(Limit::PatternRows);
+        }
+        if domain_pairs(self, shapes) > MOST_DOMAINS {
+            return Some(Limit::Domains);
+        }
+        None
+    }
+
+    /// The first limit that the tables pass after an edit, which leaves them as they are. Its time and its memory grow
+    /// with the edit, and not with the tables: it takes memory for the domains of the rules that the edit puts into
+    /// relations and takes out.
     pub fn passed_after(
         &self,
         alloc: Global,
@@ -46,8 +67,7 @@ impl Tables {
         if !is_of_roles(edit) {
             return Ok(None);
         }
-        let after = tables_after(alloc, edit, self)?;
-        domain_limit(alloc, &after, shapes)
+        domain_limit(alloc, edit, self, shapes)
     }
 }
 
@@ -77,26 +97,23 @@ fn is_of_roles(edit: &Edit) -> bool
         .any(|change| change.table() != TableId::P)
 }
 
-// The tables after an edit.
-fn tables_after(alloc: Global, edit: &Edit, tables: &Tables) -> Result<Tables, NoMemory>
+// The first of the limits on domains that the tables pass after an edit.
+fn domain_limit(
+    alloc: Global,
+    edit: &Edit,
+    tables: &Tables,
+    shapes: &Shapes,
+) -> Result<Option<Limit>, NoMemory>
     requires possible { applies edit.now tables.now.policy ≡ true }
     requires few { AreLists (edited edit.now tables.now.policy).lists }
-    ensures { IfOk result (λ after. after.policy ≡ edited edit.now tables.now.policy) }
+    ensures { IfOk result (λ limit. limit
+        ≡ domain_limit shapes.now (edited edit.now tables.now.policy)) }
 {
-    let mut after = tables.copy(alloc)?;
-    let prepared = after.prepare(alloc, std::slice::from_ref(edit))?;
-    after.commit(prepared);
-    Ok(after)
-}
-
-// The first of the limits on domains that the tables pass.
-fn domain_limit(alloc: Global, tables: &Tables, shapes: &Shapes) -> Result<Option<Limit>, NoMemory>
-    ensures { IfOk result (λ limit. limit ≡ domain_limit shapes.now tables.now.policy) }
-{
-    if pattern_rows(tables, shapes) > MOST_PATTERN_ROWS {
+    let counts = counts_after(alloc, edit, tables, shapes)?;
+    if counts.patterns > MOST_PATTERN_ROWS {
         return Ok(Some(Limit::PatternRows));
     }
-    if domain_pairs(alloc, tables, shapes)? > MOST_DOMAINS {
+    if counts.pairs > MOST_DOMAINS {
         return Ok(Some(Limit::Domains));
     }
     Ok(None)

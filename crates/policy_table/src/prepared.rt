@@ -1,12 +1,14 @@
 ghost use Rattle.std.specs.Prelude.{◌≡◌, ℕ, ◌+◌, ◌<◌, ◌≤◌, ◌++◌, ◌∷◌, IfOk, OnOk, if◌then◌else◌, length, map, take};
 ghost use Rattle.policy_table.specs.Changes.{flat};
 ghost use Rattle.policy_table.specs.Held.{needed};
+ghost use Rattle.policy_table.specs.Helps.Domains.{domain_of};
 ghost use Rattle.policy_table.specs.Helps.Steps.{all_changes, changes_of};
 
 use crate::change::{Change, Edit};
+use crate::domains::domain_text;
 use crate::table::Table;
 use crate::tables::place;
-use perm_base::{NoMemory, Rule, TableId};
+use perm_base::{NoMemory, Rule, TableId, Text};
 use std::alloc::Global;
 use std::marker::Model;
 
@@ -36,9 +38,45 @@ pub(crate) struct Step {
 /// A change of a table's rules, or several rules that are taken out at once.
 #[derive(Drop)]
 pub(crate) enum Action {
-    Insert(Rule),
+    Insert(Put),
     Remove(Table),
-    Replace { old: Rule, new: Rule },
+    Replace { old: Rule, new: Put },
+}
+
+/// A rule that is put in, and its domain. Contracts see the rule.
+#[derive(Drop)]
+pub(crate) struct Put {
+    rule: Rule,
+    domain: Text,
+}
+
+impl Model for Put {
+    ghost use Rattle.std.specs.Prelude.{◌≡◌, List, ℕ};
+    ghost use Rattle.policy_table.specs.Helps.Domains.{domain_of};
+
+    ghost Value = { List (List ℕ) };
+
+    ghost view = { λ p. p.rule };
+
+    ghost invariant = { λ p. p.domain ≡ domain_of p.rule };
+}
+
+impl Put {
+    fn copy_of(alloc: Global, rule: &Rule) -> Result<Put, NoMemory>
+        ensures { IfOk result (λ put. put ≡ rule.now) }
+    {
+        let domain = domain_text(alloc, rule)?;
+        let rule = rule.copy(alloc)?;
+        Ok(Put { rule, domain })
+    }
+
+    /// The rule and its domain.
+    pub(crate) fn into_parts(self) -> (Rule, Text)
+        ensures rule { result.0 ≡ self }
+        ensures domain { result.1 ≡ domain_of self }
+    {
+        (self.rule, self.domain)
+    }
 }
 
 impl Prepared {
@@ -113,7 +151,7 @@ fn first_step(alloc: Global, changes: &[Change]) -> Result<(Step, usize), NoMemo
 {
     match &changes[0] {
         Change::Insert { table, rule } => {
-            let action = Action::Insert(rule.copy(alloc)?);
+            let action = Action::Insert(Put::copy_of(alloc, rule)?);
             Ok((Step::new(*table, action), 1))
         }
         Change::Remove { table, rule } => {
@@ -122,7 +160,7 @@ fn first_step(alloc: Global, changes: &[Change]) -> Result<(Step, usize), NoMemo
             Ok((Step::new(*table, Action::Remove(gone)), count))
         }
         Change::Replace { table, old, new } => {
-            let (old, new) = (old.copy(alloc)?, new.copy(alloc)?);
+            let (old, new) = (old.copy(alloc)?, Put::copy_of(alloc, new)?);
             Ok((Step::new(*table, Action::Replace { old, new }), 1))
         }
     }

@@ -1,16 +1,20 @@
-ghost use Rattle.std.specs.Prelude.{◌≡◌, ℕ, ◌+◌, ◌<◌, ◌≤◌, ◌^◌, [], IfOk, IsSome, List, OnErr, OnOk, Some, false, if◌then◌else◌, get_or, length, not, replicate, slice_get, true};
-ghost use Rattle.std.specs.List.{IsDistinct};
-ghost use Rattle.policy_table.specs.Changes.{applies, changed, edited, flat, is_possible};
+ghost use Rattle.std.specs.Prelude.{◌≡◌, ℕ, ◌+◌, ◌<◌, ◌≤◌, ◌^◌, [], IfOk, IsSome, List, OnErr, OnOk, Some, false, filter, if◌then◌else◌, get_or, length, not, replicate, slice_get, true};
+ghost use Rattle.std.specs.List.{IsDistinct, count_by};
+ghost use Rattle.std.specs.Str.{bytes_eq};
+ghost use Rattle.perm_base.specs.Patterns.{is_pattern};
+ghost use Rattle.perm_base.specs.declared.shapes.TableId.TheVariants as table;
+ghost use Rattle.policy_table.specs.Changes.{applies, changed, edited, flat, is_possible, ranked_policy};
 ghost use Rattle.policy_table.specs.Held.{HasRoom, IsPreparedFor, needed};
-ghost use Rattle.policy_table.specs.Helps.Rows.{lists_of, policy_of, spare_of};
+ghost use Rattle.policy_table.specs.Helps.Rows.{counted_of, counting, lists_of, policy_of, spare_of};
 ghost use Rattle.policy_table.specs.Helps.Steps.{changes_of};
-ghost use Rattle.policy_table.specs.Tables.{AreLists, AreOrdered, IsKept, Policy, is_ranked, most_tables, place, rows, same, stands};
+ghost use Rattle.policy_table.specs.Limits.{different, domains_of};
+ghost use Rattle.policy_table.specs.Tables.{AreLists, AreOrdered, IsKept, Policy, is_ranked, most_tables, place, rows, same, stands, without_rules};
 ghost use Rattle.policy_table.specs.declared.change.Change.{Change};
 
 use crate::change::{Change, Edit};
+use crate::counted_table::CountedTable;
 use crate::prepared::{Prepared, Step};
-use crate::table::Table;
-use perm_base::{NoMemory, Rule, Share, TableId};
+use perm_base::{Fit, NoMemory, Rule, Share, TableId, Text};
 use std::alloc::Global;
 use std::marker::Model;
 
@@ -22,15 +26,14 @@ const TABLES: usize = 9;
 #[derive(Drop)]
 pub struct Tables {
     // That of p, then those of g to g8.
-    tables: [Table; TABLES],
+    tables: [CountedTable; TABLES],
     // Whether p is ranked.
     ranked: bool,
 }
 
 impl Model for Tables {
     ghost use Rattle.policy_table.specs.Held.{Held};
-    ghost use Rattle.policy_table.specs.Helps.Rows.{policy_of, spare_of};
-    ghost use Rattle.policy_table.specs.Tables.{IsKept};
+    ghost use Rattle.policy_table.specs.Helps.Rows.{AreTables, policy_of, spare_of};
 
     ghost Value = { Held };
 
@@ -39,13 +42,14 @@ impl Model for Tables {
       spare = spare_of t.tables;
     } };
 
-    ghost invariant = { λ t. IsKept (policy_of t.ranked t.tables) };
+    ghost invariant = { λ t. AreTables t.ranked t.tables };
 }
 
 /// Tables without rules, and p is not ranked.
 pub fn no_tables(alloc: Global) -> Tables
     ensures rows { (table : TableId) → rows result.policy table ≡ [] }
     ensures unranked { result.policy.ranked ≡ false }
+    ensures policy { result.policy ≡ without_rules false }
 {
     Tables {
         tables: empty(alloc),
@@ -57,6 +61,7 @@ pub fn no_tables(alloc: Global) -> Tables
 pub fn ranked_tables(alloc: Global) -> Tables
     ensures rows { (table : TableId) → rows result.policy table ≡ [] }
     ensures ranked { result.policy.ranked ≡ true }
+    ensures policy { result.policy ≡ without_rules true }
 {
     Tables {
         tables: empty(alloc),
@@ -122,6 +127,41 @@ impl Tables {
         }
     }
 
+    /// How many rules of a relation have a domain that is a pattern.
+    pub(crate) fn patterns(&self, number: u8, fit: Fit) -> u64
+        ensures value { result ≡ length (filter (is_pattern fit)
+            (domains_of (rows self.now.policy (table.G number)))) }
+        ensures few { result < 2 ^ 32 }
+    {
+        match place(TableId::G(number)) {
+            Some(at) => self.tables[at].patterns(fit),
+            None => 0,
+        }
+    }
+
+    /// How many different domains the rules of a relation have.
+    pub(crate) fn domains(&self, number: u8) -> u64
+        ensures value { result
+            ≡ length (different (domains_of (rows self.now.policy (table.G number)))) }
+        ensures few { result < 2 ^ 32 }
+    {
+        match place(TableId::G(number)) {
+            Some(at) => self.tables[at].domains(),
+            None => 0,
+        }
+    }
+
+    /// How many rules of a relation have a domain.
+    pub(crate) fn domain_count(&self, number: u8, domain: &Text) -> u64
+        ensures { result ≡ count_by (bytes_eq domain.now)
+            (domains_of (rows self.now.policy (table.G number))) }
+    {
+        match place(TableId::G(number)) {
+            Some(at) => self.tables[at].count(domain),
+            None => 0,
+        }
+    }
+
     /// Whether a change can be made in these tables: an inserted rule and a new one are absent, a removed rule and an old
     /// one stand, and its table is p or one of g to g8.
     pub fn allows(&self, change: &Change) -> bool
@@ -183,6 +223,17 @@ impl Tables {
         }
     }
 
+    /// The same tables with p ranked: its rules are put into rising order of rank, those of one rank in the order in which
+    /// they stand. It sorts once, and takes memory for that.
+    pub fn ranked(self) -> Result<Tables, NoMemory>
+        ensures { IfOk result (λ tables. tables.policy ≡ ranked_policy self.policy) }
+    {
+        let mut tables = self.tables;
+        tables[0].rank()?;
+        let ranked = true;
+        Ok(Tables { tables, ranked })
+    }
+
     /// The same rules once more.
     pub fn copy(&self, alloc: Global) -> Result<Tables, NoMemory>
         ensures { IfOk result (λ copy. copy.policy ≡ self.now.policy) }
@@ -216,19 +267,20 @@ pub(crate) fn place(table: TableId) -> Option<usize>
 }
 
 // Nine tables without rules.
-fn empty(alloc: Global) -> [Table; TABLES]
-    ensures { lists_of result ≡ replicate most_tables [] }
+fn empty(alloc: Global) -> [CountedTable; TABLES]
+    ensures rules { lists_of result ≡ replicate most_tables [] }
+    ensures counted { counted_of result ≡ counting }
 {
     [
-        Table::new(alloc),
-        Table::new(alloc),
-        Table::new(alloc),
-        Table::new(alloc),
-        Table::new(alloc),
-        Table::new(alloc),
-        Table::new(alloc),
-        Table::new(alloc),
-        Table::new(alloc),
+        CountedTable::new(alloc, false),
+        CountedTable::new(alloc, true),
+        CountedTable::new(alloc, true),
+        CountedTable::new(alloc, true),
+        CountedTable::new(alloc, true),
+        CountedTable::new(alloc, true),
+        CountedTable::new(alloc, true),
+        CountedTable::new(alloc, true),
+        CountedTable::new(alloc, true),
     ]
 }
 
@@ -243,8 +295,9 @@ fn is_ranked(ranked: bool, table: TableId) -> bool
 }
 
 // Makes the room that the changes need.
-fn reserve(tables: &mut [Table; TABLES], prepared: &Prepared) -> Result<(), NoMemory>
+fn reserve(tables: &mut [CountedTable; TABLES], prepared: &Prepared) -> Result<(), NoMemory>
     ensures unchanged { lists_of tables.new ≡ lists_of tables.old }
+    ensures counted { counted_of tables.new ≡ counted_of tables.old }
     ensures room { OnOk result (HasRoom (spare_of tables.new) prepared.now) }
     ensures more { (at : ℕ) → get_or (spare_of tables.old) at 0
         ≤ get_or (spare_of tables.new) at 0 }
@@ -256,7 +309,7 @@ fn reserve(tables: &mut [Table; TABLES], prepared: &Prepared) -> Result<(), NoMe
 }
 
 // Makes one step.
-fn make(tables: &mut [Table; TABLES], ranked: bool, step: Step)
+fn make(tables: &mut [CountedTable; TABLES], ranked: bool, step: Step)
     requires order { AreOrdered (policy_of ranked tables.old) }
     requires possible { applies (changes_of step) (policy_of ranked tables.old) ≡ true }
     requires room { HasRoom (spare_of tables.old) (changes_of step) }
@@ -264,6 +317,7 @@ fn make(tables: &mut [Table; TABLES], ranked: bool, step: Step)
         ≡ edited (changes_of step) (policy_of ranked tables.old) }
     ensures room { (at : ℕ) → get_or (spare_of tables.old) at 0
         ≤ get_or (spare_of tables.new) at 0 + needed at (changes_of step) }
+    ensures counted { counted_of tables.new ≡ counted_of tables.old }
 {
     if let Some(at) = place(step.table) {
         tables[at].make(is_ranked(ranked, step.table), step.action);

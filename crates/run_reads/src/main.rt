@@ -3,9 +3,11 @@
 
 mod matchers;
 mod models;
+mod policies;
 mod read;
 mod requests;
 mod rules;
+mod scripts;
 mod shapes;
 mod texts;
 mod trees;

@@ -1,13 +1,16 @@
 use crate::matchers::{matcher, nodes, rule_text};
 use crate::models::{model, parts};
+use crate::policies::{policy, rules};
 use crate::requests::{attribute, json, member, request, same, texts};
-use crate::rules::{fields, joined, line, plain, policy, rule, rules};
+use crate::rules::{fields, line, rule};
+use crate::scripts::{requests, script};
 use crate::shapes::shapes;
 use anyhow::{Result, bail};
 use case_list::{Case, Field};
 use std::alloc::Global;
 
-/// Adds what the text of a field is read as. A rule text is one of the model below the case's `parts`.
+/// Adds what the text of a field is read as. A rule text is one of the model below the case's `parts`, and a
+/// policy has its shapes.
 pub(crate) fn push_read(
     alloc: Global,
     answer: &mut String,
@@ -18,9 +21,11 @@ pub(crate) fn push_read(
         // The text stands below, any bytes.
         "model" => model(alloc, answer, &field.text),
         "parts" => parts(alloc, answer, &field.text),
-        "policy" => policy(alloc, answer, &field.text, field.rest.as_str()),
-        "rules" => rules(alloc, answer, &field.text, field.rest.as_str()),
+        "policy" => policy(alloc, answer, &model_of(alloc, case)?, field),
+        "rules" => rules(alloc, answer, &model_of(alloc, case)?, field),
         "shapes" => shapes(alloc, answer, &field.text, field.rest.as_str()),
+        "script" => script(alloc, answer, field),
+        "requests" => requests(alloc, answer, field),
         "texts" => texts(answer, field.bytes()),
         "rule" => rule(alloc, answer, field.bytes()),
         _ => push_read_text(alloc, answer, case, field),
@@ -34,8 +39,6 @@ fn push_read_text(alloc: Global, answer: &mut String, case: &Case, field: &Field
     };
     match field.key.as_str() {
         "fields" => fields(alloc, answer, text),
-        "plain" => plain(alloc, answer, text),
-        "joined" => joined(alloc, answer, text),
         "line" => line(answer, text),
         "request" => request(alloc, answer, text),
         "json" => json(alloc, answer, text),
@@ -45,7 +48,11 @@ fn push_read_text(alloc: Global, answer: &mut String, case: &Case, field: &Field
         "matcher" => matcher(alloc, answer, text, true),
         "grouped" => matcher(alloc, answer, text, false),
         "nodes" => nodes(alloc, answer, text),
-        "rule-text" => rule_text(alloc, answer, &case.text(alloc, "parts")?, text),
+        "rule-text" => rule_text(alloc, answer, &model_of(alloc, case)?, text),
         _ => bail!("line {}: no such field", field.line),
     }
+}
+
+fn model_of(alloc: Global, case: &Case) -> Result<Vec<u8>> {
+    case.text(alloc, "parts")
 }

@@ -128,7 +128,7 @@ fn push_value(answer: &mut String, value: &Value) -> Result<()> {
 }
 
 #[cycle(values)]
-fn push_values(answer: &mut String, values: &Vec<Value>) -> Result<()> {
+pub(crate) fn push_values(answer: &mut String, values: &Vec<Value>) -> Result<()> {
     answer.push_str("[")?;
     let mut is_first = true;
     for value in values {

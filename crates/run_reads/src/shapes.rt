@@ -36,7 +36,8 @@ fn push_fitted(
     push_asked(alloc, answer, model, &names, &domains, limit)
 }
 
-fn fits(alloc: Global, list: &str) -> Result<Vec<(u8, Fit)>> {
+/// The functions of a list of relations, in their order; `-` is an empty list.
+pub(crate) fn fits(alloc: Global, list: &str) -> Result<Vec<(u8, Fit)>> {
     let mut fits = Vec::new(alloc);
     for number in list.split(',') {
         if number != "-" {
@@ -66,8 +67,8 @@ fn push_asked(
     }
 }
 
-// Whether no relation of at most three is named twice.
-fn are_named_once(fits: &[(u8, Fit)]) -> bool
+/// Whether no relation of at most three is named twice.
+pub(crate) fn are_named_once(fits: &[(u8, Fit)]) -> bool
     ensures { result ≡ true → AreNamedOnce fits.now }
 {
     match fits {

@@ -2,12 +2,14 @@
 use Rattle.std.specs.Prelude.{◌≡◌, ◌⊎◌, ℕ, ◌<◌, List, Option, IfSome, length, ⊤}
 use Rattle.model_conf.specs.Faults.{IsModelFault}
 use Rattle.outside.specs.Files.{Files, Lacks, OfFile}
+use Rattle.perm_base.specs.declared.shapes.Shapes.{Shapes}
+use Rattle.policy_csv.specs.Faults.{IsPolicyFault}
 use Rattle.casbin_run.specs.declared.stop.Part.{Part}
 use Rattle.casbin_run.specs.declared.stop.Part.TheVariants.{Model, Policy, Input}
 use Rattle.casbin_run.specs.declared.stop.Stop.{Stop}
 use Rattle.casbin_run.specs.declared.stop.Stop.TheVariants.{NoModel, LaterModel, NoPolicy, NoScript, CannotRead, TooLong, NoMemory}
 use Rattle.casbin_run.specs.Parts.{model_limit, policy_limit, input_limit, FileIs, InputIs}
-use Rattle.casbin_run.specs.Cause.{IsLater, SaysNoPolicy, SaysNoText}
+use Rattle.casbin_run.specs.Cause.{IsLater, SaysNoText}
 
 -- a file was not fetched
 abbrev pub FetchStops : Option Files → List ℕ → ℕ → (rose : Type 0) → Part → Stop → Type 0
@@ -26,12 +28,12 @@ ModelStops files name rose NoMemory = ⊤
 ModelStops files name rose _ = ⊥
 
 -- the policy was not read
-abbrev pub PolicyStops : Option Files → List ℕ → ℕ → (rose : Type 0) → Stop → Type 0
-PolicyStops files name columns rose (CannotRead Policy) = Lacks files name ⊎ rose
-PolicyStops files name columns rose (TooLong Policy) = OfFile files name (λ bytes. policy_limit < length bytes)
-PolicyStops files name columns rose NoPolicy = FileIs files name policy_limit (SaysNoPolicy columns)
-PolicyStops files name columns rose NoMemory = ⊤
-PolicyStops files name columns rose _ = ⊥
+abbrev pub PolicyStops : Option Files → List ℕ → Shapes → (rose : Type 0) → Stop → Type 0
+PolicyStops files name shapes rose (CannotRead Policy) = Lacks files name ⊎ rose
+PolicyStops files name shapes rose (TooLong Policy) = OfFile files name (λ bytes. policy_limit < length bytes)
+PolicyStops files name shapes rose (NoPolicy fault) = FileIs files name policy_limit (λ bytes. IsPolicyFault shapes bytes fault)
+PolicyStops files name shapes rose NoMemory = ⊤
+PolicyStops files name shapes rose _ = ⊥
 
 -- the input was not read
 abbrev pub InputStops : Option (List ℕ) → (rose : Type 0) → Stop → Type 0

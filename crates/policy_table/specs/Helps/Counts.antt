@@ -1,5 +1,5 @@
 -- What is counted of one relation, and of one table's changes.
-use Rattle.std.specs.Prelude.{ℕ, Bool, false, not, nat_lt, length, filter, Option, Some, None, if◌then◌else◌}
+use Rattle.std.specs.Prelude.{ℕ, Bool, false, not, nat_lt, List, [], ◌∷◌, length, filter, Option, Some, None, if◌then◌else◌}
 use Rattle.perm_base.specs.Patterns.{is_pattern}
 use Rattle.perm_base.specs.declared.shapes.RoleShape.{RoleShape}
 use Rattle.perm_base.specs.declared.shapes.Shapes.{Shapes}
@@ -7,7 +7,7 @@ use Rattle.perm_base.specs.declared.shapes.TableId.{TableId}
 use Rattle.perm_base.specs.declared.shapes.TableId.TheVariants.{P, G}
 use Rattle.policy_table.specs.Changes.{is_table, table_of}
 use Rattle.policy_table.specs.Limits.{different, domain_pairs, domains_of, pattern_rows}
-use Rattle.policy_table.specs.Tables.{Policy, rows}
+use Rattle.policy_table.specs.Tables.{Fields, Policy, rows}
 use Rattle.policy_table.specs.declared.change.Change.{Change}
 use Rattle.policy_table.specs.declared.change.Change.TheVariants.{Insert, Remove, Replace}
 use Rattle.policy_table.specs.declared.limit.Limit.{Limit}
@@ -32,6 +32,26 @@ abbrev pub removes : TableId → Change → Bool
 removes table (Insert there rule) = false
 removes table (Remove there rule) = is_table table there
 removes table (Replace there old new) = false
+
+-- the rules that a change takes out
+abbrev pub taken_by : Change → List Fields
+taken_by (Insert there rule) = []
+taken_by (Remove there rule) = rule ∷ []
+taken_by (Replace there old new) = old ∷ []
+
+-- and those that it puts in
+abbrev pub put_by : Change → List Fields
+put_by (Insert there rule) = rule ∷ []
+put_by (Remove there rule) = []
+put_by (Replace there old new) = new ∷ []
+
+-- those that it takes out of a table
+abbrev pub out_of : TableId → Change → List Fields
+out_of table change = if is_table table (table_of change) then taken_by change else []
+
+-- and those that it puts into a table
+abbrev pub put_into : TableId → Change → List Fields
+put_into table change = if is_table table (table_of change) then put_by change else []
 
 -- the change is of a relation
 abbrev pub is_of_roles : Change → Bool

@@ -2,7 +2,7 @@
 use Rattle.std.specs.Prelude.{ℕ, Bool, true, not, ◌&&◌, List, [], ◌∷◌, filter, map}
 use Rattle.std.specs.List.{flat_map}
 use Rattle.perm_base.specs.declared.shapes.TableId.{TableId}
-use Rattle.policy_table.specs.Changes.{inserted, replaced}
+use Rattle.policy_table.specs.Changes.{inserted, replaced, without}
 use Rattle.policy_table.specs.Tables.{Fields, stands}
 use Rattle.policy_table.specs.declared.change.Change.{Change}
 use Rattle.policy_table.specs.declared.change.Change.TheVariants as change
@@ -36,8 +36,13 @@ acted ranked (Insert rule) rules = inserted ranked rule rules
 acted ranked (Remove gone) rules = filter (λ (other : Fields). not (stands other gone.rules)) rules
 acted ranked (Replace old new) rules = replaced ranked old new rules
 
--- a rule that an action puts in is absent, and one whose place it takes stands
+-- each of these rules stands at its turn, when those before it are out
+abbrev pub all_stand : List Fields → List Fields → Bool
+all_stand [] rules = true
+all_stand (rule ∷ gone) rules = stands rule rules && all_stand gone (without rule rules)
+
+-- a rule that an action puts in is absent, and one that it takes out or whose place it takes stands
 abbrev pub may_act : Action → List Fields → Bool
 may_act (Insert rule) rules = not (stands rule rules)
-may_act (Remove gone) rules = true
+may_act (Remove gone) rules = all_stand gone.rules rules
 may_act (Replace old new) rules = stands old rules && not (stands new rules)

@@ -1,7 +1,7 @@
 use Rattle.std.proofs.Common.{length}
 use Rattle.std.specs.Prelude.{string_bytes}
 use Rattle.std.specs.Str.{IsUtf8}
-use Rattle.casbin_run.specs.Script.{requests_of}
+use Rattle.script_read.specs.Lines.{requests_of}
 use Rattle.casbin_run.proofs.PrintLemmas.{IsPrinted}
 use Rattle.casbin_run.proofs.answer.print_answers.Given as goal
 

@@ -1,4 +1,4 @@
-use Rattle.std.proofs.Common.{refl, ◌≤◌, length, rules}
+use Rattle.std.proofs.Common.{◌≤◌, length, rules}
 use Rattle.std.proofs.lemmas.Result.{err_from_is_err_and}
 use Rattle.outside.specs.Faults.{Rose}
 use Rattle.outside.specs.Files.{Holds}
@@ -11,4 +11,4 @@ returns-in_err-read_policy-clause-stopped g c =
     let p = err_from_is_err_and c.from_residual-in_err-read_policy.result c.from_residual-in_err-read_policy.ensures.1 in
     let holds : Holds (g.F.Shelf.files c.args.shelf.now) c.args.name.now c.deref.result.now = search rules in
     let within : length c.deref.result.now ≤ policy_limit = search rules in
-    rw (p.1, p.2) (policy_stops (g.F.Shelf.files c.args.shelf.now) c.args.name.now c.args.columns (Rose (g.F.Shelf.faults c.args.shelf.now) (g.F.Shelf.faults c.fetch.new.shelf)) c.deref.result.now c.in_err-read_policy.field-0.0 holds within (λ e. c.in_err-read_policy.ensures.not_yet (rw e refl)))
+    rw (p.1, p.2) (policy_stops (g.F.Shelf.files c.args.shelf.now) c.args.name.now c.args.shapes.now (Rose (g.F.Shelf.faults c.args.shelf.now) (g.F.Shelf.faults c.fetch.new.shelf)) c.deref.result.now c.in_err-read_policy.field-0.0 holds within c.in_err-read_policy.ensures.fault)

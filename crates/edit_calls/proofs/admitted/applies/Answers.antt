@@ -1,16 +1,10 @@
-use Rattle.std.proofs.Common.{rules, arith, ◌≡◌, ◌∷◌}
-use Rattle.edit_calls.proofs.AdmitLemmas.{all_applied, first_applied, not_applied}
+use Rattle.std.proofs.Common.{rules, arith, refl, ◌∙◌, ap}
+use Rattle.std.proofs.lemmas.Option.{slice_get_read}
+use Rattle.policy_table.specs.Changes.{applies}
+use Rattle.edit_calls.proofs.StandingLemmas.{alone_applies}
 use Rattle.edit_calls.proofs.admitted.applies.Goals as goal
 
-pub returns-then-not-allows : goal.returns-then-not-allows
-returns-then-not-allows c =
-    let rest : c.loop-change.change-iterator.rest.items ≡ c.in-Some.change ∷ c.next.new.self.rest.items = search rules in
-    not_applied _ _ c.loop-change.after.policy c.loop-change.invariant c.in-Some.change _ rest (cc)
-
-pub loop-change-preserved : goal.loop-change-preserved
-loop-change-preserved c =
-    let rest : c.loop-change.change-iterator.rest.items ≡ c.in-Some.change ∷ c.next.new.self.rest.items = search rules in
-    first_applied _ _ c.loop-change.after.policy c.loop-change.invariant c.in-Some.change _ _ rest (cc) (search rules)
-
-pub returns : goal.returns
-returns c = all_applied _ _ c.loop-change.after.policy c.loop-change.invariant (search (rules, arith))
+pub returns-then-changes-eq1 : goal.returns-then-changes-eq1
+returns-then-changes-eq1 c =
+    let here = slice_get_read c.as_slice-changes.result.now _ 0 c.index-changes-0.result refl (search (rules, arith)) c.index-changes-0.is in
+    c.allows.ensures ∙ alone_applies _ _ c.args.tables.now.policy (search rules) here ∙ ap (λ l. applies l c.args.tables.now.policy) c.as_slice-changes.ensures

@@ -36,7 +36,7 @@ loop-step-preserved c =
     let whole = edited c.args.prepared c.args.self.now.policy in
     let tables = c.loop-step.self-inside in
     let rest : c.loop-step.step-iterator.rest.items ≡ c.in-Some.step ∷ c.next.new.self.rest.items = search rules in
-    step_made whole tables.ranked c.in-Some.step _ _ _ (subst (λ (steps : List Step). Lead whole tables.ranked steps tables.tables) rest c.loop-step.invariant) c.make.ensures.made c.make.ensures.room
+    step_made whole tables.ranked c.in-Some.step _ _ _ (subst (λ (steps : List Step). Lead whole tables.ranked steps tables.tables) rest c.loop-step.invariant) c.make.ensures.made c.make.ensures.room c.make.ensures.counted
 
 pub returns : goal.returns
 returns c =

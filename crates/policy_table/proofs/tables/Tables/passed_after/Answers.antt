@@ -15,8 +15,8 @@ returns-then-not-is_of_roles c =
     passed_none c.args.shapes.now policy after same c.requires.before (le-ltb 200000 (length (rows after P)) (omega (arith, c.rows_after.ensures.value, c.if-rows_after-gt-MOST_POLICY_ROWS.false)))
     (sym c.has_many_role_rows.ensures ∙ c.if-has_many_role_rows.false)
 
-pub tables_after-requires-clause-few : goal.tables_after-requires-clause-few
-tables_after-requires-clause-few c =
+pub domain_limit-requires-clause-few : goal.domain_limit-requires-clause-few
+domain_limit-requires-clause-few c =
     let after = edited c.args.edit.now c.args.self.now.policy in
     lists_few c.args.shapes.now after c.rows_after.ensures.still_nine c.requires.shaped (omega (arith, c.rows_after.ensures.value, c.if-rows_after-gt-MOST_POLICY_ROWS.false))
     (ltb-false 200000 _ (sym c.has_many_role_rows.ensures ∙ c.if-has_many_role_rows.false))

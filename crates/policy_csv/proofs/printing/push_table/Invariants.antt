@@ -1,0 +1,14 @@
+use Rattle.std.proofs.Common.{◌≡◌, ◌++◌, All, take}
+use Rattle.std.specs.String.{string_bytes}
+use Rattle.perm_base.specs.LineEnds.{AreFields}
+use Rattle.perm_base.specs.TableNames.{name_of}
+use Rattle.policy_csv.proofs.PushLemmas.{lines_named}
+use Rattle.policy_table.specs.Tables.{rows}
+use Rattle.text_parts.specs.Lines.{with_ends}
+use Rattle.policy_csv.proofs.printing.push_table.Given as goal
+
+abbrev pub invariant-loop-rule : goal.invariant-loop-rule
+invariant-loop-rule l = record {
+  lines : string_bytes l.text ≡ string_bytes l.initial.text ++ with_ends (lines_named (name_of l.fn.table) (take l.rule-index (rows l.tables.policy l.fn.table)));
+  fields : All AreFields (take l.rule-index (rows l.tables.policy l.fn.table));
+}

@@ -1,0 +1,7 @@
+mod Decided
+mod Rows
+mod Reach
+mod Tried
+mod PlainNames
+mod Order
+pub mod CallerLemmas

@@ -1,0 +1,6 @@
+pub mod Fits
+pub mod Links
+pub mod Least
+pub mod Distances
+pub mod Depths
+pub mod Implied

@@ -1,0 +1,275 @@
+-- A text of bytes is a script or has a first fault, as reading its parts comes to.
+use Rattle.std.proofs.Common.{◌≡◌, ◌≢◌, ◌⊎◌, inl, inr, ℕ, ◌+◌, Bool, true, false, List, [], ◌∷◌, ◌++◌, map, append_assoc, append-nil, Result, Ok, Err, refl, sym, ap, subst, ◌∙◌, true≢false}
+use Rattle.std.specs.Prelude.{IsUtf8}
+use Rattle.std.specs.Str.{is_utf8}
+use Rattle.std.proofs.lemmas.Str.{IsUtf8-from_is_utf8, is_utf8-from_IsUtf8}
+use Rattle.policy_table.specs.Tables.{Fields}
+use Rattle.script_read.proofs.EndLemmas.{parts_first}
+use Rattle.script_read.proofs.GivesLemmas.{mapped_fails, step_fails}
+use Rattle.script_read.proofs.ReadLemmas.{reader_fields, reader_request, the_reader}
+use Rattle.script_read.specs.Blocks.{Part, part_item, parts}
+use Rattle.script_read.specs.Helps.Ends.{behind_part, first_part}
+use Rattle.script_read.specs.Helps.Given.{Fails, fields_read, request_read}
+use Rattle.script_read.specs.Lines.{requests_of, script_lines}
+use Rattle.text_parts.specs.Full.{full_lines}
+use Rattle.script_read.specs.Reads.{Reader}
+use Rattle.script_read.specs.Results.{followed, mapped}
+use Rattle.script_read.specs.Said.{Reading, Said, asks}
+use Rattle.script_read.specs.Script.{IsFaultInPart, IsRequests, IsScript, IsScriptFault, SayItems}
+use Rattle.script_read.specs.Script.IsScriptFault.{in_part, not_utf8}
+use Rattle.script_read.specs.declared.fault.LineCause.{LineCause}
+use Rattle.script_read.specs.declared.fault.ScriptFault.{ScriptFault}
+use Rattle.script_read.specs.declared.fault.ScriptFault.TheVariants.{NotUtf8, Line, OpenBatch, NoMemory}
+use Rattle.text_parts.specs.Numbered as numbered
+
+-- the item of a part
+abbrev pub item_of : Bool → Part → Result Said ScriptFault
+item_of json part = part_item fields_read (request_read json) part
+
+-- items behind others
+abbrev pub behind_items : List Said → List Said → List Said
+behind_items front items = front ++ items
+
+-- the items of parts, or the first fault
+unfoldable pub reading : Bool → List Part → Result (List Said) ScriptFault
+reading json [] = Ok []
+reading json (part ∷ others) = followed (item_of json part) (λ (item : Said). mapped (behind_items (item ∷ [])) (reading json others))
+
+-- what reading the text comes to
+abbrev pub whole : Bool → List ℕ → Result (List Said) ScriptFault
+whole json bytes = reading json (parts (script_lines bytes))
+
+-- each reader gives the same
+part_same : (json : Bool) (reader : Reader json) (part : Part) → part_item reader.fields reader.request part ≡ item_of json part
+part_same json reader part =
+    ap (λ (fields : List ℕ → Result Fields LineCause). part_item fields reader.request part) (reader_fields reader) ∙ ap (λ (request : List ℕ → Reading). part_item fields_read request part) (reader_request json reader)
+
+regrouped : (item : Said) (items : List Said) (read : Result (List Said) ScriptFault) → mapped (behind_items (item ∷ [])) (mapped (behind_items items) read) ≡ mapped (behind_items (item ∷ items)) read
+regrouped item items (Ok others) = refl
+regrouped item items (Err fault) = refl
+
+none_before : (read : Result (List Said) ScriptFault) → mapped (behind_items []) read ≡ read
+none_before (Ok others) = refl
+none_before (Err fault) = refl
+
+-- parts that say items are read past
+reading_past : (json : Bool) (reader : Reader json) (front rest : List Part) (items : List Said) → SayItems reader front items → reading json (front ++ rest) ≡ mapped (behind_items items) (reading json rest)
+unfolding reading
+reading_past json reader [] rest [] says = sym (none_before (reading json rest))
+reading_past json reader [] rest (item ∷ items) says = absurd says
+reading_past json reader (part ∷ front) rest [] says = absurd says
+reading_past json reader (part ∷ front) rest (item ∷ items) says =
+    let says_it : item_of json part ≡ Ok item = sym (part_same json reader part) ∙ says.0 in
+    ap (λ (r : Result Said ScriptFault). followed r (λ (i : Said). mapped (behind_items (i ∷ [])) (reading json (front ++ rest)))) says_it
+    ∙ ap (mapped (behind_items (item ∷ []))) (reading_past json reader front rest items says.1) ∙ regrouped item items (reading json rest)
+
+reading_none : (json : Bool) → reading json [] ≡ Ok []
+unfolding reading
+reading_none json = refl
+
+reading_some : (json : Bool) (part : Part) (others : List Part) → reading json (part ∷ others) ≡ followed (item_of json part) (λ (item : Said). mapped (behind_items (item ∷ [])) (reading json others))
+unfolding reading
+reading_some json part others = refl
+
+-- ---- what reading comes to
+
+record StopsIn (json : Bool) (texts : List Part) (fault : ScriptFault) : Type 0 where
+  front : List Part
+  part : Part
+  behind : List Part
+  items : List Said
+  are_parts : texts ≡ front ++ part ∷ behind
+  says : SayItems (the_reader json) front items
+  bad : item_of json part ≡ Err fault
+
+abbrev Ends : Bool → List Part → Result (List Said) ScriptFault → Type 0
+Ends json texts (Ok items) = SayItems (the_reader json) texts items
+Ends json texts (Err fault) = StopsIn json texts fault
+
+ends_behind : (json : Bool) (part : Part) (others : List Part) (item : Said) → item_of json part ≡ Ok item → (read : Result (List Said) ScriptFault) → Ends json others read → Ends json (part ∷ others) (mapped (behind_items (item ∷ [])) read)
+ends_behind json part others item says (Ok items) ends = (says, ends)
+ends_behind json part others item says (Err fault) stops = record {
+  front = part ∷ stops.front;
+  part = stops.part;
+  behind = stops.behind;
+  items = item ∷ stops.items;
+  are_parts = ap (λ (l : List Part). part ∷ l) stops.are_parts;
+  says = (says, stops.says);
+  bad = stops.bad;
+}
+
+ends_at : (json : Bool) (part : Part) (others : List Part) (said : Result Said ScriptFault) → item_of json part ≡ said → Ends json others (reading json others) → Ends json (part ∷ others) (followed said (λ (item : Said). mapped (behind_items (item ∷ [])) (reading json others)))
+ends_at json part others (Ok item) says rest = ends_behind json part others item says (reading json others) rest
+ends_at json part others (Err fault) bad rest = record {
+  front = [];
+  part = part;
+  behind = others;
+  items = [];
+  are_parts = refl;
+  says = tt;
+  bad = bad;
+}
+
+reading_ends : (json : Bool) (texts : List Part) → Ends json texts (reading json texts)
+unfolding reading
+reading_ends json [] = tt
+reading_ends json (part ∷ others) = ends_at json part others (item_of json part) refl (reading_ends json others)
+
+-- ---- the loop
+
+module _ (json : Bool) (number at : ℕ) (text rest after : List ℕ) (next : ℕ) (behind : List ℕ) (first : full_lines number text ≡ numbered.line at rest ∷ full_lines (at + 1) after)
+    (goes : behind_part rest (full_lines (at + 1) after) ≡ full_lines next behind) (taken : List Said) (all : Result (List Said) ScriptFault) (reads : mapped (behind_items taken) (reading json (parts (full_lines number text))) ≡ all) where
+  abbrev the_part : Part
+  the_part = first_part (numbered.line at rest) (full_lines (at + 1) after)
+
+  stepped : all ≡ mapped (behind_items taken) (followed (item_of json the_part) (λ (item : Said). mapped (behind_items (item ∷ [])) (reading json (parts (full_lines next behind)))))
+  stepped =
+      sym reads ∙ ap (λ (l : List numbered.Line). mapped (behind_items taken) (reading json (parts l))) first
+      ∙ ap (λ (l : List Part). mapped (behind_items taken) (reading json l)) (parts_first (numbered.line at rest) (full_lines (at + 1) after) ∙ ap (λ (l : List numbered.Line). the_part ∷ parts l) goes)
+      ∙ ap (mapped (behind_items taken)) (reading_some json the_part (parts (full_lines next behind)))
+
+  -- the first part says an item
+  pub part_read : (item : Said) → item_of json the_part ≡ Ok item → mapped (behind_items (taken ++ item ∷ [])) (reading json (parts (full_lines next behind))) ≡ all
+  part_read item says =
+      sym (stepped ∙ ap (λ (r : Result Said ScriptFault). mapped (behind_items taken) (followed r (λ (i : Said). mapped (behind_items (i ∷ [])) (reading json (parts (full_lines next behind)))))) says ∙ by (reading json (parts (full_lines next behind))))
+    where
+      by : (read : Result (List Said) ScriptFault) → mapped (behind_items taken) (mapped (behind_items (item ∷ [])) read) ≡ mapped (behind_items (taken ++ item ∷ [])) read
+      by (Ok others) = ap (λ (l : List Said). Ok l) (sym (append_assoc taken (item ∷ []) others))
+      by (Err fault) = refl
+
+  -- it is at fault
+  pub part_fails : (fault : ScriptFault) → Fails fault (item_of json the_part) → Fails fault all
+  part_fails fault bad =
+      subst (λ (r : Result (List Said) ScriptFault). Fails fault r) (sym stepped)
+      (mapped_fails (behind_items taken) fault (followed (item_of json the_part) (λ (item : Said). mapped (behind_items (item ∷ [])) (reading json (parts (full_lines next behind)))))
+      (step_fails fault (item_of json the_part) (λ (item : Said). mapped (behind_items (item ∷ [])) (reading json (parts (full_lines next behind)))) bad))
+
+pub parts_begin : (json : Bool) (text bytes : List ℕ) → text ≡ bytes → mapped (behind_items []) (reading json (parts (full_lines 1 text))) ≡ whole json bytes
+parts_begin json text bytes e = none_before (reading json (parts (full_lines 1 text))) ∙ ap (λ (t : List ℕ). whole json t) e
+
+pub parts_end : (json : Bool) (number : ℕ) (text : List ℕ) (taken : List Said) (all : Result (List Said) ScriptFault) → full_lines number text ≡ [] → mapped (behind_items taken) (reading json (parts (full_lines number text))) ≡ all → all ≡ Ok taken
+parts_end json number text taken all none reads =
+    sym reads ∙ ap (λ (l : List numbered.Line). mapped (behind_items taken) (reading json (parts l))) none ∙ ap (mapped (behind_items taken)) (reading_none json) ∙ ap (λ (l : List Said). Ok l) (append-nil taken)
+
+-- ---- what the text says is what reading gives, and the other way
+
+module _ (json : Bool) (bytes : List ℕ) where
+  pub script_read : (items : List Said) → IsScript json bytes items → whole json bytes ≡ Ok items
+  script_read items is =
+      ap (reading json) (sym (append-nil (parts (script_lines bytes)))) ∙ reading_past json is.reader (parts (script_lines bytes)) [] items is.says
+      ∙ ap (mapped (behind_items items)) (reading_none json) ∙ ap (λ (l : List Said). Ok l) (append-nil items)
+
+  pub fault_read : (fault : ScriptFault) → IsFaultInPart json bytes fault → whole json bytes ≡ Err fault
+  fault_read fault is =
+      ap (reading json) is.are_parts ∙ reading_past json is.reader is.front (is.part ∷ is.behind) is.items is.says
+      ∙ ap (mapped (behind_items is.items)) (reading_some json is.part is.behind ∙ ap (λ (r : Result Said ScriptFault). followed r (λ (item : Said). mapped (behind_items (item ∷ [])) (reading json is.behind))) (sym (part_same json is.reader is.part) ∙ is.bad))
+
+  ends_so : (read : Result (List Said) ScriptFault) → whole json bytes ≡ read → Ends json (parts (script_lines bytes)) read
+  ends_so read e = subst (Ends json (parts (script_lines bytes))) e (reading_ends json (parts (script_lines bytes)))
+
+  pub read_script_is : (items : List Said) → IsUtf8 bytes → whole json bytes ≡ Ok items → IsScript json bytes items
+  read_script_is items utf8 e = record { utf8 = utf8; reader = the_reader json; says = ends_so (Ok items) e }
+
+  pub read_fault_is : (fault : ScriptFault) → IsUtf8 bytes → whole json bytes ≡ Err fault → IsScriptFault json bytes fault
+  read_fault_is fault utf8 e =
+      let stops = ends_so (Err fault) e in
+      in_part utf8 (record {
+        reader = the_reader json;
+        front = stops.front;
+        part = stops.part;
+        behind = stops.behind;
+        items = stops.items;
+        are_parts = stops.are_parts;
+        says = stops.says;
+        bad = stops.bad;
+      })
+
+  -- ---- the laws
+
+  pub one_script : (first second : List Said) → IsScript json bytes first → IsScript json bytes second → first ≡ second
+  one_script first second one two =
+      let a = script_read first one in
+      let b = script_read second two in
+      cc
+
+  pub no_script : (fault : ScriptFault) (items : List Said) → IsScriptFault json bytes fault → IsScript json bytes items → ⊥
+  no_script fault items (not_utf8 none e) is = none is.utf8
+  no_script fault items (in_part utf8 in_one) is =
+      let a = fault_read fault in_one in
+      let b = script_read items is in
+      absurd cc
+
+  pub one_fault : (first second : ScriptFault) → IsScriptFault json bytes first → IsScriptFault json bytes second → first ≡ second
+  one_fault first second (not_utf8 none e) (not_utf8 other f) = e ∙ sym f
+  one_fault first second (not_utf8 none e) (in_part utf8 in_one) = absurd (none utf8)
+  one_fault first second (in_part utf8 in_one) (not_utf8 none e) = absurd (none utf8)
+  one_fault first second (in_part utf8 in_one) (in_part same in_other) =
+      let a = fault_read first in_one in
+      let b = fault_read second in_other in
+      cc
+
+  pub script_or_fault : ((items : List Said) × IsScript json bytes items) ⊎ ((fault : ScriptFault) × IsScriptFault json bytes fault)
+  script_or_fault = by_utf8 (is_utf8 bytes) refl
+    where
+      by_read : (read : Result (List Said) ScriptFault) → whole json bytes ≡ read → IsUtf8 bytes → ((items : List Said) × IsScript json bytes items) ⊎ ((fault : ScriptFault) × IsScriptFault json bytes fault)
+      by_read (Ok items) e utf8 = inl (items, read_script_is items utf8 e)
+      by_read (Err fault) e utf8 = inr (fault, read_fault_is fault utf8 e)
+
+      by_utf8 : (test : Bool) → is_utf8 bytes ≡ test → ((items : List Said) × IsScript json bytes items) ⊎ ((fault : ScriptFault) × IsScriptFault json bytes fault)
+      by_utf8 true e = by_read (whole json bytes) refl (IsUtf8-from_is_utf8 bytes e)
+      by_utf8 false e = inr (NotUtf8, not_utf8 (λ utf8. true≢false (sym (is_utf8-from_IsUtf8 bytes utf8) ∙ e)) refl)
+
+  -- ---- where reading has stopped or ended, and memory may have run out
+
+  no_stop : (fault : ScriptFault) (items : List Said) → whole json bytes ≡ Err fault → IsScript json bytes items → ⊥
+  no_stop fault items e is = let read = script_read items is in absurd cc
+
+  pub only_memory : (fault : ScriptFault) (items : List Said) → Fails fault (whole json bytes) → IsScript json bytes items → fault ≡ NoMemory
+  only_memory NotUtf8 items stop is = absurd (no_stop NotUtf8 items stop is)
+  only_memory (Line line why) items stop is = absurd (no_stop (Line line why) items stop is)
+  only_memory (OpenBatch line) items stop is = absurd (no_stop (OpenBatch line) items stop is)
+  only_memory NoMemory items stop is = refl
+
+  stopped : (fault : ScriptFault) → Fails fault (whole json bytes) → fault ≢ NoMemory → whole json bytes ≡ Err fault
+  stopped NotUtf8 stop other = stop
+  stopped (Line line why) stop other = stop
+  stopped (OpenBatch line) stop other = stop
+  stopped NoMemory stop other = absurd (other refl)
+
+  pub stop_is_fault : (fault : ScriptFault) → IsUtf8 bytes → Fails fault (whole json bytes) → fault ≢ NoMemory → IsScriptFault json bytes fault
+  stop_is_fault fault utf8 stop other = read_fault_is fault utf8 (stopped fault stop other)
+
+  pub stop_is_first : (fault first : ScriptFault) → IsUtf8 bytes → Fails fault (whole json bytes) → IsScriptFault json bytes first → fault ≢ NoMemory → fault ≡ first
+  stop_is_first fault first utf8 stop is other = one_fault fault first (stop_is_fault fault utf8 stop other) is
+
+  pub no_fault : (items : List Said) (first : ScriptFault) → IsUtf8 bytes → whole json bytes ≡ Ok items → IsScriptFault json bytes first → ⊥
+  no_fault items first utf8 end is = no_script first items is (read_script_is items utf8 end)
+
+  pub end_is_script : (items other : List Said) → whole json bytes ≡ Ok items → IsScript json bytes other → items ≡ other
+  end_is_script items other end is = let read = script_read other is in cc
+
+-- ---- requests
+
+-- the items of these lines
+abbrev pub asked : Bool → List (List ℕ) → List Said
+asked json lines = map (λ (line : List ℕ). asks (request_read json line)) lines
+
+module _ (json : Bool) (bytes : List ℕ) where
+  pub requests_are : (items : List Said) → IsUtf8 bytes → items ≡ asked json (requests_of bytes) → IsRequests json bytes items
+  requests_are items utf8 e = record { utf8 = utf8; reader = the_reader json; asked = e }
+
+  pub requests_read : (items : List Said) → IsRequests json bytes items → items ≡ asked json (requests_of bytes)
+  requests_read items is = is.asked ∙ ap (λ (request : List ℕ → Reading). map (λ (line : List ℕ). asks (request line)) (requests_of bytes)) (reader_request json is.reader)
+
+  pub one_list : (first second : List Said) → IsRequests json bytes first → IsRequests json bytes second → first ≡ second
+  one_list first second one two = requests_read first one ∙ sym (requests_read second two)
+
+  pub requests_or_fault : ((items : List Said) × IsRequests json bytes items) ⊎ (¬ (IsUtf8 bytes))
+  requests_or_fault = by (is_utf8 bytes) refl
+    where
+      by : (test : Bool) → is_utf8 bytes ≡ test → ((items : List Said) × IsRequests json bytes items) ⊎ (¬ (IsUtf8 bytes))
+      by true e = inl (asked json (requests_of bytes), requests_are (asked json (requests_of bytes)) (IsUtf8-from_is_utf8 bytes e) refl)
+      by false e = inr (λ utf8. true≢false (sym (is_utf8-from_IsUtf8 bytes utf8) ∙ e))
+
+pub requests_end : (json : Bool) (rest bytes : List ℕ) (taken : List Said) → requests_of rest ≡ [] → taken ++ asked json (requests_of rest) ≡ asked json (requests_of bytes) → taken ≡ asked json (requests_of bytes)
+requests_end json rest bytes taken none reads = sym (append-nil taken) ∙ ap (λ (lines : List (List ℕ)). taken ++ asked json lines) (sym none) ∙ reads

@@ -1,0 +1,3 @@
+-- What only private functions and proofs say.
+pub mod Given
+pub mod Ends

@@ -1,0 +1,54 @@
+-- What texts read as, as functions, and what readers give back.
+use Rattle.std.specs.Prelude.{◌≡◌, ℕ, Bool, true, false, List, map, Result, Ok, Err}
+use Rattle.serde_json.specs.Read.{read}
+use Rattle.perm_base.specs.Helps.FieldSteps.{fields_of}
+use Rattle.perm_base.specs.declared.quoted.FieldFault.{FieldFault}
+use Rattle.perm_base.specs.declared.quoted.FieldFault.TheVariants as field
+use Rattle.perm_value.specs.Datum.{text}
+use Rattle.perm_value.specs.Fields as fields
+use Rattle.perm_value.specs.Json.{values_of}
+use Rattle.policy_table.specs.Tables.{Fields}
+use Rattle.script_read.specs.Said.{Reading}
+use Rattle.script_read.specs.declared.fault.LineCause.{LineCause}
+use Rattle.script_read.specs.declared.fault.LineCause.TheVariants as cause
+use Rattle.script_read.specs.declared.fault.ScriptFault.{ScriptFault}
+use Rattle.script_read.specs.declared.fault.ScriptFault.TheVariants.{NotUtf8, Line, OpenBatch, NoMemory}
+
+-- why a line is no item that is not read as fields
+abbrev pub cause_of : FieldFault → LineCause
+cause_of (field.Quote column) = cause.Quote
+cause_of field.TooMany = cause.Fields
+cause_of field.NoMemory = cause.Fields
+
+abbrev pub by_cause : Result Fields FieldFault → Result Fields LineCause
+by_cause (Ok found) = Ok found
+by_cause (Err fault) = Err (cause_of fault)
+
+-- the fields of a text
+unfoldable pub fields_read : List ℕ → Result Fields LineCause
+fields_read line = by_cause (fields_of line)
+
+-- the data of a text for each field
+abbrev pub as_texts : Result Fields FieldFault → Reading
+as_texts (Ok found) = Ok (map text found)
+as_texts (Err fault) = Err (fields.fault_of fault)
+
+abbrev pub by_form : Bool → List ℕ → Reading
+by_form true line = values_of (read line)
+by_form false line = as_texts (fields_of line)
+
+-- the request that a line is
+unfoldable pub request_read : Bool → List ℕ → Reading
+request_read json line = by_form json line
+
+-- the fault is the one that reading gives, unless memory ran out
+abbrev pub Fails : {Y : Type 0} → ScriptFault → Result Y ScriptFault → Type 0
+Fails NotUtf8 read = read ≡ Err NotUtf8
+Fails (Line line cause) read = read ≡ Err (Line line cause)
+Fails (OpenBatch line) read = read ≡ Err (OpenBatch line)
+Fails NoMemory read = Unit {0}
+
+-- what a function returned, seen by view, is what reading gives, unless memory ran out
+abbrev pub Gives : {X Y : Type 0} → (X → Y) → Result X ScriptFault → Result Y ScriptFault → Type 0
+Gives view (Ok x) read = read ≡ Ok (view x)
+Gives view (Err fault) read = Fails fault read

@@ -1,0 +1,46 @@
+-- What items say. A request shows its data, or why the line is none.
+use Rattle.std.specs.Prelude.{ℕ, List, map, Option, Result, Ok, Err}
+use Rattle.edit_calls.specs.declared.call.Call.{Call}
+use Rattle.perm_base.specs.declared.shapes.TableId.{TableId}
+use Rattle.perm_value.specs.Datum.{Datum}
+use Rattle.perm_value.specs.Seen.{datum}
+use Rattle.perm_value.specs.declared.request.RequestFault.{RequestFault}
+use Rattle.policy_table.specs.Tables.{Fields}
+use Rattle.script_read.specs.declared.item.Asked.{Asked}
+use Rattle.script_read.specs.declared.item.Asked.TheVariants.{Request, Refused}
+use Rattle.script_read.specs.declared.item.Item.{Item}
+use Rattle.script_read.specs.declared.item.Item.TheVariants as item
+
+-- what the line of a request is read as
+abbrev pub Reading : Type 0
+Reading = Result (List Datum) RequestFault
+
+pub data Said : Type 0 where
+  asks : Reading → Said
+  edits : Call → Said
+  publishes : Said
+  syncs : Said
+  has : TableId → Fields → Said
+  rows : TableId → ℕ → Fields → Said
+  roles : ℕ → List ℕ → Option (List ℕ) → Said
+  users : ℕ → List ℕ → Option (List ℕ) → Said
+  keeps : ℕ → Said
+  recalls : ℕ → Said
+
+-- what is seen of a request
+abbrev pub reading : Asked → Reading
+reading (Request values) = Ok (map datum values)
+reading (Refused fault) = Err fault
+
+-- what is seen of an item
+abbrev pub seen : Item → Said
+seen (item.Ask asked) = asks (reading asked)
+seen (item.Edit call) = edits call
+seen item.Publish = publishes
+seen item.Sync = syncs
+seen (item.Has table rule) = has table rule
+seen (item.Rows table at values) = rows table at values
+seen (item.Roles relation name domain) = roles relation name domain
+seen (item.Users relation name domain) = users relation name domain
+seen (item.Keep count) = keeps count
+seen (item.History number) = recalls number

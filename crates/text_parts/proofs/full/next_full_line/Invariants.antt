@@ -1,0 +1,10 @@
+use Rattle.std.proofs.Common.{◌≡◌, ◌+◌, ◌≤◌, length}
+use Rattle.std.specs.Str.{IsUtf8}
+use Rattle.text_parts.specs.Full.{full_lines}
+use Rattle.text_parts.proofs.full.next_full_line.Given as goal
+
+abbrev pub invariant-loop-line : goal.invariant-loop-line
+invariant-loop-line l = record { lines : full_lines l.at l.rest ≡ full_lines l.number l.text; within : l.at + length l.rest ≤ l.number + length l.text; shorter : length l.rest ≤ length l.text; utf8 : IsUtf8 l.rest }
+
+abbrev pub decreases-loop-line : goal.decreases-loop-line
+decreases-loop-line l = length l.rest

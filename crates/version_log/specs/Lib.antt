@@ -1,0 +1,4 @@
+pub mod Log
+pub mod Starts
+pub mod EditText
+pub mod Helps
