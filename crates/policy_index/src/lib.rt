@@ -1,0 +1,16 @@
+//! An index of a policy: which rows of p have a text in one column.
+#![tactic(auto)]
+
+mod filling;
+mod index;
+mod law;
+mod making;
+mod own;
+mod place_list;
+mod places;
+mod prepared;
+mod reserving;
+
+pub use index::Index;
+pub use law::{index_follows_tables, places_are_exact};
+pub use prepared::Prepared;
