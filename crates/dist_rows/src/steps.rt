@@ -5,7 +5,8 @@ ghost use Rattle.std.specs.Prelude.{◌≡◌, ◌+◌, ◌<◌};
 use std::marker::Model;
 use std::sync::ledger::{Blank, Book, Ledger, Share};
 
-/// How many steps were taken. Contracts see the number; a program keeps no bytes for it, and only `tick` changes it.
+/// How many steps were taken. Contracts see the number; a program keeps no bytes for it, and only
+/// `tick` changes it.
 #[derive(Drop)]
 pub struct Steps<L: Ledger> {
     book: Book<L>,
@@ -23,7 +24,8 @@ impl<L: Ledger> Model for Steps<L> {
 }
 
 impl<L: Ledger> Steps<L> {
-    /// A counter that stands at 0, of a blank ledger, which a caller makes by `Blank::new(1)` and gives its name.
+    /// A counter that stands at 0, of a blank ledger, which a caller makes by `Blank::new(1)` and
+    /// gives its name.
     pub fn new(blank: Blank) -> Steps<L>
         requires name { blank.name ≡ L.name }
         requires parts { blank.parts ≡ L.parts }

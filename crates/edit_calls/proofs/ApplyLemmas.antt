@@ -74,12 +74,6 @@ applies_here table (first ∷ changes) policy counted there of suited =
     ∙ ap (suit (is_ranked policy table) changes) after ∙ parts.1 in
     both_true _ _ now (applies_here table changes (changed first policy) (counted_after first policy counted) there of.1 later)
 
--- and so does an edit of such changes
-applies_at : (table : TableId) (changes edit : List Change) (policy : Policy) → length policy.lists ≡ most_tables → is_some (place table) ≡ true → AreOf table changes
-    → suit (is_ranked policy table) changes (rows policy table) ≡ true → changes ≡ edit → applies edit policy ≡ true
-applies_at table changes edit policy counted there of suited is =
-    ap (λ (l : List Change). applies l policy) (sym is) ∙ applies_here table changes policy counted there of suited
-
 -- changes of two lists
 AreOf-append : (table : TableId) (front back : List Change) → AreOf table front → AreOf table back → AreOf table (front ++ back)
 AreOf-append table [] back _ of = of
@@ -354,46 +348,51 @@ name_applies column shapes policy name edit counted once base is =
     applies_two (G 1) P (removes (G 1) links) (removes P subjects) edit policy counted refl refl refl
     (of_removes (G 1) links) (of_removes P subjects) (suit_filtered false (G 1) _ (rows policy (G 1)) once) (suit_filtered policy.ranked P _ (rows policy P) base) is
 
+-- changes that are made unless there is nothing to make apply where they suit their table then
+applied_unless : {nothing : Bool} (table : TableId) (changes edit : List Change) (policy : Policy) → length policy.lists ≡ most_tables → is_some (place table) ≡ true → AreOf table changes
+    → unless nothing changes ≡ Some edit → (nothing ≡ false → suit (is_ranked policy table) changes (rows policy table) ≡ true) → applies edit policy ≡ true
+applied_unless table changes edit policy counted there of is suits =
+    let found = edit_of _ changes edit is in
+    ap (λ (l : List Change). applies l policy) (sym found.1) ∙ applies_here table changes policy counted there of (suits found.0)
+
 -- the edit of a call applies
 pub edit_applies : (shapes : Shapes) (policy : Policy) (call : Call) (edit : List Change) → length policy.lists ≡ most_tables → IsDistinct same (rows policy (call_table call)) → IsDistinct same (rows policy P)
     → is_some (place (call_table call)) ≡ true → edit_by shapes policy call ≡ Some edit → applies edit policy ≡ true
 unfolding has_repeat
 edit_applies shapes policy (Add table rule) edit counted once base there is =
-    let found = edit_of _ _ edit is in
-    applies_at table (inserts table (rule ∷ [])) edit policy counted there (of_inserts table (rule ∷ [])) (suit_inserts (is_ranked policy table) table (rule ∷ []) (rows policy table) refl (rw found.0 refl)) found.1
+    applied_unless table (inserts table (rule ∷ [])) edit policy counted there (of_inserts table (rule ∷ [])) is
+    (λ nothing. suit_inserts (is_ranked policy table) table (rule ∷ []) (rows policy table) refl (rw nothing refl))
 edit_applies shapes policy (AddAll table rules) edit counted once base there is =
-    let found = edit_of _ _ edit is in
-    let last = or_parts _ _ found.0 in
-    applies_at table (inserts table rules) edit policy counted there (of_inserts table _) (suit_inserts (is_ranked policy table) table rules (rows policy table) (or_parts _ _ last.0).1 last.1) found.1
+    applied_unless table (inserts table rules) edit policy counted there (of_inserts table rules) is
+    (λ nothing. let last = or_parts _ _ nothing in suit_inserts (is_ranked policy table) table rules (rows policy table) (or_parts _ _ last.0).1 last.1)
 edit_applies shapes policy (AddEx table rules) edit counted once base there is =
-    let found = edit_of _ _ edit is in
     let now = rows policy table in
     let absent : Fields → Bool = λ rule. not (stands rule now) in
-    applies_at table (inserts table (filter absent rules)) edit policy counted there (of_inserts table (filter absent rules))
-    (suit_inserts (is_ranked policy table) table (filter absent rules) now (has_repeat-filter absent rules (or_parts _ _ found.0).0) (none_passes (λ (rule : Fields). stands rule now) rules)) found.1
+    applied_unless table (inserts table (filter absent rules)) edit policy counted there (of_inserts table (filter absent rules)) is
+    (λ nothing. suit_inserts (is_ranked policy table) table (filter absent rules) now (has_repeat-filter absent rules (or_parts _ _ nothing).0) (none_passes (λ (rule : Fields). stands rule now) rules))
 edit_applies shapes policy (Remove table rule) edit counted once base there is =
-    let found = edit_of _ _ edit is in
-    applies_at table (removes table (rule ∷ [])) edit policy counted there (of_removes table (rule ∷ [])) (suit_removes (is_ranked policy table) table (rule ∷ []) (rows policy table) refl (rw found.0 refl)) found.1
+    applied_unless table (removes table (rule ∷ [])) edit policy counted there (of_removes table (rule ∷ [])) is
+    (λ nothing. suit_removes (is_ranked policy table) table (rule ∷ []) (rows policy table) refl (rw nothing refl))
 edit_applies shapes policy (RemoveAll table rules) edit counted once base there is =
-    let found = edit_of _ _ edit is in
-    let last = or_parts _ _ found.0 in
-    applies_at table (removes table rules) edit policy counted there (of_removes table _) (suit_removes (is_ranked policy table) table rules (rows policy table) (or_parts _ _ last.0).1 last.1) found.1
+    applied_unless table (removes table rules) edit policy counted there (of_removes table rules) is
+    (λ nothing. let last = or_parts _ _ nothing in suit_removes (is_ranked policy table) table rules (rows policy table) (or_parts _ _ last.0).1 last.1)
 edit_applies shapes policy (Update table pairs) edit counted once base there is =
-    let found = edit_of _ _ edit is in
-    let news = or_parts _ _ found.0 in
+    applied_unless table (replaces table pairs) edit policy counted there (of_replaces table pairs) is
+    (λ nothing.
+    let news = or_parts _ _ nothing in
     let olds = or_parts _ _ news.0 in
     let absent = or_parts _ _ olds.0 in
-    applies_at table (replaces table pairs) edit policy counted there (of_replaces table _) (suit_replaces (is_ranked policy table) table pairs (rows policy table) olds.1 news.1 (or_parts _ _ absent.0).1 absent.1) found.1
+    suit_replaces (is_ranked policy table) table pairs (rows policy table) olds.1 news.1 (or_parts _ _ absent.0).1 absent.1)
 edit_applies shapes policy (RemoveFiltered table at values) edit counted once base there is =
-    let found = edit_of _ _ edit is in
-    applies_at table (removes table (fitting at values (rows policy table))) edit policy counted there (of_removes table _)
-    (suit_filtered (is_ranked policy table) table (λ (rule : Fields). fits_filter rule at values) (rows policy table) once) found.1
-edit_applies shapes policy (UpdateFiltered table at values rules) edit counted once base there is =
-    let found = edit_of _ _ edit is in
-    let last = or_parts _ _ found.0 in
     let gone = fitting at values (rows policy table) in
-    applies_at table (removes table gone ++ inserts table rules) edit policy counted there
-    (AreOf-append table (removes table gone) (inserts table rules) (of_removes table gone) (of_inserts table rules))
-    (suit_exchanged (is_ranked policy table) table (λ (rule : Fields). fits_filter rule at values) rules (rows policy table) once (or_parts _ _ last.0).1 last.1) found.1
+    applied_unless table (removes table gone) edit policy counted there (of_removes table gone) is
+    (λ nothing. suit_filtered (is_ranked policy table) table (λ (rule : Fields). fits_filter rule at values) (rows policy table) once)
+edit_applies shapes policy (UpdateFiltered table at values rules) edit counted once base there is =
+    let gone = fitting at values (rows policy table) in
+    applied_unless table (removes table gone ++ inserts table rules) edit policy counted there
+    (AreOf-append table (removes table gone) (inserts table rules) (of_removes table gone) (of_inserts table rules)) is
+    (λ nothing.
+    let last = or_parts _ _ nothing in
+    suit_exchanged (is_ranked policy table) table (λ (rule : Fields). fits_filter rule at values) rules (rows policy table) once (or_parts _ _ last.0).1 last.1)
 edit_applies shapes policy (DeleteUser name) edit counted once base there is = name_applies 0 shapes policy name edit counted once base (edit_of _ _ edit is).1
 edit_applies shapes policy (DeleteRole name) edit counted once base there is = name_applies 1 shapes policy name edit counted once base (edit_of _ _ edit is).1

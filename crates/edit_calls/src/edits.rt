@@ -25,202 +25,193 @@ pub(crate) fn edit_by(
     requires { AreFitted shapes.now tables.now.policy call.now }
     ensures { IfOk result (λ edit. edit ≡ edit_by shapes.now tables.now.policy call.now) }
 {
+    let maker = EditMaker { alloc, tables };
     match call {
-        Call::Add { table, rule } => add(alloc, tables, *table, rule),
-        Call::AddAll { table, rules } => add_all(alloc, tables, *table, rules),
-        Call::AddEx { table, rules } => add_absent(alloc, tables, *table, rules),
-        Call::Remove { table, rule } => remove(alloc, tables, *table, rule),
-        Call::RemoveAll { table, rules } => remove_all(alloc, tables, *table, rules),
-        Call::Update { table, pairs } => update(alloc, tables, *table, pairs),
-        Call::RemoveFiltered { table, at, values } => {
-            remove_filtered(alloc, tables, *table, *at, values)
-        }
+        Call::Add { table, rule } => maker.add(*table, rule),
+        Call::AddAll { table, rules } => maker.add_all(*table, rules),
+        Call::AddEx { table, rules } => maker.add_absent(*table, rules),
+        Call::Remove { table, rule } => maker.remove(*table, rule),
+        Call::RemoveAll { table, rules } => maker.remove_all(*table, rules),
+        Call::Update { table, pairs } => maker.update(*table, pairs),
+        Call::RemoveFiltered { table, at, values } => maker.remove_filtered(*table, *at, values),
         Call::UpdateFiltered {
             table,
             at,
             values,
             rules,
-        } => update_filtered(alloc, tables, *table, *at, values, rules),
-        Call::DeleteUser { name } => delete_name(alloc, tables, shapes, 0, name),
-        Call::DeleteRole { name } => delete_name(alloc, tables, shapes, 1, name),
+        } => maker.update_filtered(*table, *at, values, rules),
+        Call::DeleteUser { name } => maker.delete_name(shapes, 0, name),
+        Call::DeleteRole { name } => maker.delete_name(shapes, 1, name),
     }
 }
 
-fn add(
+// What edits are made with: the memory, and the tables as they stand.
+#[derive(Clone, Copy)]
+struct EditMaker<'a> {
     alloc: Global,
-    tables: &Tables,
-    table: TableId,
-    rule: &Rule,
-) -> Result<Option<Edit>, NoMemory>
-    ensures { IfOk result (λ edit. edit ≡ unless
-        (stands rule.now (rows tables.now.policy table)) (inserts table (rule.now ∷ []))) }
-{
-    if tables.has(table, rule) {
-        return Ok(None);
-    }
-    let rule = rule.copy(alloc)?;
-    one_change(alloc, Change::Insert { table, rule })
+    tables: &'a Tables,
 }
 
-fn add_all(
-    alloc: Global,
-    tables: &Tables,
-    table: TableId,
-    rules: &Rules,
-) -> Result<Option<Edit>, NoMemory>
-    ensures { IfOk result (λ edit. edit ≡ unless
-        (is_empty rules.now || has_repeat rules.now
-        || one_stands rules.now (rows tables.now.policy table))
-        (inserts table rules.now)) }
-{
-    if rules.len() == 0 || has_repeat(alloc, rules)? || one_stands(tables, table, rules) {
-        return Ok(None);
-    }
-    Ok(Some(Edit::from_vec(inserts(alloc, table, rules.as_slice())?)))
-}
-
-fn add_absent(
-    alloc: Global,
-    tables: &Tables,
-    table: TableId,
-    rules: &Rules,
-) -> Result<Option<Edit>, NoMemory>
-    ensures { IfOk result (λ edit. edit ≡ unless
-        (has_repeat rules.now || not (one_is_absent rules.now (rows tables.now.policy table)))
-        (inserts table
-        (filter (λ rule. not (stands rule (rows tables.now.policy table))) rules.now))) }
-{
-    if has_repeat(alloc, rules)? {
-        return Ok(None);
-    }
-    Ok(unless_empty(inserts_absent(alloc, tables, table, rules.as_slice())?))
-}
-
-fn remove(
-    alloc: Global,
-    tables: &Tables,
-    table: TableId,
-    rule: &Rule,
-) -> Result<Option<Edit>, NoMemory>
-    ensures { IfOk result (λ edit. edit ≡ unless
-        (not (stands rule.now (rows tables.now.policy table))) (removes table (rule.now ∷ []))) }
-{
-    if !tables.has(table, rule) {
-        return Ok(None);
-    }
-    let rule = rule.copy(alloc)?;
-    one_change(alloc, Change::Remove { table, rule })
-}
-
-fn remove_all(
-    alloc: Global,
-    tables: &Tables,
-    table: TableId,
-    rules: &Rules,
-) -> Result<Option<Edit>, NoMemory>
-    ensures { IfOk result (λ edit. edit ≡ unless
-        (is_empty rules.now || has_repeat rules.now
-        || one_is_absent rules.now (rows tables.now.policy table))
-        (removes table rules.now)) }
-{
-    if rules.len() == 0 || has_repeat(alloc, rules)? || one_is_absent(tables, table, rules) {
-        return Ok(None);
-    }
-    Ok(Some(Edit::from_vec(removes(alloc, table, rules.as_slice())?)))
-}
-
-fn update(
-    alloc: Global,
-    tables: &Tables,
-    table: TableId,
-    pairs: &Pairs,
-) -> Result<Option<Edit>, NoMemory>
-    ensures { IfOk result (λ edit. edit ≡ unless
-        (is_empty pairs.now
-        || one_is_absent (map (λ pair. pair.0) pairs.now) (rows tables.now.policy table)
-        || one_stands (map (λ pair. pair.1) pairs.now) (rows tables.now.policy table)
-        || has_repeat (map (λ pair. pair.0) pairs.now)
-        || has_repeat (map (λ pair. pair.1) pairs.now))
-        (map (λ pair. change.Replace table pair.0 pair.1) pairs.now)) }
-{
-    let olds = Olds(pairs);
-    let news = News(pairs);
-    if pairs.len() == 0
-        || one_is_absent(tables, table, &olds)
-        || one_stands(tables, table, &news)
-        || has_repeat(alloc, &olds)?
-        || has_repeat(alloc, &news)?
+impl<'a> EditMaker<'a> {
+    fn add(&self, table: TableId, rule: &Rule) -> Result<Option<Edit>, NoMemory>
+        ensures { IfOk result (λ edit. edit ≡ unless
+            (stands rule.now (rows self.now.tables.now.policy table))
+            (inserts table (rule.now ∷ []))) }
     {
-        return Ok(None);
+        if self.tables.has(table, rule) {
+            return Ok(None);
+        }
+        let rule = rule.copy(self.alloc)?;
+        one_change(self.alloc, Change::Insert { table, rule })
     }
-    Ok(Some(Edit::from_vec(replaces(alloc, table, pairs.as_slice())?)))
-}
 
-fn remove_filtered(
-    alloc: Global,
-    tables: &Tables,
-    table: TableId,
-    at: u32,
-    values: &Rule,
-) -> Result<Option<Edit>, NoMemory>
-    requires { All (λ rule. at + length values.now ≤ length rule) (rows tables.now.policy table) }
-    ensures { IfOk result (λ edit. edit ≡ unless
-        (is_empty (fitting at values.now (rows tables.now.policy table)))
-        (removes table (fitting at values.now (rows tables.now.policy table)))) }
-{
-    let changes = removes_fitting(alloc, table, tables.rows(table), at, values)?;
-    Ok(unless_empty(changes))
-}
-
-fn update_filtered(
-    alloc: Global,
-    tables: &Tables,
-    table: TableId,
-    at: u32,
-    values: &Rule,
-    rules: &Rules,
-) -> Result<Option<Edit>, NoMemory>
-    requires { All (λ rule. at + length values.now ≤ length rule) (rows tables.now.policy table) }
-    ensures { IfOk result (λ edit. edit ≡ unless
-        (is_empty (fitting at values.now (rows tables.now.policy table)) || has_repeat rules.now
-        || one_stays at values.now rules.now (rows tables.now.policy table))
-        (removes table (fitting at values.now (rows tables.now.policy table))
-        ++ inserts table rules.now)) }
-{
-    let mut changes = removes_fitting(alloc, table, tables.rows(table), at, values)?;
-    if changes.is_empty()
-        || has_repeat(alloc, rules)?
-        || one_stays(tables, table, at, values, rules)
+    fn add_all(&self, table: TableId, rules: &Rules) -> Result<Option<Edit>, NoMemory>
+        ensures { IfOk result (λ edit. edit ≡ unless
+            (is_empty rules.now || has_repeat rules.now
+            || one_stands rules.now (rows self.now.tables.now.policy table))
+            (inserts table rules.now)) }
     {
-        return Ok(None);
+        if rules.len() == 0
+            || has_repeat(self.alloc, rules)?
+            || one_stands(self.tables, table, rules)
+        {
+            return Ok(None);
+        }
+        Ok(Some(Edit::from_vec(inserts(self.alloc, table, rules.as_slice())?)))
     }
-    push_inserts(alloc, &mut changes, table, rules.as_slice())?;
-    Ok(Some(Edit::from_vec(changes)))
-}
 
-// Removes the rules of a column of g that have a name, and then those of p whose subject it is.
-fn delete_name(
-    alloc: Global,
-    tables: &Tables,
-    shapes: &Shapes,
-    column: u32,
-    name: &Text,
-) -> Result<Option<Edit>, NoMemory>
-    requires g { All (λ rule. column < length rule) (rows tables.now.policy (tables_of.G 1)) }
-    requires p { All (λ rule. shapes.now.subject_column < length rule)
-        (rows tables.now.policy tables_of.P) }
-    ensures { IfOk result (λ edit. edit ≡ unless
-        (is_empty (without_name column shapes.now tables.now.policy name.now))
-        (without_name column shapes.now tables.now.policy name.now)) }
-{
-    let mut changes = Vec::new(alloc);
-    let name = name.bytes();
-    let g = TableId::G(1);
-    push_removes_with(alloc, &mut changes, g, tables.rows(g), column, name)?;
-    let p = TableId::P;
-    let subject = shapes.subject_column;
-    push_removes_with(alloc, &mut changes, p, tables.rows(p), subject, name)?;
-    Ok(unless_empty(changes))
+    fn add_absent(&self, table: TableId, rules: &Rules) -> Result<Option<Edit>, NoMemory>
+        ensures { IfOk result (λ edit. edit ≡ unless
+            (has_repeat rules.now
+            || not (one_is_absent rules.now (rows self.now.tables.now.policy table)))
+            (inserts table
+            (filter (λ rule. not (stands rule (rows self.now.tables.now.policy table)))
+            rules.now))) }
+    {
+        if has_repeat(self.alloc, rules)? {
+            return Ok(None);
+        }
+        Ok(unless_empty(inserts_absent(self.alloc, self.tables, table, rules.as_slice())?))
+    }
+
+    fn remove(&self, table: TableId, rule: &Rule) -> Result<Option<Edit>, NoMemory>
+        ensures { IfOk result (λ edit. edit ≡ unless
+            (not (stands rule.now (rows self.now.tables.now.policy table)))
+            (removes table (rule.now ∷ []))) }
+    {
+        if !self.tables.has(table, rule) {
+            return Ok(None);
+        }
+        let rule = rule.copy(self.alloc)?;
+        one_change(self.alloc, Change::Remove { table, rule })
+    }
+
+    fn remove_all(&self, table: TableId, rules: &Rules) -> Result<Option<Edit>, NoMemory>
+        ensures { IfOk result (λ edit. edit ≡ unless
+            (is_empty rules.now || has_repeat rules.now
+            || one_is_absent rules.now (rows self.now.tables.now.policy table))
+            (removes table rules.now)) }
+    {
+        if rules.len() == 0
+            || has_repeat(self.alloc, rules)?
+            || one_is_absent(self.tables, table, rules)
+        {
+            return Ok(None);
+        }
+        Ok(Some(Edit::from_vec(removes(self.alloc, table, rules.as_slice())?)))
+    }
+
+    fn update(&self, table: TableId, pairs: &Pairs) -> Result<Option<Edit>, NoMemory>
+        ensures { IfOk result (λ edit. edit ≡ unless
+            (is_empty pairs.now
+            || one_is_absent (map (λ pair. pair.0) pairs.now)
+            (rows self.now.tables.now.policy table)
+            || one_stands (map (λ pair. pair.1) pairs.now) (rows self.now.tables.now.policy table)
+            || has_repeat (map (λ pair. pair.0) pairs.now)
+            || has_repeat (map (λ pair. pair.1) pairs.now))
+            (map (λ pair. change.Replace table pair.0 pair.1) pairs.now)) }
+    {
+        let olds = Olds(pairs);
+        let news = News(pairs);
+        if pairs.len() == 0
+            || one_is_absent(self.tables, table, &olds)
+            || one_stands(self.tables, table, &news)
+            || has_repeat(self.alloc, &olds)?
+            || has_repeat(self.alloc, &news)?
+        {
+            return Ok(None);
+        }
+        Ok(Some(Edit::from_vec(replaces(self.alloc, table, pairs.as_slice())?)))
+    }
+
+    fn remove_filtered(
+        &self,
+        table: TableId,
+        at: u32,
+        values: &Rule,
+    ) -> Result<Option<Edit>, NoMemory>
+        requires { All (λ rule. at + length values.now ≤ length rule)
+            (rows self.now.tables.now.policy table) }
+        ensures { IfOk result (λ edit. edit ≡ unless
+            (is_empty (fitting at values.now (rows self.now.tables.now.policy table)))
+            (removes table (fitting at values.now (rows self.now.tables.now.policy table)))) }
+    {
+        let changes = removes_fitting(self.alloc, table, self.tables.rows(table), at, values)?;
+        Ok(unless_empty(changes))
+    }
+
+    fn update_filtered(
+        &self,
+        table: TableId,
+        at: u32,
+        values: &Rule,
+        rules: &Rules,
+    ) -> Result<Option<Edit>, NoMemory>
+        requires { All (λ rule. at + length values.now ≤ length rule)
+            (rows self.now.tables.now.policy table) }
+        ensures { IfOk result (λ edit. edit ≡ unless
+            (is_empty (fitting at values.now (rows self.now.tables.now.policy table))
+            || has_repeat rules.now
+            || one_stays at values.now rules.now (rows self.now.tables.now.policy table))
+            (removes table (fitting at values.now (rows self.now.tables.now.policy table))
+            ++ inserts table rules.now)) }
+    {
+        let mut changes = removes_fitting(self.alloc, table, self.tables.rows(table), at, values)?;
+        if changes.is_empty()
+            || has_repeat(self.alloc, rules)?
+            || one_stays(self.tables, table, at, values, rules)
+        {
+            return Ok(None);
+        }
+        push_inserts(self.alloc, &mut changes, table, rules.as_slice())?;
+        Ok(Some(Edit::from_vec(changes)))
+    }
+
+    // Removes the rules of a column of g that have a name, and then those of p whose subject it is.
+    fn delete_name(
+        &self,
+        shapes: &Shapes,
+        column: u32,
+        name: &Text,
+    ) -> Result<Option<Edit>, NoMemory>
+        requires g { All (λ rule. column < length rule)
+            (rows self.now.tables.now.policy (tables_of.G 1)) }
+        requires p { All (λ rule. shapes.now.subject_column < length rule)
+            (rows self.now.tables.now.policy tables_of.P) }
+        ensures { IfOk result (λ edit. edit ≡ unless
+            (is_empty (without_name column shapes.now self.now.tables.now.policy name.now))
+            (without_name column shapes.now self.now.tables.now.policy name.now)) }
+    {
+        let (alloc, tables) = (self.alloc, self.tables);
+        let mut changes = Vec::new(alloc);
+        let name = name.bytes();
+        let g = TableId::G(1);
+        push_removes_with(alloc, &mut changes, g, tables.rows(g), column, name)?;
+        let p = TableId::P;
+        let subject = shapes.subject_column;
+        push_removes_with(alloc, &mut changes, p, tables.rows(p), subject, name)?;
+        Ok(unless_empty(changes))
+    }
 }
 
 // The edit of one change.

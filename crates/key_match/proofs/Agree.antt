@@ -1,16 +1,20 @@
 -- Divisions in which equal names have equal parts, from the left.
 use Rattle.std.proofs.Common.{◌≡◌, ℕ, ◌+◌, ◌-◌, ◌≤◌, Bool, true, false, not, ◌&&◌, List, [], ◌∷◌, ◌++◌, length, take, drop, None, Some, is_some, cond, IsTrue, refl, ap, sym, ◌∙◌, subst, arith, length-drop}
 use Rattle.std.specs.List.{concat, list_any}
+use Rattle.std.specs.Prelude.{◌↔◌}
 use Rattle.std.specs.Str.{bytes_eq}
 use Rattle.std.proofs.lemmas.Bool.{false≢true}
-use Rattle.std.proofs.lemmas.List.{drop-drop, take-append-drop, length-take-le}
+use Rattle.std.proofs.lemmas.List.{drop-drop, take-append-drop, length-take-le, take_all}
 use Rattle.std.proofs.lemmas.Slice.Eq.{bytes_eq-Decides}
 use Rattle.key_match.specs.Pieces.{ByteSet, Piece, One, Segment, Stretch, Rest, StandsFor, Divides}
 use Rattle.key_match.specs.Divisions.{has_name}
 use Rattle.key_match.specs.Names.{EachNamed, NamesAgree, CoversAlike}
-use Rattle.key_match.specs.Helps.Fits.{fits}
+use Rattle.key_match.specs.Helps.Fits.{fits, pieces_from}
 use Rattle.key_match.specs.Helps.Parts.{part_between}
-use Rattle.key_match.specs.Helps.Given.{given_part, given_to, repeats, is_free_of, AreParts, GivenAgree, CoversGiven, CutsAlike, IsNameless}
+use Rattle.key_match.specs.Helps.Given.{given_part, given_to, repeats, is_free_of, AreParts, GivenAgree, CoversGiven, CutsAlike, IsNameless, PassesTo}
+use Rattle.key_match.specs.Helps.Tokens.{pieces_at}
+use Rattle.key_match.specs.declared.fit.Place.{Place}
+use Rattle.key_match.specs.declared.token.Dialect.TheVariants.{Brace}
 use Rattle.key_match.specs.declared.alike.Given.{Given, Nothing, And'}
 use Rattle.key_match.proofs.Bools.{and_first, and_second, or-false_first, or-false_second}
 use Rattle.key_match.proofs.Covers.{Covers-from_fits, fits-from_Covers}
@@ -271,14 +275,14 @@ part_there part key from h =
     let n : from + length part - from ≡ length part = omega arith in
     ap (λ k. take k (drop from key)) n ∙ sym (bytes_same part (take (length part) (drop from key)) h)
 
-pub given-backward : (given : Given) (name part : List ℕ) (pieces : List Piece) (key : List ℕ) (from : ℕ) → given_part given name ≡ Some part → AreParts given → GoesOnWith part key from → CoversGiven given pieces (drop (from + length part) key) → CoversGiven given (Segment name ∷ pieces) (drop from key)
+given-backward : (given : Given) (name part : List ℕ) (pieces : List Piece) (key : List ℕ) (from : ℕ) → given_part given name ≡ Some part → AreParts given → GoesOnWith part key from → CoversGiven given pieces (drop (from + length part) key) → CoversGiven given (Segment name ∷ pieces) (drop from key)
 given-backward given name part pieces key from e parts on covers =
     let end = from + length part in
     let there = part_there part key from on in
     CoversGiven-cut given (Segment name) pieces key from end (omega arith) (subst (StandsFor (Segment name)) (sym there) (AreParts-given given name part parts e))
     (CutsAlike-given given name pieces key from end (e ∙ ap (λ (x : List ℕ). Some x) (sym there)) covers)
 
-pub given-forward : (given : Given) (name part : List ℕ) (pieces : List Piece) (key : List ℕ) (from : ℕ) → given_part given name ≡ Some part → from ≤ length key → CoversGiven given (Segment name ∷ pieces) (drop from key) → GoesOnWith part key from × CoversGiven given pieces (drop (from + length part) key)
+given-forward : (given : Given) (name part : List ℕ) (pieces : List Piece) (key : List ℕ) (from : ℕ) → given_part given name ≡ Some part → from ≤ length key → CoversGiven given (Segment name ∷ pieces) (drop from key) → GoesOnWith part key from × CoversGiven given pieces (drop (from + length part) key)
 given-forward given name part pieces key from e within covers =
     let cut = HasCut-from given (Segment name) pieces key from within covers in
     let end = cut.0 in
@@ -290,3 +294,26 @@ given-forward given name part pieces key from e within covers =
       same_bytes part (take (length part) (drop from key)) (sym same ∙ ap (λ n. take n (drop from key)) (sym long)),
       subst (λ (k : ℕ). CoversGiven given pieces (drop k key)) there (CoversGiven-after given (Segment name) pieces key from end cut.4),
     )
+
+-- what tells whether the pieces behind bytes that are passed over cover the key tells it of all
+pub told_behind : {pattern key : List ℕ} {from at : Place} {told : Bool} (given : Given) (pieces : List Piece) → PassesTo pattern key from at → pieces_at Brace pattern at.pattern ≡ pieces
+    → (IsTrue told ↔ CoversGiven given pieces (drop at.key key)) → (IsTrue told ↔ CoversGiven given (pieces_from Brace pattern from) (drop from.key key))
+told_behind {key = key} {at = at} given pieces passes read tells = (
+  λ h. passes.backward given (subst (λ (p : List Piece). CoversGiven given p (drop at.key key)) (sym read) (tells.0 h)),
+  λ covers. tells.1 (subst (λ (p : List Piece). CoversGiven given p (drop at.key key)) read (passes.forward given covers)),
+)
+
+-- where a segment's name was given a part, the key goes on with that part or does not fit
+module _ {pattern key : List ℕ} {from at : Place} {starts : Bool} (given : Given) (name part : List ℕ) (next : List Piece) (passes : PassesTo pattern key from at) (read : pieces_at Brace pattern at.pattern ≡ Segment name ∷ next)
+    (wanted : given_part given name ≡ Some part) (is : starts ≡ bytes_eq part (take (length part) (take (length key - at.key) (drop at.key key)))) where
+  goes_on : starts ≡ bytes_eq part (take (length part) (drop at.key key))
+  goes_on = is ∙ ap (λ (x : List ℕ). bytes_eq part (take (length part) x)) (take_all (length key - at.key) (drop at.key key) (omega (arith, length-drop {A = ℕ})))
+
+  pub told_part : {told : Bool} → AreParts given → starts ≡ true → (IsTrue told ↔ CoversGiven given next (drop (at.key + length part) key)) → (IsTrue told ↔ CoversGiven given (pieces_from Brace pattern from) (drop from.key key))
+  told_part parts on tells =
+      told_behind given (Segment name ∷ next) passes read
+      (λ h. given-backward given name part next key at.key wanted parts (sym goes_on ∙ on) (tells.0 h), λ covers. tells.1 (given-forward given name part next key at.key wanted passes.key_within covers).1)
+
+  pub told_other : starts ≡ false → (IsTrue starts ↔ CoversGiven given (pieces_from Brace pattern from) (drop from.key key))
+  told_other off =
+      told_behind given (Segment name ∷ next) passes read (λ h. absurd (false≢true (sym off ∙ h)), λ covers. goes_on ∙ (given-forward given name part next key at.key wanted passes.key_within covers).0)

@@ -12,3 +12,4 @@ pub mod Tried
 pub mod Decided
 pub mod Divided
 pub mod Named
+pub mod CallerLemmas

@@ -16,6 +16,7 @@ pub(crate) enum Section {
 }
 
 /// The section of a name.
+#[tactic(auto, unfolding(crate::specs::Sections::is_section))]
 pub(crate) fn section_named(name: &str) -> Option<Section>
     ensures known { is_some result ≡ is_section name.now }
     ensures found { IfSome result (λ section. section_text section ≡ name.now) }

@@ -40,7 +40,7 @@ fn push_own(alloc: Global, found: &mut Vec<Change>, changes: &[Change]) -> Resul
 {
     for change in changes {
         if is_of_p(change) {
-            found.push(copy_change(alloc, change)?)?;
+            found.push(change.copy(alloc)?)?;
         }
     }
     Ok(())
@@ -52,25 +52,5 @@ fn is_of_p(change: &Change) -> bool
     match change.table() {
         TableId::P => true,
         TableId::G(_) => false,
-    }
-}
-
-fn copy_change(alloc: Global, change: &Change) -> Result<Change, NoMemory>
-    ensures { IfOk result (λ copy. copy ≡ change.now) }
-{
-    match change {
-        Change::Insert { table, rule } => Ok(Change::Insert {
-            table: *table,
-            rule: rule.copy(alloc)?,
-        }),
-        Change::Remove { table, rule } => Ok(Change::Remove {
-            table: *table,
-            rule: rule.copy(alloc)?,
-        }),
-        Change::Replace { table, old, new } => Ok(Change::Replace {
-            table: *table,
-            old: old.copy(alloc)?,
-            new: new.copy(alloc)?,
-        }),
     }
 }

@@ -5,6 +5,7 @@ pub use Rattle.policy_table.proofs.SortLemmas.{by_rank_none, by_rank_one, length
 pub use Rattle.policy_table.proofs.RankedLemmas.{length_ranked, passed_ranked, ranked_other, ranked_own}
 pub use Rattle.policy_table.proofs.LawLemmas.{applies_both, applies_by_table, counted_changed, counted_edited, edited_both, first_possible, kept_of, order_of, ordered_changed, ordered_edited, ranked_edited, replayed, rest_possible, rows_by_table, rows_other, rows_own, rows_possible}
 pub use Rattle.policy_table.proofs.SoundLemmas.{Puts, PutAll, all_edited, are_lists, empty_is_sound, few_of_relation, few_rows, no_sum, shapes_edited, short_edited}
+pub use Rattle.policy_table.proofs.DomainLemmas.{among_different, any_counted, distinct_different, keys_different}
 pub use Rattle.policy_table.proofs.LimitLemmas.{different_fewer, different_none, different_push, passing_push}
 pub use Rattle.policy_table.proofs.RoleLemmas.{sum_passing}
 use Rattle.std.proofs.Common.{◌≡◌, ◌+◌, ◌<◌, ◌^◌, true, List, [], ◌∷◌, ◌++◌, length, refl, sym, ap, subst, ◌∙◌}

@@ -1,5 +1,5 @@
 -- Domains that are counted: one more, one less, and what their number says.
-use Rattle.std.proofs.Common.{◌≡◌, ℕ, zero, suc, ◌+◌, ◌<◌, ◌^◌, Bool, true, false, cond, if◌then◌else◌, not, ◌||◌, nat_lt, List, [], ◌∷◌, ◌++◌, length, filter, take, drop, get_or, slice_get, Option, Some, None, Result, Ok, Err, OnErr, refl, sym, ap, subst, ◌∙◌, arith}
+use Rattle.std.proofs.Common.{◌≡◌, ℕ, zero, suc, ◌+◌, ◌<◌, ◌^◌, Bool, true, false, cond, if◌then◌else◌, not, ◌||◌, nat_lt, List, [], ◌∷◌, ◌++◌, length, take, drop, get_or, slice_get, Option, Some, None, Result, Ok, Err, OnErr, refl, sym, ap, subst, ◌∙◌, arith}
 use mir.Val.{bool_byte}
 use Rattle.std.specs.Prelude.{unwrap_or}
 use Rattle.std.specs.List.{AllByRecursion, IsDistinct, count_by, list_any}
@@ -20,7 +20,7 @@ use Rattle.perm_base.specs.declared.shapes.Fit.TheVariants.{Exact}
 use Rattle.policy_table.specs.Helps.Domains.{AreCounted, Counted, HasNoZero, count_of, pattern_count}
 use Rattle.policy_table.specs.Limits.{different}
 use Rattle.policy_table.proofs.LimitLemmas.{flipped, others, stands_still}
-use Rattle.policy_table.proofs.RowLemmas.{absent_before}
+use Rattle.policy_table.proofs.RowLemmas.{absent_before, distinct_passing}
 
 -- what holds holds where a call is refused
 pub on_err : {T E : Type 0} (r : Result T E) (X : Type 0) → X → OnErr r X
@@ -153,24 +153,6 @@ among_different y (x ∷ texts) = by (bytes_eq y x) refl (among_different y text
     by true e rest = refl
     by false e rest = stands_still x y (different texts) e ∙ rest
 
--- what passes a test is apart from what all are apart from
-apart_filter : (x : List ℕ) (test : List ℕ → Bool) (texts : List (List ℕ)) → AllByRecursion (λ other. bytes_eq x other ≡ false) texts → AllByRecursion (λ other. bytes_eq x other ≡ false) (filter test texts)
-apart_filter x test [] apart = tt
-apart_filter x test (y ∷ texts) apart = by (test y) (apart_filter x test texts apart.1)
-  where
-    by : (b : Bool) → AllByRecursion (λ other. bytes_eq x other ≡ false) (filter test texts) → AllByRecursion (λ other. bytes_eq x other ≡ false) (cond b (y ∷ filter test texts) (filter test texts))
-    by true rest = (apart.0, rest)
-    by false rest = rest
-
-pub distinct_filter : (test : List ℕ → Bool) (texts : List (List ℕ)) → IsDistinct bytes_eq texts → IsDistinct bytes_eq (filter test texts)
-unfolding IsDistinct
-distinct_filter test [] distinct = tt
-distinct_filter test (x ∷ texts) distinct = by (test x) (distinct_filter test texts distinct.1)
-  where
-    by : (b : Bool) → IsDistinct bytes_eq (filter test texts) → IsDistinct bytes_eq (cond b (x ∷ filter test texts) (filter test texts))
-    by true rest = (apart_filter x test texts distinct.0, rest)
-    by false rest = rest
-
 -- the others are apart from a text
 apart_others : (x : List ℕ) (texts : List (List ℕ)) → AllByRecursion (λ other. bytes_eq x other ≡ false) (others x texts)
 apart_others x [] = tt
@@ -184,11 +166,11 @@ apart_others x (y ∷ texts) = by (bytes_eq x y) refl (apart_others x texts)
 pub distinct_different : (texts : List (List ℕ)) → IsDistinct bytes_eq (different texts)
 unfolding IsDistinct different
 distinct_different [] = tt
-distinct_different (x ∷ texts) = (apart_others x (different texts), distinct_filter (λ other. not (bytes_eq x other)) (different texts) (distinct_different texts))
+distinct_different (x ∷ texts) = (apart_others x (different texts), distinct_passing bytes_eq (λ other. not (bytes_eq x other)) (different texts) (distinct_different texts))
 
 -- a key stands for what is counted
-pub among_keys : (counted : Counted) → HasNoZero counted.entries → (q : List ℕ) → list_any (bytes_eq q) (keys_of counted.entries) ≡ nat_lt 0 (count_of counted q)
-among_keys counted some q = sym (is_some-lookup (bytes_eq q) counted.entries) ∙ told (lookup (bytes_eq q) counted.entries) (some q)
+pub among_keys : (entries : List (List ℕ × ℕ)) → HasNoZero entries → (q : List ℕ) → list_any (bytes_eq q) (keys_of entries) ≡ nat_lt 0 (unwrap_or (lookup (bytes_eq q) entries) 0)
+among_keys entries some q = sym (is_some-lookup (bytes_eq q) entries) ∙ told (lookup (bytes_eq q) entries) (some q)
   where
     above : (n : ℕ) → (Some n ≡ Some 0 → ⊥) → 0 < n
     above zero never = absurd (never refl)
@@ -198,9 +180,9 @@ among_keys counted some q = sym (is_some-lookup (bytes_eq q) counted.entries) �
     told None never = refl
     told (Some n) never = sym (lt-ltb 0 n (above n never))
 
--- the keys are as many as the different domains
-pub keys_different : (texts : List (List ℕ)) (counted : Counted) → AreCounted texts counted → IsDistinct bytes_eq (keys_of counted.entries) → HasNoZero counted.entries
-    → length (keys_of counted.entries) ≡ length (different texts)
-keys_different texts counted are distinct some =
-    length-from_same_keys nat_list_eq_equiv (keys_of counted.entries) (different texts) distinct (distinct_different texts)
-    (λ q. among_keys counted some q ∙ ap (nat_lt 0) (are.each q) ∙ sym (any_counted (bytes_eq q) texts) ∙ sym (among_different q texts))
+-- the keys are as many as the different texts
+pub keys_different : (texts : List (List ℕ)) (entries : List (List ℕ × ℕ)) → ((text : List ℕ) → unwrap_or (lookup (bytes_eq text) entries) 0 ≡ count_by (bytes_eq text) texts) → IsDistinct bytes_eq (keys_of entries) → HasNoZero entries
+    → length (keys_of entries) ≡ length (different texts)
+keys_different texts entries are distinct some =
+    length-from_same_keys nat_list_eq_equiv (keys_of entries) (different texts) distinct (distinct_different texts)
+    (λ q. among_keys entries some q ∙ ap (nat_lt 0) (are q) ∙ sym (any_counted (bytes_eq q) texts) ∙ sym (among_different q texts))

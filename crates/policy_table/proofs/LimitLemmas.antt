@@ -1,12 +1,15 @@
 -- Texts that pass a test, and different texts, with one more.
-use Rattle.std.proofs.Common.{◌≡◌, ℕ, ◌+◌, ◌≤◌, Bool, true, false, not, ◌||◌, cond, append-nil, if◌then◌else◌, List, [], ◌∷◌, ◌++◌, length, filter, refl, sym, ap, ◌∙◌, arith}
+use Rattle.std.proofs.Common.{◌≡◌, ℕ, ◌+◌, ◌<◌, ◌≤◌, ◌^◌, Bool, true, false, not, ◌||◌, cond, append-nil, if◌then◌else◌, List, [], ◌∷◌, ◌++◌, length, filter, refl, sym, ap, ◌∙◌, arith}
 use Rattle.std.proofs.lemmas.Bool.Decides.{same_from_decides}
+use Rattle.std.proofs.lemmas.List.{length-map}
 use Rattle.std.proofs.lemmas.Slice.Eq.{bytes_eq-Decides}
 use Rattle.std.specs.List.{list_any}
 use Rattle.std.specs.Str.{bytes_eq}
 use Rattle.indexmap.specs.IndexSet.{insert_key}
 use Rattle.policy_table.proofs.RuleLemmas.{fewer}
-use Rattle.policy_table.specs.Limits.{different}
+use Rattle.policy_table.specs.Helps.Domains.{domain_of}
+use Rattle.policy_table.specs.Limits.{different, domains_of}
+use Rattle.policy_table.specs.Tables.{Fields}
 
 -- one more item passes a test or does not
 filter_push : {X : Type 0} (p : X → Bool) (xs : List X) (y : X) → filter p (xs ++ y ∷ []) ≡ filter p xs ++ cond (p y) (y ∷ []) []
@@ -98,3 +101,10 @@ different_fewer (x ∷ texts) =
     let le = different_fewer texts in
     let kept = fewer (λ (other : List ℕ). not (bytes_eq x other)) (different texts) in
     omega (arith, le, kept)
+
+-- of fewer rules than that, no more have such domains, and no more domains are different
+pub passing_few : (test : List ℕ → Bool) (rules : List Fields) → length rules < 2 ^ 32 → length (filter test (domains_of rules)) < 2 ^ 32
+passing_few test rules few = omega (arith, few, fewer test (domains_of rules), length-map rules domain_of)
+
+pub different_few : (rules : List Fields) → length rules < 2 ^ 32 → length (different (domains_of rules)) < 2 ^ 32
+different_few rules few = omega (arith, few, different_fewer (domains_of rules), length-map rules domain_of)

@@ -23,16 +23,17 @@ use Rattle.policy_table.specs.Helps.Counts.{pairs_of, patterns_of, put_by, taken
 use Rattle.policy_table.specs.Helps.Domains.{AreCounted, Counted, HasNoZero, count_of, domain_of, pattern_count}
 use Rattle.policy_table.specs.Helps.Moves.{is_gone, is_new, moved, moved_domains}
 use Rattle.policy_table.specs.Limits.{different, domains_of}
-use Rattle.policy_table.specs.Tables.{AreLists, AreOrdered, Fields, Policy, place, rows}
+use Rattle.policy_table.specs.Tables.{AreLists, AreOrdered, Fields, IsKept, Policy, place, rows}
 use Rattle.policy_table.specs.declared.change.Change.{Change}
 use Rattle.policy_table.specs.declared.change.Change.TheVariants.{Insert, Remove, Replace}
 use Rattle.policy_table.specs.declared.moved.Way.{Way}
 use Rattle.policy_table.specs.declared.moved.Way.TheVariants.{In, Out}
 use Rattle.policy_table.proofs.CountedLemmas.{count_both, domains_sum, one}
-use Rattle.policy_table.proofs.DomainLemmas.{among_different, among_keys, any_counted, distinct_different, distinct_filter, recounted}
-use Rattle.policy_table.proofs.LimitLemmas.{different_fewer}
-use Rattle.policy_table.proofs.RuleLemmas.{fewer}
+use Rattle.policy_table.proofs.DomainLemmas.{among_different, among_keys, any_counted, distinct_different, recounted}
+use Rattle.policy_table.proofs.LawLemmas.{order_of}
+use Rattle.policy_table.proofs.LimitLemmas.{different_few, passing_few}
 use Rattle.policy_table.proofs.PlaceLemmas.{place_few}
+use Rattle.policy_table.proofs.RowLemmas.{distinct_passing}
 use Rattle.policy_table.proofs.SumLemmas.{sum_edited}
 
 -- a sum over all that is moved is a sum over the changes
@@ -42,21 +43,15 @@ moved_sum f g (change ∷ changes) =
     sum_by-append f (g change) (flat_map g changes) ∙ ap (λ n. sum_by f (g change) + n) (moved_sum f g changes) ∙ sym (sum_by-cons (λ (c : Change). sum_by f (g c)) change changes)
 
 -- a change moves one rule at most
+one_each : (b : Bool) (c : Change) → (length (if b then put_by c else []) ≤ 1) × (length (if b then taken_by c else []) ≤ 1)
+one_each true (Insert there rule) = (omega arith, omega arith)
+one_each true (Remove there rule) = (omega arith, omega arith)
+one_each true (Replace there old new) = (omega arith, omega arith)
+one_each false c = (omega arith, omega arith)
+
 one_moved : (way : Way) (table : TableId) (change : Change) → length (moved way table change) ≤ 1
-one_moved In table change = by (is_table table (table_of change)) change
-  where
-    by : (b : Bool) (c : Change) → length (if b then put_by c else []) ≤ 1
-    by true (Insert there rule) = omega arith
-    by true (Remove there rule) = omega arith
-    by true (Replace there old new) = omega arith
-    by false c = omega arith
-one_moved Out table change = by (is_table table (table_of change)) change
-  where
-    by : (b : Bool) (c : Change) → length (if b then taken_by c else []) ≤ 1
-    by true (Insert there rule) = omega arith
-    by true (Remove there rule) = omega arith
-    by true (Replace there old new) = omega arith
-    by false c = omega arith
+one_moved In table change = (one_each (is_table table (table_of change)) change).0
+one_moved Out table change = (one_each (is_table table (table_of change)) change).1
 
 -- one text more passes or does not
 pub count_more : {X : Type 0} (p : X → Bool) (xs : List X) (i : ℕ) (x : X) (b : Bool) (count more : ℕ) → i < length xs → x ≡ get_or xs i x → more ≡ bool_byte b → b ≡ p x → count ≡ count_by p (take i xs) → count + more ≡ count_by p (take (i + 1) xs)
@@ -116,6 +111,12 @@ counted_after q changes policy table order possible =
 filtered : (test : List ℕ → Bool) (q : List ℕ) (texts : List (List ℕ)) → list_any (bytes_eq q) (filter test texts) ≡ (list_any (bytes_eq q) texts && test q)
 filtered test q texts = is_member-filter nat_list_eq_equiv test q (λ x e. ap test ((bytes_eq-Decides q x).0 e)) texts
 
+-- as many pass of one list of distinct texts as of another where the same texts stand and pass
+passing_same : (p q : List ℕ → Bool) (first second : List (List ℕ)) → IsDistinct bytes_eq first → IsDistinct bytes_eq second
+    → ((text : List ℕ) → (list_any (bytes_eq text) first && p text) ≡ (list_any (bytes_eq text) second && q text)) → length (filter p first) ≡ length (filter q second)
+passing_same p q first second once twice same =
+    length-from_same_keys nat_list_eq_equiv _ _ (distinct_passing bytes_eq p first once) (distinct_passing bytes_eq q second twice) (λ text. filtered p text first ∙ same text ∙ sym (filtered q text second))
+
 -- the tests of numbers behind what is new, what is gone and what stays
 new_test : (a b p t : ℕ) → a + t ≡ b + p → (nat_lt 0 a && not (nat_lt 0 b)) ≡ (nat_lt 0 p && (eqb b 0 && nat_lt t p))
 new_test a b p t e = grind (arith, nat_tests)
@@ -156,24 +157,18 @@ pairs_changed before after put_in taken_out put taken puts takes put_once put_so
     moves q = omega (arith, sums (bytes_eq q), puts.each q, takes.each q)
 
     new : length (filter (λ k. not (stands_in before k)) (different after)) ≡ length (filter (is_new before put taken) (keys_of put.entries))
-    new = length-from_same_keys nat_list_eq_equiv _ _ (distinct_filter (λ k. not (stands_in before k)) (different after) (distinct_different after))
-        (distinct_filter (is_new before put taken) (keys_of put.entries) put_once)
-        (λ q. filtered (λ k. not (stands_in before k)) q (different after) ∙ ap (λ b. b && not (stands_in before q)) (among after q)
-        ∙ new_test (count_by (bytes_eq q) after) (count_by (bytes_eq q) before) (count_of put q) (count_of taken q) (moves q)
-        ∙ sym (filtered (is_new before put taken) q (keys_of put.entries) ∙ ap (λ b. b && is_new before put taken q) (among_keys put put_some q)))
+    new = passing_same (λ k. not (stands_in before k)) (is_new before put taken) (different after) (keys_of put.entries) (distinct_different after) put_once
+        (λ q. ap (λ b. b && not (stands_in before q)) (among after q) ∙ new_test (count_by (bytes_eq q) after) (count_by (bytes_eq q) before) (count_of put q) (count_of taken q) (moves q)
+        ∙ sym (ap (λ b. b && is_new before put taken q) (among_keys put.entries put_some q)))
 
     gone : length (filter (λ k. not (stands_in after k)) (different before)) ≡ length (filter (is_gone before put taken) (keys_of taken.entries))
-    gone = length-from_same_keys nat_list_eq_equiv _ _ (distinct_filter (λ k. not (stands_in after k)) (different before) (distinct_different before))
-        (distinct_filter (is_gone before put taken) (keys_of taken.entries) taken_once)
-        (λ q. filtered (λ k. not (stands_in after k)) q (different before) ∙ ap (λ b. b && not (stands_in after q)) (among before q)
-        ∙ gone_test (count_by (bytes_eq q) after) (count_by (bytes_eq q) before) (count_of put q) (count_of taken q) (moves q)
-        ∙ sym (filtered (is_gone before put taken) q (keys_of taken.entries) ∙ ap (λ b. b && is_gone before put taken q) (among_keys taken taken_some q)))
+    gone = passing_same (λ k. not (stands_in after k)) (is_gone before put taken) (different before) (keys_of taken.entries) (distinct_different before) taken_once
+        (λ q. ap (λ b. b && not (stands_in after q)) (among before q) ∙ gone_test (count_by (bytes_eq q) after) (count_by (bytes_eq q) before) (count_of put q) (count_of taken q) (moves q)
+        ∙ sym (ap (λ b. b && is_gone before put taken q) (among_keys taken.entries taken_some q)))
 
     stay : length (filter (stands_in before) (different after)) ≡ length (filter (stands_in after) (different before))
-    stay = length-from_same_keys nat_list_eq_equiv _ _ (distinct_filter (stands_in before) (different after) (distinct_different after))
-        (distinct_filter (stands_in after) (different before) (distinct_different before))
-        (λ q. filtered (stands_in before) q (different after) ∙ ap (λ b. b && stands_in before q) (among after q) ∙ both (stands_in after q) (stands_in before q)
-        ∙ sym (filtered (stands_in after) q (different before) ∙ ap (λ b. b && stands_in after q) (among before q)))
+    stay = passing_same (stands_in before) (stands_in after) (different after) (different before) (distinct_different after) (distinct_different before)
+        (λ q. ap (λ b. b && stands_in before q) (among after q) ∙ both (stands_in after q) (stands_in before q) ∙ sym (ap (λ b. b && stands_in after q) (among before q)))
 
 -- what an edit puts into a relation and takes out of it is counted
 pub record AreMoved (changes seen : List Change) (policy : Policy) (number : ℕ) (put taken : Counted) : Type 0 where
@@ -183,7 +178,12 @@ pub record AreMoved (changes seen : List Change) (policy : Policy) (number : ℕ
   pub puts : AreCounted (moved_domains In (G number) seen) put
   pub takes : AreCounted (moved_domains Out (G number) seen) taken
 
-module _ (changes seen : List Change) (policy : Policy) (number : ℕ) (put taken : Counted) (are : AreMoved changes seen policy number put taken) where
+-- as its parts tell
+pub are_moved : {changes seen : List Change} {policy : Policy} {number : ℕ} {put taken : Counted} → IsKept policy → applies changes policy ≡ true → seen ≡ changes
+    → AreCounted (moved_domains In (G number) seen) put → AreCounted (moved_domains Out (G number) seen) taken → AreMoved changes seen policy number put taken
+are_moved kept possible same puts takes = record { order = order_of _ kept; possible = possible; same = same; puts = puts; takes = takes }
+
+module _ {changes seen : List Change} {policy : Policy} {number : ℕ} {put taken : Counted} (are : AreMoved changes seen policy number put taken) where
   puts : AreCounted (moved_domains In (G number) changes) put
   puts = subst (λ (l : List Change). AreCounted (moved_domains In (G number) l) put) are.same are.puts
 
@@ -238,8 +238,7 @@ short_rows policy table are = by (place table) refl
 
 -- so each count is less than that
 pub patterns_few : (policy : Policy) (shape : RoleShape) → AreLists policy.lists → length (filter (is_pattern shape.domains) (domains_of (rows policy (G shape.number)))) < 2 ^ 32
-patterns_few policy shape are =
-    omega (arith, short_rows policy (G shape.number) are, fewer (is_pattern shape.domains) (domains_of (rows policy (G shape.number))), length-map (rows policy (G shape.number)) domain_of)
+patterns_few policy shape are = passing_few (is_pattern shape.domains) (rows policy (G shape.number)) (short_rows policy (G shape.number) are)
 
 pub pairs_few : (policy : Policy) (shape : RoleShape) → AreLists policy.lists → length (different (domains_of (rows policy (G shape.number)))) < 2 ^ 32
-pairs_few policy shape are = omega (arith, short_rows policy (G shape.number) are, different_fewer (domains_of (rows policy (G shape.number))), length-map (rows policy (G shape.number)) domain_of)
+pairs_few policy shape are = different_few (rows policy (G shape.number)) (short_rows policy (G shape.number) are)

@@ -4,8 +4,14 @@ use Rattle.std.proofs.lemmas.List.{get_or-map, length-map, take_all}
 use Rattle.std.proofs.lemmas.List.Sums.{sum_by-cons, sum_by_more}
 use Rattle.std.specs.List.{sum_by}
 use Rattle.std.specs.List.Sorted.{IsStrictlyIncreasing}
+use Rattle.perm_base.specs.Patterns.{is_pattern}
 use Rattle.perm_base.specs.RoleShapes.{AreRoles}
 use Rattle.perm_base.specs.declared.shapes.RoleShape.{RoleShape}
+use Rattle.perm_base.specs.declared.shapes.Shapes.{Shapes}
+use Rattle.perm_base.specs.declared.shapes.TableId.TheVariants.{G}
+use Rattle.policy_table.specs.Helps.Counts.{pairs_of, patterns_of}
+use Rattle.policy_table.specs.Limits.{different, domain_pairs, domains_of, pattern_rows}
+use Rattle.policy_table.specs.Tables.{Policy, rows}
 
 -- of rising numbers from 1 each is above its place
 rising_at : (numbers : List ℕ) (k : ℕ) → IsStrictlyIncreasing numbers → 0 < get_or numbers 0 0 → k < length numbers → k < get_or numbers k 0
@@ -41,6 +47,13 @@ sum_passing {X} p f (x ∷ xs) = by_test (p x) (sum_passing p f xs) ∙ sym (sum
 pub sum_more : {X : Type 0} (f : X → ℕ) (xs : List X) (i : ℕ) (x : X) (count more : ℕ) → i < length xs → x ≡ get_or xs i x → count ≡ sum_by f (take i xs) → more ≡ f x → count + more ≡ sum_by f (take (i + 1) xs)
 sum_more f xs i x count more within here so_far now = omega (arith, sum_by_more f xs i x within, ap f here, now, so_far)
 
--- the sum over all items, where another than those that pass counts nothing
-pub sum_all : {X : Type 0} (p : X → Bool) (f : X → ℕ) (xs : List X) (i : ℕ) (count : ℕ) → length xs ≤ i → count ≡ sum_by (λ x. if p x then f x else 0) (take i xs) → count ≡ sum_by f (filter p xs)
-sum_all {X} p f xs i count all so_far = so_far ∙ ap (sum_by (λ (x : X). if p x then f x else 0)) (take_all i xs all) ∙ sym (sum_passing p f xs)
+-- the sum over all items that were seen, where another than those that pass counts nothing
+sum_all : {X : Type 0} (p : X → Bool) (f : X → ℕ) (xs seen : List X) (i count : ℕ) → seen ≡ xs → length seen ≤ i → count ≡ sum_by (λ x. if p x then f x else 0) (take i seen) → count ≡ sum_by f (filter p xs)
+sum_all {X} p f xs seen i count same all so_far = so_far ∙ ap (sum_by (λ (x : X). if p x then f x else 0)) (take_all i seen all ∙ same) ∙ sym (sum_passing p f xs)
+
+-- the rules of all relations whose domain is a pattern, and the different domains
+pub patterns_all : (policy : Policy) (shapes : Shapes) (seen : List RoleShape) (i count : ℕ) → seen ≡ shapes.roles → length seen ≤ i → count ≡ sum_by (patterns_of policy) (take i seen) → count ≡ pattern_rows shapes policy
+patterns_all policy shapes = sum_all (λ (shape : RoleShape). shape.with_domain) (λ (shape : RoleShape). length (filter (is_pattern shape.domains) (domains_of (rows policy (G shape.number))))) shapes.roles
+
+pub pairs_all : (policy : Policy) (shapes : Shapes) (seen : List RoleShape) (i count : ℕ) → seen ≡ shapes.roles → length seen ≤ i → count ≡ sum_by (pairs_of policy) (take i seen) → count ≡ domain_pairs shapes policy
+pairs_all policy shapes = sum_all (λ (shape : RoleShape). shape.with_domain) (λ (shape : RoleShape). length (different (domains_of (rows policy (G shape.number))))) shapes.roles

@@ -172,3 +172,21 @@ module _ {T : Type 0} (eq : T → T → Bool) where
         let absent = absent_before (take at items) (drop (at + 1) items) x (subst (IsDistinct eq) parts distinct) in
         inserted ∙ ap (λ l. insert_key eq l x) kept ∙ insert_key-absent (take at items) x absent
         ∙ sym (take_more items at x within ∙ ap (λ y. take at items ++ y ∷ []) (sym here))
+
+-- what passes a test is apart from what all are apart from, and distinct where all are
+apart_filter : {X : Type 0} (eq : X → X → Bool) (x : X) (test : X → Bool) (xs : List X) → AllByRecursion (λ (other : X). eq x other ≡ false) xs → AllByRecursion (λ (other : X). eq x other ≡ false) (filter test xs)
+apart_filter eq x test [] apart = tt
+apart_filter {X} eq x test (y ∷ xs) apart = by (test y) (apart_filter eq x test xs apart.1)
+  where
+    by : (b : Bool) → AllByRecursion (λ (other : X). eq x other ≡ false) (filter test xs) → AllByRecursion (λ (other : X). eq x other ≡ false) (cond b (y ∷ filter test xs) (filter test xs))
+    by true rest = (apart.0, rest)
+    by false rest = rest
+
+pub distinct_passing : {X : Type 0} (eq : X → X → Bool) (test : X → Bool) (xs : List X) → IsDistinct eq xs → IsDistinct eq (filter test xs)
+unfolding IsDistinct
+distinct_passing eq test [] distinct = tt
+distinct_passing eq test (x ∷ xs) distinct = by (test x) (distinct_passing eq test xs distinct.1)
+  where
+    by : (b : Bool) → IsDistinct eq (filter test xs) → IsDistinct eq (cond b (x ∷ filter test xs) (filter test xs))
+    by true rest = (apart_filter eq x test xs distinct.0, rest)
+    by false rest = rest

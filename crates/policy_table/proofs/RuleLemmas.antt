@@ -16,7 +16,8 @@ use Rattle.policy_table.specs.Ranks.{is_above, is_level}
 use Rattle.policy_table.specs.Tables.{AreLists, Fields, Policy, is_ranked, place, rows, same, stands}
 use Rattle.policy_table.specs.declared.change.Change.{Change}
 use Rattle.policy_table.specs.declared.change.Change.TheVariants.{Insert, Remove, Replace}
-use Rattle.policy_table.proofs.RowLemmas.{apart_from, renamed-absent, same-Decides as decides, without-absent}
+use Rattle.policy_table.proofs.RankLemmas.{high, low}
+use Rattle.policy_table.proofs.RowLemmas.{apart_from, distinct_passing, renamed-absent, same-Decides as decides, without-absent}
 
 -- two rules are the same where their fields are
 pub same-Decides : (first second : Fields) → Decides (same first second) (first ≡ second)
@@ -56,27 +57,18 @@ out_and_out rule gone (x ∷ xs) = by_test (same rule x) (same x rule) (same_sym
 -- ranked rules with one more are, but for the order, that rule and the others
 pub ranked_in-IsPermutation : (rule : Fields) (rules : List Fields) → IsPermutation (rule ∷ rules) (ranked_in rule rules)
 ranked_in-IsPermutation rule rules =
-    IsPermutation-trans (rule ∷ rules) (rule ∷ (front ++ back)) (front ++ rule ∷ back) (IsPermutation-cons rule rules (front ++ back) (IsPermutation-filter_both low high other rules))
+    IsPermutation-trans (rule ∷ rules) (rule ∷ (front ++ back)) (front ++ rule ∷ back) (IsPermutation-cons rule rules (front ++ back) (IsPermutation-filter_both (low rule) (high rule) (λ x. twice (is_above x rule)) rules))
     (IsPermutation-sym (front ++ rule ∷ back) (rule ∷ (front ++ back)) (IsPermutation-middle front rule back))
   where
-    low : Fields → Bool
-    low x = not (is_above x rule)
-
-    high : Fields → Bool
-    high x = is_above x rule
-
     front : List Fields
-    front = filter low rules
+    front = filter (low rule) rules
 
     back : List Fields
-    back = filter high rules
+    back = filter (high rule) rules
 
     twice : (b : Bool) → b ≡ not (not b)
     twice true = refl
     twice false = refl
-
-    other : (x : Fields) → high x ≡ not (low x)
-    other x = twice (is_above x rule)
 
 -- and so are others
 pub inserted-IsPermutation : (ranked : Bool) (rule : Fields) (rules : List Fields) → IsPermutation (rule ∷ rules) (inserted ranked rule rules)
@@ -125,24 +117,9 @@ apart_absent rule (x ∷ rules) absent = by (same rule x) refl absent (λ is. ap
     by true e is rest = absurd (true≢false is)
     by false e is rest = (e, rest is)
 
--- rules that pass a test are apart from what all are apart from
-apart_filter : (x : Fields) (test : Fields → Bool) (rules : List Fields) → AreApart x rules → AreApart x (filter test rules)
-apart_filter x test [] apart = tt
-apart_filter x test (y ∷ rules) apart = by (test y) (apart_filter x test rules apart.1)
-  where
-    by : (b : Bool) → AreApart x (filter test rules) → AreApart x (cond b (y ∷ filter test rules) (filter test rules))
-    by true rest = (apart.0, rest)
-    by false rest = rest
-
 -- distinct rules that pass a test are distinct
 pub distinct_filter : (test : Fields → Bool) (rules : List Fields) → IsDistinct same rules → IsDistinct same (filter test rules)
-unfolding IsDistinct
-distinct_filter test [] distinct = tt
-distinct_filter test (x ∷ rules) distinct = by (test x) (distinct_filter test rules distinct.1)
-  where
-    by : (b : Bool) → IsDistinct same (filter test rules) → IsDistinct same (cond b (x ∷ filter test rules) (filter test rules))
-    by true rest = (apart_filter x test rules distinct.0, rest)
-    by false rest = rest
+distinct_filter test rules distinct = distinct_passing same test rules distinct
 
 -- and so are distinct rules with one more that is absent
 pub distinct_inserted : (ranked : Bool) (rule : Fields) (rules : List Fields) → IsDistinct same rules → stands rule rules ≡ false → IsDistinct same (inserted ranked rule rules)

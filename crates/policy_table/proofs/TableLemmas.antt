@@ -11,7 +11,7 @@ use Rattle.perm_base.specs.declared.shapes.TableId.TheVariants.{P, G}
 use Rattle.std.specs.Option.{option_map_or}
 use Rattle.policy_table.specs.Changes.{applies, changed, edited, is_possible, suits, table_of, without}
 use Rattle.policy_table.specs.Held.{HasRoom, needed}
-use Rattle.policy_table.specs.Helps.Rows.{RiseWhere, Rows, counted_of, counting, lists_of, policy_of, spare_of}
+use Rattle.policy_table.specs.Helps.Rows.{AreTables, RiseWhere, Rows, counted_of, counting, lists_of, policy_of, spare_of}
 use Rattle.policy_table.specs.Helps.Steps.{acted, all_stand, changes_by, may_act, puts}
 use Rattle.policy_table.specs.Tables.{AreLists, AreOrdered, Fields, Policy, is_ranked, most_tables, place, rows, same, stands}
 use Rattle.policy_table.proofs.RuleLemmas.{keeps_all, out_and_out}
@@ -171,11 +171,11 @@ unfolding IsDistinct
 nowhere_once policy table none = subst (λ (p : Option ℕ). IsDistinct same (option_map_or (λ (at : ℕ). get_or policy.lists at []) p [])) (sym none) tt
 
 -- the place of a table lies among nine tables
-pub few_tables : (tables : List Rows) → length (lists_of tables) ≡ most_tables → (table : TableId) (at : ℕ) → place table ≡ Some at → at < length tables
+few_tables : (tables : List Rows) → length (lists_of tables) ≡ most_tables → (table : TableId) (at : ℕ) → place table ≡ Some at → at < length tables
 few_tables tables counted table at here = subst (λ n. at < n) (sym counted ∙ length-map tables (λ (r : Rows). r.rules)) (place_few table at here)
 
 -- no table has too many rules
-pub rules_few : (tables : List Rows) (at : ℕ) (d : Rows) → AreLists (lists_of tables) → at < length tables → length (get_or tables at d).rules < 2 ^ 32
+rules_few : (tables : List Rows) (at : ℕ) (d : Rows) → AreLists (lists_of tables) → at < length tables → length (get_or tables at d).rules < 2 ^ 32
 rules_few tables at d are within =
     subst (λ (rules : List Fields). length rules < 2 ^ 32) (get_or-map (λ (r : Rows). r.rules) tables at d [] within) (are.few at [] (subst (λ n. at < n) (sym (length-map tables (λ (r : Rows). r.rules))) within))
 
@@ -187,10 +187,20 @@ counted_after tables at after d within same =
     ∙ set-get_or (counted_of tables) at false
 
 -- the table of a relation counts its domains
-pub counts_here : (tables : List Rows) (number at : ℕ) (d : Rows) → counted_of tables ≡ counting → place (G number) ≡ Some at → at < length tables → (get_or tables at d).counted ≡ true
+counts_here : (tables : List Rows) (number at : ℕ) (d : Rows) → counted_of tables ≡ counting → place (G number) ≡ Some at → at < length tables → (get_or tables at d).counted ≡ true
 counts_here tables number at d marks here within =
     sym (get_or-map (λ (r : Rows). r.counted) tables at d false within) ∙ ap (λ (l : List Bool). get_or l at false) marks ∙ marked at (place_number number at here).1 (place_number number at here).2
   where
     marked : (i : ℕ) → 0 < i → i < most_tables → get_or counting i false ≡ true
     marked zero some few = absurd (omega (arith, some))
     marked (suc i) some few = get_or-replicate 8 i true false (omega (arith, few))
+
+-- the table that was found in the place of one: it is among the nine, has not too many rules, and counts domains where it is a relation's
+pub found_within : {ranked : Bool} {tables : List Rows} (table : TableId) (at : ℕ) (found : Option ℕ) → AreTables ranked tables → found ≡ place table → found ≡ Some at → at < length tables
+found_within table at found are is there = few_tables _ are.kept.lists.counted table at (sym is ∙ there)
+
+pub found_few : {ranked : Bool} {tables : List Rows} (table : TableId) (at : ℕ) (found : Option ℕ) (d : Rows) → AreTables ranked tables → found ≡ place table → found ≡ Some at → length (get_or tables at d).rules < 2 ^ 32
+found_few table at found d are is there = rules_few _ at d are.kept.lists (found_within table at found are is there)
+
+pub found_counts : {ranked : Bool} {tables : List Rows} (number at : ℕ) (found : Option ℕ) (d : Rows) → AreTables ranked tables → found ≡ place (G number) → found ≡ Some at → (get_or tables at d).counted ≡ true
+found_counts number at found d are is there = counts_here _ number at d are.counted (sym is ∙ there) (found_within (G number) at found are is there)

@@ -38,6 +38,27 @@ impl Change {
             | Change::Replace { table, .. } => *table,
         }
     }
+
+    /// The same change once more.
+    pub fn copy(&self, alloc: Global) -> Result<Change, NoMemory>
+        ensures same { IfOk result (λ copy. copy ≡ self.now) }
+    {
+        match self {
+            Change::Insert { table, rule } => Ok(Change::Insert {
+                table: *table,
+                rule: rule.copy(alloc)?,
+            }),
+            Change::Remove { table, rule } => Ok(Change::Remove {
+                table: *table,
+                rule: rule.copy(alloc)?,
+            }),
+            Change::Replace { table, old, new } => Ok(Change::Replace {
+                table: *table,
+                old: old.copy(alloc)?,
+                new: new.copy(alloc)?,
+            }),
+        }
+    }
 }
 
 impl Share for Change {}
@@ -88,27 +109,7 @@ pub fn copy_edit(alloc: Global, edit: &Edit) -> Result<Edit, NoMemory>
 {
     let mut changes = Vec::with_capacity(alloc, edit.changes.len())?;
     for change in &edit.changes {
-        changes.push(copy_change(alloc, change)?)?;
+        changes.push(change.copy(alloc)?)?;
     }
     Ok(Edit { changes })
-}
-
-fn copy_change(alloc: Global, change: &Change) -> Result<Change, NoMemory>
-    ensures { IfOk result (λ copy. copy ≡ change.now) }
-{
-    match change {
-        Change::Insert { table, rule } => Ok(Change::Insert {
-            table: *table,
-            rule: rule.copy(alloc)?,
-        }),
-        Change::Remove { table, rule } => Ok(Change::Remove {
-            table: *table,
-            rule: rule.copy(alloc)?,
-        }),
-        Change::Replace { table, old, new } => Ok(Change::Replace {
-            table: *table,
-            old: old.copy(alloc)?,
-            new: new.copy(alloc)?,
-        }),
-    }
 }

@@ -1,22 +1,8 @@
 -- Facts that a test tells.
-use Rattle.std.proofs.Common.{◌≡◌, ℕ, ◌+◌, ◌<◌, zero, suc, Bool, true, false, ◌⊎◌, inl, inr, List, IsTrue, refl, subst, arith}
-use Rattle.std.specs.Prelude.{◌↔◌}
-use Rattle.std.specs.Str.{bytes_eq}
+use Rattle.std.proofs.Common.{◌≡◌, ℕ, ◌+◌, ◌<◌, zero, suc, true, false, ◌⊎◌, inl, inr, refl, subst, arith}
 use Rattle.std.proofs.lemmas.Bool.{cases_eq, false≢true}
-use Rattle.std.proofs.lemmas.Slice.Eq.{bytes_eq-Decides}
+use Rattle.key_match.proofs.CallerLemmas.{Decided, decided_false, decided_true}
 use Rattle.role_meaning.specs.Least.{IsLeast}
-
-abbrev pub Decided : Type 0 → Type 0
-Decided P = (b : Bool) × (IsTrue b ↔ P)
-
-pub decided_by : (P Q : Type 0) → (P → Q) → (Q → P) → Decided P → Decided Q
-decided_by P Q there back d = (d.0, (λ h. there (d.1.0 h), λ q. d.1.1 (back q)))
-
-pub decided_true : (P : Type 0) → P → Decided P
-decided_true P p = (true, (λ h. p, λ q. refl))
-
-pub decided_false : (P : Type 0) → ¬ P → Decided P
-decided_false P none = (false, (λ h. absurd (false≢true h), λ p. absurd (none p)))
 
 pub told : (P : Type 0) → Decided P → P ⊎ (¬ P)
 told P (true, same) = inl (same.0 refl)
@@ -26,25 +12,6 @@ told P (false, same) = inr (λ p. false≢true (same.1 p))
 pub decided_from : (P : Type 0) → P ⊎ (¬ P) → Decided P
 decided_from P (inl p) = decided_true P p
 decided_from P (inr none) = decided_false P none
-
-pub decided_or : (P Q : Type 0) → Decided P → Decided Q → Decided (P ⊎ Q)
-decided_or P Q d e = decided_from (P ⊎ Q) (by (told P d) (told Q e))
-  where
-    by : P ⊎ (¬ P) → Q ⊎ (¬ Q) → (P ⊎ Q) ⊎ (¬ (P ⊎ Q))
-    by (inl p) q = inl (inl p)
-    by (inr no_p) (inl q) = inl (inr q)
-    by (inr no_p) (inr no_q) = inr (elim [ inl p ↦ no_p p | inr q ↦ no_q q ])
-
-pub decided_and : (P Q : Type 0) → Decided P → Decided Q → Decided (P × Q)
-decided_and P Q d e = decided_from (P × Q) (by (told P d) (told Q e))
-  where
-    by : P ⊎ (¬ P) → Q ⊎ (¬ Q) → (P × Q) ⊎ (¬ (P × Q))
-    by (inl p) (inl q) = inl (p, q)
-    by (inl p) (inr no_q) = inr (λ both. no_q both.1)
-    by (inr no_p) q = inr (λ both. no_p both.0)
-
-pub same_text : (xs ys : List ℕ) → Decided (xs ≡ ys)
-same_text xs ys = (bytes_eq xs ys, ((bytes_eq-Decides xs ys).0, (bytes_eq-Decides xs ys).1))
 
 -- the least number of which something holds, below a bound
 record Found (Holds : ℕ → Type 0) (bound : ℕ) : Type 0 where

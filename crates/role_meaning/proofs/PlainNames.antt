@@ -81,19 +81,17 @@ not_lone (byte ∷ []) signs none =
     no_sign 42 byte (or_parts (42 == byte) (has_byte byte signs) (or_parts (has_byte byte (42 ∷ signs)) false none).0).0
 not_lone (byte ∷ next ∷ more) signs none = refl
 
+-- neither the star nor a second sign
+no_two : (sign byte : ℕ) → has_byte byte (42 ∷ sign ∷ []) ≡ false → ((byte == 42) ≡ false) × ((byte == sign) ≡ false)
+no_two sign byte none =
+    let parts = or_parts (42 == byte) (has_byte byte (sign ∷ [])) none in
+    (no_sign 42 byte parts.0, no_sign sign byte (or_parts (sign == byte) false parts.1).0)
+
 plain_colon : (before byte : ℕ) (after : List ℕ) → has_byte byte (codes "*:") ≡ false → colon_piece before byte after ≡ literal byte
-plain_colon before byte after none =
-    let parts = or_parts (42 == byte) (has_byte byte (58 ∷ [])) none in
-    let star : (byte == 42) ≡ false = no_sign 42 byte parts.0 in
-    let colon : (byte == 58) ≡ false = no_sign 58 byte (or_parts (58 == byte) false parts.1).0 in
-    rw (star, colon) refl
+plain_colon before byte after none = let others = no_two 58 byte none in rw (others.0, others.1) refl
 
 plain_brace : (before byte : ℕ) (after : List ℕ) → has_byte byte (codes "*{") ≡ false → brace_piece before byte after ≡ literal byte
-plain_brace before byte after none =
-    let parts = or_parts (42 == byte) (has_byte byte (123 ∷ [])) none in
-    let star : (byte == 42) ≡ false = no_sign 42 byte parts.0 in
-    let brace : (byte == 123) ≡ false = no_sign 123 byte (or_parts (123 == byte) false parts.1).0 in
-    rw (star, brace) refl
+plain_brace before byte after none = let others = no_two 123 byte none in rw (others.0, others.1) refl
 
 plain_glob : (before byte : ℕ) (after : List ℕ) → has_byte byte (codes "*?[") ≡ false → glob_piece before byte after ≡ literal byte
 plain_glob before byte after none =

@@ -9,7 +9,8 @@ use Rattle.role_meaning.specs.Depths.{IsDepth, ReachesTop}
 use Rattle.role_meaning.specs.Distances.{IsFar, farthest}
 use Rattle.role_meaning.specs.Least.{IsLeast}
 use Rattle.role_meaning.specs.Links.{HasRoles, Reaches, SomeLink, role_of}
-use Rattle.role_meaning.proofs.Decided.{Decided, decided_by, decided_from, decided_or, decided_true, least_there, same_text, told}
+use Rattle.key_match.proofs.CallerLemmas.{Decided, decided_by, decided_or, decided_true, same_text}
+use Rattle.role_meaning.proofs.Decided.{decided_from, least_there, told}
 use Rattle.role_meaning.proofs.Rows.{FitsDecided, link_decided}
 
 -- what holds of the role of a link, weaker

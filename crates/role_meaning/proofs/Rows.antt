@@ -11,7 +11,7 @@ use Rattle.perm_base.specs.declared.shapes.RoleShape.{RoleShape}
 use Rattle.policy_table.specs.Tables.{Fields}
 use Rattle.role_meaning.specs.Fits.{Fits, IsMatched}
 use Rattle.role_meaning.specs.Links.{CountsIn, SomeLink, domain_of, role_of, user_of}
-use Rattle.role_meaning.proofs.Decided.{Decided, decided_and, decided_by, decided_false, decided_or, decided_true, same_text}
+use Rattle.key_match.proofs.CallerLemmas.{Decided, decided_and, decided_by, decided_false, decided_or, decided_true, same_text}
 
 pub stands_here : {X : Type 0} (x : X) (xs : List X) → Contains (x ∷ xs) x
 stands_here x xs = Contains-append_left (x ∷ []) xs x (Contains-push [] x)

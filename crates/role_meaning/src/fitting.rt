@@ -6,8 +6,8 @@ ghost use Rattle.role_meaning.specs.Fits.{Fits, IsMatched};
 use key_match::{glob_match, key_match, key_match2, key_match3};
 use perm_base::Fit;
 
-/// Whether a name is the pattern's text, or the matching function holds of the two, as Casbin's role manager compares
-/// them. It takes no memory.
+/// Whether a name is the pattern's text, or the matching function holds of the two, as Casbin's
+/// role manager compares them. It takes no memory.
 #[tactic(auto, unfolding(crate::specs::Fits::Fits))]
 pub fn fits(fit: Fit, name: &[u8], pattern: &[u8]) -> bool
     ensures { IsTrue result ↔ Fits fit name.now pattern.now }

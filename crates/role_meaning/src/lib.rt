@@ -1,4 +1,5 @@
-//! What roles mean: which names a row links, how far a name reaches, how deep it stands, and which roles it has by links.
+//! What roles mean: which names a row links, how far a name reaches, how deep it stands, and which
+//! roles it has by links.
 #![tactic(auto)]
 
 mod fitting;

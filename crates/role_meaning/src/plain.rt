@@ -7,7 +7,8 @@ ghost use Rattle.role_meaning.specs.Fits.{Fits};
 use crate::fitting::fits;
 use perm_base::{RoleShape, Rule};
 
-/// Whether the one name reaches the other by at most so many links. It tries every chain of rows, and takes no memory.
+/// Whether the one name reaches the other by at most so many links. It tries every chain of rows,
+/// and takes no memory.
 pub fn plainly_reaches(
     shape: RoleShape,
     rows: &[Rule],
@@ -16,7 +17,8 @@ pub fn plainly_reaches(
     x: &[u8],
     y: &[u8],
 ) -> bool
-    ensures { IsTrue result ↔ Reaches shape rows.now (option_copied domain.entry) links x.now y.now }
+    ensures { IsTrue result
+        ↔ Reaches shape rows.now (option_copied domain.entry) links x.now y.now }
 {
     if x == y {
         return true;
@@ -37,7 +39,8 @@ pub fn plainly_reaches(
 // Whether a row is a link of a name in a domain.
 fn is_link(shape: RoleShape, domain: Option<&[u8]>, name: &[u8], row: &Rule) -> bool
     ensures { IsTrue result
-        ↔ (Fits shape.names name.now (user_of row.now) × CountsIn shape (option_copied domain.entry) row.now) }
+        ↔ (Fits shape.names name.now (user_of row.now)
+        × CountsIn shape (option_copied domain.entry) row.now) }
 {
     fits(shape.names, name, field_or_empty(row, 0)) && counts_in(shape, domain, row)
 }

@@ -21,6 +21,7 @@ use Rattle.script_read.specs.declared.fault.LineCause.{LineCause}
 use Rattle.script_read.specs.declared.fault.ScriptFault.{ScriptFault}
 use Rattle.script_read.specs.declared.fault.ScriptFault.TheVariants.{NotUtf8, Line, OpenBatch, NoMemory}
 use Rattle.text_parts.specs.Numbered as numbered
+use Rattle.text_parts.proofs.ReaderLemmas.{IsRead, no_stop}
 
 -- the item of a part
 abbrev pub item_of : Bool → Part → Result Said ScriptFault
@@ -154,12 +155,12 @@ parts_end json number text taken all none reads =
 -- ---- what the text says is what reading gives, and the other way
 
 module _ (json : Bool) (bytes : List ℕ) where
-  pub script_read : (items : List Said) → IsScript json bytes items → whole json bytes ≡ Ok items
+  script_read : (items : List Said) → IsScript json bytes items → whole json bytes ≡ Ok items
   script_read items is =
       ap (reading json) (sym (append-nil (parts (script_lines bytes)))) ∙ reading_past json is.reader (parts (script_lines bytes)) [] items is.says
       ∙ ap (mapped (behind_items items)) (reading_none json) ∙ ap (λ (l : List Said). Ok l) (append-nil items)
 
-  pub fault_read : (fault : ScriptFault) → IsFaultInPart json bytes fault → whole json bytes ≡ Err fault
+  fault_read : (fault : ScriptFault) → IsFaultInPart json bytes fault → whole json bytes ≡ Err fault
   fault_read fault is =
       ap (reading json) is.are_parts ∙ reading_past json is.reader is.front (is.part ∷ is.behind) is.items is.says
       ∙ ap (mapped (behind_items is.items)) (reading_some json is.part is.behind ∙ ap (λ (r : Result Said ScriptFault). followed r (λ (item : Said). mapped (behind_items (item ∷ [])) (reading json is.behind))) (sym (part_same json is.reader is.part) ∙ is.bad))
@@ -167,10 +168,10 @@ module _ (json : Bool) (bytes : List ℕ) where
   ends_so : (read : Result (List Said) ScriptFault) → whole json bytes ≡ read → Ends json (parts (script_lines bytes)) read
   ends_so read e = subst (Ends json (parts (script_lines bytes))) e (reading_ends json (parts (script_lines bytes)))
 
-  pub read_script_is : (items : List Said) → IsUtf8 bytes → whole json bytes ≡ Ok items → IsScript json bytes items
+  read_script_is : (items : List Said) → IsUtf8 bytes → whole json bytes ≡ Ok items → IsScript json bytes items
   read_script_is items utf8 e = record { utf8 = utf8; reader = the_reader json; says = ends_so (Ok items) e }
 
-  pub read_fault_is : (fault : ScriptFault) → IsUtf8 bytes → whole json bytes ≡ Err fault → IsScriptFault json bytes fault
+  read_fault_is : (fault : ScriptFault) → IsUtf8 bytes → whole json bytes ≡ Err fault → IsScriptFault json bytes fault
   read_fault_is fault utf8 e =
       let stops = ends_so (Err fault) e in
       in_part utf8 (record {
@@ -184,69 +185,33 @@ module _ (json : Bool) (bytes : List ℕ) where
         bad = stops.bad;
       })
 
-  -- ---- the laws
+  fault_met : (fault : ScriptFault) → IsScriptFault json bytes fault → (IsUtf8 bytes × (whole json bytes ≡ Err fault)) ⊎ ((¬ (IsUtf8 bytes)) × (fault ≡ NotUtf8))
+  fault_met fault (not_utf8 none e) = inr (none, e)
+  fault_met fault (in_part utf8 in_one) = inl (utf8, fault_read fault in_one)
 
-  pub one_script : (first second : List Said) → IsScript json bytes first → IsScript json bytes second → first ≡ second
-  one_script first second one two =
-      let a = script_read first one in
-      let b = script_read second two in
-      cc
+  pub text_read : IsRead bytes (whole json bytes) NotUtf8 (IsScript json bytes) (IsScriptFault json bytes)
+  text_read = record {
+    utf8 = λ items is. is.utf8;
+    read = script_read;
+    says = read_script_is;
+    met = fault_met;
+    has = read_fault_is;
+    no_text = λ none. not_utf8 none refl;
+  }
 
-  pub no_script : (fault : ScriptFault) (items : List Said) → IsScriptFault json bytes fault → IsScript json bytes items → ⊥
-  no_script fault items (not_utf8 none e) is = none is.utf8
-  no_script fault items (in_part utf8 in_one) is =
-      let a = fault_read fault in_one in
-      let b = script_read items is in
-      absurd cc
-
-  pub one_fault : (first second : ScriptFault) → IsScriptFault json bytes first → IsScriptFault json bytes second → first ≡ second
-  one_fault first second (not_utf8 none e) (not_utf8 other f) = e ∙ sym f
-  one_fault first second (not_utf8 none e) (in_part utf8 in_one) = absurd (none utf8)
-  one_fault first second (in_part utf8 in_one) (not_utf8 none e) = absurd (none utf8)
-  one_fault first second (in_part utf8 in_one) (in_part same in_other) =
-      let a = fault_read first in_one in
-      let b = fault_read second in_other in
-      cc
-
-  pub script_or_fault : ((items : List Said) × IsScript json bytes items) ⊎ ((fault : ScriptFault) × IsScriptFault json bytes fault)
-  script_or_fault = by_utf8 (is_utf8 bytes) refl
-    where
-      by_read : (read : Result (List Said) ScriptFault) → whole json bytes ≡ read → IsUtf8 bytes → ((items : List Said) × IsScript json bytes items) ⊎ ((fault : ScriptFault) × IsScriptFault json bytes fault)
-      by_read (Ok items) e utf8 = inl (items, read_script_is items utf8 e)
-      by_read (Err fault) e utf8 = inr (fault, read_fault_is fault utf8 e)
-
-      by_utf8 : (test : Bool) → is_utf8 bytes ≡ test → ((items : List Said) × IsScript json bytes items) ⊎ ((fault : ScriptFault) × IsScriptFault json bytes fault)
-      by_utf8 true e = by_read (whole json bytes) refl (IsUtf8-from_is_utf8 bytes e)
-      by_utf8 false e = inr (NotUtf8, not_utf8 (λ utf8. true≢false (sym (is_utf8-from_IsUtf8 bytes utf8) ∙ e)) refl)
-
-  -- ---- where reading has stopped or ended, and memory may have run out
-
-  no_stop : (fault : ScriptFault) (items : List Said) → whole json bytes ≡ Err fault → IsScript json bytes items → ⊥
-  no_stop fault items e is = let read = script_read items is in absurd cc
+  -- ---- where reading has stopped, and memory may have run out
 
   pub only_memory : (fault : ScriptFault) (items : List Said) → Fails fault (whole json bytes) → IsScript json bytes items → fault ≡ NoMemory
-  only_memory NotUtf8 items stop is = absurd (no_stop NotUtf8 items stop is)
-  only_memory (Line line why) items stop is = absurd (no_stop (Line line why) items stop is)
-  only_memory (OpenBatch line) items stop is = absurd (no_stop (OpenBatch line) items stop is)
+  only_memory NotUtf8 items stop is = absurd (no_stop text_read NotUtf8 items stop is)
+  only_memory (Line line why) items stop is = absurd (no_stop text_read (Line line why) items stop is)
+  only_memory (OpenBatch line) items stop is = absurd (no_stop text_read (OpenBatch line) items stop is)
   only_memory NoMemory items stop is = refl
 
-  stopped : (fault : ScriptFault) → Fails fault (whole json bytes) → fault ≢ NoMemory → whole json bytes ≡ Err fault
+  pub stopped : (fault : ScriptFault) → Fails fault (whole json bytes) → fault ≢ NoMemory → whole json bytes ≡ Err fault
   stopped NotUtf8 stop other = stop
   stopped (Line line why) stop other = stop
   stopped (OpenBatch line) stop other = stop
   stopped NoMemory stop other = absurd (other refl)
-
-  pub stop_is_fault : (fault : ScriptFault) → IsUtf8 bytes → Fails fault (whole json bytes) → fault ≢ NoMemory → IsScriptFault json bytes fault
-  stop_is_fault fault utf8 stop other = read_fault_is fault utf8 (stopped fault stop other)
-
-  pub stop_is_first : (fault first : ScriptFault) → IsUtf8 bytes → Fails fault (whole json bytes) → IsScriptFault json bytes first → fault ≢ NoMemory → fault ≡ first
-  stop_is_first fault first utf8 stop is other = one_fault fault first (stop_is_fault fault utf8 stop other) is
-
-  pub no_fault : (items : List Said) (first : ScriptFault) → IsUtf8 bytes → whole json bytes ≡ Ok items → IsScriptFault json bytes first → ⊥
-  no_fault items first utf8 end is = no_script first items is (read_script_is items utf8 end)
-
-  pub end_is_script : (items other : List Said) → whole json bytes ≡ Ok items → IsScript json bytes other → items ≡ other
-  end_is_script items other end is = let read = script_read other is in cc
 
 -- ---- requests
 

@@ -1,3 +1,4 @@
 pub mod CallerLemmas
 pub mod BlankLemmas
 mod FullLemmas
+pub mod ReaderLemmas

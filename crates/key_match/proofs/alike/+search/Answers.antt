@@ -1,15 +1,12 @@
-use Rattle.std.proofs.Common.{◌≡◌, ◌∷◌, ◌-◌, take, length-drop, Some, List, ℕ, length, drop, refl, ap, sym, ◌∙◌, subst, arith}
+use Rattle.std.proofs.Common.{◌∷◌, drop, refl, ap, sym, ◌∙◌, arith}
 use Rattle.std.proofs.lemmas.Bool.{false≢true}
-use Rattle.std.proofs.lemmas.List.{take_all}
-use Rattle.std.specs.Str.{bytes_eq}
-use Rattle.key_match.specs.Pieces.{Piece, Segment}
+use Rattle.key_match.specs.Pieces.{Segment}
 use Rattle.key_match.specs.Helps.Fits.{fits, pieces_from}
 use Rattle.key_match.specs.Helps.Tokens.{pieces_at, piece_of}
-use Rattle.key_match.specs.Helps.Given.{given_part, CoversGiven}
 use Rattle.key_match.specs.declared.token.Dialect.TheVariants.{Brace}
 use Rattle.key_match.specs.declared.token.Token.{Token}
 use Rattle.key_match.proofs.Parts.{HasPart-from}
-use Rattle.key_match.proofs.Agree.{fits-from_CoversGiven, CoversGiven-free, CoversGiven-cut, CoversGiven-after, CoversGiven-more, CutsAlike-more, CutsAlike-nameless, GoesOnWith, given-forward, given-backward}
+use Rattle.key_match.proofs.Agree.{fits-from_CoversGiven, CoversGiven-free, CoversGiven-cut, CoversGiven-after, CoversGiven-more, CutsAlike-more, CutsAlike-nameless, told_behind, told_other, told_part}
 use Rattle.key_match.proofs.Tried.{AreTried-more, AreTried-all}
 use Rattle.key_match.proofs.alike.+search.Goals as goal
 
@@ -36,66 +33,23 @@ fits_given-part_ends-ends-requires t c =
 
 pub fits_given-returns-then-starts_with : goal.fits_given-returns-then-starts_with
 fits_given-returns-then-starts_with t c =
-    let given = c.args.given.now in
-    let key = c.args.key.now in
-    let at = c.pass_bytes-at.result in
-    let passes = c.pass_bytes-at.ensures in
-    let left = drop at.key key in
-    let name = c.in-Segment.name.now in
-    let part = c.in-Some-part_of.part.now in
     let next = pieces_at Brace c.args.pattern.now c.in-Some.reading.next in
-    let read : pieces_at Brace c.args.pattern.now at.pattern ≡ Segment name ∷ next =
-    c.in-Some.ensures.found.pieces ∙ ap (λ (token : Token). piece_of token ∷ next) c.in-Segment.is in
-    let wanted : given_part given name ≡ Some part = sym c.in-Some-part_of.ensures in
-    let whole : take (length key - at.key) left ≡ left = take_all (length key - at.key) left (omega (arith, length-drop {A = ℕ})) in
-    let on : GoesOnWith part key at.key = ap (λ (x : List ℕ). bytes_eq part (take (length part) x)) (sym whole) ∙ sym c.starts_with.ensures.value ∙ c.if-starts_with.true in (
-      λ h. passes.backward given (subst (λ (pieces : List Piece). CoversGiven given pieces left) (sym read) (given-backward given name part next key at.key wanted c.requires.parts on (c.fits_given.ensures.0 h))),
-      λ covers. c.fits_given.ensures.1 (given-forward given name part next key at.key wanted passes.key_within (subst (λ (pieces : List Piece). CoversGiven given pieces left) read (passes.forward given covers))).1,
-    )
+    told_part c.args.given.now c.in-Segment.name.now c.in-Some-part_of.part.now next c.pass_bytes-at.ensures (c.in-Some.ensures.found.pieces ∙ ap (λ (token : Token). piece_of token ∷ next) c.in-Segment.is)
+    (sym c.in-Some-part_of.ensures) c.starts_with.ensures.value c.requires.parts c.if-starts_with.true c.fits_given.ensures
 
 pub fits_given-returns-else-starts_with : goal.fits_given-returns-else-starts_with
 fits_given-returns-else-starts_with t c =
-    let given = c.args.given.now in
-    let key = c.args.key.now in
-    let at = c.pass_bytes-at.result in
-    let passes = c.pass_bytes-at.ensures in
-    let left = drop at.key key in
-    let name = c.in-Segment.name.now in
-    let part = c.in-Some-part_of.part.now in
     let next = pieces_at Brace c.args.pattern.now c.in-Some.reading.next in
-    let read : pieces_at Brace c.args.pattern.now at.pattern ≡ Segment name ∷ next =
-    c.in-Some.ensures.found.pieces ∙ ap (λ (token : Token). piece_of token ∷ next) c.in-Segment.is in
-    let wanted : given_part given name ≡ Some part = sym c.in-Some-part_of.ensures in
-    let whole : take (length key - at.key) left ≡ left = take_all (length key - at.key) left (omega (arith, length-drop {A = ℕ})) in (
-      λ h. absurd (false≢true (sym c.if-starts_with.false ∙ h)),
-      λ covers.
-          let on = (given-forward given name part next key at.key wanted passes.key_within (subst (λ (pieces : List Piece). CoversGiven given pieces left) read (passes.forward given covers))).0 in
-          c.starts_with.ensures.value ∙ ap (λ (x : List ℕ). bytes_eq part (take (length part) x)) whole ∙ on,
-    )
+    told_other c.args.given.now c.in-Segment.name.now c.in-Some-part_of.part.now next c.pass_bytes-at.ensures (c.in-Some.ensures.found.pieces ∙ ap (λ (token : Token). piece_of token ∷ next) c.in-Segment.is)
+    (sym c.in-Some-part_of.ensures) c.starts_with.ensures.value c.if-starts_with.false
 
 pub fits_given-returns-in-None : goal.fits_given-returns-in-None
 fits_given-returns-in-None t c =
-    let given = c.args.given.now in
-    let at = c.pass_bytes-at.result in
-    let passes = c.pass_bytes-at.ensures in
-    let left = drop at.key c.args.key.now in
     let next = pieces_at Brace c.args.pattern.now c.in-Some.reading.next in
-    let read : pieces_at Brace c.args.pattern.now at.pattern ≡ Segment c.in-Segment.name.now ∷ next =
-    c.in-Some.ensures.found.pieces ∙ ap (λ (token : Token). piece_of token ∷ next) c.in-Segment.is in (
-      λ h. passes.backward given (subst (λ (pieces : List Piece). CoversGiven given pieces left) (sym read) (c.fits_new_name.ensures.0 h)),
-      λ covers. c.fits_new_name.ensures.1 (subst (λ (pieces : List Piece). CoversGiven given pieces left) read (passes.forward given covers)),
-    )
+    told_behind c.args.given.now (Segment c.in-Segment.name.now ∷ next) c.pass_bytes-at.ensures (c.in-Some.ensures.found.pieces ∙ ap (λ (token : Token). piece_of token ∷ next) c.in-Segment.is) c.fits_new_name.ensures
 
 pub fits_given-returns-in-One : goal.fits_given-returns-in-One
-fits_given-returns-in-One t c =
-    let given = c.args.given.now in
-    let at = c.pass_bytes-at.result in
-    let passes = c.pass_bytes-at.ensures in
-    let left = drop at.key c.args.key.now in
-    let read = c.in-Some.ensures.found.pieces in (
-      λ h. passes.backward given (subst (λ (pieces : List Piece). CoversGiven given pieces left) (sym read) (c.fits_some_end.ensures.0 h)),
-      λ covers. c.fits_some_end.ensures.1 (subst (λ (pieces : List Piece). CoversGiven given pieces left) read (passes.forward given covers)),
-    )
+fits_given-returns-in-One t c = told_behind c.args.given.now _ c.pass_bytes-at.ensures c.in-Some.ensures.found.pieces c.fits_some_end.ensures
 
 pub fits_new_name-returns-then-fits_given : goal.fits_new_name-returns-then-fits_given
 fits_new_name-returns-then-fits_given t c =

@@ -1,5 +1,6 @@
-use Rattle.policy_csv.proofs.PolicyLemmas.{no_policy}
+use Rattle.text_parts.proofs.ReaderLemmas.{never_both}
+use Rattle.policy_csv.proofs.PolicyLemmas.{text_read}
 use Rattle.policy_csv.proofs.laws.faulty_text_is_no_policy.Goals as goal
 
 pub returns : goal.returns
-returns c = no_policy
+returns c = λ shapes bytes. never_both (text_read shapes bytes)

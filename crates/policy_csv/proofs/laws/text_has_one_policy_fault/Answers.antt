@@ -1,5 +1,6 @@
-use Rattle.policy_csv.proofs.PolicyLemmas.{one_fault}
+use Rattle.text_parts.proofs.ReaderLemmas.{one_fault}
+use Rattle.policy_csv.proofs.PolicyLemmas.{text_read}
 use Rattle.policy_csv.proofs.laws.text_has_one_policy_fault.Goals as goal
 
 pub returns : goal.returns
-returns c = one_fault
+returns c = λ shapes bytes. one_fault (text_read shapes bytes)

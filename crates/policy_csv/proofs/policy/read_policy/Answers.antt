@@ -4,7 +4,8 @@ use Rattle.policy_csv.specs.Helps.Filling.{IsFilled, ranked_if}
 use Rattle.text_parts.specs.Full.{full_lines}
 use Rattle.policy_table.specs.Tables.{Policy, without_rules}
 use Rattle.text_parts.specs.Numbered.{Line}
-use Rattle.policy_csv.proofs.PolicyLemmas.{end_is_policy, no_fault, only_memory, read_fault_is, read_policy_is, stop_is_first, whole}
+use Rattle.text_parts.proofs.ReaderLemmas.{end_is_value, no_fault, stop_is_first}
+use Rattle.policy_csv.proofs.PolicyLemmas.{only_memory, text_read, whole}
 use Rattle.policy_csv.proofs.ReadingLemmas.{reading, reading_none}
 use Rattle.policy_csv.proofs.TakeLemmas.{filled_none, read_on, read_stop}
 use Rattle.policy_csv.proofs.RankedLemmas.{ranked_none}
@@ -47,7 +48,7 @@ returns-in_err-take_line-clause-fault c =
     let stopped = read_stop c.args.shapes.now c.args.bytes.now c.loop-at.rest.now c.in-Some.line.now c.in-Some.after.now c.loop-at.number c.in-Some.at (ranked_if c.args.shapes.now.ranked c.loop-at.tables.policy) c.loop-at.invariant.reads c.in-Some.ensures.first
     c.given_number.result c.in_err-take_line.field-0.0 c.given_number.ensures c.in_err-take_line.ensures.fault in
     let utf8 : IsUtf8 c.args.bytes.now = search rules in
-    rw stop (λ other. read_fault_is c.args.shapes.now c.args.bytes.now c.in_err-take_line.field-0.0 utf8 (stopped other))
+    rw stop (λ other. (text_read c.args.shapes.now c.args.bytes.now).has c.in_err-take_line.field-0.0 utf8 (stopped other))
 
 pub returns-in_err-take_line-clause-only_fault : goal.returns-in_err-take_line-clause-only_fault
 returns-in_err-take_line-clause-only_fault c = λ first is.
@@ -55,7 +56,7 @@ returns-in_err-take_line-clause-only_fault c = λ first is.
     let stopped = read_stop c.args.shapes.now c.args.bytes.now c.loop-at.rest.now c.in-Some.line.now c.in-Some.after.now c.loop-at.number c.in-Some.at (ranked_if c.args.shapes.now.ranked c.loop-at.tables.policy) c.loop-at.invariant.reads c.in-Some.ensures.first
     c.given_number.result c.in_err-take_line.field-0.0 c.given_number.ensures c.in_err-take_line.ensures.fault in
     let utf8 : IsUtf8 c.args.bytes.now = search rules in
-    rw stop (λ other. stop_is_first c.args.shapes.now c.args.bytes.now c.in_err-take_line.field-0.0 first utf8 (stopped other) is)
+    rw stop (λ other. stop_is_first (text_read c.args.shapes.now c.args.bytes.now) c.in_err-take_line.field-0.0 first utf8 (stopped other) is)
 
 pub returns-clause-found : goal.returns-clause-found
 returns-clause-found c =
@@ -63,14 +64,14 @@ returns-clause-found c =
     = sym c.loop-at.invariant.reads ∙ ap (λ (lines : List Line). reading c.args.shapes.now lines (ranked_if c.args.shapes.now.ranked c.loop-at.tables.policy)) c.in_default-next_full_line.ensures.none ∙ reading_none c.args.shapes.now (ranked_if c.args.shapes.now.ranked c.loop-at.tables.policy)
     ∙ ap (λ (p : Policy). Ok p) (sym c.in_ok-ranked_if.ensures) in
     let utf8 : IsUtf8 c.args.bytes.now = search rules in
-    read_policy_is c.args.shapes.now c.args.bytes.now c.in_ok-ranked_if.field-0.policy utf8 end
+    (text_read c.args.shapes.now c.args.bytes.now).says c.in_ok-ranked_if.field-0.policy utf8 end
 
 pub returns-clause-only : goal.returns-clause-only
 returns-clause-only c = λ policy is.
     let end : whole c.args.shapes.now c.args.bytes.now ≡ Ok c.in_ok-ranked_if.field-0.policy
     = sym c.loop-at.invariant.reads ∙ ap (λ (lines : List Line). reading c.args.shapes.now lines (ranked_if c.args.shapes.now.ranked c.loop-at.tables.policy)) c.in_default-next_full_line.ensures.none ∙ reading_none c.args.shapes.now (ranked_if c.args.shapes.now.ranked c.loop-at.tables.policy)
     ∙ ap (λ (p : Policy). Ok p) (sym c.in_ok-ranked_if.ensures) in
-    end_is_policy c.args.shapes.now c.args.bytes.now c.in_ok-ranked_if.field-0.policy policy end is
+    end_is_value (text_read c.args.shapes.now c.args.bytes.now) c.in_ok-ranked_if.field-0.policy policy end is
 
 pub returns-clause-only_fault : goal.returns-clause-only_fault
 returns-clause-only_fault c = λ first is.
@@ -78,4 +79,4 @@ returns-clause-only_fault c = λ first is.
     = sym c.loop-at.invariant.reads ∙ ap (λ (lines : List Line). reading c.args.shapes.now lines (ranked_if c.args.shapes.now.ranked c.loop-at.tables.policy)) c.in_default-next_full_line.ensures.none ∙ reading_none c.args.shapes.now (ranked_if c.args.shapes.now.ranked c.loop-at.tables.policy)
     ∙ ap (λ (p : Policy). Ok p) (sym c.in_ok-ranked_if.ensures) in
     let utf8 : IsUtf8 c.args.bytes.now = search rules in
-    no_fault c.args.shapes.now c.args.bytes.now c.in_ok-ranked_if.field-0.policy first utf8 end is
+    no_fault (text_read c.args.shapes.now c.args.bytes.now) c.in_ok-ranked_if.field-0.policy first utf8 end is

@@ -1,5 +1,6 @@
-use Rattle.script_read.proofs.ScriptLemmas.{no_script}
+use Rattle.text_parts.proofs.ReaderLemmas.{never_both}
+use Rattle.script_read.proofs.ScriptLemmas.{text_read}
 use Rattle.script_read.proofs.laws.faulty_text_is_no_script.Goals as goal
 
 pub returns : goal.returns
-returns c = no_script
+returns c = λ json bytes. never_both (text_read json bytes)

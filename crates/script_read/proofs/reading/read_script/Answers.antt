@@ -4,10 +4,11 @@ use Rattle.std.proofs.lemmas.Grind.{common_steps}
 use Rattle.std.proofs.lemmas.List.{map_push}
 use Rattle.script_read.specs.Blocks.{parts}
 use Rattle.text_parts.specs.Full.{full_lines}
+use Rattle.text_parts.proofs.ReaderLemmas.{end_is_value, no_fault, stop_is_first}
 use Rattle.script_read.specs.Results.{mapped}
 use Rattle.script_read.specs.Said.{Said, seen}
 use Rattle.script_read.specs.declared.item.Item.{Item}
-use Rattle.script_read.proofs.ScriptLemmas.{behind_items, end_is_script, no_fault, only_memory, part_fails, part_read, parts_end, read_script_is, reading, stop_is_fault, stop_is_first, whole}
+use Rattle.script_read.proofs.ScriptLemmas.{behind_items, only_memory, part_fails, part_read, parts_end, reading, stopped, text_read, whole}
 use Rattle.script_read.proofs.reading.read_script.Goals as goal
 
 pub returns-in_err-item-clause-only : goal.returns-in_err-item-clause-only
@@ -23,7 +24,7 @@ returns-in_err-item-clause-fault c =
     let utf8 : IsUtf8 c.args.bytes.now = search rules in
     let bad = part_fails c.args.json c.loop-at.number c.in-Some.at c.loop-at.rest.now c.in-Some.line.now c.in-Some.after.now c.part_end-next.result.0 c.part_end-next.result.1.now c.in-Some.ensures.first c.part_end-next.ensures.behind
     (map seen c.loop-at.items.items) (whole c.args.json c.args.bytes.now) c.loop-at.invariant.reads c.in_err-item.field-0.0 c.in_err-item.ensures in
-    rw stop (λ other. stop_is_fault c.args.json c.args.bytes.now c.in_err-item.field-0.0 utf8 bad other)
+    rw stop (λ other. (text_read c.args.json c.args.bytes.now).has c.in_err-item.field-0.0 utf8 (stopped c.args.json c.args.bytes.now c.in_err-item.field-0.0 bad other))
 
 pub returns-in_err-item-clause-only_fault : goal.returns-in_err-item-clause-only_fault
 returns-in_err-item-clause-only_fault c = λ first is.
@@ -31,7 +32,7 @@ returns-in_err-item-clause-only_fault c = λ first is.
     let utf8 : IsUtf8 c.args.bytes.now = search rules in
     let bad = part_fails c.args.json c.loop-at.number c.in-Some.at c.loop-at.rest.now c.in-Some.line.now c.in-Some.after.now c.part_end-next.result.0 c.part_end-next.result.1.now c.in-Some.ensures.first c.part_end-next.ensures.behind
     (map seen c.loop-at.items.items) (whole c.args.json c.args.bytes.now) c.loop-at.invariant.reads c.in_err-item.field-0.0 c.in_err-item.ensures in
-    rw stop (λ other. stop_is_first c.args.json c.args.bytes.now c.in_err-item.field-0.0 first utf8 bad is other)
+    rw stop (λ other. stop_is_first (text_read c.args.json c.args.bytes.now) c.in_err-item.field-0.0 first utf8 (stopped c.args.json c.args.bytes.now c.in_err-item.field-0.0 bad other) is)
 
 pub loop-at-preserved : goal.loop-at-preserved
 loop-at-preserved c =
@@ -48,15 +49,15 @@ pub returns-clause-found : goal.returns-clause-found
 returns-clause-found c =
     let utf8 : IsUtf8 c.args.bytes.now = search rules in
     let all = parts_end c.args.json c.loop-at.number c.loop-at.rest.now (map seen c.loop-at.items.items) (whole c.args.json c.args.bytes.now) c.in_default-next_full_line.ensures.none c.loop-at.invariant.reads in
-    read_script_is c.args.json c.args.bytes.now (map seen c.from_vec.result) utf8 (all ∙ ap (λ (l : List Item). Ok (map seen l)) (sym c.from_vec.ensures))
+    (text_read c.args.json c.args.bytes.now).says (map seen c.from_vec.result) utf8 (all ∙ ap (λ (l : List Item). Ok (map seen l)) (sym c.from_vec.ensures))
 
 pub returns-clause-only : goal.returns-clause-only
 returns-clause-only c = λ items is.
     let all = parts_end c.args.json c.loop-at.number c.loop-at.rest.now (map seen c.loop-at.items.items) (whole c.args.json c.args.bytes.now) c.in_default-next_full_line.ensures.none c.loop-at.invariant.reads in
-    end_is_script c.args.json c.args.bytes.now (map seen c.from_vec.result) items (all ∙ ap (λ (l : List Item). Ok (map seen l)) (sym c.from_vec.ensures)) is
+    end_is_value (text_read c.args.json c.args.bytes.now) (map seen c.from_vec.result) items (all ∙ ap (λ (l : List Item). Ok (map seen l)) (sym c.from_vec.ensures)) is
 
 pub returns-clause-only_fault : goal.returns-clause-only_fault
 returns-clause-only_fault c = λ first is.
     let utf8 : IsUtf8 c.args.bytes.now = search rules in
     let all = parts_end c.args.json c.loop-at.number c.loop-at.rest.now (map seen c.loop-at.items.items) (whole c.args.json c.args.bytes.now) c.in_default-next_full_line.ensures.none c.loop-at.invariant.reads in
-    no_fault c.args.json c.args.bytes.now (map seen c.from_vec.result) first utf8 (all ∙ ap (λ (l : List Item). Ok (map seen l)) (sym c.from_vec.ensures)) is
+    no_fault (text_read c.args.json c.args.bytes.now) (map seen c.from_vec.result) first utf8 (all ∙ ap (λ (l : List Item). Ok (map seen l)) (sym c.from_vec.ensures)) is

@@ -1,24 +1,13 @@
-use Rattle.std.proofs.Common.{◌≡◌, ◌<◌, ◌^◌, List, Some, sym, ◌∙◌, arith, get_or, length}
-use Rattle.std.proofs.lemmas.List.{length-map}
-use Rattle.policy_table.specs.Helps.Domains.{domain_of}
+use Rattle.std.proofs.Common.{arith}
 use Rattle.perm_base.specs.Patterns.{is_pattern}
 use Rattle.perm_base.specs.declared.shapes.TableId.TheVariants.{G}
-use Rattle.policy_table.specs.Limits.{domains_of}
-use Rattle.policy_table.specs.Tables.{Fields, place}
-use Rattle.policy_table.proofs.RuleLemmas.{fewer}
-use Rattle.policy_table.proofs.TableLemmas.{counts_here, few_tables, rules_few}
+use Rattle.policy_table.proofs.LimitLemmas.{passing_few}
+use Rattle.policy_table.proofs.TableLemmas.{found_counts, found_few}
 use Rattle.policy_table.proofs.tables.Tables.patterns.Goals as goal
 
 pub patterns-requires : goal.patterns-requires
-patterns-requires c =
-    let here : place (G c.args.number) ≡ Some c.in-Some.at = sym c.place.ensures ∙ c.in-Some.is in
-    counts_here c.self.inside.tables c.args.number c.in-Some.at c.index-self-at.result c.self.invariant.counted here (few_tables c.self.inside.tables c.self.invariant.kept.lists.counted (G c.args.number) c.in-Some.at here)
+patterns-requires c = found_counts c.args.number c.in-Some.at _ c.index-self-at.result c.self.invariant c.place.ensures c.in-Some.is
 
 pub returns-in-Some-clause-few : goal.returns-in-Some-clause-few
 returns-in-Some-clause-few c =
-    let here : place (G c.args.number) ≡ Some c.in-Some.at = sym c.place.ensures ∙ c.in-Some.is in
-    let tables = c.self.inside.tables in
-    let within = few_tables tables c.self.invariant.kept.lists.counted (G c.args.number) c.in-Some.at here in
-    let rules : List Fields = (get_or tables c.in-Some.at c.index-self-at.result).rules in
-    let few : length rules < 2 ^ 32 = rules_few tables c.in-Some.at c.index-self-at.result c.self.invariant.kept.lists within in
-    omega (arith, few, c.patterns.ensures.value, fewer (is_pattern c.args.fit) (domains_of rules), length-map rules domain_of)
+    omega (arith, passing_few (is_pattern c.args.fit) _ (found_few (G c.args.number) c.in-Some.at _ c.index-self-at.result c.self.invariant c.place.ensures c.in-Some.is), c.patterns.ensures.value)

@@ -1,0 +1,17 @@
+//! What one answer of a run is, and the line that tells it.
+#![tactic(auto)]
+
+mod answer;
+mod law;
+mod line;
+mod lines;
+mod pieces;
+mod printing;
+mod refusals;
+mod rows;
+mod verdicts;
+
+pub use answer::{Answer, Line};
+pub use law::edits_are_told_line_by_line;
+pub use line::{print_line, push_decided, push_line};
+pub use lines::Lines;

@@ -1,0 +1,63 @@
+ghost use Rattle.std.specs.Prelude.{◌≡◌, ◌++◌, IfOk, OnOk, codes, decimal, option_copied, true};
+ghost use Rattle.answer_lines.specs.LineText.{Appends, decided_text, line_text};
+ghost use Rattle.answer_lines.specs.Told.{comes_with_rule, is_printable};
+
+use crate::answer::Line;
+use crate::pieces::push_number;
+use crate::printing::push_answer;
+use crate::verdicts::push_verdict;
+use effect_fold::Verdict;
+use perm_base::{NoMemory, Rule, Text};
+use std::alloc::Global;
+
+/// Prints the line that tells an answer, as `2 allow @0 p#1 alice, data1, read`, with its LF. An answer of rules or of an edit
+/// has further lines, which begin with two blanks. Fields are printed as `print_fields` prints them, and an edit as
+/// `print_edit` does, without its last line. Refused is want of memory alone.
+pub fn print_line(alloc: Global, line: &Line) -> Result<Text, NoMemory>
+    requires printable { is_printable line.now.answer ≡ true }
+    ensures printed { IfOk result (λ text. text ≡ line_text line.now) }
+{
+    let mut text = String::new(alloc);
+    push_line(&mut text, line)?;
+    Ok(Text::from_string(text))
+}
+
+/// Appends the line that tells an answer, as `print_line` prints it. It takes memory for the text alone, and refused is want
+/// of it alone.
+pub fn push_line(text: &mut String, line: &Line) -> Result<(), NoMemory>
+    requires printable { is_printable line.now.answer ≡ true }
+    ensures appended { OnOk result (Appends text.old text.new (line_text line.now)) }
+{
+    push_front(text, line.number)?;
+    push_answer(text, &line.answer)?;
+    text.push_str("\n")?;
+    Ok(())
+}
+
+/// Appends the line that tells a verdict, as `push_line` appends that of `Answer::Decided`, with a rule that is not copied. It
+/// takes memory for the text alone, and refused is want of it alone.
+pub fn push_decided(
+    text: &mut String,
+    number: u32,
+    version: u32,
+    verdict: Verdict,
+    rule: Option<&Rule>,
+) -> Result<(), NoMemory>
+    requires printable { comes_with_rule verdict (option_copied rule) ≡ true }
+    ensures appended { OnOk result (Appends text.old text.new
+        (decided_text number version verdict (option_copied rule.entry))) }
+{
+    push_front(text, number)?;
+    push_verdict(text, version, verdict, rule)?;
+    text.push_str("\n")?;
+    Ok(())
+}
+
+// Appends the number by which a line begins.
+fn push_front(text: &mut String, number: u32) -> Result<(), NoMemory>
+    ensures { OnOk result (Appends text.old text.new (decimal number ++ codes " ")) }
+{
+    push_number(text, number)?;
+    text.push_str(" ")?;
+    Ok(())
+}

@@ -1,0 +1,5 @@
+pub mod WordLemmas
+pub mod FitLemmas
+pub mod NumberLemmas
+pub mod RangeLemmas
+pub mod CallerLemmas

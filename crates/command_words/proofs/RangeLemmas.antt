@@ -1,0 +1,100 @@
+-- The ranges of the numbers that a command holds.
+use Rattle.std.proofs.Common.{◌≡◌, ℕ, ◌<◌, ◌≤◌, ◌&&◌, Bool, true, false, cond, List, [], ◌∷◌, ◌++◌, Option, Some, None, codes, nat_le, option_map, refl, subst, arith}
+use Rattle.std.proofs.lemmas.Bool.{and_parts, leb-true}
+use Rattle.std.proofs.lemmas.Option.{option_and_then_some}
+use Rattle.std.specs.List.{after_first, before_first}
+use Rattle.std.specs.Str.Parse.{digits_value}
+use Rattle.perm_base.specs.declared.shapes.Fit.{Fit}
+use Rattle.command_words.specs.Commands.{command_of, command_with, count_of, enforcing, kind_named, limit_in, options_with, serving, showing, value_or, workers_in}
+use Rattle.command_words.specs.FileNames.{FileNames}
+use Rattle.command_words.specs.Items.{Item, is_dashes, items, operands, value_of}
+use Rattle.command_words.specs.Values.{is_numeral, is_within, number_of}
+use Rattle.command_words.specs.declared.command.Command.{Command}
+use Rattle.command_words.specs.declared.command.Command.TheVariants.{Enforce, Session, Check, Format, Demo}
+use Rattle.command_words.specs.declared.kind.Kind.{Kind}
+use Rattle.command_words.specs.declared.kind.Kind.TheVariants as kind
+
+-- a limit is from 1 to 250, workers are at most 8, and a count is from 1 to 100,000
+abbrev pub HasRanges : Command → Type 0
+HasRanges (Enforce files options json) = (0 < options.limit) × (options.limit ≤ 250)
+HasRanges (Session files options json workers) = (0 < options.limit) × (options.limit ≤ 250) × (workers ≤ 8)
+HasRanges (Check files) = Unit {0}
+HasRanges (Format files) = Unit {0}
+HasRanges (Demo count workers) = (0 < count) × (count ≤ 100000) × (workers ≤ 8)
+
+number_within : (digits least most : ℕ) (text : List ℕ) (number : ℕ) → number_of digits least most text ≡ Some number → (least ≤ number) × (number ≤ most)
+number_within digits least most text number is = by_tests (is_numeral digits text) (is_within least most (digits_value 10 text)) refl is
+  where
+    by_tests : (numeral within : Bool) → is_within least most (digits_value 10 text) ≡ within → cond (numeral && within) (Some (digits_value 10 text)) None ≡ Some number → (least ≤ number) × (number ≤ most)
+    by_tests true true e found =
+        let both = and_parts (nat_le least (digits_value 10 text)) (nat_le (digits_value 10 text) most) e in
+        let same : digits_value 10 text ≡ number = cc in
+        (omega (arith, leb-true least (digits_value 10 text) both.0), omega (arith, leb-true (digits_value 10 text) most both.1))
+    by_tests true false e found = absurd cc
+    by_tests false within e found = absurd cc
+
+value_within : (default digits least most : ℕ) (value : Option (List ℕ)) (number : ℕ) → (least ≤ default) × (default ≤ most) → value_or default (number_of digits least most) value ≡ Some number → (least ≤ number) × (number ≤ most)
+value_within default digits least most None number within is = let same : default ≡ number = cc in omega arith
+value_within default digits least most (Some text) number within is = number_within digits least most text number is
+
+limit_within : (items : List Item) (limit : ℕ) → limit_in items ≡ Some limit → (0 < limit) × (limit ≤ 250)
+limit_within items limit is =
+    let within = value_within 10 3 1 250 (value_of (codes "limit") items) limit (omega arith, omega arith) is in
+    (omega (arith, within.0), within.1)
+
+workers_within : (items : List Item) (workers : ℕ) → workers_in items ≡ Some workers → workers ≤ 8
+workers_within items workers is = (value_within 0 3 0 8 (value_of (codes "workers") items) workers (omega arith, omega arith) is).1
+
+count_within : (words : List (List ℕ)) (count : ℕ) → count_of words ≡ Some count → (0 < count) × (count ≤ 100000)
+count_within [] count is = absurd cc
+count_within (word ∷ []) count is =
+    let within = number_within 6 1 100000 word count is in
+    (omega (arith, within.0), within.1)
+count_within (word ∷ next ∷ words) count is = absurd cc
+
+enforce_within : (json : Bool) (files : Option FileNames) (limit : Option ℕ) (names domains : Option (List (ℕ × Fit))) (command : Command) → ((n : ℕ) → limit ≡ Some n → (0 < n) × (n ≤ 250)) → enforcing json files (options_with limit names domains) ≡ Some command → HasRanges command
+enforce_within json (Some files) (Some limit) (Some names) (Some domains) command small is =
+    let same : Enforce files (record { limit = limit; names = names; domains = domains }) json ≡ command = cc in
+    subst HasRanges same (small limit refl)
+enforce_within _ _ _ _ _ _ _ is = absurd cc
+
+session_within : (json : Bool) (files : Option FileNames) (limit : Option ℕ) (names domains : Option (List (ℕ × Fit))) (workers : Option ℕ) (command : Command) → ((n : ℕ) → limit ≡ Some n → (0 < n) × (n ≤ 250)) → ((n : ℕ) → workers ≡ Some n → n ≤ 8)
+    → serving json files (options_with limit names domains) workers ≡ Some command → HasRanges command
+session_within json (Some files) (Some limit) (Some names) (Some domains) (Some workers) command small few is =
+    let same : Session files (record { limit = limit; names = names; domains = domains }) json workers ≡ command = cc in
+    let within = small limit refl in
+    subst HasRanges same (within.0, within.1, few workers refl)
+session_within _ _ _ _ _ _ _ _ _ is = absurd cc
+
+demo_within : (count workers : Option ℕ) (command : Command) → ((n : ℕ) → count ≡ Some n → (0 < n) × (n ≤ 100000)) → ((n : ℕ) → workers ≡ Some n → n ≤ 8) → showing count workers ≡ Some command → HasRanges command
+demo_within (Some count) (Some workers) command small few is =
+    let same : Demo count workers ≡ command = cc in
+    let within = small count refl in
+    subst HasRanges same (within.0, within.1, few workers refl)
+demo_within _ _ _ _ _ is = absurd cc
+
+check_within : (files : Option FileNames) (command : Command) → option_map Check files ≡ Some command → HasRanges command
+check_within None command is = absurd cc
+check_within (Some files) command is = let same : Check files ≡ command = cc in subst HasRanges same tt
+
+format_within : (files : Option FileNames) (command : Command) → option_map Format files ≡ Some command → HasRanges command
+format_within None command is = absurd cc
+format_within (Some files) command is = let same : Format files ≡ command = cc in subst HasRanges same tt
+
+command_within : (which : Kind) (items : List Item) (words : List (List ℕ)) (command : Command) → command_with which items words ≡ Some command → HasRanges command
+command_within kind.Enforce items words command is = enforce_within _ _ (limit_in items) _ _ command (limit_within items) is
+command_within kind.Session items words command is = session_within _ _ (limit_in items) _ _ (workers_in items) command (limit_within items) (workers_within items) is
+command_within kind.Check items words command is = check_within _ command is
+command_within kind.Format items words command is = format_within _ command is
+command_within kind.Demo items words command is = demo_within (count_of words) (workers_in items) command (count_within words) (workers_within items) is
+
+taken_within : (which : Kind) (items : List Item) (others : List (List ℕ)) (command : Command) (taken : Bool) → cond taken (command_with which items (operands items ++ others)) None ≡ Some command → HasRanges command
+taken_within which items others command true is = command_within which items (operands items ++ others) command is
+taken_within which items others command false is = absurd cc
+
+-- what words ask for
+pub command_of-ranges : (words : List (List ℕ)) (command : Command) → command_of words ≡ Some command → HasRanges command
+command_of-ranges [] command is = absurd cc
+command_of-ranges (name ∷ words) command is =
+    option_and_then_some _ (kind_named name) command is (λ which named made.
+    taken_within which (items (before_first is_dashes words)) (after_first is_dashes words) command _ made)

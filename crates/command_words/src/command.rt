@@ -1,0 +1,57 @@
+use crate::fits::Fits;
+use std::marker::Model;
+
+/// The files that a command names. Contracts see their names as bytes.
+#[derive(Drop)]
+pub struct Files<'a> {
+    /// The model's file; `-` is a name as any other.
+    pub model: &'a str,
+    /// The policy's file.
+    pub policy: &'a str,
+}
+
+impl<'a> Model for Files<'a> {
+    ghost use Rattle.command_words.specs.FileNames.{FileNames};
+
+    ghost Value = { FileNames };
+
+    ghost view = { λ f. record { model = f.model.now; policy = f.policy.now } };
+}
+
+/// What a command says of roles.
+#[derive(Drop)]
+pub struct Options {
+    /// The greatest number of links by which a name has a role, from 1 to 250; 10 unless it is told.
+    pub limit: u8,
+    /// The relations whose names are compared by a function.
+    pub names: Fits,
+    /// The relations whose domains are compared by a function.
+    pub domains: Fits,
+}
+
+/// What the words behind the program's name ask for.
+#[derive(Drop)]
+pub enum Command<'a> {
+    /// Requests are answered by one policy.
+    Enforce {
+        files: Files<'a>,
+        options: Options,
+        json: bool,
+    },
+    /// A script of requests and edits is answered, with 0 to 8 workers; 0 unless it is told.
+    Session {
+        files: Files<'a>,
+        options: Options,
+        json: bool,
+        workers: u8,
+    },
+    /// A model and a policy are checked.
+    Check(Files<'a>),
+    /// A model and a policy are printed.
+    Format(Files<'a>),
+    /// A demonstration of a size from 1 to 100,000, with 0 to 8 workers; 0 unless it is told.
+    Demo {
+        count: u32,
+        workers: u8,
+    },
+}

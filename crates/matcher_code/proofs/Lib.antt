@@ -1,0 +1,17 @@
+mod HeightLemmas
+mod CheckLemmas
+mod StepLemmas
+mod RunLemmas
+mod RunStops
+mod EvalLemmas
+mod BuildCode
+mod BuildHeights
+mod BuildLanding
+mod BuildOps
+mod BuildPlaces
+mod BuildRules
+mod BuildRuns
+mod BuildTakers
+mod BuildTrees
+mod BuildUses
+mod BuildWhole

@@ -1,0 +1,48 @@
+ghost use Rattle.std.specs.Prelude.{◌≤◌, length};
+ghost use Rattle.model_conf.specs.ModelText.{ModelParts};
+ghost use Rattle.regex_gate.specs.Refusals.{IsUsed};
+ghost use Rattle.matcher_code.specs.Helps.Ends.{case_for, refused_by};
+ghost use Rattle.matcher_code.specs.Helps.Runs.{IsAt, RunEnds};
+
+use crate::asked::Asked;
+use crate::code::Code;
+use crate::halt::Halt;
+use crate::links::Links;
+use crate::pause::Pause;
+use crate::stack::Stack;
+use crate::step::{Step, execute};
+use regex_gate::Finder;
+
+/// Runs code from a place on, to its end or to an `eval`. It copies nothing.
+pub(crate) fn run_on<'a, K: Links, P: Finder, const N: usize>(
+    code: &'a Code,
+    place: usize,
+    asked: Asked<'a>,
+    links: &K,
+    finder: &mut P,
+    stack: &mut Stack<'a, N>,
+) -> Result<Pause<'a>, Halt<'a>>
+    requires room { code.now.height ≤ N }
+    requires at { IsAt code.now.ops place (length stack.old) }
+    ensures run { (model : ModelParts)
+        → RunEnds (case_for model asked.entry (K.shapes links.now) (K.policy links.now)) code.now.ops
+        place stack.old stack.new result }
+    ensures used { IsUsed (P.refusals finder.old) (P.refusals finder.new) (refused_by result) }
+{
+    let ops = code.ops();
+    let mut reached = place;
+    while reached < ops.len() {
+        let op = &ops[reached];
+        match execute(reached, op, asked, links, finder, stack)? {
+            Step::Goes(to) => reached = to,
+            Step::Eval(column) => {
+                return Ok(Pause::Eval {
+                    standing: reached,
+                    at: op.at,
+                    column,
+                });
+            }
+        }
+    }
+    Ok(Pause::Value(stack.pop()))
+}

@@ -1,0 +1,86 @@
+ghost use Rattle.std.specs.Prelude.{◌≡◌, ◌<◌, ◌++◌, ◌∷◌, [], IfOk, IfSome, MatchResult, Ok, OnErr, OnOk, true};
+ghost use Rattle.edit_calls.specs.Admitted.{admits};
+ghost use Rattle.edit_calls.specs.Told.{IsTold};
+ghost use Rattle.policy_desk.specs.Answers.{IsAnswered, desk_answer, drafts_after, pending_after};
+ghost use Rattle.policy_desk.specs.Desks.{edits_of};
+ghost use Rattle.policy_table.specs.Changes.{edited};
+ghost use Rattle.version_log.specs.Log.{most_versions};
+
+use crate::desk::Desk;
+use edit_calls::{Call, CallRefused, admitted_edits_keep_sound, edits_are_admitted, resolve};
+use perm_base::NoMemory;
+use policy_table::{Edit, Limit};
+use std::alloc::Global;
+use std::slice;
+
+// The greatest number of published and pending edits.
+const MOST_EDITS: u32 = 4_000_000_000;
+
+impl Desk {
+    /// Makes a management call in the drafts, and says whether it changed something; its edit is then pending (Casbin,
+    /// management API and RBAC API). The published policy stays as it is. The call is refused as the drafts refuse it, and
+    /// where it would change something and there are 4,000,000,000 edits, published and pending; a refused call changes
+    /// nothing. Its time and memory grow with what it says and changes; only calls by a filter or a name look through tables.
+    pub fn call(&mut self, alloc: Global, call: &Call) -> Result<bool, CallRefused>
+        ensures answered { MatchResult result
+            (IsAnswered (desk_answer self.old call.now))
+            (IsTold (desk_answer self.old call.now)) }
+        ensures pending { IfOk result (λ _. self.new.pending
+            ≡ pending_after (desk_answer self.old call.now) self.old.pending) }
+        ensures drafts { IfOk result (λ _. self.new.drafts
+            ≡ drafts_after (desk_answer self.old call.now) self.old.drafts) }
+        ensures refused_pending { OnErr result (self.new.pending ≡ self.old.pending) }
+        ensures refused_drafts { OnErr result (self.new.drafts ≡ self.old.drafts) }
+        ensures state { self.new.state ≡ self.old.state }
+        ensures kept { self.new.kept ≡ self.old.kept }
+        ensures floor { self.new.floor ≡ self.old.floor }
+    {
+        let Some(edit) = self.edit_by(alloc, call)? else {
+            return Ok(false);
+        };
+        self.draft(alloc, edit)?;
+        Ok(true)
+    }
+
+    // The edit of a call, where it changes something.
+    fn edit_by(&self, alloc: Global, call: &Call) -> Result<Option<Edit>, CallRefused>
+        ensures answered { MatchResult result
+            (λ edit. desk_answer self.now call.now ≡ Ok edit)
+            (IsTold (desk_answer self.now call.now)) }
+        ensures admitted { IfOk result (λ found. IfSome found (λ edit.
+            admits self.now.state.shapes self.now.drafts edit ≡ true)) }
+        ensures few { IfOk result (λ found. IfSome found (λ _. edits_of self.now < most_versions)) }
+    {
+        edits_are_admitted();
+        self.state.kept();
+        let Some(edit) = resolve(alloc, call, &self.drafts, self.state.shapes())? else {
+            return Ok(None);
+        };
+        if self.state.version() + self.pending.len() as u32 == MOST_EDITS {
+            let what = Limit::Edits;
+            return Err(CallRefused::Full { what });
+        }
+        Ok(Some(edit))
+    }
+
+    // Makes an edit in the drafts, and puts it behind the pending edits.
+    fn draft(&mut self, alloc: Global, edit: Edit) -> Result<(), NoMemory>
+        requires admitted { admits self.old.state.shapes self.old.drafts edit ≡ true }
+        requires few { edits_of self.old < most_versions }
+        ensures pending { OnOk result (self.new.pending ≡ self.old.pending ++ edit ∷ []) }
+        ensures drafts { OnOk result (self.new.drafts ≡ edited edit self.old.drafts) }
+        ensures refused_pending { OnErr result (self.new.pending ≡ self.old.pending) }
+        ensures refused_drafts { OnErr result (self.new.drafts ≡ self.old.drafts) }
+        ensures state { self.new.state ≡ self.old.state }
+        ensures kept { self.new.kept ≡ self.old.kept }
+        ensures floor { self.new.floor ≡ self.old.floor }
+    {
+        admitted_edits_keep_sound();
+        self.drafts.kept();
+        self.pending.reserve(1)?;
+        let prepared = self.drafts.prepare(alloc, slice::from_ref(&edit))?;
+        self.drafts.commit(prepared);
+        self.pending.push_reserved(edit);
+        Ok(())
+    }
+}

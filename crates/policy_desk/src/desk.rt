@@ -1,0 +1,123 @@
+ghost use Rattle.std.specs.Prelude.{◌≡◌, [], IfOk, None, Some};
+ghost use Rattle.policy_desk.specs.Desks.{IsDesk};
+ghost use Rattle.policy_state.specs.States.{tables};
+
+use perm_base::{NoMemory, Share};
+use policy_state::PolicyState;
+use policy_table::{Edit, Tables};
+use std::alloc::Global;
+use std::marker::Model;
+
+/// The desk of one administrator: a published policy, the edits that are pending, and drafts, which are the published tables
+/// after these edits (Casbin, management API; here its calls wait for a publish). Contracts see these, how many edits are to
+/// be kept, and the version before which edits may be let go.
+#[derive(Drop)]
+pub struct Desk {
+    pub(crate) state: PolicyState,
+    pub(crate) pending: Vec<Edit>,
+    pub(crate) drafts: Tables,
+    // How many edits are to be kept, where that was said.
+    pub(crate) kept: Option<u32>,
+    pub(crate) floor: u32,
+}
+
+impl Model for Desk {
+    ghost use Rattle.policy_desk.specs.Desks.{IsDesk, Work};
+
+    ghost Value = { Work };
+
+    ghost view = { λ d. record {
+      state = d.state;
+      pending = d.pending.items;
+      drafts = d.drafts.policy;
+      kept = d.kept;
+      floor = d.floor;
+    } };
+
+    ghost invariant = { λ d. IsDesk (record {
+      state = d.state;
+      pending = d.pending.items;
+      drafts = d.drafts.policy;
+      kept = d.kept;
+      floor = d.floor;
+    }) };
+}
+
+/// A desk over a policy, at which no edit is pending. It copies the tables once. Where memory runs out the policy is dropped.
+pub fn open_desk(alloc: Global, state: PolicyState) -> Result<Desk, NoMemory>
+    ensures state { IfOk result (λ desk. desk.state ≡ state) }
+    ensures pending { IfOk result (λ desk. desk.pending ≡ []) }
+    ensures drafts { IfOk result (λ desk. desk.drafts ≡ tables state) }
+    ensures kept { IfOk result (λ desk. desk.kept ≡ None) }
+    ensures floor { IfOk result (λ desk. desk.floor ≡ state.log.start) }
+{
+    state.kept();
+    let drafts = state.tables().copy(alloc)?;
+    let floor = state.start();
+    Ok(Desk {
+        state,
+        pending: Vec::new(alloc),
+        drafts,
+        kept: None,
+        floor,
+    })
+}
+
+impl Desk {
+    /// The published policy.
+    pub fn state(&self) -> &PolicyState
+        ensures state { result.now ≡ self.now.state }
+    {
+        &self.state
+    }
+
+    /// The pending edits, one for each call that changed something.
+    pub fn pending(&self) -> &[Edit]
+        ensures pending { result.now ≡ self.now.pending }
+    {
+        &self.pending
+    }
+
+    /// The published tables after the pending edits.
+    pub fn drafts(&self) -> &Tables
+        ensures policy { result.now.policy ≡ self.now.drafts }
+    {
+        &self.drafts
+    }
+
+    /// The version before which edits may be let go. Publishes raise it, and nothing lowers it.
+    pub fn floor(&self) -> u32
+        ensures floor { result ≡ self.now.floor }
+    {
+        self.floor
+    }
+
+    /// What a desk keeps: its drafts are the published tables after the pending edits and are sound, each pending edit is
+    /// admitted in the tables before it, and there are at most 4,000,000,000 edits, published and pending.
+    pub fn holds(&self)
+        ensures desk { IsDesk self.now }
+    {
+        let _pending = &self.pending;
+    }
+
+    /// Lets later publishes keep so many edits before the version at which they begin; until this is called they keep all.
+    /// It takes no memory, and moves nothing yet.
+    pub fn keep(&mut self, edits: u32)
+        ensures kept { self.new.kept ≡ Some edits }
+        ensures state { self.new.state ≡ self.old.state }
+        ensures pending { self.new.pending ≡ self.old.pending }
+        ensures drafts { self.new.drafts ≡ self.old.drafts }
+        ensures floor { self.new.floor ≡ self.old.floor }
+    {
+        self.kept = Some(edits);
+    }
+
+    /// The published policy; the pending edits are dropped.
+    pub fn into_state(self) -> PolicyState
+        ensures state { result ≡ self.state }
+    {
+        self.state
+    }
+}
+
+impl Share for Desk {}

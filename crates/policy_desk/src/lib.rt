@@ -1,0 +1,8 @@
+//! The desk of one administrator: a published policy, the edits that are pending, and drafts of the tables to come.
+#![tactic(auto)]
+
+mod calling;
+mod desk;
+mod publishing;
+
+pub use desk::{Desk, open_desk};

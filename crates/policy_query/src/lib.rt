@@ -1,0 +1,12 @@
+//! What queries on the tables of a policy and on its log answer, or why they are refused.
+#![tactic(auto)]
+
+mod edits;
+mod names;
+mod refused;
+mod rules;
+
+pub use edits::edit_of;
+pub use names::{roles_of, users_of};
+pub use refused::QueryRefused;
+pub use rules::{has_rule, rows_of};

@@ -1,0 +1,121 @@
+-- Edits that are admitted one after the other.
+use Rattle.std.proofs.Common.{◌≡◌, ℕ, ◌<◌, Bool, true, false, ◌==◌, ◌&&◌, cond, List, [], ◌∷◌, ◌++◌, length, Option, Some, None, refl, sym, ap, subst, ◌∙◌, arith}
+use Rattle.std.specs.Prelude.{nat_lt}
+use Rattle.std.specs.List.{list_all}
+use Rattle.std.specs.Option.{option_map_or}
+use Rattle.std.proofs.lemmas.Bool.{and_parts, eqb-true, lt-ltb}
+use Rattle.std.proofs.lemmas.Bool.Decides.{Decides-eqb}
+use Rattle.edit_calls.specs.Admitted.{admits, is_fitting, may_stand}
+use Rattle.perm_base.specs.RoleShapes.{shape_of}
+use Rattle.perm_base.specs.declared.shapes.RoleShape.{RoleShape}
+use Rattle.perm_base.specs.declared.shapes.Shapes.{Shapes}
+use Rattle.perm_base.specs.declared.shapes.TableId.{TableId}
+use Rattle.perm_base.specs.declared.shapes.TableId.TheVariants.{G, P}
+use Rattle.policy_index.specs.Indexed.{all_fit, fits_column}
+use Rattle.policy_state.specs.Admitted.{AreAdmitted}
+use Rattle.policy_table.specs.Changes.{applies, edited, flat, is_table, own, table_of}
+use Rattle.policy_table.specs.Limits.{AreSound, columns_of, role_columns}
+use Rattle.policy_table.specs.Tables.{Fields, Policy, most_tables}
+use Rattle.policy_table.specs.declared.change.Change.{Change}
+use Rattle.policy_table.specs.declared.change.Change.TheVariants.{Insert, Remove, Replace}
+use Rattle.policy_table.proofs.CallerLemmas.{applies_both, are_lists, counted_edited, edited_both, same_table}
+use Rattle.role_domain.specs.Sections.{all_columns, puts_columns}
+use Rattle.version_log.specs.Log.{AreMadeIn}
+
+-- changes that are admitted leave sound tables
+abbrev pub KeepSound : Shapes → Type 0
+KeepSound shapes = (policy : Policy) (changes : List Change) → AreSound shapes policy → admits shapes policy changes ≡ true → AreSound shapes (edited changes policy)
+
+-- changes that are admitted apply
+one_applies : (shapes : Shapes) (policy : Policy) (changes : List Change) → admits shapes policy changes ≡ true → applies changes policy ≡ true
+one_applies shapes policy changes is = (and_parts _ _ (and_parts _ _ is).0).1
+
+-- so do those of all edits
+pub all_apply : (shapes : Shapes) (policy : Policy) (edits : List (List Change)) → AreAdmitted shapes policy edits → applies (flat edits) policy ≡ true
+unfolding applies
+all_apply shapes policy [] are = refl
+all_apply shapes policy (edit ∷ edits) are =
+    applies_both edit (flat edits) policy
+    ∙ ap (λ (b : Bool). b && applies (flat edits) (edited edit policy)) (one_applies shapes policy edit are.0)
+    ∙ all_apply shapes (edited edit policy) edits are.1
+
+-- and leave sound tables
+pub all_sound : (shapes : Shapes) → KeepSound shapes → (policy : Policy) (edits : List (List Change)) → AreSound shapes policy → AreAdmitted shapes policy edits → AreSound shapes (edited (flat edits) policy)
+unfolding edited
+all_sound shapes keep policy [] sound are = sound
+all_sound shapes keep policy (edit ∷ edits) sound are =
+    subst (AreSound shapes) (sym (edited_both edit (flat edits) policy)) (all_sound shapes keep (edited edit policy) edits (keep policy edit sound are.0) are.1)
+
+-- each is made in the tables before it
+pub all_made : (shapes : Shapes) → KeepSound shapes → (policy : Policy) (edits : List (List Change)) → length policy.lists ≡ most_tables → AreSound shapes policy → AreAdmitted shapes policy edits → AreMadeIn policy edits
+all_made shapes keep policy [] nine sound are = tt
+all_made shapes keep policy (edit ∷ edits) nine sound are =
+    let after = keep policy edit sound are.0 in
+    let counted : length (edited edit policy).lists ≡ most_tables = counted_edited edit policy ∙ nine in (
+      record { applies = one_applies shapes policy edit are.0; lists = are_lists shapes (edited edit policy) counted after.shaped after.within },
+      all_made shapes keep (edited edit policy) edits counted after are.1,
+    )
+
+-- what passes a test of two lists passes it of both
+all_both : {X : Type 0} (p : X → Bool) (front back : List X) → list_all p (front ++ back) ≡ (list_all p front && list_all p back)
+all_both p [] back = refl
+all_both p (x ∷ front) back = by (p x) (all_both p front back)
+  where
+    by : (b : Bool) → list_all p (front ++ back) ≡ (list_all p front && list_all p back) → (b && list_all p (front ++ back)) ≡ ((b && list_all p front) && list_all p back)
+    by true e = e
+    by false e = refl
+
+-- each rule that they put in may stand in its table
+pub all_fitting : (shapes : Shapes) (policy : Policy) (edits : List (List Change)) → AreAdmitted shapes policy edits → list_all (is_fitting shapes) (flat edits) ≡ true
+all_fitting shapes policy [] are = refl
+all_fitting shapes policy (edit ∷ edits) are =
+    all_both (is_fitting shapes) edit (flat edits)
+    ∙ ap (λ (b : Bool). b && list_all (is_fitting shapes) (flat edits)) (and_parts _ _ (and_parts _ _ are.0).0).0
+    ∙ all_fitting shapes (edited edit policy) edits are.1
+
+-- a rule that may stand in a table has its columns
+columns_known : (shapes : Shapes) (table : TableId) (rule : Fields) (columns : ℕ) → columns_of shapes table ≡ Some columns → may_stand shapes table rule ≡ true → length rule ≡ columns
+columns_known shapes table rule columns known may =
+    eqb-true (length rule) columns (sym (ap (λ (p : Option ℕ). option_map_or (λ (columns : ℕ). length rule == columns) p false) known) ∙ (and_parts _ _ may).0)
+
+-- changes of one table that put in rules which may stand there pass a test that rules with its columns pass
+own_pass : (shapes : Shapes) (table : TableId) (test : Change → Bool) → ((change : Change) → table ≡ table_of change → is_fitting shapes change ≡ true → test change ≡ true)
+    → (changes : List Change) → list_all (is_fitting shapes) changes ≡ true → list_all test (own table changes) ≡ true
+own_pass shapes table test passes [] fit = refl
+own_pass shapes table test passes (change ∷ changes) fit = by (is_table table (table_of change)) refl (own_pass shapes table test passes changes parts.1)
+  where
+    parts : (is_fitting shapes change ≡ true) × (list_all (is_fitting shapes) changes ≡ true)
+    parts = and_parts (is_fitting shapes change) (list_all (is_fitting shapes) changes) fit
+
+    by : (b : Bool) → is_table table (table_of change) ≡ b → list_all test (own table changes) ≡ true → list_all test (cond b (change ∷ own table changes) (own table changes)) ≡ true
+    by true e rest = ap (λ (b : Bool). b && list_all test (own table changes)) (passes change (same_table table (table_of change) e) parts.0) ∙ rest
+    by false e rest = rest
+
+-- those of p have a column below the number of its columns
+pub all_have_column : (shapes : Shapes) (column : ℕ) (changes : List Change) → column < shapes.columns → list_all (is_fitting shapes) changes ≡ true → all_fit column (own P changes) ≡ true
+all_have_column shapes column changes below fit = own_pass shapes P (fits_column column) passes changes fit
+  where
+    wide : (table : TableId) (rule : Fields) → P ≡ table → may_stand shapes table rule ≡ true → nat_lt column (length rule) ≡ true
+    wide table rule here may =
+        let size : length rule ≡ shapes.columns = columns_known shapes table rule shapes.columns (ap (columns_of shapes) (sym here)) may in
+        lt-ltb column (length rule) (omega (arith, size, below))
+
+    passes : (change : Change) → P ≡ table_of change → is_fitting shapes change ≡ true → fits_column column change ≡ true
+    passes (Insert table rule) here may = wide table rule here may
+    passes (Remove table rule) here may = refl
+    passes (Replace table old new) here may = wide table new here may
+
+-- those of a relation have its columns
+pub all_have_columns : (shapes : Shapes) (shape : RoleShape) (changes : List Change) → shape_of shapes.roles shape.number ≡ Some shape → list_all (is_fitting shapes) changes ≡ true → all_columns (role_columns shape) (own (G shape.number) changes) ≡ true
+all_have_columns shapes shape changes found fit = own_pass shapes (G shape.number) (puts_columns (role_columns shape)) passes changes fit
+  where
+    known : columns_of shapes (G shape.number) ≡ Some (role_columns shape)
+    known = ap (λ (p : Option RoleShape). option_map_or (λ (role : RoleShape). Some (role_columns role)) p None) found
+
+    right : (table : TableId) (rule : Fields) → G shape.number ≡ table → may_stand shapes table rule ≡ true → (length rule == role_columns shape) ≡ true
+    right table rule here may = (Decides-eqb (length rule) (role_columns shape)).1 (columns_known shapes table rule (role_columns shape) (ap (columns_of shapes) (sym here) ∙ known) may)
+
+    passes : (change : Change) → G shape.number ≡ table_of change → is_fitting shapes change ≡ true → puts_columns (role_columns shape) change ≡ true
+    passes (Insert table rule) here may = right table rule here may
+    passes (Remove table rule) here may = refl
+    passes (Replace table old new) here may = right table new here may

@@ -1,0 +1,7 @@
+mod FollowLemmas
+mod RoleLemmas
+mod AdmittedLemmas
+mod IndexLemmas
+mod SectionLemmas
+mod LogLemmas
+mod StateLemmas

@@ -1,0 +1,5 @@
+use Rattle.policy_state.proofs.SectionLemmas.{Prepares}
+use Rattle.policy_state.proofs.sections.Sections.prepare.Given as goal
+
+abbrev pub invariant-loop-at : goal.invariant-loop-at
+invariant-loop-at l = Prepares l.edits l.fn.self l.self-inside.sections.items l.at l.prepared.items

@@ -1,0 +1,5 @@
+pub mod States
+pub mod Admitted
+pub mod Asked
+pub mod Ready
+pub mod Helps

@@ -1,0 +1,84 @@
+ghost use Rattle.std.specs.Prelude.{◌≡◌, ◌↔◌, ◌≤◌, IfOk, IfSome, IfNone, IsSome, IsTrue, Some};
+ghost use Rattle.std.specs.Option.{option_copied};
+ghost use Rattle.perm_base.specs.RoleShapes.{shape_of};
+ghost use Rattle.perm_base.specs.declared.shapes.RoleShape.{RoleShape};
+ghost use Rattle.perm_base.specs.declared.shapes.TableId.TheVariants.{G, P};
+ghost use Rattle.policy_index.specs.Places.{places_of};
+ghost use Rattle.policy_state.specs.Asked.{IsAskedOf};
+ghost use Rattle.policy_state.specs.States.{tables};
+ghost use Rattle.policy_table.specs.Tables.{rows};
+ghost use Rattle.role_domain.specs.Sections.{rows_in};
+ghost use Rattle.role_meaning.specs.Implied.{AreImplied};
+ghost use Rattle.role_meaning.specs.Links.{IsLinked};
+
+use crate::state::PolicyState;
+use perm_base::{NoMemory, Rule};
+use role_domain::{RoleSection, Steps};
+use std::alloc::Global;
+use std::sync::ledger::Ledger;
+
+impl PolicyState {
+    /// The rising places, counted from 0, of the rows of p whose column equals a text, where an index is kept by that column.
+    /// It takes no memory, and its time does not grow with p.
+    pub fn index_rows(&self, column: u32, text: &[u8]) -> Option<&[u32]>
+        ensures none { IfNone result (¬ (self.now.column ≡ Some column)) }
+        ensures kept { IfSome result (λ _. self.now.column ≡ Some column) }
+        ensures rows { IfSome result (λ places. places.now
+            ≡ places_of column text.now (rows (tables self.now) P)) }
+    {
+        if self.column != Some(column) {
+            return None;
+        }
+        Some(self.index.as_ref()?.rows_of(text))
+    }
+
+    /// The section of a role relation.
+    pub fn section(&self, relation: u8) -> &RoleSection
+        requires there { IsSome (shape_of self.now.shapes.roles relation) }
+        ensures shape { shape_of self.now.shapes.roles relation ≡ Some result.now.shape }
+        ensures limit { result.now.limit ≡ self.now.shapes.limit }
+        ensures rows { rows_in result.now ≡ rows (tables self.now) (G relation) }
+    {
+        let Some(section) = self.sections.find(relation) else {
+            unreachable!()
+        };
+        section
+    }
+
+    /// Whether the one name has the other as its role in a relation, in one domain where the relation has domains, by at most
+    /// as many links as the hierarchy limit says (Casbin, `hasLink`). It takes no memory.
+    pub fn linked<L: Ledger>(
+        &self,
+        relation: u8,
+        x: &[u8],
+        y: &[u8],
+        domain: Option<&[u8]>,
+        steps: &mut Steps<L>,
+    ) -> bool
+        requires asked { IsAskedOf self.now.shapes relation (option_copied domain) }
+        ensures found { (shape : RoleShape) → shape_of self.now.shapes.roles relation ≡ Some shape
+            → IsTrue result ↔ IsLinked shape (rows (tables self.now) (G relation))
+            self.now.shapes.limit (option_copied domain.entry) x.now y.now }
+        ensures steps { steps.old ≤ steps.new }
+    {
+        self.section(relation).linked(x, y, domain, steps)
+    }
+
+    /// The names other than `x` that it has as its roles in a relation by links, in one domain where the relation has domains:
+    /// the nearer first, those of one distance by bytes (Casbin, implicit roles).
+    pub fn roles_within(
+        &self,
+        alloc: Global,
+        relation: u8,
+        x: &[u8],
+        domain: Option<&[u8]>,
+    ) -> Result<Rule, NoMemory>
+        requires asked { IsAskedOf self.now.shapes relation (option_copied domain) }
+        ensures implied { IfOk result (λ names. (shape : RoleShape)
+            → shape_of self.now.shapes.roles relation ≡ Some shape
+            → AreImplied shape (rows (tables self.now) (G relation)) self.now.shapes.limit
+            (option_copied domain.entry) x.now names) }
+    {
+        self.section(relation).roles_within(alloc, x, domain)
+    }
+}

@@ -1,0 +1,115 @@
+ghost use Rattle.std.specs.Prelude.{◌≡◌, ◌+◌, ◌≤◌, ◌++◌, IfOk, List, length};
+ghost use Rattle.policy_state.specs.Admitted.{AreAdmitted};
+ghost use Rattle.policy_state.specs.Ready.{IsPreparedFor};
+ghost use Rattle.policy_state.specs.States.{StandsFor, tables};
+ghost use Rattle.policy_table.specs.Changes.{replay};
+ghost use Rattle.policy_table.specs.Tables.{Policy};
+ghost use Rattle.policy_table.specs.declared.change.Change.{Change};
+ghost use Rattle.version_log.specs.Log.{AreMadeIn, Stands, most_versions, tables_of, versions};
+
+use crate::indexing::{commit_index, prepare_index};
+use crate::prepared::Prepared;
+use crate::state::PolicyState;
+use edit_calls::admitted_edits_keep_sound;
+use perm_base::NoMemory;
+use policy_table::{Edit, copy_edit};
+use std::alloc::Global;
+use version_log::Log;
+
+impl PolicyState {
+    /// Makes edits that are admitted one after the other ready, and a version at which the log is to start afterwards, so that
+    /// `commit` needs no memory. The policy is as before, whatever the answer, also where what is ready is dropped. Its time
+    /// grows with the edits, and not with the tables.
+    pub fn prepare(
+        &mut self,
+        alloc: Global,
+        edits: &[Edit],
+        start: u32,
+    ) -> Result<Prepared, NoMemory>
+        requires admitted { AreAdmitted self.old.shapes (tables self.old) edits.now }
+        requires few { versions self.old.log + length edits.now ≤ most_versions }
+        requires from { self.old.log.start ≤ start }
+        requires until { start ≤ versions self.old.log }
+        ensures shapes { self.new.shapes ≡ self.old.shapes }
+        ensures column { self.new.column ≡ self.old.column }
+        ensures log_start { self.new.log.start ≡ self.old.log.start }
+        ensures base { self.new.log.base ≡ self.old.log.base }
+        ensures tail { self.new.log.tail ≡ self.old.log.tail }
+        ensures edits { IfOk result (λ prepared. prepared.edits ≡ edits.now) }
+        ensures start { IfOk result (λ prepared. prepared.start ≡ start) }
+        ensures ready { IfOk result (IsPreparedFor self.new) }
+    {
+        admitted_edits_keep_sound();
+        self.tables.kept();
+        let tables = self.tables.prepare(alloc, edits)?;
+        let index = prepare_index(&mut self.index, alloc, edits)?;
+        let sections = self.sections.prepare(alloc, edits)?;
+        self.log.reserve(edits.len() as u32)?;
+        let start = self.log.prepare_start(alloc, start)?;
+        let edits = copy_edits(alloc, edits)?;
+        Ok(Prepared {
+            tables,
+            index,
+            sections,
+            start,
+            edits,
+        })
+    }
+
+    /// Makes the edits that were prepared for this policy as it stands, in all its parts, and starts the log at the version
+    /// that was prepared. It takes no memory and cannot be refused.
+    pub fn commit(&mut self, prepared: Prepared)
+        requires ready { IsPreparedFor self.old prepared }
+        ensures shapes { self.new.shapes ≡ self.old.shapes }
+        ensures column { self.new.column ≡ self.old.column }
+        ensures start { self.new.log.start ≡ prepared.start }
+        ensures stands { (opening : Policy) (history : List (List Change))
+            → StandsFor self.old opening history
+            → StandsFor self.new opening (history ++ prepared.edits) }
+        ensures tables { tables self.new ≡ replay prepared.edits (tables self.old) }
+        ensures versions { versions self.new.log
+            ≡ versions self.old.log + length prepared.edits }
+    {
+        let Prepared {
+            tables,
+            index,
+            sections,
+            start,
+            edits,
+        } = prepared;
+        admitted_edits_keep_sound();
+        self.tables.kept();
+        self.log.commit_start(start);
+        self.tables.commit(tables);
+        commit_index(&mut self.index, index);
+        self.sections.commit(sections);
+        push_all(&mut self.log, edits);
+    }
+}
+
+// The same edits once more.
+fn copy_edits(alloc: Global, edits: &[Edit]) -> Result<Vec<Edit>, NoMemory>
+    ensures { IfOk result (λ copy. copy.items ≡ edits.now) }
+{
+    let mut copy = Vec::with_capacity(alloc, edits.len())?;
+    for edit in edits {
+        copy.push(copy_edit(alloc, edit)?)?;
+    }
+    Ok(copy)
+}
+
+// Puts edits behind the others of a log. It takes no memory.
+fn push_all(log: &mut Log, edits: Vec<Edit>)
+    requires room { length edits.items ≤ log.old.spare }
+    requires few { versions log.old + length edits.items ≤ most_versions }
+    requires made { AreMadeIn (tables_of log.old) edits.items }
+    ensures start { log.new.start ≡ log.old.start }
+    ensures tables { tables_of log.new ≡ replay edits.items (tables_of log.old) }
+    ensures versions { versions log.new ≡ versions log.old + length edits.items }
+    ensures stands { (opening : Policy) (history : List (List Change))
+        → Stands log.old opening history → Stands log.new opening (history ++ edits.items) }
+{
+    for edit in edits {
+        log.push(edit);
+    }
+}

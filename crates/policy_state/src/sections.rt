@@ -1,0 +1,93 @@
+ghost use Rattle.std.specs.Prelude.{◌≡◌, ◌==◌, All, IfOk, find, map};
+ghost use Rattle.std.specs.Option.{option_copied, option_map};
+ghost use Rattle.perm_base.specs.Shapes.{AreValid};
+ghost use Rattle.policy_state.specs.Helps.Kept.{AreSections, CanTake, changes_in, kept_of, made};
+ghost use Rattle.policy_state.specs.Ready.{CanLink};
+ghost use Rattle.policy_table.specs.Limits.{AreSound};
+
+use perm_base::{NoMemory, Shapes, Share};
+use policy_table::{Edit, Tables};
+use role_domain::{Prepared, RoleSection};
+use std::alloc::Global;
+use std::marker::Model;
+
+/// The sections of a policy's role relations. Contracts see the list of them.
+#[derive(Drop)]
+pub(crate) struct Sections {
+    sections: Vec<RoleSection>,
+}
+
+impl Model for Sections {
+    ghost use Rattle.std.specs.Prelude.{List};
+    ghost use Rattle.role_domain.specs.Sections.{Section};
+
+    ghost Value = { List Section };
+
+    ghost view = { λ s. s.sections.items };
+}
+
+impl Sections {
+    /// A section for each relation of the shapes.
+    pub(crate) fn make(
+        alloc: Global,
+        shapes: &Shapes,
+        tables: &Tables,
+    ) -> Result<Sections, NoMemory>
+        requires valid { AreValid shapes.now }
+        requires sound { AreSound shapes.now tables.now.policy }
+        ensures { IfOk result (AreSections shapes.now tables.now.policy) }
+    {
+        let roles = shapes.roles.as_slice();
+        let mut sections = Vec::with_capacity(alloc, roles.len())?;
+        for shape in roles {
+            sections.push(RoleSection::make(alloc, *shape, shapes.limit, tables)?)?;
+        }
+        Ok(Sections { sections })
+    }
+
+    /// The section of the relation of a number.
+    pub(crate) fn find(&self, number: u8) -> Option<&RoleSection>
+        ensures { option_copied result
+            ≡ find (λ section. section.shape.number == number) self.now }
+    {
+        for section in &self.sections {
+            if section.shape().number == number {
+                return Some(section);
+            }
+        }
+        None
+    }
+
+    /// Makes edits ready in each section.
+    pub(crate) fn prepare(
+        &mut self,
+        alloc: Global,
+        edits: &[Edit],
+    ) -> Result<Vec<Prepared>, NoMemory>
+        requires { All (CanTake edits.now) (map kept_of self.old) }
+        ensures kept { map kept_of self.new ≡ map kept_of self.old }
+        ensures ready { IfOk result (λ prepared. CanLink self.new prepared.items) }
+        ensures changes { IfOk result (λ prepared. map (λ draft. draft.changes) prepared.items
+            ≡ map (changes_in edits.now) (map kept_of self.old)) }
+    {
+        let mut prepared = Vec::with_capacity(alloc, self.sections.len())?;
+        for at in 0..self.sections.len() {
+            prepared.push(self.sections[at].prepare(alloc, edits)?)?;
+        }
+        Ok(prepared)
+    }
+
+    /// Makes in each section what was prepared for it. It takes no memory.
+    pub(crate) fn commit(&mut self, prepared: Vec<Prepared>)
+        requires { CanLink self.old prepared.items }
+        ensures { map kept_of self.new ≡ made prepared.items (map kept_of self.old) }
+    {
+        let mut at = 0;
+        for ready in prepared {
+            self.sections[at].commit(ready);
+            at += 1;
+        }
+    }
+}
+
+impl Share for Sections {}

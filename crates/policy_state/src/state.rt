@@ -1,0 +1,168 @@
+ghost use Rattle.std.specs.Prelude.{◌≡◌, ◌<◌, ◌≤◌, [], IfOk, IfSome, List};
+ghost use Rattle.perm_base.specs.Shapes.{AreValid};
+ghost use Rattle.policy_state.specs.States.{StandsFor, tables};
+ghost use Rattle.policy_table.specs.Limits.{AreSound};
+ghost use Rattle.policy_table.specs.Tables.{Policy};
+ghost use Rattle.policy_table.specs.declared.change.Change.{Change};
+ghost use Rattle.version_log.specs.Log.{IsLog, most_versions, versions};
+
+use crate::indexing::make_index;
+use crate::sections::Sections;
+use perm_base::{NoMemory, RoleShapes, Shapes, Share};
+use policy_index::Index;
+use policy_table::Tables;
+use std::alloc::Global;
+use std::marker::Model;
+use version_log::{Log, new_log};
+
+/// A policy as a whole (Casbin, the enforcer's model and policy): tables of given shapes, an index of p by one column or none,
+/// the role relations, and the log of the edits that led to these tables. Contracts see the shapes, the column, the log,
+/// which tells the tables, and what is kept beside it.
+#[derive(Drop)]
+pub struct PolicyState {
+    pub(crate) shapes: Shapes,
+    // The column of the index, where there is one.
+    pub(crate) column: Option<u32>,
+    pub(crate) tables: Tables,
+    pub(crate) index: Option<Index>,
+    pub(crate) sections: Sections,
+    pub(crate) log: Log,
+}
+
+impl Model for PolicyState {
+    ghost use Rattle.policy_state.specs.Helps.Kept.{IsState, parts_of};
+    ghost use Rattle.policy_state.specs.States.{State};
+
+    ghost Value = { State };
+
+    ghost view = { λ s. record {
+      shapes = s.shapes;
+      column = s.column;
+      log = s.log;
+      parts = parts_of s.tables s.index s.sections;
+    } };
+
+    ghost invariant = { λ s.
+        IsState s.shapes s.column s.log (parts_of s.tables s.index s.sections) };
+}
+
+/// The policy with these tables, at version 0. Its time is linear in the rows.
+pub fn make_state(
+    alloc: Global,
+    shapes: Shapes,
+    column: Option<u32>,
+    tables: Tables,
+) -> Result<PolicyState, NoMemory>
+    requires valid { AreValid shapes }
+    requires sound { AreSound shapes tables.policy }
+    requires column { IfSome column (λ column. column < shapes.columns) }
+    ensures shapes { IfOk result (λ state. state.shapes ≡ shapes) }
+    ensures column { IfOk result (λ state. state.column ≡ column) }
+    ensures stands { IfOk result (λ state. StandsFor state tables.policy []) }
+    ensures start { IfOk result (λ state. state.log.start ≡ 0) }
+    ensures base { IfOk result (λ state. state.log.base ≡ tables.policy) }
+    ensures tail { IfOk result (λ state. state.log.tail ≡ []) }
+{
+    let index = make_index(alloc, column, &tables)?;
+    let sections = Sections::make(alloc, &shapes, &tables)?;
+    let log = new_log(alloc, tables.copy(alloc)?);
+    Ok(PolicyState {
+        shapes,
+        column,
+        tables,
+        index,
+        sections,
+        log,
+    })
+}
+
+impl PolicyState {
+    /// The same policy once more, its room aside. Its time is linear in the rows and in the edits of the log.
+    pub fn copy(&self, alloc: Global) -> Result<PolicyState, NoMemory>
+        ensures shapes { IfOk result (λ copy. copy.shapes ≡ self.now.shapes) }
+        ensures column { IfOk result (λ copy. copy.column ≡ self.now.column) }
+        ensures start { IfOk result (λ copy. copy.log.start ≡ self.now.log.start) }
+        ensures base { IfOk result (λ copy. copy.log.base ≡ self.now.log.base) }
+        ensures tail { IfOk result (λ copy. copy.log.tail ≡ self.now.log.tail) }
+        ensures stands { IfOk result (λ copy. (opening : Policy) (history : List (List Change))
+            → StandsFor self.now opening history → StandsFor copy opening history) }
+    {
+        let shapes = copy_shapes(alloc, &self.shapes)?;
+        let tables = self.tables.copy(alloc)?;
+        let column = self.column;
+        let index = make_index(alloc, column, &tables)?;
+        let sections = Sections::make(alloc, &shapes, &tables)?;
+        let log = self.log.copy(alloc)?;
+        Ok(PolicyState {
+            shapes,
+            column,
+            tables,
+            index,
+            sections,
+            log,
+        })
+    }
+
+    /// The version after all edits.
+    pub fn version(&self) -> u32
+        ensures value { result ≡ versions self.now.log }
+        ensures few { versions self.now.log ≤ most_versions }
+    {
+        self.log.versions()
+    }
+
+    /// The version that its log starts at.
+    pub fn start(&self) -> u32
+        ensures start { result ≡ self.now.log.start }
+    {
+        self.log.start()
+    }
+
+    /// The tables after all edits.
+    pub fn tables(&self) -> &Tables
+        ensures policy { result.now.policy ≡ tables self.now }
+    {
+        &self.tables
+    }
+
+    /// The shapes of the tables.
+    pub fn shapes(&self) -> &Shapes
+        ensures shapes { result.now ≡ self.now.shapes }
+    {
+        &self.shapes
+    }
+
+    /// The column of p, counted from 0, by which an index is kept.
+    pub fn index_column(&self) -> Option<u32>
+        ensures column { result ≡ self.now.column }
+    {
+        self.column
+    }
+
+    /// What it keeps: the shapes are valid, the tables are sound, and each edit of the log was made in the tables before it.
+    pub fn kept(&self)
+        ensures valid { AreValid self.now.shapes }
+        ensures sound { AreSound self.now.shapes (tables self.now) }
+        ensures log { IsLog self.now.log.start self.now.log.base self.now.log.tail }
+    {
+        self.log.kept();
+        let _shapes = &self.shapes;
+    }
+}
+
+impl Share for PolicyState {}
+
+// The same shapes once more.
+fn copy_shapes(alloc: Global, shapes: &Shapes) -> Result<Shapes, NoMemory>
+    ensures { IfOk result (λ copy. copy ≡ shapes.now) }
+{
+    let roles = Vec::from_slice(alloc, shapes.roles.as_slice())?;
+    Ok(Shapes {
+        columns: shapes.columns,
+        effect_column: shapes.effect_column,
+        subject_column: shapes.subject_column,
+        roles: RoleShapes::from_vec(roles),
+        limit: shapes.limit,
+        ranked: shapes.ranked,
+    })
+}

@@ -1,0 +1,197 @@
+-- What is asked of names in a domain of a section.
+use Rattle.std.proofs.Common.{◌≡◌, ◌⊎◌, inl, inr, ◌<◌, ◌≤◌, ◌↔◌, ◌||◌, ℕ, Bool, true, false, List, [], ◌∷◌, Option, None, Some, IsTrue, length, map, refl, sym, ap, subst, ◌∙◌, arith}
+use Rattle.std.specs.Prelude.{All, if◌then◌else◌, is_some, not, unwrap_or}
+use Rattle.std.specs.Borrow.{Bor}
+use Rattle.std.specs.List.{Contains, count_by, list_any}
+use Rattle.std.specs.Option.{option_copied}
+use Rattle.std.specs.Str.{bytes_eq}
+use Rattle.std.proofs.lemmas.Bool.{false≢true}
+use Rattle.std.proofs.lemmas.Cmp.{nat_list_eq_equiv}
+use Rattle.std.proofs.lemmas.List.Elements.{All-contains}
+use Rattle.std.proofs.lemmas.Map.Made.{length-le_from_is_member}
+use Rattle.std.proofs.lemmas.Slice.Eq.{bytes_eq-Decides}
+use Rattle.indexmap.proofs.CallerLemmas.{Contains-list_any}
+use Rattle.perm_base.specs.declared.shapes.RoleShape.{RoleShape}
+use Rattle.perm_base.specs.declared.shapes.TableId.TheVariants.{G}
+use Rattle.policy_table.specs.Limits.{different, domains_of, role_columns}
+use Rattle.policy_table.specs.Tables.{Fields, Policy, rows}
+use Rattle.policy_table.proofs.CallerLemmas.{among_different, distinct_different}
+use Rattle.role_domain.specs.Domains.{IsDomain, IsRight, found}
+use Rattle.role_domain.specs.Helps.Kept.{IsSection, relation_in}
+use Rattle.role_domain.specs.Helps.Walks.{IsDistance, Walks, inner, walk_of}
+use Rattle.role_domain.specs.Relations.{HasFewRoles, IsNamed, Tells, counted, named, terms_of}
+use Rattle.role_domain.specs.declared.domain.Domain.{Domain}
+use Rattle.role_domain.specs.declared.terms.Terms.{Terms}
+use Rattle.role_domain.proofs.Across.{Alike, Asked, all_implied_across, alike_on, far_across, few_across, graph_alike, graph_of, has_across, inner_of, linked_across, outer_alike, outer_of, patterns_alike}
+use Rattle.role_domain.proofs.Bringing.{FitsDecided, tells_of, test_of}
+use Rattle.role_domain.proofs.Counting.{Passes, passing_counts, some_passes}
+use Rattle.role_domain.proofs.Walking.{far_told, linked_told}
+use Rattle.role_graph.specs.Graph.{Graph, GraphReaches, IsGraphFar, shape_of}
+use Rattle.role_graph.specs.Groups.{times}
+use Rattle.role_meaning.specs.Distances.{IsFar}
+use Rattle.role_meaning.specs.Implied.{AreImplied}
+use Rattle.role_meaning.specs.Links.{HasRoles, IsLinked, domain_of, role_of}
+use Rattle.role_meaning.proofs.CallerLemmas.{map_cases, map_stands, stands_cases, stands_nowhere}
+
+pub copied_some : {X : Type 0} (o : Option (Bor X)) → is_some (option_copied o) ≡ is_some o
+copied_some None = refl
+copied_some (Some x) = refl
+
+-- a section that is asked in a domain
+module _ (shape : RoleShape) (limit : ℕ) (policy : Policy) (entries : List (List ℕ × Domain)) (patterns : List Fields) (sound : IsSection shape limit policy entries patterns)
+    (domain : Option (List ℕ)) (text : List ℕ) (asks : is_some domain ≡ shape.with_domain) (is : text ≡ unwrap_or domain []) where
+  abbrev pub all_rows : List Fields
+  all_rows = rows policy (G shape.number)
+
+  outer : Alike (inner_of (terms_of shape limit) all_rows text) (outer_of shape all_rows domain)
+  outer = outer_alike shape limit all_rows domain text sound.columns asks is
+
+  -- the graph of a domain that is there
+  module _ (decided : FitsDecided) (there : Domain) (at : Some there ≡ found entries text) where
+    pub right : IsDomain (relation_in shape limit policy) text there
+    right = subst (IsRight (relation_in shape limit policy) text) (sym at) (sound.domains.right text)
+
+    alike : Alike (graph_of there.graph.names there.graph.rows) (outer_of shape all_rows domain)
+    alike =
+        alike_on (graph_of there.graph.names there.graph.rows) (inner_of (terms_of shape limit) all_rows text) (outer_of shape all_rows domain)
+        (graph_alike there.graph.names (terms_of shape limit) there.graph.rows all_rows text (test_of decided (terms_of shape limit).domains text) right.names (tells_of decided (terms_of shape limit).domains text)
+        (right.rows (test_of decided (terms_of shape limit).domains text) (tells_of decided (terms_of shape limit).domains text)))
+        outer
+
+    pub linked_there : (x y : List ℕ) (test : Bool) → IsTrue test ↔ GraphReaches there.graph there.graph.limit x y → IsTrue test ↔ IsLinked shape all_rows limit domain x y
+    linked_there x y test told =
+        linked_across (graph_of there.graph.names there.graph.rows) (outer_of shape all_rows domain) limit x y test alike
+        (subst (λ (n : ℕ). IsTrue test ↔ GraphReaches there.graph n x y) right.limited told)
+
+    pub far_there : (x y : List ℕ) (distance : ℕ) → IsGraphFar there.graph x y distance → IsFar shape all_rows domain x y distance
+    far_there x y distance far = far_across (graph_of there.graph.names there.graph.rows) (outer_of shape all_rows domain) x y distance alike far
+
+    pub has_there : (x : List ℕ) (test : Bool) → IsTrue test ↔ HasRoles (shape_of there.graph.names) there.graph.rows None x → IsTrue test ↔ HasRoles shape all_rows domain x
+    has_there x test told = has_across (graph_of there.graph.names there.graph.rows) (outer_of shape all_rows domain) x test alike told
+
+    pub implied_there : (x : List ℕ) (names : List (List ℕ)) → AreImplied (shape_of there.graph.names) there.graph.rows there.graph.limit None x names → AreImplied shape all_rows limit domain x names
+    implied_there x names are =
+        all_implied_across (graph_of there.graph.names there.graph.rows) (outer_of shape all_rows domain) limit x names alike
+        (subst (λ (n : ℕ). AreImplied (shape_of there.graph.names) there.graph.rows n None x names) right.limited are)
+
+    -- some row has its text
+    is_named : IsNamed all_rows domain
+    is_named = by domain is (some_passes (λ (row : Fields). bytes_eq text (domain_of row)) all_rows (let own : there.own ≡ named text all_rows = right.own in omega (arith, own, right.some)))
+      where
+        by : (asked : Option (List ℕ)) → text ≡ unwrap_or asked [] → Passes (λ (row : Fields). bytes_eq text (domain_of row)) all_rows → IsNamed all_rows asked
+        by None same passes = tt
+        by (Some name) same passes =
+            subst (Contains (domains_of all_rows)) (sym ((bytes_eq-Decides text (domain_of passes.row)).0 passes.passes) ∙ same) (map_stands domain_of all_rows passes.row passes.stands)
+
+    pub kept_there : (test : Bool) → IsTrue test ↔ (length (different (map role_of there.graph.rows)) ≤ 1024) → IsTrue test ↔ (IsNamed all_rows domain × HasFewRoles shape all_rows domain)
+    kept_there test told = (
+      λ holds. (is_named, few_across (graph_of there.graph.names there.graph.rows) (outer_of shape all_rows domain) alike.back (few (told.0 holds))),
+      λ both. told.1 (back (few_across (outer_of shape all_rows domain) (graph_of there.graph.names there.graph.rows) alike.there both.1)),
+    )
+      where
+        any_stands : (texts : List (List ℕ)) (one : List ℕ) → Contains texts one → list_any (bytes_eq one) texts ≡ true
+        any_stands [] one none = absurd (stands_nowhere one none)
+        any_stands (first ∷ texts) one stands = by (stands_cases first texts one stands) (any_stands texts one)
+          where
+            or_true : (b : Bool) → (b || true) ≡ true
+            or_true true = refl
+            or_true false = refl
+
+            by : (first ≡ one) ⊎ Contains texts one → (Contains texts one → list_any (bytes_eq one) texts ≡ true) → (bytes_eq one first || list_any (bytes_eq one) texts) ≡ true
+            by (inl same) more = ap (λ (b : Bool). b || list_any (bytes_eq one) texts) ((bytes_eq-Decides one first).1 (sym same))
+            by (inr behind) more = ap (λ (b : Bool). bytes_eq one first || b) (more behind) ∙ or_true (bytes_eq one first)
+
+        any_from : (texts : List (List ℕ)) (one : List ℕ) → list_any (bytes_eq one) texts ≡ true → Contains texts one
+        any_from texts one among = Contains-list_any bytes_eq (λ x y same. (bytes_eq-Decides x y).0 same) texts one among
+
+        few : length (different (map role_of there.graph.rows)) ≤ 1024 → HasFewRoles (shape_of there.graph.names) there.graph.rows None
+        few within = record {
+          names = different (map role_of there.graph.rows);
+          few = within;
+          all = λ row stands counts. any_from (different (map role_of there.graph.rows)) (role_of row)
+              (among_different (role_of row) (map role_of there.graph.rows) ∙ any_stands (map role_of there.graph.rows) (role_of row) (map_stands role_of there.graph.rows row stands));
+        }
+
+        back : HasFewRoles (shape_of there.graph.names) there.graph.rows None → length (different (map role_of there.graph.rows)) ≤ 1024
+        back given =
+            let fewer : length (different (map role_of there.graph.rows)) ≤ length given.names =
+            length-le_from_is_member nat_list_eq_equiv (different (map role_of there.graph.rows)) given.names (distinct_different (map role_of there.graph.rows))
+            (λ one among. any_stands given.names one (among_names one (map_cases role_of there.graph.rows one (any_from (map role_of there.graph.rows) one (sym (among_different one (map role_of there.graph.rows)) ∙ among))))) in
+            omega (arith, fewer, given.few)
+          where
+            among_names : (one : List ℕ) → (row : Fields) × Contains there.graph.rows row × (role_of row ≡ one) → Contains given.names one
+            among_names one (row, stands, same) = subst (Contains given.names) same (given.all row stands tt)
+
+  -- a domain that no row names
+  module _ (nowhere : None ≡ found entries text) where
+    none : named text all_rows ≡ 0
+    none = subst (IsRight (relation_in shape limit policy) text) (sym nowhere) (sound.domains.right text)
+
+    alike_patterns : Alike (inner_of (terms_of shape limit) patterns text) (outer_of shape all_rows domain)
+    alike_patterns =
+        alike_on (inner_of (terms_of shape limit) patterns text) (inner_of (terms_of shape limit) all_rows text) (outer_of shape all_rows domain)
+        (patterns_alike (relation_in shape limit policy) patterns text sound.patterns none) outer
+
+    pub linked_nowhere : (terms : Terms) (walked : List Fields) (x y : List ℕ) (distance : Option ℕ) (test : Bool) → terms ≡ terms_of shape limit → walked ≡ patterns → test ≡ is_some distance → IsDistance (walk_of terms walked text) x y limit distance → IsTrue test ↔ IsLinked shape all_rows limit domain x y
+    linked_nowhere terms walked x y distance test same_terms same_rows told far =
+        linked_across (inner_of (terms_of shape limit) patterns text) (outer_of shape all_rows domain) limit x y test alike_patterns
+        (linked_told (walk_of (terms_of shape limit) patterns text) x y limit distance test told
+        (subst (λ (t : Terms). IsDistance (walk_of t patterns text) x y limit distance) same_terms (subst (λ (l : List Fields). IsDistance (walk_of terms l text) x y limit distance) same_rows far)))
+
+    pub far_nowhere : (terms : Terms) (walked : List Fields) (x y : List ℕ) (distance : Option ℕ) (result : ℕ) → terms ≡ terms_of shape limit → walked ≡ patterns → result ≡ unwrap_or distance 255 → IsDistance (walk_of terms walked text) x y 254 distance → IsFar shape all_rows domain x y result
+    far_nowhere terms walked x y distance result same_terms same_rows told far =
+        far_across (inner_of (terms_of shape limit) patterns text) (outer_of shape all_rows domain) x y result alike_patterns
+        (far_told (walk_of (terms_of shape limit) patterns text) x y distance result told
+        (subst (λ (t : Terms). IsDistance (walk_of t patterns text) x y 254 distance) same_terms (subst (λ (l : List Fields). IsDistance (walk_of terms l text) x y 254 distance) same_rows far)))
+
+    pub has_nowhere : (terms : Terms) (walked : List Fields) (x : List ℕ) (test : Bool) → terms ≡ terms_of shape limit → walked ≡ patterns → IsTrue test ↔ HasRoles (inner terms) walked (Some text) x → IsTrue test ↔ HasRoles shape all_rows domain x
+    has_nowhere terms walked x test same_terms same_rows told =
+        has_across (inner_of (terms_of shape limit) patterns text) (outer_of shape all_rows domain) x test alike_patterns
+        (subst (λ (t : Terms). IsTrue test ↔ HasRoles (inner t) patterns (Some text) x) same_terms (subst (λ (l : List Fields). IsTrue test ↔ HasRoles (inner terms) l (Some text) x) same_rows told))
+
+    pub implied_nowhere : (decided : FitsDecided) (graph : Graph) (x : List ℕ) (names : List (List ℕ)) → graph.names ≡ shape.names → graph.limit ≡ limit
+        → ((test : List ℕ → Bool) → Tells (terms_of shape limit).domains text test → (one : Fields) → times one graph.rows ≡ counted test one patterns)
+        → AreImplied (shape_of graph.names) graph.rows graph.limit None x names → AreImplied shape all_rows limit domain x names
+    implied_nowhere decided graph x names same_names same_limit counts are =
+        all_implied_across (graph_of graph.names graph.rows) (outer_of shape all_rows domain) limit x names
+        (alike_on (graph_of graph.names graph.rows) (inner_of (terms_of shape limit) patterns text) (outer_of shape all_rows domain)
+        (graph_alike graph.names (terms_of shape limit) graph.rows patterns text (test_of decided (terms_of shape limit).domains text) same_names (tells_of decided (terms_of shape limit).domains text)
+        (counts (test_of decided (terms_of shape limit).domains text) (tells_of decided (terms_of shape limit).domains text)))
+        alike_patterns)
+        (subst (λ (n : ℕ). AreImplied (shape_of graph.names) graph.rows n None x names) same_limit are)
+
+    -- it is kept where no domain is asked for, and there are no rows then
+    pub kept_nowhere : (test : Bool) → not test ≡ is_some domain → IsTrue test ↔ (IsNamed all_rows domain × HasFewRoles shape all_rows domain)
+    kept_nowhere test told = by domain asks is told
+      where
+        no_row : (row : Fields) → Contains all_rows row → text ≡ domain_of row → ⊥
+        no_row row stands same =
+            let some : 1 ≤ named text all_rows = passing_counts (λ (r : Fields). bytes_eq text (domain_of r)) all_rows row stands ((bytes_eq-Decides text (domain_of row)).1 same) in
+            let no : named text all_rows ≡ 0 = none in
+            omega (arith, some, no)
+
+        turned : (b : Bool) → not b ≡ false → b ≡ true
+        turned true is = refl
+        turned false is = absurd (false≢true (sym is))
+
+        by : (asked : Option (List ℕ)) → is_some asked ≡ shape.with_domain → text ≡ unwrap_or asked [] → not test ≡ is_some asked → IsTrue test ↔ (IsNamed all_rows asked × HasFewRoles shape all_rows asked)
+        by None no_domain same kept = (
+          λ holds. (tt, record { names = []; few = omega arith; all = λ row stands counts. absurd (no_row row stands (same ∙ sym (empty row (columns row stands ∙ ap (λ (b : Bool). if b then 3 else 2) (sym no_domain))))) }),
+          λ both. turned test kept,
+        )
+          where
+            columns : (row : Fields) → Contains all_rows row → length row ≡ role_columns shape
+            columns row stands = All-contains (λ (r : Fields). length r ≡ role_columns shape) all_rows row sound.columns stands
+
+            empty : (row : Fields) → length row ≡ 2 → domain_of row ≡ []
+            empty [] long = refl
+            empty (a ∷ []) long = refl
+            empty (a ∷ b ∷ []) long = refl
+            empty (a ∷ b ∷ c ∷ rest) long = absurd (omega (arith, long))
+        by (Some name) some same kept = (
+          λ holds. absurd (false≢true (ap not (sym holds) ∙ kept)),
+          λ both. absurd (by_row (map_cases domain_of all_rows name both.0)),
+        )
+          where
+            by_row : (row : Fields) × Contains all_rows row × (domain_of row ≡ name) → ⊥
+            by_row (row, stands, has) = no_row row stands (same ∙ sym has)

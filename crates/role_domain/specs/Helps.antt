@@ -1,0 +1,5 @@
+-- What only private functions and proofs say.
+pub mod Tallies
+pub mod Turns
+pub mod Kept
+pub mod Walks

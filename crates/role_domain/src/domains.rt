@@ -1,0 +1,158 @@
+//! The domains of a relation by their texts.
+
+ghost use Rattle.std.specs.Prelude.{◌≡◌, ◌+◌, ◌<◌, ◌≤◌, ℕ, List, [], None, OnOk, Some, false, get_or, length};
+ghost use Rattle.std.specs.List.{IsDistinct};
+ghost use Rattle.std.specs.Map.{keys_of};
+ghost use Rattle.std.specs.Option.{option_copied};
+ghost use Rattle.std.specs.Str.{bytes_eq};
+ghost use Rattle.role_domain.specs.Domains.{AreDomains, Domains, IsRight, by_text, found};
+ghost use Rattle.role_domain.specs.Relations.{Relation};
+ghost use Rattle.role_domain.specs.Steps.{AreReady, IsReady};
+ghost use Rattle.role_graph.specs.Graph.{IsPreparedFor};
+ghost use Rattle.role_graph.specs.Groups.{after, times};
+ghost use Rattle.policy_table.specs.Tables.{Fields};
+
+use crate::domain::Domain;
+use crate::prepared::Step;
+use indexmap::IndexMap;
+use perm_base::{NoMemory, Share};
+use std::alloc::Global;
+use std::marker::Model;
+
+/// The domains by their texts. Contracts see them, and for how many further ones there is room.
+#[derive(Drop)]
+pub(crate) struct Domains {
+    pub(crate) entries: IndexMap<Vec<u8>, Domain>,
+}
+
+impl Model for Domains {
+    ghost use Rattle.indexmap.specs.IndexMap.{spare};
+    ghost use Rattle.role_domain.specs.Domains.{Domains as ByText, by_text};
+
+    ghost Value = { ByText };
+
+    ghost view = { λ d. record {
+      entries = by_text d.entries.entries;
+      spare = spare d.entries;
+    } };
+}
+
+impl Domains {
+    pub(crate) fn new(alloc: Global) -> Domains
+        ensures { result.entries ≡ [] }
+    {
+        Domains {
+            entries: IndexMap::new(alloc),
+        }
+    }
+
+    /// The domain of a text.
+    pub(crate) fn get(&self, text: &[u8]) -> Option<&Domain>
+        ensures { option_copied result ≡ found self.now.entries text.now }
+    {
+        self.entries.get(text)
+    }
+
+    /// How many domains there are.
+    pub(crate) fn len(&self) -> usize
+        ensures count { result ≡ length self.now.entries }
+        ensures once { IsDistinct bytes_eq (keys_of self.now.entries) }
+    {
+        self.entries.len()
+    }
+
+    /// The text at a place.
+    pub(crate) fn text_at(&self, at: usize) -> &[u8]
+        requires { at < length self.now.entries }
+        ensures { result.now ≡ get_or (keys_of self.now.entries) at [] }
+    {
+        match self.entries.get_index(at) {
+            Some((text, _)) => text.as_slice(),
+            None => &[],
+        }
+    }
+
+    /// Makes room for so many further domains.
+    pub(crate) fn reserve(&mut self, count: usize) -> Result<(), NoMemory>
+        ensures same { self.new.entries ≡ self.old.entries }
+        ensures room { OnOk result (count ≤ self.new.spare) }
+    {
+        Ok(self.entries.reserve(count)?)
+    }
+
+    /// Makes of touched domains what is to become of them.
+    pub(crate) fn make(&mut self, mut touched: Vec<(Vec<u8>, Step)>)
+        requires { (relation : Relation) × AreReady relation (by_text touched.items) self.old }
+        ensures { (relation : Relation) → AreReady relation (by_text touched.items) self.old
+            → AreDomains relation self.new.entries }
+    {
+        while let Some((text, step)) = touched.pop() {
+            self.make_one(text, step);
+        }
+    }
+
+    // Makes of one domain what is to become of it.
+    fn make_one(&mut self, text: Vec<u8>, step: Step)
+        requires ready { (relation : Relation)
+            × IsReady relation text.items (found self.old.entries text.items) step }
+        requires room { 0 < self.old.spare }
+        ensures right { (relation : Relation)
+            → IsReady relation text.items (found self.old.entries text.items) step
+            → IsRight relation text.items (found self.new.entries text.items) }
+        ensures others { (other : List ℕ) → bytes_eq other text.items ≡ false
+            → found self.new.entries other ≡ found self.old.entries other }
+        ensures spare { self.old.spare ≤ self.new.spare + 1 }
+    {
+        match step {
+            Step::Gone => self.take(text.as_slice()),
+            Step::New(domain) => self.put(text, domain),
+            Step::Changed { own, edit } => self.change(text.as_slice(), own, edit),
+        }
+    }
+
+    // Takes the domain of a text out.
+    fn take(&mut self, text: &[u8])
+        ensures gone { found self.new.entries text.now ≡ None }
+        ensures others { (other : List ℕ) → bytes_eq other text.now ≡ false
+            → found self.new.entries other ≡ found self.old.entries other }
+        ensures spare { self.old.spare ≤ self.new.spare }
+    {
+        let _gone = self.entries.swap_remove(text);
+    }
+
+    // Gives a text a domain.
+    fn put(&mut self, text: Vec<u8>, domain: Domain)
+        requires { 0 < self.old.spare }
+        ensures there { found self.new.entries text.items ≡ Some domain }
+        ensures others { (other : List ℕ) → bytes_eq other text.items ≡ false
+            → found self.new.entries other ≡ found self.old.entries other }
+        ensures spare { self.old.spare ≤ self.new.spare + 1 }
+    {
+        let Ok(_none) = self.entries.insert(text, domain) else {
+            unreachable!()
+        };
+    }
+
+    // Edits the graph of a text's domain.
+    fn change(&mut self, text: &[u8], own: u64, edit: role_graph::Prepared)
+        requires { (domain : Domain) × (found self.old.entries text.now ≡ Some domain)
+            × IsPreparedFor domain.graph edit }
+        ensures there { (domain : Domain) → found self.old.entries text.now ≡ Some domain
+            → (new : Domain) × (found self.new.entries text.now ≡ Some new)
+            × (new.own ≡ own) × (new.graph.names ≡ domain.graph.names)
+            × (new.graph.limit ≡ domain.graph.limit)
+            × ((row : Fields) → times row new.graph.rows
+            ≡ times row (after edit.changed domain.graph.rows)) }
+        ensures others { (other : List ℕ) → bytes_eq other text.now ≡ false
+            → found self.new.entries other ≡ found self.old.entries other }
+        ensures spare { self.old.spare ≤ self.new.spare }
+    {
+        let Some(domain) = self.entries.get_mut(text) else {
+            unreachable!()
+        };
+        domain.own = own;
+        domain.graph.commit(edit);
+    }
+}
+
+impl Share for Domains {}

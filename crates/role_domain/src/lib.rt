@@ -1,0 +1,23 @@
+//! A role relation over its domains: the rows of each domain as a role graph, kept up by edits, and
+//! what is asked of names in a domain.
+#![tactic(auto)]
+
+mod changes;
+mod domain;
+mod domains;
+mod law;
+mod moves;
+mod patterns;
+mod prepared;
+mod rows;
+mod section;
+mod stepping;
+mod tallies;
+mod tally;
+mod terms;
+mod walk;
+
+pub use law::section_follows_tables;
+pub use prepared::Prepared;
+pub use role_graph::Steps;
+pub use section::{RoleSection, new_section};

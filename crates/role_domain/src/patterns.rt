@@ -1,0 +1,85 @@
+//! Rows whose domain is a pattern.
+
+ghost use Rattle.std.specs.Prelude.{◌≡◌, ◌++◌, ◌≤◌, All, Bool, IfOk, List, OnOk, filter, length, true, ℕ};
+ghost use Rattle.policy_table.specs.Tables.{Fields};
+ghost use Rattle.role_domain.specs.Helps.Turns.{said_of};
+ghost use Rattle.role_domain.specs.Relations.{Tells, counted, has_pattern};
+ghost use Rattle.role_graph.specs.Groups.{times};
+
+use crate::moves::{Said, stands_now};
+use crate::rows::{domain_of, pair_of};
+use perm_base::{Fit, NoMemory, Rule, is_pattern};
+use role_meaning::fits;
+use std::alloc::Global;
+
+/// The users and roles of the rows whose domain a text fits, as rows of two fields.
+pub(crate) fn fitting(
+    alloc: Global,
+    fit: Fit,
+    text: &[u8],
+    rows: &[Rule],
+) -> Result<Vec<Rule>, NoMemory>
+    requires { All (λ row. 2 ≤ length row) rows.now }
+    ensures two { IfOk result (λ pairs. All (λ row. length row ≡ 2) pairs.items) }
+    ensures few { IfOk result (λ pairs. length pairs.items ≤ length rows.now) }
+    ensures rows { IfOk result (λ pairs. (test : List ℕ → Bool) → Tells fit text.now test
+        → (row : Fields) → times row pairs.items ≡ counted test row rows.now) }
+{
+    let mut pairs = Vec::new(alloc);
+    for row in rows {
+        if !fits(fit, text, domain_of(row)) {
+            continue;
+        }
+        pairs.push(pair_of(alloc, row)?)?;
+    }
+    Ok(pairs)
+}
+
+/// The rows with a pattern as their domain after a change: those of before that still stand, and those that come.
+pub(crate) fn patterns_after(
+    alloc: Global,
+    fit: Fit,
+    patterns: &[Rule],
+    said: &Said,
+    come: &[Rule],
+) -> Result<Vec<Rule>, NoMemory>
+    ensures { IfOk result (λ after. after.items
+        ≡ filter (λ row. said_of said.now.entries row true) patterns.now
+        ++ filter (has_pattern fit) come.now) }
+{
+    let mut after = staying(alloc, patterns, said)?;
+    push_patterns(alloc, fit, &mut after, come)?;
+    Ok(after)
+}
+
+// The rows that are not said to go.
+fn staying(alloc: Global, rows: &[Rule], said: &Said) -> Result<Vec<Rule>, NoMemory>
+    ensures { IfOk result (λ found. found.items
+        ≡ filter (λ row. said_of said.now.entries row true) rows.now) }
+{
+    let mut found = Vec::new(alloc);
+    for row in rows {
+        if stands_now(said, row, true) {
+            found.push(row.copy(alloc)?)?;
+        }
+    }
+    Ok(found)
+}
+
+// Adds the rows whose domain is a pattern.
+fn push_patterns(
+    alloc: Global,
+    fit: Fit,
+    found: &mut Vec<Rule>,
+    rows: &[Rule],
+) -> Result<(), NoMemory>
+    ensures { OnOk result (found.new.items
+        ≡ found.old.items ++ filter (has_pattern fit) rows.now) }
+{
+    for row in rows {
+        if is_pattern(fit, domain_of(row)) {
+            found.push(row.copy(alloc)?)?;
+        }
+    }
+    Ok(())
+}

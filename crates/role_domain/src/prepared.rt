@@ -1,0 +1,71 @@
+//! Edits of a section that are prepared.
+
+ghost use Rattle.std.specs.Prelude.{◌≡◌};
+ghost use Rattle.role_domain.specs.Domains.{by_text};
+
+use crate::domain::Domain;
+use perm_base::Rule;
+use std::marker::Model;
+
+/// What becomes of a domain.
+#[derive(Drop)]
+pub(crate) enum Step {
+    /// No row has its text any more.
+    Gone,
+    /// A domain whose text no row had.
+    New(Domain),
+    /// An edit of its graph, and how many rows have its text afterwards.
+    Changed {
+        own: u64,
+        edit: role_graph::Prepared,
+    },
+}
+
+/// Edits that `RoleSection::commit` makes. Contracts see the changes of the relation, what becomes of
+/// each domain that these touch, and the rows with a pattern as their domain afterwards.
+#[derive(Drop)]
+pub struct Prepared {
+    changes: policy_table::Prepared,
+    touched: Vec<(Vec<u8>, Step)>,
+    patterns: Vec<Rule>,
+}
+
+impl Model for Prepared {
+    ghost use Rattle.role_domain.specs.Sections.{Draft};
+    ghost use Rattle.role_domain.specs.Domains.{by_text};
+
+    ghost Value = { Draft };
+
+    ghost view = { λ p. record {
+      changes = p.changes;
+      touched = by_text p.touched.items;
+      patterns = p.patterns.items;
+    } };
+}
+
+impl Prepared {
+    pub(crate) fn new(
+        changes: policy_table::Prepared,
+        touched: Vec<(Vec<u8>, Step)>,
+        patterns: Vec<Rule>,
+    ) -> Prepared
+        ensures changes { result.changes ≡ changes }
+        ensures touched { result.touched ≡ by_text touched.items }
+        ensures patterns { result.patterns ≡ patterns.items }
+    {
+        Prepared {
+            changes,
+            touched,
+            patterns,
+        }
+    }
+
+    /// The changes, what becomes of the touched domains, and the rows with a pattern as their domain.
+    pub(crate) fn into_parts(self) -> (policy_table::Prepared, Vec<(Vec<u8>, Step)>, Vec<Rule>)
+        ensures changes { result.0 ≡ self.changes }
+        ensures touched { by_text result.1.items ≡ self.touched }
+        ensures patterns { result.2.items ≡ self.patterns }
+    {
+        (self.changes, self.touched, self.patterns)
+    }
+}

@@ -1,0 +1,8 @@
+use Rattle.role_graph.proofs.Putting.{apart_from, overlay_given}
+use Rattle.role_graph.proofs.edits.Edits.put.Goals as goal
+
+pub invariant_of-self-2 : goal.invariant_of-self-2
+invariant_of-self-2 c = apart_from c.insert.new.self.entries c.in_ok-insert.ensures.unique
+
+pub returns : goal.returns
+returns c = λ name base. overlay_given name base c.self.inside.entries.entries c.insert.new.self.entries c.args.user c.args.roles c.args.self.now c.self.view_is c.in_ok-insert.ensures.entries

@@ -1,0 +1,10 @@
+use Rattle.std.proofs.Common.{subst}
+use Rattle.role_graph.specs.Graph.{Graph, IsGraphFar}
+use Rattle.role_graph.specs.Helps.Kept.{linked_of}
+use Rattle.role_graph.proofs.Answering.{far_told}
+use Rattle.role_graph.proofs.graph.RoleGraph.far.Goals as goal
+
+pub returns-clause-far : goal.returns-clause-far
+returns-clause-far g c =
+    subst (λ (graph : Graph). IsGraphFar graph c.args.x.now c.args.y.now c.unwrap_or.result) c.self.view_is
+    (far_told (linked_of c.self.inside.links) c.args.x.now c.args.y.now c.distance.result c.unwrap_or.result c.unwrap_or.ensures c.distance.ensures)

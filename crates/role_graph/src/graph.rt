@@ -1,0 +1,239 @@
+//! The role graph of one domain.
+
+ghost use Rattle.std.specs.Prelude.{◌≡◌, ◌^◌, false, ◌+◌, ◌<◌, ◌≤◌, ◌↔◌, All, [], IfOk, OnOk, IsTrue, None, length, map};
+ghost use Rattle.std.specs.List.{list_any};
+ghost use Rattle.perm_base.specs.LineEnds.{has_line_end};
+ghost use Rattle.role_meaning.specs.Implied.{AreImplied};
+ghost use Rattle.role_meaning.specs.Links.{HasRoles, role_of};
+ghost use Rattle.policy_table.specs.Limits.{different};
+ghost use Rattle.policy_table.specs.Tables.{Fields};
+ghost use Rattle.role_graph.specs.Groups.{after, times};
+ghost use Rattle.role_graph.specs.Helps.Edits.{standing};
+ghost use Rattle.role_graph.specs.Graph.{GraphReaches, IsGraphFar, IsPreparedFor, most_rows, shape_of};
+
+use crate::edits::Edits;
+use crate::implied::implied;
+use crate::links::Links;
+use crate::prepared::{Prepared, roles_of};
+use crate::roles::Roles;
+use crate::walk::distance;
+use dist_rows::Steps;
+use perm_base::{Fit, NoMemory, Rule, Share, Text};
+use std::alloc::Global;
+use std::marker::Model;
+use std::sync::ledger::Ledger;
+
+/// The greatest number of links that is told.
+const FARTHEST: u8 = 254;
+
+/// The greatest number of different roles in the rows of a graph that is kept.
+const MOST_KEPT_ROLES: usize = 1024;
+
+/// What tells that there are more links than that, or none at all.
+const TOO_FAR: u8 = 255;
+
+/// The rows of a role relation that count in one domain. Contracts see the rows, in an order of the
+/// graph's own, how names are compared with users, and the hierarchy limit.
+#[derive(Drop)]
+pub struct RoleGraph {
+    links: Links,
+    limit: u8,
+    // How many rows have each role, and how many rows there are.
+    roles: Roles,
+    count: usize,
+}
+
+impl Model for RoleGraph {
+    ghost use Rattle.std.specs.Prelude.{min};
+    ghost use Rattle.role_graph.specs.Graph.{Graph};
+    ghost use Rattle.role_graph.specs.Groups.{rows_of};
+    ghost use Rattle.role_graph.specs.Helps.Kept.{IsSound, linked_of};
+
+    ghost Value = { Graph };
+
+    ghost view = { λ g. record {
+      rows = rows_of (linked_of g.links).groups;
+      names = g.links.names;
+      limit = g.limit;
+      spare = min g.links.plain.spare g.links.patterned.spare;
+      spare_roles = g.roles.spare;
+    } };
+
+    ghost invariant = { λ g. IsSound g.links g.limit g.roles g.count };
+}
+
+/// A graph without rows, whose users are compared by `names`. It takes no memory.
+pub fn new_graph(alloc: Global, names: Fit, limit: u8) -> RoleGraph
+    requires some { 1 ≤ limit }
+    requires most { limit ≤ 250 }
+    ensures rows { result.rows ≡ [] }
+    ensures names { result.names ≡ names }
+    ensures limit { result.limit ≡ limit }
+{
+    RoleGraph {
+        links: Links::new(alloc, names),
+        limit,
+        roles: Roles::new(alloc),
+        count: 0,
+    }
+}
+
+impl RoleGraph {
+    /// How names are compared with users.
+    pub fn names(&self) -> Fit
+        ensures { result ≡ self.now.names }
+    {
+        self.links.names()
+    }
+
+    /// The greatest number of links by which a name has a role.
+    pub fn limit(&self) -> u8
+        ensures limit { result ≡ self.now.limit }
+        ensures most { result ≤ 250 }
+    {
+        self.limit
+    }
+
+    /// How many rows there are.
+    pub fn len(&self) -> usize
+        ensures rows { result ≡ length self.now.rows }
+        ensures most { result ≤ most_rows }
+    {
+        self.count
+    }
+
+    /// Whether at most 1,024 different roles stand in the rows.
+    pub fn is_kept(&self) -> bool
+        ensures { IsTrue result ↔ (length (different (map role_of self.now.rows)) ≤ 1024) }
+    {
+        self.roles.different() <= MOST_KEPT_ROLES
+    }
+
+    /// Whether the name has a role: whether it fits the user of some row. It takes no memory.
+    pub fn has_roles(&self, x: &[u8]) -> bool
+        ensures { IsTrue result
+            ↔ HasRoles (shape_of self.now.names) self.now.rows None x.now }
+    {
+        self.links.has_fitting(x)
+    }
+
+    /// Whether the one name reaches the other by at most as many links as the limit says (Casbin,
+    /// `hasLink`). It takes no memory.
+    pub fn linked<L: Ledger>(&self, x: &[u8], y: &[u8], steps: &mut Steps<L>) -> bool
+        ensures found { IsTrue result ↔ GraphReaches self.now self.now.limit x.now y.now }
+        ensures steps { steps.old ≤ steps.new }
+    {
+        distance(&self.links, x, y, self.limit).is_some()
+    }
+
+    /// The least number of links by which the one name reaches the other, or 255 where it is above
+    /// 254 or there is none. It takes no memory.
+    pub fn far<L: Ledger>(&self, x: &[u8], y: &[u8], steps: &mut Steps<L>) -> u8
+        ensures far { IsGraphFar self.now x.now y.now result }
+        ensures steps { steps.old ≤ steps.new }
+    {
+        distance(&self.links, x, y, FARTHEST).unwrap_or(TOO_FAR)
+    }
+
+    /// The names other than `x` that it reaches within the limit, the nearer first, those of one
+    /// distance by bytes (Casbin, implicit roles).
+    pub fn roles_within(&self, alloc: Global, x: &[u8]) -> Result<Rule, NoMemory>
+        ensures { IfOk result (λ names. AreImplied (shape_of self.now.names) self.now.rows
+            self.now.limit None x.now names) }
+    {
+        self.roles.whole_lines();
+        let names = implied(&self.links, alloc, x, self.limit)?;
+        Ok(rule_of(names))
+    }
+
+    /// Prepares to take the rows of `remove` out, each once, and to add those of `insert`. The
+    /// graph stays as it is, whatever the answer, and what was prepared before stays good.
+    pub fn prepare(
+        &mut self,
+        alloc: Global,
+        insert: &[Rule],
+        remove: &[Rule],
+    ) -> Result<Prepared, NoMemory>
+        requires insert { All (λ row. length row ≡ 2) insert.now }
+        requires remove { All (λ row. length row ≡ 2) remove.now }
+        requires stand { (row : Fields) → times row remove.now ≤ times row self.old.rows }
+        requires few { length self.old.rows + length insert.now ≤ most_rows + length remove.now }
+        ensures good { IfOk result (λ prepared. IsPreparedFor self.new prepared) }
+        ensures rows { IfOk result (λ prepared. (row : Fields)
+            → times row (after prepared.changed self.old.rows) + times row remove.now
+            ≡ times row self.old.rows + times row insert.now) }
+        ensures same_rows { self.new.rows ≡ self.old.rows }
+        ensures same_names { self.new.names ≡ self.old.names }
+        ensures same_limit { self.new.limit ≡ self.old.limit }
+        ensures more { self.old.spare ≤ self.new.spare }
+        ensures more_roles { self.old.spare_roles ≤ self.new.spare_roles }
+    {
+        let mut edits = Edits::new(alloc);
+        remove_all(&mut edits, &self.links, alloc, remove)?;
+        add_all(&mut edits, &self.links, alloc, insert)?;
+        let added = roles_of(alloc, insert)?;
+        let removed = roles_of(alloc, remove)?;
+        self.links.reserve(edits.len())?;
+        self.roles.reserve(added.len())?;
+        Ok(Prepared::new(edits, added, removed))
+    }
+
+    /// Makes edits that were prepared for the graph as it stands. It takes no memory.
+    pub fn commit(&mut self, prepared: Prepared)
+        requires { IsPreparedFor self.old prepared }
+        ensures rows { (row : Fields) → times row self.new.rows
+            ≡ times row (after prepared.changed self.old.rows) }
+        ensures names { self.new.names ≡ self.old.names }
+        ensures limit { self.new.limit ≡ self.old.limit }
+    {
+        let (edits, added, removed) = prepared.into_parts();
+        self.count = self.count + added.len() - removed.len();
+        self.roles.add_all(added);
+        self.roles.take_all(&removed);
+        self.links.change(edits);
+    }
+}
+
+impl Share for RoleGraph {}
+
+// Takes rows out that stand, one after the other.
+fn remove_all(
+    edits: &mut Edits,
+    links: &Links,
+    alloc: Global,
+    rows: &[Rule],
+) -> Result<(), NoMemory>
+    requires two { All (λ row. length row ≡ 2) rows.now }
+    requires stand { (row : Fields) → times row rows.now ≤ standing links.now edits.old row }
+    ensures { OnOk result ((row : Fields) → standing links.now edits.new row + times row rows.now
+        ≡ standing links.now edits.old row) }
+{
+    for row in rows {
+        edits.remove(links, alloc, row)?;
+    }
+    Ok(())
+}
+
+// Adds rows, one after the other.
+fn add_all(edits: &mut Edits, links: &Links, alloc: Global, rows: &[Rule]) -> Result<(), NoMemory>
+    requires two { All (λ row. length row ≡ 2) rows.now }
+    ensures { OnOk result ((row : Fields) → standing links.now edits.new row
+        ≡ standing links.now edits.old row + times row rows.now) }
+{
+    for row in rows {
+        edits.add(links, alloc, row)?;
+    }
+    Ok(())
+}
+
+// The rule of texts that may be its fields.
+fn rule_of(fields: Vec<Text>) -> Rule
+    requires few { length fields.items < 2 ^ 32 }
+    requires whole_lines { list_any has_line_end fields.items ≡ false }
+    ensures { result ≡ fields.items }
+{
+    let Ok(rule) = Rule::from_fields(fields) else {
+        unreachable!()
+    };
+    rule
+}

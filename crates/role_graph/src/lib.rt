@@ -1,0 +1,19 @@
+//! The role graph of one domain: its rows, whether they link two names, and how far.
+#![tactic(auto)]
+
+mod edits;
+mod graph;
+mod groups;
+mod implied;
+mod law;
+mod links;
+mod marks;
+mod prepared;
+mod roles;
+mod walk;
+
+pub use dist_rows::Steps;
+pub use graph::{RoleGraph, new_graph};
+pub use law::{rows_as_often_reach_the_same, standing_rows_are_counted};
+pub use prepared::Prepared;
+pub use role_meaning::fits;

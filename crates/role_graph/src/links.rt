@@ -1,0 +1,186 @@
+//! The groups of a graph: those whose users are patterns apart from the others.
+
+ghost use Rattle.std.specs.Prelude.{◌≡◌, ◌+◌, ◌<◌, ◌≤◌, ◌⊎◌, ◌++◌, ◌↔◌, ℕ, List, [], OnOk, IsTrue, get_or, length};
+ghost use Rattle.std.specs.List.{Contains};
+ghost use Rattle.policy_table.specs.Tables.{Fields};
+ghost use Rattle.role_graph.specs.Groups.{after, rows_of, times};
+ghost use Rattle.role_graph.specs.Helps.Kept.{AreApart, AreLinks, HasRoom, linked_of, roles_in};
+ghost use Rattle.role_graph.specs.Helps.Marks.{Extends, IsSet};
+ghost use Rattle.role_graph.specs.Helps.Walks.{FitsAt, no_group};
+
+use crate::edits::Edits;
+use crate::groups::Groups;
+use crate::marks::{Marks, reach};
+use perm_base::{Fit, NoMemory, Share, Text, is_pattern};
+use role_meaning::fits;
+use std::alloc::Global;
+use std::marker::Model;
+
+/// The groups whose users are no patterns, and those whose users are. Contracts see the two parts.
+#[derive(Drop)]
+pub(crate) struct Links {
+    plain: Groups,
+    patterned: Groups,
+    names: Fit,
+}
+
+impl Model for Links {
+    ghost use Rattle.role_graph.specs.Helps.Kept.{AreLinks, Parts};
+
+    ghost Value = { Parts };
+
+    ghost view = { λ l. record { plain = l.plain; patterned = l.patterned; names = l.names } };
+
+    ghost invariant = { λ l. AreLinks l.names l.plain.groups l.patterned.groups };
+}
+
+impl Links {
+    pub(crate) fn new(alloc: Global, names: Fit) -> Links
+        ensures plain { result.plain.groups ≡ [] }
+        ensures patterned { result.patterned.groups ≡ [] }
+        ensures names { result.names ≡ names }
+        ensures sound { AreLinks result.names result.plain.groups result.patterned.groups }
+    {
+        Links {
+            plain: Groups::new(alloc),
+            patterned: Groups::new(alloc),
+            names,
+        }
+    }
+
+    /// How names are compared with users.
+    pub(crate) fn names(&self) -> Fit
+        ensures { result ≡ self.now.names }
+    {
+        self.names
+    }
+
+    /// How many groups there are.
+    pub(crate) fn len(&self) -> usize
+        ensures count { result ≡ length (linked_of self.now).groups }
+        ensures few { result ≤ 200000 }
+        ensures sound { AreLinks self.now.names self.now.plain.groups self.now.patterned.groups }
+    {
+        self.plain.len() + self.patterned.len()
+    }
+
+    /// The roles of a user's rows.
+    pub(crate) fn roles_of(&self, user: &[u8]) -> &[Text]
+        ensures { result.now ≡ roles_in self.now user.now }
+    {
+        if is_pattern(self.names, user) {
+            self.patterned.roles_of(user)
+        } else {
+            self.plain.roles_of(user)
+        }
+    }
+
+    /// Makes room for so many further groups in each part.
+    pub(crate) fn reserve(&mut self, count: usize) -> Result<(), NoMemory>
+        ensures plain { self.new.plain.groups ≡ self.old.plain.groups }
+        ensures patterned { self.new.patterned.groups ≡ self.old.patterned.groups }
+        ensures names { self.new.names ≡ self.old.names }
+        ensures room { OnOk result (HasRoom count self.new) }
+        ensures more_plain { self.old.plain.spare ≤ self.new.plain.spare }
+        ensures more_patterned { self.old.patterned.spare ≤ self.new.patterned.spare }
+        ensures sound { AreLinks self.new.names self.new.plain.groups self.new.patterned.groups }
+    {
+        self.plain.reserve(count)?;
+        self.patterned.reserve(count)
+    }
+
+    /// Gives each user of an edit the roles that it has afterwards.
+    pub(crate) fn change(&mut self, mut edits: Edits)
+        requires once { AreApart edits }
+        requires room { HasRoom (length edits) self.old }
+        requires few { length (after edits (rows_of (linked_of self.old).groups)) ≤ 200000 }
+        ensures names { self.new.names ≡ self.old.names }
+        ensures rows { (row : Fields) → times row (rows_of (linked_of self.new).groups)
+            ≡ times row (after edits (rows_of (linked_of self.old).groups)) }
+        ensures sound { AreLinks self.new.names self.new.plain.groups self.new.patterned.groups }
+    {
+        while let Some((user, roles)) = edits.pop() {
+            if is_pattern(self.names, user.as_slice()) {
+                self.patterned.put(user, roles);
+            } else {
+                self.plain.put(user, roles);
+            }
+        }
+    }
+
+    /// The roles of a group.
+    pub(crate) fn roles_at(&self, group: usize) -> &[Text]
+        requires { group < length (linked_of self.now).groups }
+        ensures { result.now ≡ (get_or (linked_of self.now).groups group no_group).roles }
+    {
+        let count = self.plain.len();
+        if group < count {
+            self.plain.roles_at(group)
+        } else {
+            self.patterned.roles_at(group - count)
+        }
+    }
+
+    /// Marks the groups whose users a name fits, and notes as new those that were not marked.
+    pub(crate) fn mark(&self, name: &[u8], reached: &mut Marks, fresh: &mut Marks)
+        ensures marked { (at : ℕ) → FitsAt (linked_of self.now) name.now at
+            → IsSet reached.new at }
+        ensures marks { Extends (λ at. FitsAt (linked_of self.now) name.now at) reached.old
+            fresh.old reached.new fresh.new }
+    {
+        self.mark_text(name, reached, fresh);
+        self.mark_patterns(name, reached, fresh);
+    }
+
+    /// Whether a name fits the user of some group.
+    pub(crate) fn has_fitting(&self, name: &[u8]) -> bool
+        ensures { IsTrue result ↔ ((at : ℕ) × FitsAt (linked_of self.now) name.now at) }
+    {
+        if let Some(_place) = self.plain.place_of(name) {
+            return true;
+        }
+        self.has_pattern_for(name)
+    }
+
+    // Whether a name fits the user of a group that is a pattern.
+    fn has_pattern_for(&self, name: &[u8]) -> bool
+        ensures { IsTrue result ↔ ((at : ℕ) × (length self.now.plain.groups ≤ at)
+            × FitsAt (linked_of self.now) name.now at) }
+    {
+        for at in 0..self.patterned.len() {
+            if fits(self.names, name, self.patterned.user_at(at)) {
+                return true;
+            }
+        }
+        false
+    }
+
+    // Marks the group whose user is a name, unless it is marked.
+    fn mark_text(&self, name: &[u8], reached: &mut Marks, fresh: &mut Marks)
+        ensures marked { (at : ℕ) → at < length self.now.plain.groups
+            → FitsAt (linked_of self.now) name.now at → IsSet reached.new at }
+        ensures marks { Extends (λ at. FitsAt (linked_of self.now) name.now at) reached.old
+            fresh.old reached.new fresh.new }
+    {
+        if let Some(at) = self.plain.place_of(name) {
+            reach(at, reached, fresh);
+        }
+    }
+
+    // Marks the groups whose users are patterns that a name fits.
+    fn mark_patterns(&self, name: &[u8], reached: &mut Marks, fresh: &mut Marks)
+        ensures marked { (at : ℕ) → length self.now.plain.groups ≤ at
+            → FitsAt (linked_of self.now) name.now at → IsSet reached.new at }
+        ensures marks { Extends (λ at. FitsAt (linked_of self.now) name.now at) reached.old
+            fresh.old reached.new fresh.new }
+    {
+        let count = self.plain.len();
+        for at in 0..self.patterned.len() {
+            if fits(self.names, name, self.patterned.user_at(at)) {
+                reach(count + at, reached, fresh);
+            }
+        }
+    }
+}
+
+impl Share for Links {}

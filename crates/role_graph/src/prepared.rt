@@ -1,0 +1,69 @@
+//! Edits of a graph that are prepared.
+
+ghost use Rattle.std.specs.Prelude.{◌≡◌, false, All, IfOk, length, map};
+ghost use Rattle.std.specs.List.{list_any};
+ghost use Rattle.perm_base.specs.LineEnds.{has_line_end};
+ghost use Rattle.role_meaning.specs.Links.{role_of};
+ghost use Rattle.role_graph.specs.Graph.{Edit};
+
+use crate::edits::Edits;
+use perm_base::{NoMemory, Rule, Text};
+use std::alloc::Global;
+use std::marker::Model;
+
+/// An edit of a graph that `RoleGraph::commit` makes. Contracts see the users whose rows change, each
+/// with the roles that it has afterwards, and the roles of the rows that come and of those that go.
+#[derive(Drop)]
+pub struct Prepared {
+    edits: Edits,
+    added: Vec<Text>,
+    removed: Vec<Text>,
+}
+
+impl Model for Prepared {
+    ghost use Rattle.role_graph.specs.Graph.{Edit};
+
+    ghost Value = { Edit };
+
+    ghost view = { λ p. record {
+      changed = p.edits;
+      added = p.added.items;
+      removed = p.removed.items;
+    } };
+}
+
+impl Prepared {
+    pub(crate) fn new(edits: Edits, added: Vec<Text>, removed: Vec<Text>) -> Prepared
+        ensures changed { result.changed ≡ edits }
+        ensures added { result.added ≡ added.items }
+        ensures removed { result.removed ≡ removed.items }
+    {
+        Prepared {
+            edits,
+            added,
+            removed,
+        }
+    }
+
+    /// The users whose rows change, the roles of the rows that come, and of those that go.
+    pub(crate) fn into_parts(self) -> (Edits, Vec<Text>, Vec<Text>)
+        ensures changed { result.0 ≡ self.changed }
+        ensures added { result.1.items ≡ self.added }
+        ensures removed { result.2.items ≡ self.removed }
+    {
+        (self.edits, self.added, self.removed)
+    }
+}
+
+/// The roles of rows.
+pub(crate) fn roles_of(alloc: Global, rows: &[Rule]) -> Result<Vec<Text>, NoMemory>
+    requires { All (λ row. length row ≡ 2) rows.now }
+    ensures roles { IfOk result (λ roles. roles.items ≡ map role_of rows.now) }
+    ensures whole_lines { IfOk result (λ roles. list_any has_line_end roles.items ≡ false) }
+{
+    let mut roles = Vec::with_capacity(alloc, rows.len())?;
+    for row in rows {
+        roles.push(Text::from_str(alloc, row.text(1))?)?;
+    }
+    Ok(roles)
+}

@@ -1,0 +1,91 @@
+-- The version that is out, and the published edits.
+use Rattle.std.proofs.Common.{◌≡◌, ℕ, ◌+◌, ◌-◌, ◌≤◌, Bool, true, false, not, cond, List, [], ◌∷◌, ◌++◌, length, length-append, take, take_all, drop, refl, sym, ap, ◌∙◌, arith}
+use Rattle.std.specs.List.{before_last, prefix_len, suffix_len}
+use Rattle.std.proofs.lemmas.List.{reverse-append, take-append-drop, take-append-le}
+use Rattle.perm_base.specs.declared.shapes.Shapes.{Shapes}
+use Rattle.policy_table.specs.Changes.{replay}
+use Rattle.policy_table.specs.Tables.{Policy}
+use Rattle.policy_table.specs.declared.change.Change.{Change}
+use Rattle.script_read.specs.Said.{Said}
+use Rattle.script_read.specs.Said as said
+use Rattle.session_meaning.specs.Desks.{history}
+use Rattle.session_meaning.specs.Given.{given}
+use Rattle.session_meaning.specs.Versions.{is_publish, out, published}
+use Rattle.session_meaning.proofs.GivenLemmas.{Begins, given_both, given_none}
+
+-- ---- what stands before the last of a kind, behind one item more
+
+front_of : {X : Type 0} (xs ys : List X) → take (length xs) (xs ++ ys) ≡ xs
+front_of xs ys = take-append-le (length xs) xs ys (omega arith) ∙ take_all (length xs) xs (omega arith)
+
+suffix_more : {X : Type 0} (p : X → Bool) (xs : List X) (x : X) → suffix_len p (xs ++ x ∷ []) ≡ cond (p x) (1 + suffix_len p xs) 0
+suffix_more p xs x = ap (prefix_len p) (reverse-append xs (x ∷ []))
+
+last_here : {X : Type 0} (p : X → Bool) (xs : List X) (x : X) → p x ≡ true → before_last p (xs ++ x ∷ []) ≡ xs
+last_here {X} p xs x is =
+    let none : suffix_len (λ (y : X). not (p y)) (xs ++ x ∷ []) ≡ 0 = suffix_more (λ (y : X). not (p y)) xs x ∙ ap (λ (b : Bool). cond (not b) (1 + suffix_len (λ (y : X). not (p y)) xs) 0) is in
+    let size : length (xs ++ x ∷ []) - suffix_len (λ (y : X). not (p y)) (xs ++ x ∷ []) - 1 ≡ length xs = omega (arith, none, length-append xs (x ∷ [])) in
+    ap (λ (n : ℕ). take n (xs ++ x ∷ [])) size ∙ front_of xs (x ∷ [])
+
+last_before : {X : Type 0} (p : X → Bool) (xs : List X) (x : X) → p x ≡ false → before_last p (xs ++ x ∷ []) ≡ before_last p xs
+last_before {X} p xs x is =
+    let more : suffix_len (λ (y : X). not (p y)) (xs ++ x ∷ []) ≡ 1 + suffix_len (λ (y : X). not (p y)) xs = suffix_more (λ (y : X). not (p y)) xs x ∙ ap (λ (b : Bool). cond (not b) (1 + suffix_len (λ (y : X). not (p y)) xs) 0) is in
+    let size : length (xs ++ x ∷ []) - suffix_len (λ (y : X). not (p y)) (xs ++ x ∷ []) - 1 ≡ length xs - suffix_len (λ (y : X). not (p y)) xs - 1 = omega (arith, more, length-append xs (x ∷ [])) in
+    ap (λ (n : ℕ). take n (xs ++ x ∷ [])) size ∙ take-append-le (length xs - suffix_len (λ (y : X). not (p y)) xs - 1) xs (x ∷ []) (omega arith)
+
+module _ (shapes : Shapes) (opening : Policy) where
+  -- ---- one item more
+
+  pub out_none : out shapes opening [] ≡ 0
+  unfolding out
+  out_none = ap (λ (l : List (List Change)). length l) (given_none shapes opening)
+
+  pub out_publish : (before : List Said) → out shapes opening (before ++ said.publishes ∷ []) ≡ length (given shapes opening before)
+  unfolding out
+  out_publish before = ap (λ (l : List Said). length (given shapes opening l)) (last_here is_publish before said.publishes refl)
+
+  pub out_same : (before : List Said) (item : Said) → is_publish item ≡ false → out shapes opening (before ++ item ∷ []) ≡ out shapes opening before
+  unfolding out
+  out_same before item other = ap (λ (l : List Said). length (given shapes opening l)) (last_before is_publish before item other)
+
+  -- ---- the published edits
+
+  -- the edits given at the last publish are the first of all
+  first_given : (items : List Said) → Begins (given shapes opening (before_last is_publish items)) (given shapes opening items)
+  first_given items =
+      let at : ℕ = length items - suffix_len (λ (y : Said). not (is_publish y)) items - 1 in
+      let more = given_both shapes opening (take at items) (drop at items) in
+      (more.0, ap (given shapes opening) (sym (take-append-drop at items)) ∙ more.1)
+
+  -- the version that is out has edits that are given
+  pub out_among : (items : List Said) → out shapes opening items ≤ length (given shapes opening items)
+  unfolding out
+  out_among items =
+      let more = first_given items in
+      omega (arith, ap (λ (l : List (List Change)). length l) more.1, length-append (given shapes opening (before_last is_publish items)) more.0)
+
+  -- the published edits are those given at the last publish
+  history_is : (items : List Said) → history shapes opening items ≡ given shapes opening (before_last is_publish items)
+  unfolding out
+  history_is items =
+      let more = first_given items in
+      ap (take (length (given shapes opening (before_last is_publish items)))) more.1 ∙ front_of (given shapes opening (before_last is_publish items)) more.0
+
+  pub history_none : history shapes opening [] ≡ []
+  history_none = history_is [] ∙ given_none shapes opening
+
+  -- a publish publishes all edits that are given
+  pub history_publish : (before : List Said) → history shapes opening (before ++ said.publishes ∷ []) ≡ given shapes opening before
+  history_publish before = history_is (before ++ said.publishes ∷ []) ∙ ap (given shapes opening) (last_here is_publish before said.publishes refl)
+
+  -- all else leaves them
+  pub history_same : (before : List Said) (item : Said) → is_publish item ≡ false → history shapes opening (before ++ item ∷ []) ≡ history shapes opening before
+  history_same before item other =
+      history_is (before ++ item ∷ []) ∙ ap (given shapes opening) (last_before is_publish before item other) ∙ sym (history_is before)
+
+  -- the published tables behind a publish are the drafts before it
+  pub published_publish : (before : List Said) → published shapes opening (before ++ said.publishes ∷ []) ≡ replay (given shapes opening before) opening
+  published_publish before = ap (λ (l : List (List Change)). replay l opening) (history_publish before)
+
+  pub published_same : (before : List Said) (item : Said) → is_publish item ≡ false → published shapes opening (before ++ item ∷ []) ≡ published shapes opening before
+  published_same before item other = ap (λ (l : List (List Change)). replay l opening) (history_same before item other)
