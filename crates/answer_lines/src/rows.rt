@@ -6,7 +6,7 @@ ghost use Rattle.answer_lines.specs.Told.{has_name};
 ghost use Rattle.version_log.specs.EditText.{change_items, item_lines};
 
 use crate::pieces::push_counted;
-use perm_base::{NoMemory, Rule, Rules, TableId, push_fields};
+use perm_base::{NoMemory, Rule, Rules, TableId, push_fields, push_named};
 use policy_table::{Change, Edit};
 
 /// Appends a word, a version and names.
@@ -115,10 +115,5 @@ fn push_row(text: &mut String, sign: &str, name: &str, rule: &Rule) -> Result<()
 {
     text.push_str("\n  ")?;
     text.push_str(sign)?;
-    text.push_str(name)?;
-    if rule.fields().is_empty() {
-        return Ok(());
-    }
-    text.push_str(", ")?;
-    push_fields(text, rule)
+    push_named(text, name, rule)
 }

@@ -1,4 +1,4 @@
-//! Answers the requests on standard input by the model and the policy in two files.
+//! Answers requests and scripts on standard input by the model and the policy in two files, and shows models and policies.
 #![tactic(auto)]
 
 ghost use Rattle.std.specs.Prelude.{◌≡◌, IfOk, length};
@@ -10,9 +10,10 @@ mod write_sink;
 use crate::file_shelf::FileShelf;
 use crate::read_source::ReadSource;
 use crate::write_sink::WriteSink;
-use casbin_run::{Status, run_casbin};
+use casbin_run::run_casbin;
 use perm_base::NoMemory;
 use regex_gate::RegexFinder;
+use run_status::{Status, Stop, tell_stop};
 use std::alloc::Global;
 use std::process::ExitCode;
 use std::{env, io};
@@ -26,14 +27,13 @@ fn main(rt: HostRuntime) -> ExitCode {
 
 fn run(rt: &HostRuntime) -> Status {
     let alloc = rt.alloc();
-    // Words that are not UTF-8 name no file here.
+    let mut err = WriteSink::new(rt.stderr());
     let words = match words(rt, alloc) {
         Ok(words) => words,
-        Err(error) if error.kind() == io::ErrorKind::OutOfMemory => return Status::NoMemory,
-        Err(_) => return Status::Words,
+        Err(stop) => return tell_stop(&mut err, stop),
     };
     let Ok(mut finders) = finders(alloc) else {
-        return Status::NoMemory;
+        return tell_stop(&mut err, Stop::NoMemory);
     };
     run_casbin(
         alloc,
@@ -41,7 +41,7 @@ fn run(rt: &HostRuntime) -> Status {
         &mut FileShelf::new(rt),
         &mut ReadSource::new(rt.stdin()),
         &mut WriteSink::new(rt.stdout()),
-        &mut WriteSink::new(rt.stderr()),
+        &mut err,
         &mut finders,
     )
 }
@@ -57,8 +57,16 @@ fn finders(alloc: Global) -> Result<Vec<RegexFinder>, NoMemory>
     Ok(finders)
 }
 
-// The words behind the program's name.
-fn words(rt: &HostRuntime, alloc: Global) -> io::Result<Vec<String>> {
+// The words behind the program's name. Those that are not UTF-8 name no file here, and are no command.
+fn words(rt: &HostRuntime, alloc: Global) -> Result<Vec<String>, Stop> {
+    match all_words(rt, alloc) {
+        Ok(words) => Ok(words),
+        Err(error) if error.kind() == io::ErrorKind::OutOfMemory => Err(Stop::NoMemory),
+        Err(_) => Err(Stop::Words),
+    }
+}
+
+fn all_words(rt: &HostRuntime, alloc: Global) -> io::Result<Vec<String>> {
     let mut words = Vec::new(alloc);
     for word in env::args(rt)?.skip(1) {
         words.push(word)?;

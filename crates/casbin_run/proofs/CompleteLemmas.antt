@@ -1,77 +1,83 @@
--- Where no count rose, the status is the one that the told words, files and input give.
-use Rattle.std.proofs.Common.{◌≡◌, ℕ, List, inl, inr, ⊎_elim, ap, ◌∙◌, refl}
-use Rattle.std.specs.Prelude.{◌⊎◌, Option, Some, None, IsSome}
-use Rattle.outside.specs.Files.{Files}
+-- Where no count rose, the status is the one that what is given has.
+use Rattle.std.proofs.Common.{◌≡◌, ℕ, List, [], inl, inr, ⊎_elim, refl, ap, ◌∙◌}
+use Rattle.std.specs.Prelude.{◌⊎◌, Contains, IsSome}
+use Rattle.live_round.proofs.CallerLemmas.{judged_stays}
 use Rattle.outside.specs.Told.{with_back}
-use Rattle.casbin_run.specs.declared.status.Status.TheVariants as statuses
-use Rattle.casbin_run.specs.declared.stop.Part.TheVariants.{Model, Policy, Input}
-use Rattle.casbin_run.specs.declared.stop.Stop.{Stop}
-use Rattle.casbin_run.specs.declared.stop.Stop.TheVariants.{CannotRead, CannotWrite, NoMemory}
-use Rattle.casbin_run.specs.Answers.{IsAnswered, IsInOrder, TookAll}
-use Rattle.casbin_run.specs.Cause.{Cause, Fault, EndsBy}
-use Rattle.casbin_run.specs.Finders.{IsBad, NoneBad, RoseBy, Searches}
-use Rattle.casbin_run.specs.Message.{status_of}
-use Rattle.casbin_run.proofs.EndLemmas.{answered_more}
+use Rattle.run_status.specs.Statuses.{status_of}
+use Rattle.run_status.specs.declared.part.Part.TheVariants.{Model, Policy, Input}
+use Rattle.run_status.specs.declared.status.Status.{Status}
+use Rattle.run_status.specs.declared.status.Status.TheVariants as statuses
+use Rattle.run_status.specs.declared.stop.Stop.{Stop}
+use Rattle.run_status.specs.declared.stop.Stop.TheVariants.{CannotRead, CannotWrite, NoMemory}
+use Rattle.session_meaning.proofs.CallerLemmas.{plain_stays}
+use Rattle.casbin_run.specs.Answered.{IsAnswered, TookAll}
+use Rattle.casbin_run.specs.Causes.{Cause, EndsBy, Fault}
+use Rattle.casbin_run.specs.Ends.{Ends, HasStopped, IsDone}
+use Rattle.casbin_run.specs.Finders.{IsBad, RoseTogether}
+use Rattle.casbin_run.specs.Given.{Given, IsInOrder}
+use Rattle.casbin_run.specs.Jobs.{shapes_with}
+use Rattle.casbin_run.specs.Worlds.{InputRose, OutRose, ShelfRose, Taken, World}
 
--- the law of one end
+-- what is given has one end
 pub record HasOneEnd : Type 0 where
-  pub one_cause : (words : List (List ℕ)) (files : Files) (input : List ℕ) (first second : Stop) → Cause words (Some files) (Some input) first → Cause words (Some files) (Some input) second → first ≡ second
-  pub no_cause : (words : List (List ℕ)) (files : Files) (input : List ℕ) (stop : Stop) → IsInOrder words (Some files) (Some input) → ¬ (Cause words (Some files) (Some input) stop)
-  pub one_text : (words : List (List ℕ)) (files : Files) (input first second : List ℕ) → IsAnswered words (Some files) (Some input) NoneBad first → IsAnswered words (Some files) (Some input) NoneBad second → first ≡ second
+  pub one_cause : (g : Given) (first second : Stop) → IsSome g.files → IsSome g.input → Cause g first → Cause g second → first ≡ second
+  pub no_cause : (g : Given) (stop : Stop) → IsSome g.files → IsSome g.input → IsInOrder g → ¬ (Cause g stop)
+  pub one_text : (g : Given) (first second : List ℕ) → IsSome g.files → IsSome g.input → IsAnswered g (Contains []) first → IsAnswered g (Contains []) second → first ≡ second
 
-told_one_cause : HasOneEnd → (words : List (List ℕ)) (files : Option Files) (input : Option (List ℕ)) (first second : Stop) → IsSome files → IsSome input → Cause words files input first → Cause words files input second → first ≡ second
-told_one_cause law words None input first second told read p q = absurd cc
-told_one_cause law words (Some files) None first second told read p q = absurd cc
-told_one_cause law words (Some files) (Some input) first second told read p q = law.one_cause words files input first second p q
+-- the shelf or the input failed
+abbrev pub ReadRose : World → World → Type 0
+ReadRose before now = ShelfRose before now ⊎ InputRose before now
 
-told_no_cause : HasOneEnd → (words : List (List ℕ)) (files : Option Files) (input : Option (List ℕ)) (stop : Stop) → IsSome files → IsSome input → IsInOrder words files input → Cause words files input stop → ⊥
-told_no_cause law words None input stop told read is cause = absurd cc
-told_no_cause law words (Some files) None stop told read is cause = absurd cc
-told_no_cause law words (Some files) (Some input) stop told read is cause = law.no_cause words files input stop is cause
+-- the status is that of the cause, or memory ran out, or something could not be read
+abbrev pub IsOf : World → World → Status → Stop → Type 0
+IsOf before now status stop = (status ≡ status_of stop) ⊎ ((status ≡ statuses.NoMemory) ⊎ ((status ≡ statuses.ReadFault) × ReadRose before now))
 
-told_one_text : HasOneEnd → (words : List (List ℕ)) (files : Option Files) (input : Option (List ℕ)) (first second : List ℕ) → IsSome files → IsSome input → IsAnswered words files input NoneBad first → IsAnswered words files input NoneBad second → first ≡ second
-told_one_text law words None input first second told read p q = absurd cc
-told_one_text law words (Some files) None first second told read p q = absurd cc
-told_one_text law words (Some files) (Some input) first second told read p q = law.one_text words files input first second p q
+module _ (law : HasOneEnd) (g : Given) (files : IsSome g.files) (input : IsSome g.input) (before now : World) where
+  -- beside a cause the only faults are those of reading
+  read_or_memory : (stopped stop : Stop) → Fault g before now stopped → Cause g stop → (status_of stopped ≡ statuses.NoMemory) ⊎ ((status_of stopped ≡ statuses.ReadFault) × ReadRose before now)
+  read_or_memory (CannotRead Model) stop fault cause = inr (refl, inl fault.2)
+  read_or_memory (CannotRead Policy) stop fault cause = inr (refl, inl fault.2.2)
+  read_or_memory (CannotRead Input) stop fault cause = inr (refl, inr fault.2.3.1)
+  read_or_memory CannotWrite stop fault cause = absurd (law.no_cause g stop files input fault.0.answers.answered.in_order cause)
+  read_or_memory NoMemory stop fault cause = inl refl
+  read_or_memory _ stop fault cause = absurd fault
 
--- with no fault of the outside, only want of memory is left
-only_memory : (words : List (List ℕ)) (files : Option Files) (input : Option (List ℕ)) (s : Searches) (out out_now : Option (List ℕ)) (shelf source sink : Type 0) (stop : Stop) → ¬ shelf → ¬ source → ¬ sink → Fault words files input s out out_now shelf source sink stop → status_of stop ≡ statuses.NoMemory
-only_memory words files input s out out_now shelf source sink (CannotRead Model) no-shelf no-source no-sink fault = absurd (no-shelf fault.2)
-only_memory words files input s out out_now shelf source sink (CannotRead Policy) no-shelf no-source no-sink fault = absurd (no-shelf fault.2.2)
-only_memory words files input s out out_now shelf source sink (CannotRead Input) no-shelf no-source no-sink fault = absurd (no-source fault.2.2.2)
-only_memory words files input s out out_now shelf source sink CannotWrite no-shelf no-source no-sink fault = absurd (no-sink fault.1)
-only_memory words files input s out out_now shelf source sink NoMemory no-shelf no-source no-sink fault = refl
-only_memory words files input s out out_now shelf source sink _ no-shelf no-source no-sink fault = absurd fault
+  -- without faults of the outside only want of memory is left
+  only_memory : (stopped : Stop) → ¬ (ShelfRose before now) → ¬ (InputRose before now) → ¬ (OutRose before now) → Fault g before now stopped → status_of stopped ≡ statuses.NoMemory
+  only_memory (CannotRead Model) shelf source out fault = absurd (shelf fault.2)
+  only_memory (CannotRead Policy) shelf source out fault = absurd (shelf fault.2.2)
+  only_memory (CannotRead Input) shelf source out fault = absurd (source fault.2.3.1)
+  only_memory CannotWrite shelf source out fault = absurd (out fault.1)
+  only_memory NoMemory shelf source out fault = refl
+  only_memory _ shelf source out fault = absurd fault
 
-pub exact_done : HasOneEnd → (words : List (List ℕ)) (files : Option Files) (input : Option (List ℕ)) (s : Searches) (out out_now : Option (List ℕ)) (stop : Stop) → TookAll words files input s out out_now → IsSome files → IsSome input → Cause words files input stop → ⊥
-exact_done law words files input s out out_now stop took told read cause = told_no_cause law words files input stop told read took.answered.in_order cause
+  module _ (err err_now : Taken) where
+    exact_stopped : (status : Status) (stop : Stop) → HasStopped g before now err err_now status → Cause g stop → IsOf before now status stop
+    unfolding EndsBy
+    exact_stopped status stop is cause =
+        ⊎_elim (λ own. inl (is.status_is ∙ ap status_of (law.one_cause g is.stop stop files input own cause)))
+        (λ fault. ⊎_elim (λ memory. inr (inl (is.status_is ∙ memory))) (λ read. inr (inr (is.status_is ∙ read.0, read.1))) (read_or_memory is.stop stop fault cause)) is.cause
 
--- where no finder's count rose, no pattern counts as refused
-pub complete_done : HasOneEnd → (words : List (List ℕ)) (files : Option Files) (input : Option (List ℕ)) (s : Searches) (out out_now : Option (List ℕ)) (text : List ℕ) → TookAll words files input s out out_now → IsSome files → IsSome input
-    → ¬ (RoseBy 1 s.before s.now) → IsAnswered words files input NoneBad text → out_now ≡ with_back out text
-complete_done law words files input s out out_now text took told read still is =
-    took.took ∙ ap (with_back out) (told_one_text law words files input took.text text told read (answered_more words files input (IsBad s.before s.now) NoneBad (λ pattern bad. still bad.0) took.text took.answered) is)
+    pub exact : (status : Status) (stop : Stop) → Ends g before now err err_now status → Cause g stop → IsOf before now status stop
+    exact statuses.Done stop ends cause = absurd (law.no_cause g stop files input ends.all.answers.answered.in_order cause)
+    exact other stop ends cause = exact_stopped other stop ends cause
 
--- where there is a cause, the only faults are those of reading
-read_or_memory : HasOneEnd → (words : List (List ℕ)) (files : Option Files) (input : Option (List ℕ)) (s : Searches) (out out_now : Option (List ℕ)) (shelf source sink : Type 0) (given stop : Stop) → Fault words files input s out out_now shelf source sink given → IsSome files → IsSome input
-    → Cause words files input stop → (status_of given ≡ statuses.NoMemory) ⊎ ((status_of given ≡ statuses.ReadFault) × (shelf ⊎ source))
-read_or_memory law words files input s out out_now shelf source sink (CannotRead Model) stop fault told read cause = inr (refl, inl fault.2)
-read_or_memory law words files input s out out_now shelf source sink (CannotRead Policy) stop fault told read cause = inr (refl, inl fault.2.2)
-read_or_memory law words files input s out out_now shelf source sink (CannotRead Input) stop fault told read cause = inr (refl, inr fault.2.2.2)
-read_or_memory law words files input s out out_now shelf source sink CannotWrite stop fault told read cause = absurd (told_no_cause law words files input stop told read fault.0.answered.in_order cause)
-read_or_memory law words files input s out out_now shelf source sink NoMemory stop fault told read cause = inl refl
-read_or_memory law words files input s out out_now shelf source sink _ stop fault told read cause = absurd fault
+    complete_stopped : (status : Status) → HasStopped g before now err err_now status → IsInOrder g → ¬ (ShelfRose before now) → ¬ (InputRose before now) → ¬ (OutRose before now) → status ≡ statuses.NoMemory
+    unfolding EndsBy
+    complete_stopped status is order shelf source out =
+        ⊎_elim (λ own. absurd (law.no_cause g is.stop files input order own)) (λ fault. is.status_is ∙ only_memory is.stop shelf source out fault) is.cause
 
-pub exact_stopped : HasOneEnd → (words : List (List ℕ)) (files : Option Files) (input : Option (List ℕ)) (s : Searches) (out out_now : Option (List ℕ)) (shelf source sink : Type 0) (given stop : Stop) → EndsBy words files input s out out_now shelf source sink given → IsSome files → IsSome input
-    → Cause words files input stop → (status_of given ≡ status_of stop) ⊎ ((status_of given ≡ statuses.NoMemory) ⊎ ((status_of given ≡ statuses.ReadFault) × (shelf ⊎ source)))
-unfolding EndsBy
-exact_stopped law words files input s out out_now shelf source sink given stop ends told read cause =
-    ⊎_elim (λ own. inl (ap status_of (told_one_cause law words files input given stop told read own cause)))
-    (λ fault. inr (read_or_memory law words files input s out out_now shelf source sink given stop fault told read cause)) ends
+    pub complete : (status : Status) → Ends g before now err err_now status → IsInOrder g → ¬ (ShelfRose before now) → ¬ (InputRose before now) → ¬ (OutRose before now) → (status ≡ statuses.Done) ⊎ (status ≡ statuses.NoMemory)
+    complete statuses.Done ends order shelf source out = inl refl
+    complete other ends order shelf source out = inr (complete_stopped other ends order shelf source out)
 
-pub complete_stopped : HasOneEnd → (words : List (List ℕ)) (files : Option Files) (input : Option (List ℕ)) (s : Searches) (out out_now : Option (List ℕ)) (shelf source sink : Type 0) (given : Stop) → EndsBy words files input s out out_now shelf source sink given → IsSome files → IsSome input
-    → IsInOrder words files input → ¬ shelf → ¬ source → ¬ sink → status_of given ≡ statuses.NoMemory
-unfolding EndsBy
-complete_stopped law words files input s out out_now shelf source sink given ends told read is no-shelf no-source no-sink =
-    ⊎_elim (λ own. absurd (told_no_cause law words files input given told read is own))
-    (λ fault. only_memory words files input s out out_now shelf source sink given no-shelf no-source no-sink fault) ends
+    -- where no finder's count rose, no pattern counts as refused
+    pub text_is : (text : List ℕ) → Ends g before now err err_now statuses.Done → ¬ (RoseTogether before.finders now.finders 1) → IsAnswered g (Contains []) text → now.out.bytes ≡ with_back before.out.bytes text
+    text_is text done still is =
+        let answered = done.all.answers.answered in
+        let order = answered.in_order in
+        let calm : (pattern : List ℕ) → IsBad before.finders now.finders pattern → Contains [] pattern = λ pattern bad. absurd (still bad.0) in
+        let shapes = shapes_with order.job.options order.model in
+        let plain = plain_stays order.model shapes order.policy (IsBad before.finders now.finders) (Contains []) (judged_stays order.model shapes (IsBad before.finders now.finders) (Contains []) calm) order.items answered.lines answered.plain in
+        let same : done.all.answers.text ≡ text = law.one_text g done.all.answers.text text files input (record { in_order = order; lines = answered.lines; plain = plain; spelled = answered.spelled }) is in
+        done.all.took ∙ ap (with_back before.out.bytes) same

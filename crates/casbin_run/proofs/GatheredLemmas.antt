@@ -1,16 +1,9 @@
 -- A text that is gathered and pushed piece by piece.
-use Rattle.std.proofs.Common.{◌≡◌, ℕ, ◌≤◌, List, [], ◌++◌, refl, sym, append_assoc, arith}
+use Rattle.std.proofs.Common.{◌≡◌, ℕ, suc, ◌+◌, ◌<◌, ◌≤◌, List, [], ◌∷◌, ◌++◌, drop, drop-cons, get_or, length, refl, sym, ap, ◌∙◌, append_assoc, append-nil, arith}
 use Rattle.std.specs.Prelude.{Option}
-use Rattle.std.proofs.lemmas.List.{append-nil}
 use Rattle.outside.specs.Told.{with_back, TookFront}
 use Rattle.outside.proofs.CallerLemmas.{with_back-append, with_back-nothing}
-
--- what was pushed and what is gathered are the text so far
-pub record IsGathered (before now : Option (List ℕ)) (gathered so_far : List ℕ) (faults_before faults_now : ℕ) : Type 0 where
-  pub pushed : List ℕ
-  pub took : now ≡ with_back before pushed
-  pub parts : pushed ++ gathered ≡ so_far
-  pub counted : faults_before ≤ faults_now
+use Rattle.casbin_run.specs.Helps.Gathering.{IsGathered, Moves}
 
 pub gathered_none : (before : Option (List ℕ)) (gathered : List ℕ) (faults : ℕ) → gathered ≡ [] → IsGathered before before gathered [] faults faults
 gathered_none before gathered faults none = record { pushed = []; took = with_back-nothing before; parts = rw none refl; counted = omega arith }
@@ -23,12 +16,19 @@ gathered_more before now gathered so_far line more a b so more-is = record {
   counted = so.counted;
 }
 
-pub gathered_pushed : (before mid now : Option (List ℕ)) (gathered left so_far : List ℕ) (a b c : ℕ) → IsGathered before mid gathered so_far a b → now ≡ with_back mid gathered → left ≡ [] → b ≤ c → IsGathered before now left so_far a c
-gathered_pushed before mid now gathered left so_far a b c so took none counted = record {
-  pushed = so.pushed ++ gathered;
-  took = rw (took, so.took) (with_back-append before so.pushed gathered);
-  parts = rw (none, so.parts) (append-nil so_far);
-  counted = omega (arith, so.counted);
+-- nothing was pushed, or all of it
+pub moves_none : (before : Option (List ℕ)) (text : List ℕ) → Moves before before text text
+moves_none before text = record { pushed = []; took = with_back-nothing before; parts = refl }
+
+pub moves_all : (before now : Option (List ℕ)) (old new : List ℕ) → now ≡ with_back before old → new ≡ [] → Moves before now old new
+moves_all before now old new took none = record { pushed = old; took = took; parts = rw none (sym (append-nil old)) }
+
+pub gathered_moved : (before mid now : Option (List ℕ)) (gathered left so_far : List ℕ) (a b c : ℕ) → IsGathered before mid gathered so_far a b → Moves mid now gathered left → b ≤ c → IsGathered before now left so_far a c
+gathered_moved before mid now gathered left so_far a b c so moved counted = record {
+  pushed = so.pushed ++ moved.pushed;
+  took = rw (moved.took, so.took) (with_back-append before so.pushed moved.pushed);
+  parts = rw (← so.parts, moved.parts) (append_assoc so.pushed moved.pushed left);
+  counted = omega (arith, so.counted, counted);
 }
 
 pub all_pushed : (before mid now : Option (List ℕ)) (gathered so_far : List ℕ) (a b : ℕ) → IsGathered before mid gathered so_far a b → now ≡ with_back mid gathered → now ≡ with_back before so_far
@@ -44,3 +44,9 @@ stopped_front before mid now gathered so_far more a b so front = record {
   parts = rw (← so.parts, front.parts) (simp append_assoc);
   took = rw (front.took, so.took) (with_back-append before so.pushed front.front);
 }
+
+-- the next of what is left of a list
+pub next_left : {X : Type 0} (xs : List X) (i : ℕ) (x : X) → i < length xs → x ≡ get_or xs i x → drop i xs ≡ x ∷ drop (i + 1) xs
+next_left xs i x within is =
+    let next : suc i ≡ i + 1 = omega arith in
+    drop-cons xs i x within ∙ ap (λ y. y ∷ drop (suc i) xs) (sym is) ∙ ap (λ (n : ℕ). x ∷ drop n xs) next

@@ -1,30 +1,32 @@
--- Told words, files and input have one end: what is read comes to one state at each part, and the states to one end.
-use Rattle.std.proofs.Common.{◌≡◌, ℕ, ◌<◌, ◌≤◌, Bool, true, false, List, length, refl, sym, ap, subst, ◌∙◌, arith}
-use Rattle.std.specs.Prelude.{IsUtf8, Option, Some, None}
+-- What is given has one end: what is read comes to one state at each part, and the states to one end.
+use Rattle.std.proofs.Common.{◌≡◌, ℕ, ◌<◌, ◌≤◌, Bool, true, false, List, [], length, refl, sym, ap, subst, ◌∙◌, arith}
+use Rattle.std.specs.Prelude.{IsSome, IsUtf8, Option, Some, None, Contains}
+use Rattle.answer_lines.specs.declared.answer.Line.{Line}
 use Rattle.outside.specs.Files.{Files}
 use Rattle.model_conf.specs.Faults.{IsModelFault}
 use Rattle.model_conf.specs.ModelText.{ModelParts, IsModel}
 use Rattle.model_conf.specs.declared.fault.ModelFault.{ModelFault}
 use Rattle.perm_base.specs.declared.shapes.Shapes.{Shapes}
-use Rattle.perm_base.specs.declared.shapes.TableId.TheVariants.{P}
 use Rattle.policy_csv.specs.Faults.{IsPolicyFault}
 use Rattle.policy_csv.specs.Policy.{IsPolicy}
 use Rattle.policy_csv.specs.declared.fault.PolicyFault.{PolicyFault}
 use Rattle.policy_table.specs.Tables as table
-use Rattle.policy_table.specs.Tables.{rows}
-use Rattle.casbin_run.specs.declared.stop.Part.TheVariants.{Model, Policy, Input}
-use Rattle.casbin_run.specs.declared.stop.Stop.{Stop}
-use Rattle.casbin_run.specs.declared.stop.Stop.TheVariants.{Words, NoModel, LaterModel, NoPolicy, NoScript, CannotRead, TooLong}
-use Rattle.casbin_run.specs.Answer.{AreAnswers, text_of_replies}
-use Rattle.casbin_run.specs.Answers.{IsAnswered, IsInOrder}
-use Rattle.casbin_run.specs.Cause.{Cause, IsLater, SaysNoText}
-use Rattle.casbin_run.specs.Finders.{NoneBad}
-use Rattle.casbin_run.specs.Judging.{is_later, IsAnsweredBy}
-use Rattle.casbin_run.specs.Parts.{model_limit, policy_limit, policy_shapes, input_limit}
-use Rattle.script_read.specs.Lines.{requests_of}
-use Rattle.casbin_run.specs.Words.{Command, command_of}
-use Rattle.casbin_run.proofs.OnceLemmas.{SaysLinesOnce, answers_once}
-use Rattle.casbin_run.proofs.AnswerLemmas.{Rules}
+use Rattle.run_status.specs.Parts.{limit_of}
+use Rattle.run_status.specs.declared.part.Part.TheVariants.{Model, Policy, Input}
+use Rattle.run_status.specs.declared.stop.Stop.{Stop}
+use Rattle.run_status.specs.declared.stop.Stop.TheVariants.{Words, NoModel, NoRelation, NoPolicy, NoScript, CannotRead, TooLong}
+use Rattle.script_read.specs.Said.{Said}
+use Rattle.script_read.specs.Script.{IsRequests, IsScript, IsScriptFault}
+use Rattle.script_read.specs.declared.fault.ScriptFault.{ScriptFault}
+use Rattle.session_meaning.specs.Plain.{IsPlain}
+use Rattle.casbin_run.specs.Answered.{IsAnswered}
+use Rattle.casbin_run.specs.Causes.{Cause, HasFault}
+use Rattle.casbin_run.specs.Given.{AreFiles, FileIs, Fits, Given, IsInOrder, ModelIs, SaysItems}
+use Rattle.casbin_run.specs.Jobs.{absent_in, job_asked, reads_input, shapes_with}
+use Rattle.casbin_run.specs.Texts.{text_of}
+use Rattle.casbin_run.specs.declared.job.Job.{Job}
+use Rattle.casbin_run.specs.declared.job.Task.{Task}
+use Rattle.casbin_run.specs.declared.job.Task.TheVariants.{Enforce, Serve, Check, Format}
 
 -- what reading a part comes to
 data State (X F : Type 0) : Type 0 where
@@ -73,179 +75,258 @@ one_state content limit says faulty one (good x) long p q = too_wide content lim
 one_state content limit says faulty one (good x) (bad g) p q = absurd (one.either q.0 x g (subst (λ (b : List ℕ). says b x) (same_bytes content p.0 q.0 p.1 q.1) p.3) q.3)
 one_state content limit says faulty one (good x) (good y) p q = ap good (one.said q.0 x y (subst (λ (b : List ℕ). says b x) (same_bytes content p.0 q.0 p.1 q.1) p.3) q.3)
 
--- a part that has one fault, or one good state
-abbrev One : Type 0
-One = Unit {0}
-
--- why the bytes are no model that is answered by, as the stop that tells it
-abbrev IsNoModel : List ℕ → Stop → Type 0
-IsNoModel bytes (NoModel fault) = IsModelFault bytes fault
-IsNoModel bytes LaterModel = IsLater bytes
-IsNoModel bytes _ = ⊥
-
 abbrev ModelState : Type 0
-ModelState = State ModelParts Stop
+ModelState = State ModelParts ModelFault
 
 abbrev PolicyState : Type 0
 PolicyState = State table.Policy PolicyFault
 
 abbrev InputState : Type 0
-InputState = State One One
+InputState = State (List Said) ScriptFault
 
 abbrev IsModelState : Option (List ℕ) → ModelState → Type 0
-IsModelState content state = IsState content model_limit IsAnsweredBy IsNoModel state
+IsModelState content state = IsState content (limit_of Model) IsModel IsModelFault state
 
-abbrev IsPolicyState : Option (List ℕ) → ModelParts → PolicyState → Type 0
-IsPolicyState content parts state = IsState content policy_limit (IsPolicy (policy_shapes parts)) (IsPolicyFault (policy_shapes parts)) state
+abbrev IsPolicyState : Option (List ℕ) → Shapes → PolicyState → Type 0
+IsPolicyState content shapes state = IsState content (limit_of Policy) (IsPolicy shapes) (IsPolicyFault shapes) state
 
-abbrev IsInputState : Option (List ℕ) → InputState → Type 0
-IsInputState content state = IsState content input_limit (λ bytes _. IsUtf8 bytes) (λ bytes _. SaysNoText bytes) state
+-- what the bytes of an input that a task reads say
+abbrev SaysBytes : Task → List ℕ → List Said → Type 0
+SaysBytes (Enforce json) bytes items = IsRequests json bytes items
+SaysBytes (Serve json) bytes items = IsScript json bytes items
+SaysBytes Check bytes items = ⊥
+SaysBytes Format bytes items = ⊥
+
+abbrev IsInputState : Option (List ℕ) → Task → InputState → Type 0
+IsInputState content task state = IsState content (limit_of Input) (SaysBytes task) (HasFault task) state
 
 -- the end that the input gives; None is the end of the run itself
 abbrev input_end : InputState → Option Stop
 input_end absent = Some (CannotRead Input)
 input_end long = Some (TooLong Input)
-input_end (bad f) = Some NoScript
-input_end (good x) = None
+input_end (bad fault) = Some (NoScript fault)
+input_end (good items) = None
 
-abbrev InputEnds : Option (List ℕ) → Option Stop → Type 0
-InputEnds input end = (state : InputState) × IsInputState input state × (end ≡ input_end state)
+abbrev InputEnds : Option (List ℕ) → Task → Option Stop → Type 0
+InputEnds input (Enforce json) end = (state : InputState) × IsInputState input (Enforce json) state × (end ≡ input_end state)
+InputEnds input (Serve json) end = (state : InputState) × IsInputState input (Serve json) state × (end ≡ input_end state)
+InputEnds input Check end = end ≡ None
+InputEnds input Format end = end ≡ None
 
-abbrev AfterPolicy : Option (List ℕ) → Option Stop → PolicyState → Type 0
-AfterPolicy input end absent = end ≡ Some (CannotRead Policy)
-AfterPolicy input end long = end ≡ Some (TooLong Policy)
-AfterPolicy input end (bad f) = end ≡ Some (NoPolicy f)
-AfterPolicy input end (good tables) = InputEnds input end
+abbrev AfterPolicy : Option (List ℕ) → Task → Option Stop → PolicyState → Type 0
+AfterPolicy input task end absent = end ≡ Some (CannotRead Policy)
+AfterPolicy input task end long = end ≡ Some (TooLong Policy)
+AfterPolicy input task end (bad fault) = end ≡ Some (NoPolicy fault)
+AfterPolicy input task end (good policy) = InputEnds input task end
 
-abbrev PolicyEnds : Files → List ℕ → Option (List ℕ) → ModelParts → Option Stop → Type 0
-PolicyEnds files name input parts end = (state : PolicyState) × IsPolicyState (files name) parts state × AfterPolicy input end state
+abbrev PolicyEnds : Files → Option (List ℕ) → Job → ModelParts → Option Stop → Type 0
+PolicyEnds files input job model end = (state : PolicyState) × IsPolicyState (files job.files.policy) (shapes_with job.options model) state × AfterPolicy input job.task end state
 
-abbrev AfterModel : Files → List ℕ → Option (List ℕ) → Option Stop → ModelState → Type 0
-AfterModel files name input end absent = end ≡ Some (CannotRead Model)
-AfterModel files name input end long = end ≡ Some (TooLong Model)
-AfterModel files name input end (bad stop) = end ≡ Some stop
-AfterModel files name input end (good parts) = PolicyEnds files name input parts end
+abbrev AfterOptions : Files → Option (List ℕ) → Job → ModelParts → Option Stop → Option ℕ → Type 0
+AfterOptions files input job model end None = PolicyEnds files input job model end
+AfterOptions files input job model end (Some relation) = end ≡ Some (NoRelation relation)
 
-abbrev AfterWords : Files → Option (List ℕ) → Option Stop → Option Command → Type 0
+abbrev AfterModel : Files → Option (List ℕ) → Job → Option Stop → ModelState → Type 0
+AfterModel files input job end absent = end ≡ Some (CannotRead Model)
+AfterModel files input job end long = end ≡ Some (TooLong Model)
+AfterModel files input job end (bad fault) = end ≡ Some (NoModel fault)
+AfterModel files input job end (good model) = (absent : Option ℕ) × (absent_in job.options model ≡ absent) × AfterOptions files input job model end absent
+
+abbrev AfterWords : Files → Option (List ℕ) → Option Stop → Option Job → Type 0
 AfterWords files input end None = end ≡ Some Words
-AfterWords files input end (Some command) = (state : ModelState) × IsModelState (files command.model) state × AfterModel files command.policy input end state
+AfterWords files input end (Some job) = (state : ModelState) × IsModelState (files job.files.model) state × AfterModel files input job end state
 
--- the end that the told words, files and input give
-abbrev Ends : List (List ℕ) → Files → Option (List ℕ) → Option Stop → Type 0
-Ends words files input end = (command : Option Command) × (command_of words ≡ command) × AfterWords files input end command
+-- the end that told words, files and input give
+abbrev EndsIn : List (List ℕ) → Files → Option (List ℕ) → Option Stop → Type 0
+EndsIn words files input end = (asked : Option Job) × (job_asked words ≡ asked) × AfterWords files input end asked
 
 -- each text says one thing or has one fault
 pub record SaysOnce : Type 0 where
   pub model : (bytes : List ℕ) (first second : ModelParts) → IsModel bytes first → IsModel bytes second → first ≡ second
-  pub fault : (bytes : List ℕ) (first second : ModelFault) → IsModelFault bytes first → IsModelFault bytes second → first ≡ second
-  pub either : (bytes : List ℕ) (fault : ModelFault) (model : ModelParts) → IsModelFault bytes fault → ¬ (IsModel bytes model)
+  pub model_fault : (bytes : List ℕ) (first second : ModelFault) → IsModelFault bytes first → IsModelFault bytes second → first ≡ second
+  pub model_either : (bytes : List ℕ) (fault : ModelFault) (model : ModelParts) → IsModelFault bytes fault → ¬ (IsModel bytes model)
   pub policy : (shapes : Shapes) (bytes : List ℕ) (first second : table.Policy) → IsPolicy shapes bytes first → IsPolicy shapes bytes second → first ≡ second
   pub policy_fault : (shapes : Shapes) (bytes : List ℕ) (first second : PolicyFault) → IsPolicyFault shapes bytes first → IsPolicyFault shapes bytes second → first ≡ second
   pub policy_either : (shapes : Shapes) (bytes : List ℕ) (fault : PolicyFault) (policy : table.Policy) → IsPolicyFault shapes bytes fault → ¬ (IsPolicy shapes bytes policy)
-  pub lines : SaysLinesOnce
+  pub script : (json : Bool) (bytes : List ℕ) (first second : List Said) → IsScript json bytes first → IsScript json bytes second → first ≡ second
+  pub script_fault : (json : Bool) (bytes : List ℕ) (first second : ScriptFault) → IsScriptFault json bytes first → IsScriptFault json bytes second → first ≡ second
+  pub script_either : (json : Bool) (bytes : List ℕ) (fault : ScriptFault) (items : List Said) → IsScriptFault json bytes fault → ¬ (IsScript json bytes items)
+  pub requests : (json : Bool) (bytes : List ℕ) (first second : List Said) → IsRequests json bytes first → IsRequests json bytes second → first ≡ second
+  pub lines : (model : ModelParts) (shapes : Shapes) (opening : table.Policy) (items : List Said) (first second : List Line) → IsPlain model shapes opening (Contains []) items first → IsPlain model shapes opening (Contains []) items second → first ≡ second
 
-not_both : (a : Bool) → a ≡ true → a ≡ false → ⊥
-not_both a p q = absurd cc
+module _ (once : SaysOnce) where
+  model_is_one : IsOne IsModel IsModelFault
+  model_is_one = record { said = once.model; fault = once.model_fault; either = λ bytes x f p q. once.model_either bytes f x q p }
 
-no_model_once : SaysOnce → (bytes : List ℕ) (f g : Stop) → IsNoModel bytes f → IsNoModel bytes g → f ≡ g
-no_model_once once bytes (NoModel f) (NoModel g) p q = ap (λ (e : ModelFault). NoModel e) (once.fault bytes f g p q)
-no_model_once once bytes (NoModel f) LaterModel p q = absurd (once.either bytes f q.0 p q.1)
-no_model_once once bytes LaterModel (NoModel g) p q = absurd (once.either bytes g p.0 q p.1)
-no_model_once once bytes LaterModel LaterModel p q = refl
-no_model_once once bytes (NoModel f) _ p q = absurd q
-no_model_once once bytes LaterModel _ p q = absurd q
-no_model_once once bytes _ _ p q = absurd p
+  policy_is_one : (shapes : Shapes) → IsOne (IsPolicy shapes) (IsPolicyFault shapes)
+  policy_is_one shapes = record { said = once.policy shapes; fault = once.policy_fault shapes; either = λ bytes x f p q. once.policy_either shapes bytes f x q p }
 
-answered_or_not : SaysOnce → (bytes : List ℕ) (x : ModelParts) (f : Stop) → IsAnsweredBy bytes x → IsNoModel bytes f → ⊥
-answered_or_not once bytes x (NoModel f) p q = once.either bytes f x q p.is_model
-answered_or_not once bytes x LaterModel p q = not_both (is_later x) (ap is_later (once.model bytes x q.0 p.is_model q.1) ∙ q.2) p.is_now
-answered_or_not once bytes x _ p q = absurd q
+  requests_are_one : (json : Bool) → IsOne (SaysBytes (Enforce json)) (HasFault (Enforce json))
+  requests_are_one json = record { said = once.requests json; fault = λ bytes f g p q. p.1 ∙ sym q.1; either = λ bytes x f p q. q.0 p.utf8 }
 
-model_is_one : SaysOnce → IsOne IsAnsweredBy IsNoModel
-model_is_one once = record { said = λ bytes x y p q. once.model bytes x y p.is_model q.is_model; fault = no_model_once once; either = answered_or_not once }
+  script_is_one : (json : Bool) → IsOne (SaysBytes (Serve json)) (HasFault (Serve json))
+  script_is_one json = record { said = once.script json; fault = once.script_fault json; either = λ bytes x f p q. once.script_either json bytes f x q p }
 
-policy_is_one : SaysOnce → (shapes : Shapes) → IsOne (IsPolicy shapes) (IsPolicyFault shapes)
-policy_is_one once shapes = record { said = once.policy shapes; fault = once.policy_fault shapes; either = λ bytes x f p q. once.policy_either shapes bytes f x q p }
+  input_once : (input : Option (List ℕ)) (task : Task) (a b : Option Stop) → InputEnds input task a → InputEnds input task b → a ≡ b
+  input_once input (Enforce json) a b (s, s-is, a-is) (t, t-is, b-is) = a-is ∙ ap input_end (one_state input (limit_of Input) _ _ (requests_are_one json) s t s-is t-is) ∙ sym b-is
+  input_once input (Serve json) a b (s, s-is, a-is) (t, t-is, b-is) = a-is ∙ ap input_end (one_state input (limit_of Input) _ _ (script_is_one json) s t s-is t-is) ∙ sym b-is
+  input_once input Check a b p q = p ∙ sym q
+  input_once input Format a b p q = p ∙ sym q
 
-input_is_one : IsOne (λ (bytes : List ℕ) (_ : One). IsUtf8 bytes) (λ (bytes : List ℕ) (_ : One). SaysNoText bytes)
-input_is_one = record { said = λ bytes x y p q. refl; fault = λ bytes f g p q. refl; either = λ bytes x f p q. q p }
+  after_policy_once : (input : Option (List ℕ)) (task : Task) (a b : Option Stop) (state : PolicyState) → AfterPolicy input task a state → AfterPolicy input task b state → a ≡ b
+  after_policy_once input task a b absent p q = p ∙ sym q
+  after_policy_once input task a b long p q = p ∙ sym q
+  after_policy_once input task a b (bad fault) p q = p ∙ sym q
+  after_policy_once input task a b (good policy) p q = input_once input task a b p q
 
-input_once : (input : Option (List ℕ)) (a b : Option Stop) → InputEnds input a → InputEnds input b → a ≡ b
-input_once input a b (s, s-is, a-is) (t, t-is, b-is) = a-is ∙ ap input_end (one_state input input_limit _ _ input_is_one s t s-is t-is) ∙ sym b-is
+  policy_once : (files : Files) (input : Option (List ℕ)) (job : Job) (model : ModelParts) (a b : Option Stop) → PolicyEnds files input job model a → PolicyEnds files input job model b → a ≡ b
+  policy_once files input job model a b (s, s-is, p) (t, t-is, q) =
+      let same : t ≡ s = one_state (files job.files.policy) (limit_of Policy) _ _ (policy_is_one (shapes_with job.options model)) t s t-is s-is in
+      after_policy_once input job.task a b s p (subst (AfterPolicy input job.task b) same q)
 
-after_policy_once : (input : Option (List ℕ)) (a b : Option Stop) (state : PolicyState) → AfterPolicy input a state → AfterPolicy input b state → a ≡ b
-after_policy_once input a b absent p q = p ∙ sym q
-after_policy_once input a b long p q = p ∙ sym q
-after_policy_once input a b (bad f) p q = p ∙ sym q
-after_policy_once input a b (good tables) p q = input_once input a b p q
+  after_options_once : (files : Files) (input : Option (List ℕ)) (job : Job) (model : ModelParts) (a b : Option Stop) (absent : Option ℕ) → AfterOptions files input job model a absent → AfterOptions files input job model b absent → a ≡ b
+  after_options_once files input job model a b None p q = policy_once files input job model a b p q
+  after_options_once files input job model a b (Some relation) p q = p ∙ sym q
 
-policy_once : SaysOnce → (files : Files) (name : List ℕ) (input : Option (List ℕ)) (parts : ModelParts) (a b : Option Stop) → PolicyEnds files name input parts a → PolicyEnds files name input parts b → a ≡ b
-policy_once once files name input parts a b (s, s-is, p) (t, t-is, q) =
-    let same : t ≡ s = one_state (files name) policy_limit _ _ (policy_is_one once (policy_shapes parts)) t s t-is s-is in
-    after_policy_once input a b s p (subst (AfterPolicy input b) same q)
+  after_model_once : (files : Files) (input : Option (List ℕ)) (job : Job) (a b : Option Stop) (state : ModelState) → AfterModel files input job a state → AfterModel files input job b state → a ≡ b
+  after_model_once files input job a b absent p q = p ∙ sym q
+  after_model_once files input job a b long p q = p ∙ sym q
+  after_model_once files input job a b (bad fault) p q = p ∙ sym q
+  after_model_once files input job a b (good model) (s, s-is, p) (t, t-is, q) = after_options_once files input job model a b s p (subst (AfterOptions files input job model b) (sym t-is ∙ s-is) q)
 
-after_model_once : SaysOnce → (files : Files) (name : List ℕ) (input : Option (List ℕ)) (a b : Option Stop) (state : ModelState) → AfterModel files name input a state → AfterModel files name input b state → a ≡ b
-after_model_once once files name input a b absent p q = p ∙ sym q
-after_model_once once files name input a b long p q = p ∙ sym q
-after_model_once once files name input a b (bad stop) p q = p ∙ sym q
-after_model_once once files name input a b (good parts) p q = policy_once once files name input parts a b p q
+  after_words_once : (files : Files) (input : Option (List ℕ)) (a b : Option Stop) (asked : Option Job) → AfterWords files input a asked → AfterWords files input b asked → a ≡ b
+  after_words_once files input a b None p q = p ∙ sym q
+  after_words_once files input a b (Some job) (s, s-is, p) (t, t-is, q) =
+      let same : t ≡ s = one_state (files job.files.model) (limit_of Model) _ _ model_is_one t s t-is s-is in
+      after_model_once files input job a b s p (subst (AfterModel files input job b) same q)
 
-after_words_once : SaysOnce → (files : Files) (input : Option (List ℕ)) (a b : Option Stop) (command : Option Command) → AfterWords files input a command → AfterWords files input b command → a ≡ b
-after_words_once once files input a b None p q = p ∙ sym q
-after_words_once once files input a b (Some command) (s, s-is, p) (t, t-is, q) =
-    let same : t ≡ s = one_state (files command.model) model_limit _ _ (model_is_one once) t s t-is s-is in
-    after_model_once once files command.policy input a b s p (subst (AfterModel files command.policy input b) same q)
+  ends_once : (words : List (List ℕ)) (files : Files) (input : Option (List ℕ)) (a b : Option Stop) → EndsIn words files input a → EndsIn words files input b → a ≡ b
+  ends_once words files input a b (s, s-is, p) (t, t-is, q) = after_words_once files input a b s p (subst (AfterWords files input b) (sym t-is ∙ s-is) q)
 
-ends_once : SaysOnce → (words : List (List ℕ)) (files : Files) (input : Option (List ℕ)) (a b : Option Stop) → Ends words files input a → Ends words files input b → a ≡ b
-ends_once once words files input a b (command, told, p) (others, other, q) =
-    let same : others ≡ command = sym other ∙ told in
-    after_words_once once files input a b command p (subst (AfterWords files input b) same q)
+-- ---- causes are ends
 
-cause_ends : (words : List (List ℕ)) (files : Files) (input : List ℕ) (stop : Stop) → Cause words (Some files) (Some input) stop → Ends words files (Some input) (Some stop)
+abbrev told : List (List ℕ) → Files → List ℕ → Given
+told words files input = record { words = words; files = Some files; input = Some input }
+
+-- behind the policy
+policy_behind : (words : List (List ℕ)) (files : Files) (input : List ℕ) (job : Job) (model : ModelParts) (policy : table.Policy) (end : Option Stop) → job_asked words ≡ Some job → AreFiles (Some files) job model policy → InputEnds (Some input) job.task end → EndsIn words files (Some input) end
+policy_behind words files input job model policy end asked are ends = (Some job, asked, (good model, are.fits.is_model, (None, are.fits.none_absent, (good policy, are.is_policy, ends))))
+
+options_behind : (words : List (List ℕ)) (files : Files) (input : List ℕ) (job : Job) (model : ModelParts) (end : Option Stop) → job_asked words ≡ Some job → Fits (Some files) job model → PolicyEnds files (Some input) job model end → EndsIn words files (Some input) end
+options_behind words files input job model end asked fits ends = (Some job, asked, (good model, fits.is_model, (None, fits.none_absent, ends)))
+
+long_input : (task : Task) (input : List ℕ) → reads_input task ≡ true → limit_of Input < length input → InputEnds (Some input) task (Some (TooLong Input))
+long_input (Enforce json) input reads wide = (long, (input, refl, wide), refl)
+long_input (Serve json) input reads wide = (long, (input, refl, wide), refl)
+long_input Check input reads wide = absurd cc
+long_input Format input reads wide = absurd cc
+
+bad_input : (task : Task) (input bytes : List ℕ) (fault : ScriptFault) → reads_input task ≡ true → input ≡ bytes → length bytes ≤ limit_of Input → HasFault task bytes fault → InputEnds (Some input) task (Some (NoScript fault))
+bad_input (Enforce json) input bytes fault reads same within is = (bad fault, (bytes, ap (λ (b : List ℕ). Some b) same, within, is), refl)
+bad_input (Serve json) input bytes fault reads same within is = (bad fault, (bytes, ap (λ (b : List ℕ). Some b) same, within, is), refl)
+bad_input Check input bytes fault reads same within is = absurd is
+bad_input Format input bytes fault reads same within is = absurd is
+
+good_input : (task : Task) (input : List ℕ) (items : List Said) → SaysItems task (Some input) items → InputEnds (Some input) task None
+good_input (Enforce json) input items (bytes, same, within, says) = (good items, (bytes, ap (λ (b : List ℕ). Some b) same, within, says), refl)
+good_input (Serve json) input items (bytes, same, within, says) = (good items, (bytes, ap (λ (b : List ℕ). Some b) same, within, says), refl)
+good_input Check input items says = refl
+good_input Format input items says = refl
+
+cause_ends : (words : List (List ℕ)) (files : Files) (input : List ℕ) (stop : Stop) → Cause (told words files input) stop → EndsIn words files (Some input) (Some stop)
 cause_ends words files input Words cause = (None, cause, refl)
-cause_ends words files input (CannotRead Model) (command, told, lacks) = (Some command, told, (absent, lacks, refl))
-cause_ends words files input (TooLong Model) (command, told, wide) = (Some command, told, (long, wide, refl))
-cause_ends words files input (NoModel fault) (command, told, none) = (Some command, told, (bad (NoModel fault), none, refl))
-cause_ends words files input LaterModel (command, told, later) = (Some command, told, (bad LaterModel, later, refl))
-cause_ends words files input (CannotRead Policy) (command, told, (parts, model, lacks)) = (Some command, told, (good parts, model, (absent, lacks, refl)))
-cause_ends words files input (TooLong Policy) (command, told, (parts, model, wide)) = (Some command, told, (good parts, model, (long, wide, refl)))
-cause_ends words files input (NoPolicy fault) (command, told, (parts, model, none)) = (Some command, told, (good parts, model, (bad fault, none, refl)))
-cause_ends words files input (TooLong Input) (command, told, (parts, model, (tables, policy, wide))) = (Some command, told, (good parts, model, (good tables, policy, (long, (input, refl, wide), refl))))
-cause_ends words files input NoScript (command, told, (parts, model, (tables, policy, (bytes, same, within, none)))) = (Some command, told, (good parts, model, (good tables, policy, (bad tt, (bytes, ap (λ (b : List ℕ). Some b) same, within, none), refl))))
+cause_ends words files input (CannotRead Model) (job, asked, lacks) = (Some job, asked, (absent, lacks, refl))
+cause_ends words files input (TooLong Model) (job, asked, wide) = (Some job, asked, (long, wide, refl))
+cause_ends words files input (NoModel fault) (job, asked, is) = (Some job, asked, (bad fault, is, refl))
+cause_ends words files input (NoRelation relation) (job, asked, (model, is, lacks)) = (Some job, asked, (good model, is, (Some relation, lacks, refl)))
+cause_ends words files input (CannotRead Policy) (job, asked, (model, fits, lacks)) = options_behind words files input job model (Some (CannotRead Policy)) asked fits (absent, lacks, refl)
+cause_ends words files input (TooLong Policy) (job, asked, (model, fits, wide)) = options_behind words files input job model (Some (TooLong Policy)) asked fits (long, wide, refl)
+cause_ends words files input (NoPolicy fault) (job, asked, (model, fits, is)) = options_behind words files input job model (Some (NoPolicy fault)) asked fits (bad fault, is, refl)
+cause_ends words files input (TooLong Input) (job, asked, (model, policy, are, (reads, wide))) = policy_behind words files input job model policy (Some (TooLong Input)) asked are (long_input job.task input reads wide)
+cause_ends words files input (NoScript fault) (job, asked, (model, policy, are, (reads, (bytes, same, within, is)))) = policy_behind words files input job model policy (Some (NoScript fault)) asked are (bad_input job.task input bytes fault reads same within is)
 cause_ends words files input _ cause = absurd cause
 
-in_order_ends : (words : List (List ℕ)) (files : Files) (input : List ℕ) → IsInOrder words (Some files) (Some input) → Ends words files (Some input) None
-in_order_ends words files input is = (
-  Some is.command,
-  is.asked,
-  (
-    good is.parts,
-    (is.model_bytes, is.model, is.model_within, is.is_model),
-    (good is.tables, (is.policy_bytes, is.policy, is.policy_within, is.is_policy), (good tt, (is.input_bytes, ap (λ (b : List ℕ). Some b) is.script, is.input_within, is.is_script), refl)),
-  ),
-)
+in_order_ends : (words : List (List ℕ)) (files : Files) (input : List ℕ) → IsInOrder (told words files input) → EndsIn words files (Some input) None
+in_order_ends words files input is = policy_behind words files input is.job is.model is.policy None is.asked is.are_files (good_input is.job.task input is.items is.says)
 
-pub one_cause : SaysOnce → (words : List (List ℕ)) (files : Files) (input : List ℕ) (first second : Stop) → Cause words (Some files) (Some input) first → Cause words (Some files) (Some input) second → first ≡ second
-one_cause once words files input first second p q = let same = ends_once once words files (Some input) (Some first) (Some second) (cause_ends words files input first p) (cause_ends words files input second q) in cc
+module _ (once : SaysOnce) (words : List (List ℕ)) (files : Files) (input : List ℕ) where
+  told_one_cause : (first second : Stop) → Cause (told words files input) first → Cause (told words files input) second → first ≡ second
+  told_one_cause first second p q = let same = ends_once once words files (Some input) (Some first) (Some second) (cause_ends words files input first p) (cause_ends words files input second q) in cc
 
-pub no_cause : SaysOnce → (words : List (List ℕ)) (files : Files) (input : List ℕ) (stop : Stop) → IsInOrder words (Some files) (Some input) → ¬ (Cause words (Some files) (Some input) stop)
-no_cause once words files input stop is cause = let same = ends_once once words files (Some input) None (Some stop) (in_order_ends words files input is) (cause_ends words files input stop cause) in absurd cc
+  told_no_cause : (stop : Stop) → IsInOrder (told words files input) → Cause (told words files input) stop → ⊥
+  told_no_cause stop is cause = let same = ends_once once words files (Some input) None (Some stop) (in_order_ends words files input is) (cause_ends words files input stop cause) in absurd cc
 
--- one text answers what was told, where no search is refused
-pub one_text : SaysOnce → (words : List (List ℕ)) (files : Files) (input first second : List ℕ) → IsAnswered words (Some files) (Some input) NoneBad first → IsAnswered words (Some files) (Some input) NoneBad second → first ≡ second
-one_text once words files input first second p q =
-    let x = p.in_order in
-    let y = q.in_order in
-    let command : x.command ≡ y.command = let e = sym x.asked ∙ y.asked in cc in
-    let model : x.model_bytes ≡ y.model_bytes = same_bytes (files x.command.model) x.model_bytes y.model_bytes x.model (ap (λ (c : Command). files c.model) command ∙ y.model) in
-    let policy : x.policy_bytes ≡ y.policy_bytes = same_bytes (files x.command.policy) x.policy_bytes y.policy_bytes x.policy (ap (λ (c : Command). files c.policy) command ∙ y.policy) in
-    let script : x.input_bytes ≡ y.input_bytes = sym x.script ∙ y.script in
-    let parts : x.parts ≡ y.parts = once.model y.model_bytes x.parts y.parts (subst (λ (b : List ℕ). IsModel b x.parts) model x.is_model.is_model) y.is_model.is_model in
-    let x-policy : IsPolicy (policy_shapes y.parts) y.policy_bytes x.tables = subst (λ (m : ModelParts). IsPolicy (policy_shapes m) y.policy_bytes x.tables) parts (subst (λ (b : List ℕ). IsPolicy (policy_shapes x.parts) b x.tables) policy x.is_policy) in
-    let rules : rows x.tables P ≡ rows y.tables P = ap (λ (t : table.Policy). rows t P) (once.policy (policy_shapes y.parts) y.policy_bytes x.tables y.tables x-policy y.is_policy) in
-    let a : AreAnswers y.parts (rows x.tables P) x.command.json NoneBad (requests_of x.input_bytes) p.replies = subst (λ (m : ModelParts). AreAnswers m (rows x.tables P) x.command.json NoneBad (requests_of x.input_bytes) p.replies) parts p.answers in
-    let b : AreAnswers y.parts (rows y.tables P) x.command.json NoneBad (requests_of x.input_bytes) p.replies = subst (λ (r : Rules). AreAnswers y.parts r x.command.json NoneBad (requests_of x.input_bytes) p.replies) rules a in
-    let d : AreAnswers y.parts (rows y.tables P) y.command.json NoneBad (requests_of x.input_bytes) p.replies = subst (λ (c : Command). AreAnswers y.parts (rows y.tables P) c.json NoneBad (requests_of x.input_bytes) p.replies) command b in
-    let e : AreAnswers y.parts (rows y.tables P) y.command.json NoneBad (requests_of y.input_bytes) p.replies = subst (λ (b : List ℕ). AreAnswers y.parts (rows y.tables P) y.command.json NoneBad (requests_of b) p.replies) script d in
-    let same : p.replies ≡ q.replies = answers_once once.lines y.parts (rows y.tables P) y.command.json (requests_of y.input_bytes) p.replies q.replies e q.answers in
-    p.spelled ∙ ap (λ (r : Rules). text_of_replies r 1 p.replies) rules ∙ ap (text_of_replies (rows y.tables P) 1) same ∙ sym q.spelled
+pub one_cause : SaysOnce → (g : Given) (first second : Stop) → IsSome g.files → IsSome g.input → Cause g first → Cause g second → first ≡ second
+one_cause once g first second told-files told-input p q = by g.files g.input told-files told-input p q
+  where
+    by : (files : Option Files) (input : Option (List ℕ)) → IsSome files → IsSome input → Cause (record { words = g.words; files = files; input = input }) first → Cause (record { words = g.words; files = files; input = input }) second → first ≡ second
+    by None input some read p q = absurd cc
+    by (Some files) None some read p q = absurd cc
+    by (Some files) (Some input) some read p q = told_one_cause once g.words files input first second p q
+
+pub no_cause : SaysOnce → (g : Given) (stop : Stop) → IsSome g.files → IsSome g.input → IsInOrder g → Cause g stop → ⊥
+no_cause once g stop told-files told-input is cause = by g.files g.input told-files told-input is cause
+  where
+    by : (files : Option Files) (input : Option (List ℕ)) → IsSome files → IsSome input → IsInOrder (record { words = g.words; files = files; input = input }) → Cause (record { words = g.words; files = files; input = input }) stop → ⊥
+    by None input some read is cause = absurd cc
+    by (Some files) None some read is cause = absurd cc
+    by (Some files) (Some input) some read is cause = told_no_cause once g.words files input stop is cause
+
+-- ---- one text
+
+module _ (once : SaysOnce) (files : Files) (input : List ℕ) where
+  model_same : (job : Job) (model other : ModelParts) → ModelIs (Some files) job model → ModelIs (Some files) job other → model ≡ other
+  model_same job model other (bytes, held, within, is) (others, there, few, as_well) =
+      once.model others model other (subst (λ (b : List ℕ). IsModel b model) (same_bytes (files job.files.model) bytes others held there) is) as_well
+
+  policy_same : (job : Job) (shapes : Shapes) (policy other : table.Policy) → FileIs (Some files) job.files.policy Policy (λ bytes. IsPolicy shapes bytes policy) → FileIs (Some files) job.files.policy Policy (λ bytes. IsPolicy shapes bytes other) → policy ≡ other
+  policy_same job shapes policy other (bytes, held, within, is) (others, there, few, as_well) =
+      once.policy shapes others policy other (subst (λ (b : List ℕ). IsPolicy shapes b policy) (same_bytes (files job.files.policy) bytes others held there) is) as_well
+
+  items_same : (task : Task) (items others : List Said) → SaysItems task (Some input) items → SaysItems task (Some input) others → items ≡ others
+  items_same (Enforce json) items others (bytes, same, within, says) (more, told, few, say) = once.requests json more items others (subst (λ (b : List ℕ). IsRequests json b items) (sym same ∙ told) says) say
+  items_same (Serve json) items others (bytes, same, within, says) (more, told, few, say) = once.script json more items others (subst (λ (b : List ℕ). IsScript json b items) (sym same ∙ told) says) say
+  items_same Check items others says say = says ∙ sym say
+  items_same Format items others says say = says ∙ sym say
+
+  -- what is read and answered, apart from the words
+  record Reads (job : Job) (model : ModelParts) (policy : table.Policy) (items : List Said) (lines : List Line) : Type 0 where
+    are_files : AreFiles (Some files) job model policy
+    says : SaysItems job.task (Some input) items
+    plain : IsPlain model (shapes_with job.options model) policy (Contains []) items lines
+
+  lines_same : (job : Job) (model : ModelParts) (policy : table.Policy) (items : List Said) (lines others : List Line) → Reads job model policy items lines → Reads job model policy items others → lines ≡ others
+  lines_same job model policy items lines others p q = once.lines model (shapes_with job.options model) policy items lines others p.plain q.plain
+
+  texts_same : (job : Job) (model : ModelParts) (policy : table.Policy) (items : List Said) (lines : List Line) (other : ModelParts) (second : table.Policy) (said : List Said) (others : List Line) → Reads job model policy items lines → Reads job other second said others
+      → text_of job.task model policy lines ≡ text_of job.task other second others
+  texts_same job model policy items lines other second said others p q =
+      let same_model : other ≡ model = model_same job other model q.are_files.fits.is_model p.are_files.fits.is_model in
+      let at_model : Reads job model second said others = subst (λ (m : ModelParts). Reads job m second said others) same_model q in
+      let same_policy : second ≡ policy = policy_same job (shapes_with job.options model) second policy at_model.are_files.is_policy p.are_files.is_policy in
+      let at_policy : Reads job model policy said others = subst (λ (t : table.Policy). Reads job model t said others) same_policy at_model in
+      let same_items : said ≡ items = items_same job.task said items at_policy.says p.says in
+      let at_items : Reads job model policy items others = subst (λ (i : List Said). Reads job model policy i others) same_items at_policy in
+      ap (text_of job.task model policy) (lines_same job model policy items lines others p at_items)
+      ∙ sym (ap (λ (m : ModelParts). text_of job.task m second others) same_model ∙ ap (λ (t : table.Policy). text_of job.task model t others) same_policy)
+
+  told_one_text : (words : List (List ℕ)) (first second : List ℕ) → IsAnswered (told words files input) (Contains []) first → IsAnswered (told words files input) (Contains []) second → first ≡ second
+  told_one_text words first second p q =
+      let x = p.in_order in
+      let y = q.in_order in
+      let job : y.job ≡ x.job = same_job (sym y.asked ∙ x.asked) in
+      let reads : Reads y.job y.model y.policy y.items q.lines = record { are_files = y.are_files; says = y.says; plain = q.plain } in
+      let same = texts_same x.job x.model x.policy x.items p.lines y.model y.policy y.items q.lines (record { are_files = x.are_files; says = x.says; plain = p.plain }) (subst (λ (j : Job). Reads j y.model y.policy y.items q.lines) job reads) in
+      p.spelled ∙ same ∙ sym (ap (λ (j : Job). text_of j.task y.model y.policy q.lines) job) ∙ sym q.spelled
+    where
+      same_job : {job other : Job} → Some job ≡ Some other → job ≡ other
+      same_job e = cc
+
+pub one_text : SaysOnce → (g : Given) (first second : List ℕ) → IsSome g.files → IsSome g.input → IsAnswered g (Contains []) first → IsAnswered g (Contains []) second → first ≡ second
+one_text once g first second told-files told-input p q = by g.files g.input told-files told-input p q
+  where
+    by : (files : Option Files) (input : Option (List ℕ)) → IsSome files → IsSome input → IsAnswered (record { words = g.words; files = files; input = input }) (Contains []) first
+        → IsAnswered (record { words = g.words; files = files; input = input }) (Contains []) second → first ≡ second
+    by None input some read p q = absurd cc
+    by (Some files) None some read p q = absurd cc
+    by (Some files) (Some input) some read p q = told_one_text once files input g.words first second p q

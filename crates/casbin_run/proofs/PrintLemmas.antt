@@ -1,105 +1,227 @@
--- How far the answers are printed.
-use Rattle.std.proofs.Common.{◌≡◌, ℕ, ◌+◌, ◌≤◌, Bool, true, false, List, [], ◌∷◌, ◌++◌, length, refl, arith}
-use Rattle.std.specs.Prelude.{Option, None}
+-- How far the requests of an input are answered and their lines printed.
+use Rattle.std.proofs.Common.{◌≡◌, ℕ, ◌+◌, ◌≤◌, Bool, true, false, List, [], ◌∷◌, ◌++◌, append_assoc, append-nil, refl, sym, ap, subst, ◌∙◌, arith}
+use Rattle.std.specs.Prelude.{Option, None, IsUtf8, String, min, string_bytes}
+use Rattle.std.specs.declared.alloc.Global.{Global}
+use Rattle.answer_lines.specs.LineText.{line_text}
+use Rattle.answer_lines.specs.declared.answer.Line.{Line}
+use Rattle.live_round.proofs.CallerLemmas.{IsUnderWay, alone, alone_before, judged_stays, request_step, under_way_more, under_way_none}
+use Rattle.live_round.specs.Refused.{RoseBy, refused_searches}
 use Rattle.model_conf.specs.ModelText.{ModelParts}
 use Rattle.outside.specs.Faults.{Rose}
 use Rattle.outside.specs.Told.{with_back, TookFront}
-use Rattle.regex_gate.specs.Refusals.{Refusals, IsRefused, IsUsed}
-use Rattle.regex_gate.proofs.CallerLemmas.{refused_since, refused_still, used_none, used_then}
-use Rattle.outside.proofs.CallerLemmas.{rose_later}
-use Rattle.casbin_run.specs.Answer.{IsAnswer, Reply, is_refused_search, line_text, refusals_in, shown, text_of_replies}
-use Rattle.casbin_run.specs.Helps.Print.{Answering, PrintStops, RoseTo}
-use Rattle.casbin_run.specs.declared.stop.Stop.TheVariants.{CannotWrite, NoMemory}
-use Rattle.casbin_run.proofs.AnswerLemmas.{AreSoFar, HasAnswers, IsCounted, Rules, answer_more, answered_all, refusals-append, so_far_later, so_far_more, so_far_none, text-append, text_more, whole_answers}
-use Rattle.casbin_run.proofs.GatheredLemmas.{IsGathered, all_pushed, gathered_more, gathered_none, gathered_pushed, stopped_front, stopped_quiet}
+use Rattle.policy_desk.specs.Desks.{Work}
+use Rattle.policy_state.specs.States.{State, tables}
+use Rattle.policy_table.specs.Tables.{Policy}
+use Rattle.regex_gate.specs.Refusals.{IsRefused, IsUsed, Refusals}
+use Rattle.regex_gate.proofs.CallerLemmas.{refused_still, used_then}
+use Rattle.run_status.specs.declared.stop.Stop.TheVariants.{CannotWrite, NoMemory}
+use Rattle.script_read.specs.Lines.{requests_of}
+use Rattle.script_read.specs.Reads.{Reader}
+use Rattle.script_read.specs.Said.{Reading, Said, asks}
+use Rattle.script_read.specs.Script.{IsRequests}
+use Rattle.session_meaning.specs.Plain.{IsPlain, most_number}
+use Rattle.session_meaning.proofs.CallerLemmas.{plain_stays}
+use Rattle.version_log.specs.Log.{versions}
+use Rattle.casbin_run.specs.Helps.Gathering.{IsGathered, Moves}
+use Rattle.casbin_run.specs.Helps.Working.{AnswersLine, LinesOf, PrintedAll, PrintedSome, Rises}
+use Rattle.casbin_run.specs.Texts.{text_of_lines}
+use Rattle.casbin_run.proofs.AskLemmas.{HasVerdicts, OneWay, asked, asked_more, more_lines, one_reading, refused_more, text_more, text_one}
+use Rattle.casbin_run.proofs.GatheredLemmas.{all_pushed, gathered_more, gathered_moved, gathered_none, stopped_front, stopped_quiet}
 
--- the requests up to those that are left are answered; the answers were pushed or are gathered, and the finder refused as often as they tell at least
-pub record IsPrinted (model : ModelParts) (rules : Rules) (json : Bool) (all left : List (List ℕ)) (number : ℕ) (before now : Option (List ℕ)) (gathered : List ℕ) (a b : ℕ) (c d : Refusals) : Type 0 where
-  pub replies : List Reply
-  pub answered : AreSoFar model rules json (IsRefused c d) all left number replies
-  pub told : IsGathered before now gathered (text_of_replies rules 1 replies) a b
-  pub risen : RoseTo (refusals_in replies) c.count d.count
-  pub used : IsUsed c d None
+-- what a run of requests is over: a model, a policy, a reader of requests, and the lines of its input
+pub record Run (json : Bool) : Type 0 where
+  pub model : ModelParts
+  pub state : State
+  pub reader : Reader json
+  pub all : List (List ℕ)
 
-pub printed_none : (model : ModelParts) (rules : Rules) (json : Bool) (all : List (List ℕ)) (before : Option (List ℕ)) (gathered : List ℕ) (a : ℕ) (c : Refusals) → gathered ≡ [] → IsPrinted model rules json all all 0 before before gathered a a c c
-printed_none model rules json all before gathered a c none = record {
-  replies = [];
-  answered = so_far_none model rules json (IsRefused c c) all;
-  told = gathered_none before gathered a none;
-  risen = omega arith;
-  used = used_none c;
+-- what the sink had taken and has, with its counts, and what the finder has refused before and now
+pub record Seen : Type 0 where
+  pub out : Option (List ℕ)
+  pub out_now : Option (List ℕ)
+  pub faults : ℕ
+  pub faults_now : ℕ
+  pub before : Refusals
+  pub now : Refusals
+
+abbrev pub run_over : {json : Bool} → ModelParts → State → Reader json → List (List ℕ) → Run json
+run_over model state reader all = record { model = model; state = state; reader = reader; all = all }
+
+abbrev pub seen_between : (out out_now : Option (List ℕ)) (faults faults_now : ℕ) (before now : Refusals) → Seen
+seen_between out out_now faults faults_now before now = record { out = out; out_now = out_now; faults = faults; faults_now = faults_now; before = before; now = now }
+
+-- the lines are those of what was asked so far
+abbrev Under : {json : Bool} → Run json → List (List ℕ) → ℕ → List Line → Refusals → Refusals → Type 0
+Under run read number lines before now = IsUnderWay run.model run.state.shapes (tables run.state) (asked run.reader read) (alone run.state) number lines before now
+
+-- the lines up to those that are left are answered; their lines were pushed or are gathered
+pub record IsPrinted {json : Bool} (run : Run json) (left : List (List ℕ)) (number : ℕ) (gathered : List ℕ) (seen : Seen) : Type 0 where
+  pub read : List (List ℕ)
+  pub lines : List Line
+  pub parts : run.all ≡ read ++ left
+  pub under : Under run read number lines seen.before seen.now
+  pub told : IsGathered seen.out seen.out_now gathered (text_of_lines lines) seen.faults seen.faults_now
+
+abbrev pub seen_first : Option (List ℕ) → ℕ → Refusals → Seen
+seen_first out faults before = seen_between out out faults faults before before
+
+pub printed_none : {json : Bool} (run : Run json) (gathered : List ℕ) (out : Option (List ℕ)) (faults : ℕ) (before : Refusals) → versions run.state.log ≡ 0 → gathered ≡ []
+    → IsPrinted run run.all 0 gathered (seen_first out faults before)
+printed_none run gathered out faults before none empty = record {
+  read = [];
+  lines = [];
+  parts = refl;
+  under = under_way_none run.model run.state.shapes (tables run.state) before (alone run.state) (alone_before run.state none) refl [] refl;
+  told = gathered_none out gathered faults empty;
 }
 
 -- the finder was asked again
-pub printed_later : (model : ModelParts) (rules : Rules) (json : Bool) (all left : List (List ℕ)) (number : ℕ) (before now : Option (List ℕ)) (gathered : List ℕ) (a b : ℕ) (c d e : Refusals) → IsPrinted model rules json all left number before now gathered a b c d
-    → IsUsed d e None → IsPrinted model rules json all left number before now gathered a b c e
-printed_later model rules json all left number before now gathered a b c d e so used = record {
-  replies = so.replies;
-  answered = so_far_later model rules json (IsRefused c d) (IsRefused c e) (λ pattern refused. refused_still c d e pattern refused used) all left number so.replies so.answered;
+abbrev pub seen_later : Seen → Refusals → Seen
+seen_later seen later = record seen { now = later }
+
+pub printed_later : {json : Bool} (run : Run json) (left : List (List ℕ)) (number : ℕ) (gathered : List ℕ) (seen : Seen) (later : Refusals) → IsPrinted run left number gathered seen → IsUsed seen.now later None
+    → IsPrinted run left number gathered (seen_later seen later)
+printed_later run left number gathered seen later so used = record {
+  read = so.read;
+  lines = so.lines;
+  parts = so.parts;
+  under = record {
+    plain = plain_stays run.model run.state.shapes (tables run.state) (IsRefused seen.before seen.now) (IsRefused seen.before later)
+        (judged_stays run.model run.state.shapes (IsRefused seen.before seen.now) (IsRefused seen.before later) (λ pattern refused. refused_still seen.before seen.now later pattern refused used)) (asked run.reader so.read) so.lines so.under.plain;
+    behind = so.under.behind;
+    shapes_are = so.under.shapes_are;
+    number_is = so.under.number_is;
+    rose = omega (arith, so.under.rose, used.counted);
+    used = used_then seen.before seen.now later None so.under.used used;
+  };
   told = so.told;
-  risen = omega (arith, so.risen, used.counted);
-  used = used_then c d e None so.used used;
 }
 
--- one reply more is counted
-risen_more : (c d e : ℕ) (replies : List Reply) (reply : Reply) → RoseTo (refusals_in replies) c d → d ≤ e → IsCounted reply d e → RoseTo (refusals_in (replies ++ reply ∷ [])) c e
-risen_more c d e replies reply risen up counted = rw (refusals-append replies (reply ∷ [])) (by_test (is_refused_search reply) refl)
-  where
-    by_test : (test : Bool) → is_refused_search reply ≡ test → RoseTo (refusals_in replies + refusals_in (reply ∷ [])) c e
-    by_test true is = let rose : Rose d e = counted is in rw is (omega (arith, rose))
-    by_test false is = rw is (omega arith)
-
-pub printed_more : (model : ModelParts) (rules : Rules) (json : Bool) (all left rest : List (List ℕ)) (number next : ℕ) (before now : Option (List ℕ)) (gathered more line : List ℕ) (a b : ℕ) (c d e : Refusals)
-    → IsPrinted model rules json all left number before now gathered a b c d → left ≡ line ∷ rest → next ≡ shown (number + 1)
-    → (reply : Reply) × IsAnswer model rules json (IsRefused d e) line reply × (more ≡ gathered ++ line_text rules next reply) × IsCounted reply d.count e.count → IsUsed d e None
-    → IsPrinted model rules json all rest next before now more a b c e
-unfolding printed_later
-printed_more model rules json all left rest number next before now gathered more line a b c d e so begins next-is (reply, is, more-is, counted) used =
-    let now_so = printed_later model rules json all left number before now gathered a b c d e so used in
-    let text = text_more rules number next so.replies reply so.answered.number_is next-is in
+-- one line more is answered and gathered
+pub printed_more : {json : Bool} (run : Run json) (law : OneWay json) (left rest : List (List ℕ)) (number next : ℕ) (line : List ℕ) (old new : String Global) (seen : Seen) (later : Refusals) → IsPrinted run left number (string_bytes old) seen
+    → left ≡ line ∷ rest → next ≡ min (number + 1) most_number → AnswersLine run.model run.state json seen.now later line next old new → IsUsed seen.now later None → IsPrinted run rest next (string_bytes new) (seen_later seen later)
+printed_more {json} run law left rest number next line old new seen later so begins next-is answers used =
+    let one : Line = record { number = next; answer = answers.reply } in
+    let step = request_step run.model seen.now later (alone run.state) run.state refl answers.reading answers.reply answers.answers answers.counted in
+    let under = under_way_more run.model run.state.shapes (tables run.state) seen.before (asked run.reader so.read) (asks answers.reading) (alone run.state) (alone run.state) number next so.lines answers.reply seen.now later so.under next-is step refl used in
+    let item : asks answers.reading ≡ asks (run.reader.request line) = ap (λ (reading : Reading). asks reading) (one_reading json law run.reader line answers.reading answers.says) in
+    let said : asked run.reader so.read ++ asks answers.reading ∷ [] ≡ asked run.reader (so.read ++ line ∷ []) = ap (λ (i : Said). asked run.reader so.read ++ i ∷ []) item ∙ sym (asked_more run.reader so.read (line ∷ [])) in
     record {
-      replies = so.replies ++ reply ∷ [];
-      answered = so_far_more model rules json (IsRefused c e) all left rest number next so.replies line reply now_so.answered begins next-is (since is);
-      told = rw text (gathered_more before now gathered (text_of_replies rules 1 so.replies) (line_text rules next reply) more a b so.told more-is);
-      risen = risen_more c.count d.count e.count so.replies reply so.risen used.counted counted;
-      used = now_so.used;
+      read = so.read ++ line ∷ [];
+      lines = so.lines ++ one ∷ [];
+      parts = so.parts ∙ ap (λ (l : List (List ℕ)). so.read ++ l) begins ∙ sym (append_assoc so.read (line ∷ []) rest);
+      under = subst (λ (items : List Said). IsUnderWay run.model run.state.shapes (tables run.state) items (alone run.state) next (so.lines ++ one ∷ []) seen.before later) said under;
+      told = subst (λ (text : List ℕ). IsGathered seen.out seen.out_now (string_bytes new) text seen.faults seen.faults_now) (sym (text_more so.lines (one ∷ []) ∙ ap (λ (text : List ℕ). text_of_lines so.lines ++ text) (text_one one)))
+          (gathered_more seen.out seen.out_now (string_bytes old) (text_of_lines so.lines) (line_text one) (string_bytes new) seen.faults seen.faults_now so.told answers.appended);
     }
-  where
-    since : IsAnswer model rules json (IsRefused d e) line reply → IsAnswer model rules json (IsRefused c e) line reply
-    since is = answer_more model rules json (IsRefused d e) (IsRefused c e) (λ pattern refused. refused_since c d e pattern so.used refused) line reply is
 
-pub printed_pushed : (model : ModelParts) (rules : Rules) (json : Bool) (all left : List (List ℕ)) (number : ℕ) (before mid now : Option (List ℕ)) (gathered empty : List ℕ) (a b z : ℕ) (c d : Refusals)
-    → IsPrinted model rules json all left number before mid gathered a b c d → now ≡ with_back mid gathered → empty ≡ [] → b ≤ z → IsPrinted model rules json all left number before now empty a z c d
-printed_pushed model rules json all left number before mid now gathered empty a b z c d so took none up = record {
-  replies = so.replies;
-  answered = so.answered;
-  told = gathered_pushed before mid now gathered empty (text_of_replies rules 1 so.replies) a b z so.told took none up;
-  risen = so.risen;
-  used = so.used;
+-- some of what was gathered was pushed
+abbrev pub seen_pushed : Seen → Option (List ℕ) → ℕ → Seen
+seen_pushed seen out_now faults_now = record seen { out_now = out_now; faults_now = faults_now }
+
+pub printed_moved : {json : Bool} (run : Run json) (left : List (List ℕ)) (number : ℕ) (gathered still : List ℕ) (seen : Seen) (now : Option (List ℕ)) (faults : ℕ) → IsPrinted run left number gathered seen → Moves seen.out_now now gathered still → seen.faults_now ≤ faults
+    → IsPrinted run left number still (seen_pushed seen now faults)
+printed_moved run left number gathered still seen now faults so moved counted = record {
+  read = so.read;
+  lines = so.lines;
+  parts = so.parts;
+  under = so.under;
+  told = gathered_moved seen.out seen.out_now now gathered still (text_of_lines so.lines) seen.faults seen.faults_now faults so.told moved counted;
 }
 
--- the answers stopped, with these replies to all requests
-stopped_so : HasAnswers → (model : ModelParts) (rules : Rules) (json : Bool) (all left : List (List ℕ)) (number : ℕ) (before now : Option (List ℕ)) (gathered : List ℕ) (a b : ℕ) (c d : Refusals) → (fact : List ℕ → Type 0)
-    → (so : IsPrinted model rules json all left number before now gathered a b c d) → ((more : List ℕ) → fact (text_of_replies rules 1 so.replies ++ more))
-    → Answering model rules json (IsRefused c d) all (λ replies text. fact text × RoseTo (refusals_in replies) c.count d.count)
-stopped_so law model rules json all left number before now gathered a b c d fact so took =
-    let rest = whole_answers law model rules json (IsRefused c d) all left number so.replies so.answered in
-    (so.replies ++ rest.0, rest.1, (rw (text-append rules 1 so.replies rest.0) (took (text_of_replies rules (1 + length so.replies) rest.0)), rw rest.2 so.risen))
+-- ---- the ends
 
-pub stops_memory : HasAnswers → (model : ModelParts) (rules : Rules) (json : Bool) (all left : List (List ℕ)) (number : ℕ) (before now : Option (List ℕ)) (gathered : List ℕ) (a b : ℕ) (c d : Refusals)
-    → IsPrinted model rules json all left number before now gathered a b c d → Answering model rules json (IsRefused c d) all (λ replies text. PrintStops before now a b NoMemory text × RoseTo (refusals_in replies) c.count d.count)
-stops_memory law model rules json all left number before now gathered a b c d so =
-    stopped_so law model rules json all left number before now gathered a b c d (PrintStops before now a b NoMemory) so (λ more. stopped_quiet before now gathered (text_of_replies rules 1 so.replies) more a b so.told)
+-- the input says what all its lines ask
+says_all : {json : Bool} (run : Run json) (text : List ℕ) → IsUtf8 text → run.all ≡ requests_of text → IsRequests json text (asked run.reader run.all)
+says_all run text utf8 all = record { utf8 = utf8; reader = run.reader; asked = ap (λ (lines : List (List ℕ)). asked run.reader lines) all }
 
-pub stops_write : HasAnswers → (model : ModelParts) (rules : Rules) (json : Bool) (all left : List (List ℕ)) (number : ℕ) (before mid now : Option (List ℕ)) (gathered : List ℕ) (a b z : ℕ) (c d : Refusals)
-    → IsPrinted model rules json all left number before mid gathered a b c d → TookFront mid now gathered → Rose b z
-    → Answering model rules json (IsRefused c d) all (λ replies text. PrintStops before now a z CannotWrite text × RoseTo (refusals_in replies) c.count d.count)
-stops_write law model rules json all left number before mid now gathered a b z c d so front rose =
-    stopped_so law model rules json all left number before mid gathered a b c d (PrintStops before now a z CannotWrite) so
-    (λ more. (stopped_front before mid now gathered (text_of_replies rules 1 so.replies) more a b so.told front, rose_later a b z so.told.counted rose))
+-- all lines are answered and pushed
+pub printed_all : {json : Bool} (run : Run json) (text : List ℕ) (left : List (List ℕ)) (number : ℕ) (gathered : List ℕ) (seen : Seen) (now : Option (List ℕ)) → IsUtf8 text → run.all ≡ requests_of text → IsPrinted run left number gathered seen → left ≡ [] → now ≡ with_back seen.out_now gathered
+    → PrintedAll (IsRequests json text) run.model run.state.shapes (tables run.state) seen.before seen.now seen.out now
+printed_all run text left number gathered seen now utf8 all so none took =
+    let whole : so.read ≡ run.all = sym (so.parts ∙ ap (λ (l : List (List ℕ)). so.read ++ l) none ∙ append-nil so.read) in
+    record {
+      printed = record {
+        items = asked run.reader run.all;
+        lines = so.lines;
+        says = says_all run text utf8 all;
+        plain = subst (λ (l : List (List ℕ)). IsPlain run.model run.state.shapes (tables run.state) (IsRefused seen.before seen.now) (asked run.reader l) so.lines) whole so.under.plain;
+        counted = so.under.rose;
+      };
+      took = all_pushed seen.out seen.out_now now gathered (text_of_lines so.lines) seen.faults seen.faults_now so.told took;
+    }
 
-pub prints_all : (model : ModelParts) (rules : Rules) (json : Bool) (all left : List (List ℕ)) (number : ℕ) (before mid now : Option (List ℕ)) (gathered : List ℕ) (a b : ℕ) (c d : Refusals)
-    → IsPrinted model rules json all left number before mid gathered a b c d → left ≡ [] → now ≡ with_back mid gathered
-    → Answering model rules json (IsRefused c d) all (λ replies text. (now ≡ with_back before text) × RoseTo (refusals_in replies) c.count d.count)
-prints_all model rules json all left number before mid now gathered a b c d so none took =
-    (so.replies, answered_all model rules json (IsRefused c d) all left number so.replies so.answered none, (all_pushed before mid now gathered (text_of_replies rules 1 so.replies) a b so.told took, so.risen))
+-- the lines of all requests, of which the first are these
+whole_lines : {json : Bool} (law : HasVerdicts) (run : Run json) (text : List ℕ) (left : List (List ℕ)) (number : ℕ) (gathered : List ℕ) (seen : Seen) → IsUtf8 text → run.all ≡ requests_of text → (so : IsPrinted run left number gathered seen)
+    → (more : List Line) × (printed : LinesOf (IsRequests json text) run.model run.state.shapes (tables run.state) (IsRefused seen.before seen.now) (Rises seen.before seen.now)) × (text_of_lines printed.lines ≡ text_of_lines so.lines ++ text_of_lines more)
+whole_lines law run text left number gathered seen utf8 all so =
+    let rest = more_lines law run.model run.state.shapes (tables run.state) (IsRefused seen.before seen.now) run.reader left (asked run.reader so.read) so.lines so.under.plain in
+    let whole : asked run.reader so.read ++ asked run.reader left ≡ asked run.reader run.all = sym (asked_more run.reader so.read left) ∙ ap (λ (lines : List (List ℕ)). asked run.reader lines) (sym so.parts) in (
+      rest.more,
+      record {
+        items = asked run.reader run.all;
+        lines = so.lines ++ rest.more;
+        says = says_all run text utf8 all;
+        plain = subst (λ (items : List Said). IsPlain run.model run.state.shapes (tables run.state) (IsRefused seen.before seen.now) items (so.lines ++ rest.more)) whole rest.plain;
+        counted = still seen.before.count seen.now.count (refused_searches so.lines) (refused_searches (so.lines ++ rest.more)) (refused_more so.lines rest.more ∙ ap (λ (n : ℕ). refused_searches so.lines + n) rest.calm) so.under.rose;
+      },
+      text_more so.lines rest.more,
+    )
+  where
+    still : (before now few many : ℕ) → many ≡ few + 0 → RoseBy few before now → RoseBy many before now
+    still before now few many same risen = omega (arith, same, risen)
+
+-- memory ran out
+pub printed_memory : {json : Bool} (law : HasVerdicts) (run : Run json) (text : List ℕ) (left : List (List ℕ)) (number : ℕ) (gathered : List ℕ) (seen : Seen) (rose : Type 0) → IsUtf8 text → run.all ≡ requests_of text → IsPrinted run left number gathered seen
+    → PrintedSome (IsRequests json text) run.model run.state.shapes (tables run.state) seen.before seen.now seen.out seen.out_now rose NoMemory
+printed_memory law run text left number gathered seen rose utf8 all so =
+    let whole = whole_lines law run text left number gathered seen utf8 all so in
+    record {
+      printed = whole.1;
+      stops = subst (TookFront seen.out seen.out_now) (sym whole.2) (stopped_quiet seen.out seen.out_now gathered (text_of_lines so.lines) (text_of_lines whole.0) seen.faults seen.faults_now so.told);
+    }
+
+-- the sink failed
+pub printed_write : {json : Bool} (law : HasVerdicts) (run : Run json) (text : List ℕ) (left : List (List ℕ)) (number : ℕ) (gathered : List ℕ) (seen : Seen) (now : Option (List ℕ)) (faults : ℕ) → IsUtf8 text → run.all ≡ requests_of text → IsPrinted run left number gathered seen
+    → TookFront seen.out_now now gathered → Rose seen.faults_now faults → PrintedSome (IsRequests json text) run.model run.state.shapes (tables run.state) seen.before seen.now seen.out now (Rose seen.faults faults) CannotWrite
+printed_write law run text left number gathered seen now faults utf8 all so front rose =
+    let whole = whole_lines law run text left number gathered seen utf8 all so in
+    let risen : Rose seen.faults faults = omega (arith, so.told.counted, rose) in
+    record {
+      printed = whole.1;
+      stops = (subst (TookFront seen.out now) (sym whole.2) (stopped_front seen.out seen.out_now now gathered (text_of_lines so.lines) (text_of_lines whole.0) seen.faults seen.faults_now so.told front), risen);
+    }
+
+-- ---- lines that are there
+
+-- the lines up to those that are left were pushed or are gathered
+pub record AreGathered (before now : Option (List ℕ)) (gathered : List ℕ) (all left : List Line) (faults faults_now : ℕ) : Type 0 where
+  pub so_far : List ℕ
+  pub told : IsGathered before now gathered so_far faults faults_now
+  pub parts : so_far ++ text_of_lines left ≡ text_of_lines all
+
+pub lines_none : (before : Option (List ℕ)) (gathered : List ℕ) (all : List Line) (faults : ℕ) → gathered ≡ [] → AreGathered before before gathered all all faults faults
+lines_none before gathered all faults none = record { so_far = []; told = gathered_none before gathered faults none; parts = refl }
+
+-- one more line
+pub lines_more : (before now : Option (List ℕ)) (gathered more : List ℕ) (all left rest : List Line) (line : Line) (a b : ℕ) → AreGathered before now gathered all left a b → left ≡ line ∷ rest → more ≡ gathered ++ line_text line → AreGathered before now more all rest a b
+lines_more before now gathered more all left rest line a b so begins more-is = record {
+  so_far = so.so_far ++ line_text line;
+  told = gathered_more before now gathered so.so_far (line_text line) more a b so.told more-is;
+  parts = append_assoc so.so_far (line_text line) (text_of_lines rest) ∙ ap (λ (lines : List Line). so.so_far ++ text_of_lines lines) (sym begins) ∙ so.parts;
+}
+
+pub lines_moved : (before mid now : Option (List ℕ)) (gathered still : List ℕ) (all left : List Line) (a b c : ℕ) → AreGathered before mid gathered all left a b → Moves mid now gathered still → b ≤ c → AreGathered before now still all left a c
+lines_moved before mid now gathered still all left a b c so moved counted = record { so_far = so.so_far; told = gathered_moved before mid now gathered still so.so_far a b c so.told moved counted; parts = so.parts }
+
+pub lines_all : (before mid now : Option (List ℕ)) (gathered : List ℕ) (all left : List Line) (a b : ℕ) → AreGathered before mid gathered all left a b → left ≡ [] → now ≡ with_back mid gathered → now ≡ with_back before (text_of_lines all)
+lines_all before mid now gathered all left a b so none took =
+    let whole : so.so_far ≡ text_of_lines all = sym (append-nil so.so_far) ∙ ap (λ (lines : List Line). so.so_far ++ text_of_lines lines) (sym none) ∙ so.parts in
+    all_pushed before mid now gathered so.so_far a b so.told took ∙ ap (with_back before) whole
+
+pub lines_quiet : (before now : Option (List ℕ)) (gathered : List ℕ) (all left : List Line) (a b : ℕ) → AreGathered before now gathered all left a b → TookFront before now (text_of_lines all)
+lines_quiet before now gathered all left a b so = subst (TookFront before now) so.parts (stopped_quiet before now gathered so.so_far (text_of_lines left) a b so.told)
+
+pub lines_stopped : (before mid now : Option (List ℕ)) (gathered : List ℕ) (all left : List Line) (a b c : ℕ) → AreGathered before mid gathered all left a b → TookFront mid now gathered → Rose b c → TookFront before now (text_of_lines all) × Rose a c
+lines_stopped before mid now gathered all left a b c so front rose =
+    (subst (TookFront before now) so.parts (stopped_front before mid now gathered so.so_far (text_of_lines left) a b so.told front), omega (arith, so.told.counted, rose))

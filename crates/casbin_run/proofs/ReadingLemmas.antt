@@ -1,39 +1,71 @@
--- Why a file was not read.
-use Rattle.std.proofs.Common.{◌≡◌, ◌≢◌, ℕ, ◌≤◌, List, [], length, refl}
-use Rattle.std.specs.Prelude.{None, Option}
-use Rattle.outside.specs.Files.{Files, Holds}
+-- Why a part is not read, from the fault of its reader.
+use Rattle.std.proofs.Common.{◌≡◌, ◌≢◌, ℕ, ◌<◌, ◌≤◌, Bool, List, length, refl, subst, sym}
+use Rattle.std.specs.Prelude.{◌↔◌, Option, Some, None, Result, Ok, Err, IfErr, OnOk, IsErrOf}
+use Rattle.command_words.specs.declared.command.Options.{Options}
 use Rattle.model_conf.specs.Faults.{IsModelFault}
+use Rattle.model_conf.specs.ModelText.{ModelParts}
 use Rattle.model_conf.specs.declared.fault.ModelFault.{ModelFault}
 use Rattle.model_conf.specs.declared.fault.ModelFault.TheVariants as model
-use Rattle.model_conf.specs.Shapes.{first_absent}
 use Rattle.model_conf.specs.declared.shapes.ShapeFault.{ShapeFault}
 use Rattle.model_conf.specs.declared.shapes.ShapeFault.TheVariants as shape
-use Rattle.perm_base.specs.declared.shapes.RoleShape.{RoleShape}
+use Rattle.outside.specs.Files.{Files, Holds}
 use Rattle.perm_base.specs.declared.shapes.Shapes.{Shapes}
 use Rattle.policy_csv.specs.Faults.{IsPolicyFault}
 use Rattle.policy_csv.specs.declared.fault.PolicyFault.{PolicyFault}
 use Rattle.policy_csv.specs.declared.fault.PolicyFault.TheVariants as policy
-use Rattle.casbin_run.specs.Parts.{model_limit, policy_limit}
-use Rattle.casbin_run.specs.Helps.Reading.{ModelStops, PolicyStops}
-use Rattle.casbin_run.specs.Stops.{model_stop_of, policy_stop_of}
+use Rattle.run_status.specs.Parts.{limit_of}
+use Rattle.run_status.specs.Stops.{model_stop_of, policy_stop_of, script_stop_of, shape_stop_of}
+use Rattle.run_status.specs.declared.part.Part.TheVariants.{Model, Policy, Input}
+use Rattle.script_read.specs.Script.{IsScriptFault}
+use Rattle.script_read.specs.declared.fault.ScriptFault.{ScriptFault}
+use Rattle.script_read.specs.declared.fault.ScriptFault.TheVariants as script
+use Rattle.casbin_run.specs.Given.{InputIs}
+use Rattle.casbin_run.specs.Helps.Loading.{InputStops, ModelStops, PolicyStops, ShapesStop}
+use Rattle.casbin_run.specs.Jobs.{absent_in, domains_in, limit_in, names_in, shapes_with}
+use Rattle.enforce_core.specs.Programs.{Suits}
+use Rattle.model_conf.specs.Shapes.{AreNamedOnce}
+use Rattle.casbin_run.specs.declared.job.Task.TheVariants.{Serve}
 
--- where no relation is named, none lacks
-pub none_absent : (relations : List RoleShape) → first_absent relations [] [] ≡ None
-unfolding first_absent
-none_absent relations = refl
+pub model_stops : (files : Option Files) (name : List ℕ) (rose : Type 0) (bytes : List ℕ) (e : ModelFault) → Holds files name bytes → length bytes ≤ limit_of Model → (e ≢ model.NoMemory → IsModelFault bytes e) → ModelStops files name rose (model_stop_of e)
+model_stops files name rose bytes model.NoMemory holds within fault = tt
+model_stops files name rose bytes e holds within fault = (bytes, holds, within, fault (λ is. absurd cc))
 
--- so shapes fail by want of memory alone
-pub no_relation : {A : Type 0} (fault : ShapeFault) (relation : ℕ) → fault ≡ shape.NoRelation relation → fault ≡ shape.NoMemory → A
-no_relation fault relation named none = absurd cc
+pub policy_stops : (files : Option Files) (name : List ℕ) (shapes : Shapes) (rose : Type 0) (bytes : List ℕ) (e : PolicyFault) → Holds files name bytes → length bytes ≤ limit_of Policy → (e ≢ policy.NoMemory → IsPolicyFault shapes bytes e) → PolicyStops files name shapes rose (policy_stop_of e)
+policy_stops files name shapes rose bytes policy.NoMemory holds within fault = tt
+policy_stops files name shapes rose bytes e holds within fault = (bytes, holds, within, fault (λ is. absurd cc))
 
--- a fault of a policy that was read from a file
-pub policy_stops : (files : Option Files) (name : List ℕ) (shapes : Shapes) (rose : Type 0) (bytes : List ℕ) (fault : PolicyFault) → Holds files name bytes → length bytes ≤ policy_limit → (fault ≢ policy.NoMemory → IsPolicyFault shapes bytes fault)
-    → PolicyStops files name shapes rose (policy_stop_of fault)
-policy_stops files name shapes rose bytes policy.NoMemory holds within says = tt
-policy_stops files name shapes rose bytes fault holds within says = (bytes, holds, within, says (λ e. absurd cc))
+pub script_stops : (json : Bool) (input : Option (List ℕ)) (rose : Type 0) (bytes : List ℕ) (e : ScriptFault) → InputIs input (λ told. told ≡ bytes) → (e ≢ script.NoMemory → IsScriptFault json bytes e) → InputStops (Serve json) input rose (script_stop_of e)
+script_stops json input rose bytes script.NoMemory is fault = tt
+script_stops json input rose bytes e is fault = (is.0, is.1, is.2, subst (λ (told : List ℕ). IsScriptFault json told e) (sym is.3) (fault (λ same. absurd cc)))
 
--- a fault of a model that was read from a file
-pub model_stops : (files : Option Files) (name : List ℕ) (rose : Type 0) (bytes : List ℕ) (fault : ModelFault) → Holds files name bytes → length bytes ≤ model_limit → (fault ≢ model.NoMemory → IsModelFault bytes fault)
-    → ModelStops files name rose (model_stop_of fault)
-model_stops files name rose bytes model.NoMemory holds within says = tt
-model_stops files name rose bytes fault holds within says = (bytes, holds, within, says (λ e. absurd cc))
+-- what making shapes comes to, from its clause
+abbrev pub TellsMissing : Option Options → ModelParts → Result Shapes ShapeFault → Type 0
+TellsMissing options parts result = (relation : ℕ) → IsErrOf result (shape.NoRelation relation) ↔ (absent_in options parts ≡ Some relation)
+
+pub shapes_stop : (options : Option Options) (parts : ModelParts) (result : Result Shapes ShapeFault) → TellsMissing options parts result → IfErr result (λ e. ShapesStop options parts (shape_stop_of e))
+shapes_stop options parts (Ok shapes) missing = tt
+shapes_stop options parts (Err (shape.NoRelation relation)) missing = (missing relation).0 refl
+shapes_stop options parts (Err shape.NoMemory) missing = tt
+
+-- shapes that were made name nothing that is absent
+pub none_absent : (options : Option Options) (parts : ModelParts) (result : Result Shapes ShapeFault) → TellsMissing options parts result → OnOk result (absent_in options parts ≡ None)
+none_absent options parts (Err e) missing = tt
+none_absent options parts (Ok shapes) missing = by (absent_in options parts) refl
+  where
+    by : (absent : Option ℕ) → absent_in options parts ≡ absent → absent ≡ None
+    by None e = refl
+    by (Some relation) e = let wrong : IsErrOf (Ok shapes) (shape.NoRelation relation) = (missing relation).1 e in absurd cc
+
+-- shapes with these lists suit the model
+pub suits_with : (parts : ModelParts) (options : Option Options) (shapes : Shapes) → AreNamedOnce (names_in options) → AreNamedOnce (domains_in options) → absent_in options parts ≡ None → 0 < limit_in options → limit_in options ≤ 250 → shapes ≡ shapes_with options parts → Suits parts shapes
+suits_with parts options shapes names domains none some most is = record {
+  names = names_in options;
+  domains = domains_in options;
+  limit = limit_in options;
+  names_once = names;
+  domains_once = domains;
+  present = none;
+  some = some;
+  most = most;
+  shapes_are = is;
+}

@@ -1,5 +1,4 @@
 -- What the steps of a run read, gather and push: helps for proofs, which no public clause cites.
+pub mod Loading
+pub mod Working
 pub mod Gathering
-pub mod Pieces
-pub mod Print
-pub mod Reading

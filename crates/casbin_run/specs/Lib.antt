@@ -1,10 +1,9 @@
-pub mod Words
-pub mod Judging
+pub mod Jobs
+pub mod Given
+pub mod Texts
 pub mod Finders
-pub mod Answer
-pub mod Message
-pub mod Stops
-pub mod Parts
-pub mod Answers
-pub mod Cause
+pub mod Worlds
+pub mod Answered
+pub mod Causes
+pub mod Ends
 pub mod Helps

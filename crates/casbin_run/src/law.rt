@@ -1,39 +1,78 @@
-ghost use Rattle.std.specs.Prelude.{◌≡◌, List, ℕ, Some};
-ghost use Rattle.outside.specs.Files.{Files};
-ghost use Rattle.casbin_run.specs.declared.stop.Stop.{Stop};
-ghost use Rattle.casbin_run.specs.Answers.{IsAnswered, IsInOrder};
-ghost use Rattle.casbin_run.specs.Cause.{Cause};
-ghost use Rattle.casbin_run.specs.Finders.{NoneBad};
+ghost use Rattle.std.specs.Prelude.{◌≡◌, ◌⊎◌, ℕ, [], Contains, IsSome, List};
+ghost use Rattle.outside.specs.Told.{with_back};
+ghost use Rattle.run_status.specs.Statuses.{status_of};
+ghost use Rattle.run_status.specs.declared.status.Status as declared;
+ghost use Rattle.run_status.specs.declared.status.Status.TheVariants as statuses;
+ghost use Rattle.run_status.specs.declared.stop.Stop.{Stop};
+ghost use Rattle.casbin_run.specs.Answered.{IsAnswered};
+ghost use Rattle.casbin_run.specs.Causes.{Cause};
+ghost use Rattle.casbin_run.specs.Ends.{Ends};
+ghost use Rattle.casbin_run.specs.Finders.{RoseTogether};
+ghost use Rattle.casbin_run.specs.Given.{Given, IsInOrder};
+ghost use Rattle.casbin_run.specs.Worlds.{InputRose, OutRose, ShelfRose, Taken, World};
 
-use matcher_meaning::verdict_is_unique;
+use matcher_read::every_text_is_a_matcher_or_at_fault;
 use model_conf::{faulty_text_is_no_model, text_has_one_model_fault, text_says_one_model};
-use perm_base::{
-    fault_of_a_line_is_unique, fields_of_a_line_are_unique, line_at_fault_is_no_fields,
+use policy_csv::{
+    every_text_is_a_policy_or_at_fault, faulty_text_is_no_policy, text_has_one_policy_fault,
+    text_says_one_policy,
 };
-use policy_csv::{faulty_text_is_no_policy, text_has_one_policy_fault, text_says_one_policy};
+use script_read::{
+    every_input_is_requests_or_at_fault, every_text_is_a_script_or_at_fault,
+    faulty_text_is_no_script, input_says_one_list_of_requests, text_has_one_script_fault,
+    text_says_one_script,
+};
+use session_meaning::lines_are_one;
 
-/// The law that told words, files and input have one end: one cause at most, none where they are in order, and one
-/// text that answers them where no search is refused.
+/// The law that what is given, where it is told, has one end: all is in order, or there is a cause of a stop, and one at most,
+/// and not both; and one text at most answers it where no pattern counts as refused.
 pub fn one_end()
-    ensures one_cause { (words : List (List ℕ)) (files : Files) (input : List ℕ)
-        (first second : Stop)
-        → Cause words (Some files) (Some input) first
-        → Cause words (Some files) (Some input) second → first ≡ second }
-    ensures no_cause { (words : List (List ℕ)) (files : Files) (input : List ℕ) (stop : Stop)
-        → IsInOrder words (Some files) (Some input)
-        → ¬ (Cause words (Some files) (Some input) stop) }
-    ensures one_text { (words : List (List ℕ)) (files : Files) (input first second : List ℕ)
-        → IsAnswered words (Some files) (Some input) NoneBad first
-        → IsAnswered words (Some files) (Some input) NoneBad second → first ≡ second }
+    ensures there { (g : Given) → IsSome g.files → IsSome g.input
+        → IsInOrder g ⊎ ((stop : Stop) × Cause g stop) }
+    ensures one_cause { (g : Given) (first second : Stop) → IsSome g.files → IsSome g.input
+        → Cause g first → Cause g second → first ≡ second }
+    ensures no_cause { (g : Given) (stop : Stop) → IsSome g.files → IsSome g.input
+        → IsInOrder g → ¬ (Cause g stop) }
+    ensures one_text { (g : Given) (first second : List ℕ) → IsSome g.files → IsSome g.input
+        → IsAnswered g (Contains []) first → IsAnswered g (Contains []) second
+        → first ≡ second }
 {
+    every_text_is_a_matcher_or_at_fault();
+    every_text_is_a_policy_or_at_fault();
+    every_text_is_a_script_or_at_fault();
+    every_input_is_requests_or_at_fault();
     text_says_one_model();
     text_has_one_model_fault();
     faulty_text_is_no_model();
     text_says_one_policy();
     text_has_one_policy_fault();
     faulty_text_is_no_policy();
-    fields_of_a_line_are_unique();
-    fault_of_a_line_is_unique();
-    line_at_fault_is_no_fields();
-    verdict_is_unique();
+    text_says_one_script();
+    text_has_one_script_fault();
+    faulty_text_is_no_script();
+    input_says_one_list_of_requests();
+    lines_are_one();
+}
+
+/// The law that a run ends as what is given says, where it is told. A cause gives its own status, unless memory ran out or a
+/// file or the input could not be read. Where all is in order and no count rises, the run is done, or memory ran out. Where no
+/// finder's count rises, what is taken is the one text that answers what is given.
+pub fn runs_end_as_given()
+    ensures exact { (g : Given) (before now : World) (err err_now : Taken)
+        (status : declared.Status) (stop : Stop) → IsSome g.files → IsSome g.input
+        → Ends g before now err err_now status → Cause g stop
+        → (status ≡ status_of stop) ⊎ ((status ≡ statuses.NoMemory)
+        ⊎ ((status ≡ statuses.ReadFault) × (ShelfRose before now ⊎ InputRose before now))) }
+    ensures complete { (g : Given) (before now : World) (err err_now : Taken)
+        (status : declared.Status) → IsSome g.files → IsSome g.input
+        → Ends g before now err err_now status → IsInOrder g
+        → ¬ (ShelfRose before now) → ¬ (InputRose before now) → ¬ (OutRose before now)
+        → (status ≡ statuses.Done) ⊎ (status ≡ statuses.NoMemory) }
+    ensures text { (g : Given) (before now : World) (err err_now : Taken) (text : List ℕ)
+        → IsSome g.files → IsSome g.input
+        → Ends g before now err err_now statuses.Done
+        → ¬ (RoseTogether before.finders now.finders 1) → IsAnswered g (Contains []) text
+        → now.out.bytes ≡ with_back before.out.bytes text }
+{
+    one_end();
 }

@@ -1,20 +1,16 @@
-//! The program's run, from words and bytes to bytes: each request of the input gets its line.
+//! The program's run, from words and bytes to bytes: requests and scripts are answered, models and policies shown.
 #![tactic(auto)]
 
-mod answer;
+mod enforce;
 mod files;
-mod later;
+mod gather;
+mod input;
+mod job;
 mod law;
-mod message;
-mod policy_rows;
-mod reply;
 mod run;
-mod status;
-mod stop;
-mod telling;
-mod words;
+mod session;
+mod showing;
 
-pub use law::one_end;
+pub use law::{one_end, runs_end_as_given};
 pub use run::run_casbin;
-pub use status::Status;
-pub use stop::{Part, Stop};
+pub use run_status::Status;

@@ -5,3 +5,4 @@ mod ShapeLemmas
 mod ResolveLemmas
 mod AdmitLemmas
 mod StandingLemmas
+pub mod CallerLemmas

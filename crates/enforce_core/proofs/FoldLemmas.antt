@@ -1,47 +1,33 @@
 -- The verdict of a fold over the outcomes of rows.
-use Rattle.std.proofs.Common.{◌≡◌, inl, inr, ℕ, ◌+◌, ◌<◌, ◌≤◌, ◌==◌, length, take, drop, get_or, Bool, true, false, true≢false, IfOk, List, [], ◌∷◌, ◌++◌, Option, Some, None, Result, Ok, Err, refl, sym, ap, ◌∙◌, subst, arith, add-zero}
+use Rattle.std.proofs.Common.{◌≡◌, inl, inr, ℕ, ◌<◌, ◌==◌, true, false, List, [], ◌∷◌, ◌++◌, Option, Some, None, refl, sym, ap, ◌∙◌, subst, arith, append_assoc, append-nil}
 use Rattle.std.specs.Prelude.{is_some}
+use Rattle.std.specs.List.{AllByRecursion, AllZip}
 use Rattle.std.proofs.lemmas.Bool.{eq-eqb, ne_eqb}
-use Rattle.std.proofs.lemmas.List.{take-append-drop, take_all, take_more, length-take}
 use Rattle.effect_fold.specs.Steps.{Progress, progress, begun, behind, ended, taken}
 use Rattle.effect_fold.specs.Verdict.{Taken, verdict}
 use Rattle.effect_fold.specs.declared.effect.Effect.{Effect}
-use Rattle.effect_fold.specs.declared.fault.Cause.{Cause}
 use Rattle.effect_fold.specs.declared.fault.Cause.TheVariants.{Pattern}
 use Rattle.effect_fold.specs.declared.fault.Fault.{Fault}
 use Rattle.effect_fold.specs.declared.outcome.Outcome.{Outcome}
 use Rattle.effect_fold.specs.declared.outcome.Outcome.TheVariants.{Failed}
 use Rattle.effect_fold.specs.declared.verdict.Verdict.{Verdict}
 use Rattle.effect_fold.specs.declared.verdict.Verdict.TheVariants as verdicts
-use Rattle.matcher_meaning.proofs.CallerLemmas.{SomeTruth, some_list}
-use Rattle.matcher_meaning.specs.Environment.{Environment, without_roles}
-use Rattle.matcher_meaning.specs.Meaning.{IsTruth}
-use Rattle.matcher_meaning.specs.Perm.{Judging, Refusal, refused_at, AreOutcomes, IsOnce, IsOutcome, IsPerm, IsJudged, is_refusal, outcome_of, refusal_fault, row_word}
-use Rattle.outside.specs.Faults.{Rose}
-use Rattle.outside.specs.declared.fault.NoMemory.{NoMemory}
-use Rattle.matcher_read.specs.Expression.{Expression}
-use Rattle.perm_value.specs.Datum.{Datum}
-use Rattle.regex_gate.specs.Refusals.{Refusals, IsRefused}
-use Rattle.enforce_core.specs.Helps.Outcomes.{ComesTo, IsJudgedOn, word_of_row}
-use Rattle.enforce_core.specs.Programs.{IsTruthOf}
-use Rattle.enforce_core.specs.declared.stop.Stop.{Stop}
-use Rattle.enforce_core.specs.declared.stop.Stop.TheVariants as stop
+use Rattle.policy_table.specs.Tables.{Fields}
+use Rattle.matcher_meaning.proofs.CallerLemmas.{SomeTruthAt, each_some, row_outcome_some}
+use Rattle.matcher_meaning.specs.Cases.{Case}
+use Rattle.matcher_meaning.specs.Order.{Numbered, numbered_from}
+use Rattle.matcher_meaning.specs.Perm.{Refusal, refusal_fault}
+use Rattle.matcher_meaning.specs.Verdicts.{HasOneOutcome, RowHasOutcome}
+use Rattle.enforce_core.proofs.RowLemmas.{numbers_before, zip_append}
+use Rattle.enforce_core.specs.Helps.Outcomes.{ComesTo, IsJudgedOn, OutcomeIs}
 
 -- a fold ends in the verdict
 abbrev pub EndsInVerdict : Type 0
 EndsInVerdict = (e : Effect) (outcomes : List Taken) → ended (behind (begun e) outcomes) ≡ verdict e outcomes
 
--- lists of rows
-abbrev Rows : Type 0
-Rows = List (List (List ℕ))
-
-outcomes-append : (m : Judging) (q : List Datum) (refused : Option Refusal) (number : ℕ) (front back : Rows) (a b : List Taken) → AreOutcomes m q refused number front a → AreOutcomes m q refused (number + length front) back b → AreOutcomes m q refused number (front ++ back) (a ++ b)
-outcomes-append m q refused number [] back [] b one other = subst (λ (n : ℕ). AreOutcomes m q refused n back b) (add-zero number) other
-outcomes-append m q refused number (row ∷ rows) back (p ∷ ps) b one other =
-    let e : number + length (row ∷ rows) ≡ (number + 1) + length rows = omega arith in
-    (one.0, one.1, outcomes-append m q refused (number + 1) rows back ps b one.2 (subst (λ (n : ℕ). AreOutcomes m q refused n back b) e other))
-outcomes-append m q refused number [] back (p ∷ ps) b one other = absurd one
-outcomes-append m q refused number (row ∷ rows) back [] b one other = absurd one
+-- these rows come to these outcomes, where a search is refused or none
+abbrev pub AreOutcomes : Case → Option Refusal → List Numbered → List Taken → Type 0
+AreOutcomes case refused rows outcomes = AllZip (RowHasOutcome case refused) rows outcomes
 
 behind-append : (p : Progress) (a b : List Taken) → behind p (a ++ b) ≡ behind (behind p a) b
 behind-append p [] b = refl
@@ -58,27 +44,25 @@ stays_with p (Some v) outcomes e some =
     let same : p ≡ progress p.effect p.allowed (Some v) = ap (progress p.effect p.allowed) e in
     rw same (ap ended (behind-settled p.effect p.allowed v outcomes))
 
--- how far a fold over rows has come
-pub record IsFolded (m : Judging) (q : List Datum) (rows : Rows) (at : ℕ) (fold : Progress) : Type 0 where
+-- how far a fold has come, where these rows are left of all
+pub record IsFolded (case : Case) (all rest : List Numbered) (fold : Progress) : Type 0 where
+  pub seen : List Numbered
   pub outcomes : List Taken
-  pub are : AreOutcomes m q None 1 (take at rows) outcomes
-  pub fold_is : fold ≡ behind (begun m.effect) outcomes
+  pub parts : all ≡ seen ++ rest
+  pub are : AreOutcomes case None seen outcomes
+  pub fold_is : fold ≡ behind (begun case.model.effect) outcomes
   pub open_still : fold.settled ≡ None
 
-pub folded_none : (m : Judging) (q : List Datum) (rows : Rows) (fold : Progress) → fold ≡ begun m.effect → IsFolded m q rows 0 fold
-folded_none m q rows fold e = record { outcomes = []; are = tt; fold_is = e; open_still = ap (λ (p : Progress). p.settled) e }
+pub folded_none : (case : Case) (all rest : List Numbered) (fold : Progress) → rest ≡ all → fold ≡ begun case.model.effect → IsFolded case all rest fold
+folded_none case all rest fold same e = record { seen = []; outcomes = []; parts = sym same; are = tt; fold_is = e; open_still = ap (λ (p : Progress). p.settled) e }
 
 -- one row more
-more : (m : Judging) (q : List Datum) (refused : Option Refusal) (rows : Rows) (at : ℕ) (row : List (List ℕ)) (outcome : Outcome) (outcomes : List Taken) → AreOutcomes m q refused 1 (take at rows) outcomes → at < length rows → get_or rows at row ≡ row
-    → IsOutcome m q (refused_at refused (Some (at + 1))) (Some row) (row_word m.policy_columns row) outcome → AreOutcomes m q refused 1 (take (at + 1) rows) (outcomes ++ (Some (at + 1), outcome) ∷ [])
-more m q refused rows at row outcome outcomes are within here is =
-    let front : take (at + 1) rows ≡ take at rows ++ row ∷ [] = take_more rows at row within ∙ ap (λ (r : List (List ℕ)). take at rows ++ r ∷ []) here in
-    let number : at + 1 ≡ 1 + length (take at rows) = omega (arith, length-take at rows) in
-    let last : IsOutcome m q (refused_at refused (Some (1 + length (take at rows)))) (Some row) (row_word m.policy_columns row) outcome = subst (λ (n : ℕ). IsOutcome m q (refused_at refused (Some n)) (Some row) (row_word m.policy_columns row) outcome) number is in
-    rw front (outcomes-append m q refused 1 (take at rows) (row ∷ []) outcomes ((Some (at + 1), outcome) ∷ []) are (ap (λ (n : ℕ). Some n) number, last, tt))
+more : (case : Case) (refused : Option Refusal) (seen : List Numbered) (row : Numbered) (outcome : Outcome) (outcomes : List Taken) → AreOutcomes case refused seen outcomes → RowHasOutcome case refused row (Some row.number, outcome)
+    → AreOutcomes case refused (seen ++ row ∷ []) (outcomes ++ (Some row.number, outcome) ∷ [])
+more case refused seen row outcome outcomes are is = zip_append (RowHasOutcome case refused) seen (row ∷ []) outcomes ((Some row.number, outcome) ∷ []) are (is, tt)
 
-next_fold : (m : Judging) (outcomes : List Taken) (fold next : Progress) (row : Option ℕ) (outcome : Outcome) → fold ≡ behind (begun m.effect) outcomes → next ≡ taken fold row outcome → next ≡ behind (begun m.effect) (outcomes ++ (row, outcome) ∷ [])
-next_fold m outcomes fold next row outcome e step = step ∙ ap (λ (p : Progress). taken p row outcome) e ∙ sym (behind-append (begun m.effect) outcomes ((row, outcome) ∷ []))
+next_fold : (e : Effect) (outcomes : List Taken) (fold next : Progress) (row : Option ℕ) (outcome : Outcome) → fold ≡ behind (begun e) outcomes → next ≡ taken fold row outcome → next ≡ behind (begun e) (outcomes ++ (row, outcome) ∷ [])
+next_fold e outcomes fold next row outcome is step = step ∙ ap (λ (p : Progress). taken p row outcome) is ∙ sym (behind-append (begun e) outcomes ((row, outcome) ∷ []))
 
 not_some : (o : Option Verdict) → is_some o ≡ false → o ≡ None
 not_some None e = refl
@@ -88,105 +72,86 @@ not_some (Some v) e = absurd cc
 failed_settles : (fold next : Progress) (row : Option ℕ) (failed : Fault) → fold.settled ≡ None → next ≡ taken fold row (Failed failed) → next ≡ progress fold.effect fold.allowed (Some (verdicts.Fault row failed))
 failed_settles fold next row failed still step = step ∙ ap (λ (s : Option Verdict). taken (progress fold.effect fold.allowed s) row (Failed failed)) still
 
+parts_more : (all seen : List Numbered) (row : Numbered) (rest : List Numbered) → all ≡ seen ++ row ∷ rest → all ≡ (seen ++ row ∷ []) ++ rest
+parts_more all seen row rest e = e ∙ sym (append_assoc seen (row ∷ []) rest)
+
 -- a row that comes to an outcome and settles nothing was not refused
-pub folded_more : (m : Judging) (q : List Datum) (IsBad : List ℕ → Type 0) (rows : Rows) (at : ℕ) (fold next : Progress) (row : List (List ℕ)) (outcome : Outcome) → IsFolded m q rows at fold → at < length rows → get_or rows at row ≡ row → ComesTo m q IsBad (Some row) outcome
-    → next ≡ taken fold (Some (at + 1)) outcome → is_some next.settled ≡ false → IsFolded m q rows (at + 1) next
-folded_more m q IsBad rows at fold next row outcome so within here (inl is) step unsettled = record {
-  outcomes = so.outcomes ++ (Some (at + 1), outcome) ∷ [];
-  are = more m q None rows at row outcome so.outcomes so.are within here is;
-  fold_is = next_fold m so.outcomes fold next (Some (at + 1)) outcome so.fold_is step;
+pub folded_more : (case : Case) (IsBad : List ℕ → Type 0) (all rest : List Numbered) (fold next : Progress) (row : Numbered) (outcome : Outcome) → IsFolded case all (row ∷ rest) fold → ComesTo case IsBad (Some row.fields) outcome
+    → next ≡ taken fold (Some row.number) outcome → is_some next.settled ≡ false → IsFolded case all rest next
+folded_more case IsBad all rest fold next row outcome so (inl is) step unsettled = record {
+  seen = so.seen ++ row ∷ [];
+  outcomes = so.outcomes ++ (Some row.number, outcome) ∷ [];
+  parts = parts_more all so.seen row rest so.parts;
+  are = more case None so.seen row outcome so.outcomes so.are (refl, is);
+  fold_is = next_fold case.model.effect so.outcomes fold next (Some row.number) outcome so.fold_is step;
   open_still = not_some next.settled unsettled;
 }
-folded_more m q IsBad rows at fold next row outcome so within here (inr (place, pattern, bad, failed, is)) step unsettled =
-    let settled = failed_settles fold next (Some (at + 1)) (record { cause = Pattern; at = place }) so.open_still (step ∙ ap (taken fold (Some (at + 1))) failed) in
-    absurd (settled_twice next.settled (verdicts.Fault (Some (at + 1)) (record { cause = Pattern; at = place })) (ap (λ (p : Progress). p.settled) settled) unsettled)
+folded_more case IsBad all rest fold next row outcome so (inr (place, pattern, bad, failed, is)) step unsettled =
+    let settled = failed_settles fold next (Some row.number) (record { cause = Pattern; at = place }) so.open_still (step ∙ ap (taken fold (Some row.number)) failed) in
+    absurd (settled_twice next.settled (verdicts.Fault (Some row.number) (record { cause = Pattern; at = place })) (ap (λ (p : Progress). p.settled) settled) unsettled)
   where
     settled_twice : (o : Option Verdict) (v : Verdict) → o ≡ Some v → is_some o ≡ false → ⊥
     settled_twice None v e h = absurd cc
     settled_twice (Some w) v e h = absurd cc
 
--- the whole list behind a row that settles it
-settled_list : SomeTruth → EndsInVerdict → (m : Judging) (q : List Datum) (refused : Option Refusal) (rows : Rows) (at : ℕ) (next : Progress) (front : List Taken) → AreOutcomes m q refused 1 (take (at + 1) rows) front → next ≡ behind (begun m.effect) front → is_some next.settled ≡ true
-    → (outcomes : List Taken) × AreOutcomes m q refused 1 rows outcomes × (ended next ≡ verdict m.effect outcomes)
-settled_list law fold_law m q refused rows at next front are given settled =
-    let rest = some_list law m q refused (1 + length (take (at + 1) rows)) (drop (at + 1) rows) in
-    let all = outcomes-append m q refused 1 (take (at + 1) rows) (drop (at + 1) rows) front rest.0 are rest.1 in
-    let whole : take (at + 1) rows ++ drop (at + 1) rows ≡ rows = take-append-drop (at + 1) rows in
-    let last : ended (behind next rest.0) ≡ ended next = stays_with next next.settled rest.0 refl settled in
-    let same : ended (behind (begun m.effect) (front ++ rest.0)) ≡ ended next = ap ended (behind-append (begun m.effect) front rest.0) ∙ ap (λ (p : Progress). ended (behind p rest.0)) (sym given) ∙ last in
-    (front ++ rest.0, subst (λ (r : Rows). AreOutcomes m q refused 1 r (front ++ rest.0)) whole all, sym same ∙ fold_law m.effect (front ++ rest.0))
+-- all rows behind those that settle it
+settled_list : (case : Case) → SomeTruthAt case → EndsInVerdict → (refused : Option Refusal) (front rest : List Numbered) (next : Progress) (outcomes : List Taken) → AreOutcomes case refused front outcomes → next ≡ behind (begun case.model.effect) outcomes → is_some next.settled ≡ true
+    → (whole : List Taken) × AreOutcomes case refused (front ++ rest) whole × (ended next ≡ verdict case.model.effect whole)
+settled_list case truths law refused front rest next outcomes are given settled =
+    let others = each_some (RowHasOutcome case refused) (row_outcome_some case truths refused) rest in
+    let last : ended (behind next others.0) ≡ ended next = stays_with next next.settled others.0 refl settled in
+    let same : ended (behind (begun case.model.effect) (outcomes ++ others.0)) ≡ ended next = ap ended (behind-append (begun case.model.effect) outcomes others.0) ∙ ap (λ (p : Progress). ended (behind p others.0)) (sym given) ∙ last in
+    (outcomes ++ others.0, zip_append (RowHasOutcome case refused) front rest outcomes others.0 are others.1, sym same ∙ law case.model.effect (outcomes ++ others.0))
 
-other_number : (k number : ℕ) → number < k → (k == number) ≡ false
-other_number k number less = ne_eqb k number (λ e. absurd (omega (arith, e)))
+-- the search for the pattern at this place is refused at the row of this number
+abbrev pub refusal_at : Option ℕ → ℕ → List ℕ → Refusal
+refusal_at row place pattern = record { row = row; at = place; pattern = pattern }
+
+-- what is refused at another row is not refused here
+pub unrefused : (case : Case) (number place : ℕ) (pattern : List ℕ) (row : Numbered) (taken : Taken) → (number == row.number) ≡ false → RowHasOutcome case None row taken → RowHasOutcome case (Some (refusal_at (Some number) place pattern)) row taken
+unrefused case number place pattern row taken other is = (is.0, rw other is.1)
 
 -- what is refused at a row is not refused before it
-refuse_later : (m : Judging) (q : List Datum) (place : ℕ) (pattern : List ℕ) (k number : ℕ) (rows : Rows) (ps : List Taken) → number + length rows ≤ k → AreOutcomes m q None number rows ps → AreOutcomes m q (Some (record { row = Some k; at = place; pattern = pattern })) number rows ps
-refuse_later m q place pattern k number [] [] within are = tt
-refuse_later m q place pattern k number [] (p ∷ ps) within are = absurd are
-refuse_later m q place pattern k number (row ∷ rows) [] within are = absurd are
-refuse_later m q place pattern k number (row ∷ rows) (p ∷ ps) within are =
-    let other : (k == number) ≡ false = other_number k number (omega arith) in
-    (are.0, not_here m q place pattern k number row p other are.1, refuse_later m q place pattern k (number + 1) rows ps (omega arith) are.2)
-  where
-    not_here : (m : Judging) (q : List Datum) (place : ℕ) (pattern : List ℕ) (k number : ℕ) (row : List (List ℕ)) (p : Taken) → (k == number) ≡ false → IsOutcome m q None (Some row) (row_word m.policy_columns row) p.1
-        → IsOutcome m q (refused_at (Some (record { row = Some k; at = place; pattern = pattern })) (Some number)) (Some row) (row_word m.policy_columns row) p.1
-    not_here m q place pattern k number row p other is = rw other is
+refuse_later : (case : Case) (number place : ℕ) (pattern : List ℕ) (rows : List Numbered) (outcomes : List Taken) → AllByRecursion (λ (one : Numbered). one.number < number) rows → AreOutcomes case None rows outcomes → AreOutcomes case (Some (refusal_at (Some number) place pattern)) rows outcomes
+refuse_later case number place pattern [] [] before are = tt
+refuse_later case number place pattern [] (p ∷ ps) before are = absurd are
+refuse_later case number place pattern (row ∷ rows) [] before are = absurd are
+refuse_later case number place pattern (row ∷ rows) (p ∷ ps) before are =
+    let other : (number == row.number) ≡ false = ne_eqb number row.number (λ e. absurd (omega (arith, e, before.0))) in
+    (unrefused case number place pattern row p other are.0, refuse_later case number place pattern rows ps before.1 are.1)
 
-here_refused : (m : Judging) (q : List Datum) (place : ℕ) (pattern : List ℕ) (k : ℕ) (row : List (List ℕ)) (outcome : Outcome) → IsOutcome m q (Some (place, pattern)) (Some row) (row_word m.policy_columns row) outcome
-    → IsOutcome m q (refused_at (Some (record { row = Some k; at = place; pattern = pattern })) (Some k)) (Some row) (row_word m.policy_columns row) outcome
-here_refused m q place pattern k row outcome is = let same : (k == k) ≡ true = eq-eqb k k refl in rw same is
+pub here_refused : (case : Case) (place : ℕ) (pattern : List ℕ) (row : Numbered) (outcome : Outcome) → OutcomeIs case (Some (place, pattern)) (Some row.fields) outcome
+    → RowHasOutcome case (Some (refusal_at (Some row.number) place pattern)) row (Some row.number, outcome)
+here_refused case place pattern row outcome is = let same : (row.number == row.number) ≡ true = eq-eqb row.number row.number refl in (refl, rw same is)
 
 -- the row that settles the verdict
-pub settled_there : SomeTruth → EndsInVerdict → (m : Judging) (q : List Datum) (IsBad : List ℕ → Type 0) (rows : Rows) (at : ℕ) (fold next : Progress) (row : List (List ℕ)) (outcome : Outcome) → IsFolded m q rows at fold → at < length rows → get_or rows at row ≡ row
-    → ComesTo m q IsBad (Some row) outcome → next ≡ taken fold (Some (at + 1)) outcome → is_some next.settled ≡ true → IsJudgedOn m (λ refused. AreOutcomes m q refused 1 rows) IsBad (ended next)
-settled_there law fold_law m q IsBad rows at fold next row outcome so within here (inl is) step settled =
-    inl (settled_list law fold_law m q None rows at next (so.outcomes ++ (Some (at + 1), outcome) ∷ []) (more m q None rows at row outcome so.outcomes so.are within here is) (next_fold m so.outcomes fold next (Some (at + 1)) outcome so.fold_is step) settled)
-settled_there law fold_law m q IsBad rows at fold next row outcome so within here (inr (place, pattern, bad, failed, is)) step settled =
-    let refusal : Refusal = record { row = Some (at + 1); at = place; pattern = pattern } in
-    let fits : 1 + length (take at rows) ≤ at + 1 = omega (arith, length-take at rows) in
-    let before = refuse_later m q place pattern (at + 1) 1 (take at rows) so.outcomes fits so.are in
-    let front = more m q (Some refusal) rows at row outcome so.outcomes before within here (here_refused m q place pattern (at + 1) row outcome is) in
-    let list = settled_list law fold_law m q (Some refusal) rows at next (so.outcomes ++ (Some (at + 1), outcome) ∷ []) front (next_fold m so.outcomes fold next (Some (at + 1)) outcome so.fold_is step) settled in
-    let ends : next ≡ progress fold.effect fold.allowed (Some (refusal_fault refusal)) = failed_settles fold next (Some (at + 1)) (record { cause = Pattern; at = place }) so.open_still (step ∙ ap (taken fold (Some (at + 1))) failed) in
-    inr (refusal, bad, ap ended ends, list)
+pub settled_there : (case : Case) → SomeTruthAt case → EndsInVerdict → (IsBad : List ℕ → Type 0) (rows : List Fields) (rest : List Numbered) (fold next : Progress) (row : Numbered) (outcome : Outcome) → IsFolded case (numbered_from 1 rows) (row ∷ rest) fold
+    → ComesTo case IsBad (Some row.fields) outcome → next ≡ taken fold (Some row.number) outcome → is_some next.settled ≡ true → IsJudgedOn case (λ refused. AreOutcomes case refused (numbered_from 1 rows)) IsBad (ended next)
+settled_there case truths law IsBad rows rest fold next row outcome so (inl is) step settled =
+    let list = settled_list case truths law None (so.seen ++ row ∷ []) rest next (so.outcomes ++ (Some row.number, outcome) ∷ []) (more case None so.seen row outcome so.outcomes so.are (refl, is)) (next_fold case.model.effect so.outcomes fold next (Some row.number) outcome so.fold_is step) settled in
+    inl (list.0, subst (λ (all : List Numbered). AreOutcomes case None all list.0) (sym (parts_more (numbered_from 1 rows) so.seen row rest so.parts)) list.1, list.2)
+settled_there case truths law IsBad rows rest fold next row outcome so (inr (place, pattern, bad, failed, is)) step settled =
+    let refusal : Refusal = refusal_at (Some row.number) place pattern in
+    let before = refuse_later case row.number place pattern so.seen so.outcomes (numbers_before 1 rows so.seen row rest so.parts) so.are in
+    let front = more case (Some refusal) so.seen row outcome so.outcomes before (here_refused case place pattern row outcome is) in
+    let list = settled_list case truths law (Some refusal) (so.seen ++ row ∷ []) rest next (so.outcomes ++ (Some row.number, outcome) ∷ []) front (next_fold case.model.effect so.outcomes fold next (Some row.number) outcome so.fold_is step) settled in
+    let ends : next ≡ progress fold.effect fold.allowed (Some (refusal_fault refusal)) = failed_settles fold next (Some row.number) (record { cause = Pattern; at = place }) so.open_still (step ∙ ap (taken fold (Some row.number)) failed) in
+    inr (refusal, bad, ap ended ends, (list.0, subst (λ (all : List Numbered). AreOutcomes case (Some refusal) all list.0) (sym (parts_more (numbered_from 1 rows) so.seen row rest so.parts)) list.1, list.2))
 
 -- no row settles it
-pub open_end_there : EndsInVerdict → (m : Judging) (q : List Datum) (IsBad : List ℕ → Type 0) (rows : Rows) (at : ℕ) (fold : Progress) → IsFolded m q rows at fold → length rows ≤ at → IsJudgedOn m (λ refused. AreOutcomes m q refused 1 rows) IsBad (ended fold)
-open_end_there fold_law m q IsBad rows at fold so past =
-    inl (so.outcomes, subst (λ (r : Rows). AreOutcomes m q None 1 r so.outcomes) (take_all at rows past) so.are, ap ended so.fold_is ∙ fold_law m.effect so.outcomes)
+pub open_end_there : (case : Case) → EndsInVerdict → (IsBad : List ℕ → Type 0) (all : List Numbered) (fold : Progress) → IsFolded case all [] fold → IsJudgedOn case (λ refused. AreOutcomes case refused all) IsBad (ended fold)
+open_end_there case law IsBad all fold so =
+    let whole : all ≡ so.seen = so.parts ∙ append-nil so.seen in
+    inl (so.outcomes, subst (λ (rows : List Numbered). AreOutcomes case None rows so.outcomes) (sym whole) so.are, ap ended so.fold_is ∙ law case.model.effect so.outcomes)
 
 -- the one evaluation without a row
-pub once_there : EndsInVerdict → (m : Judging) (q : List Datum) (IsBad : List ℕ → Type 0) (fold : Progress) (outcome : Outcome) → ComesTo m q IsBad None outcome → fold ≡ taken (begun m.effect) None outcome → IsJudgedOn m (IsOnce m q) IsBad (ended fold)
-once_there fold_law m q IsBad fold outcome (inl is) step = inl ((None, outcome) ∷ [], (outcome, is, refl), ap ended step ∙ fold_law m.effect ((None, outcome) ∷ []))
-once_there fold_law m q IsBad fold outcome (inr (place, pattern, bad, failed, is)) step =
-    let refusal : Refusal = record { row = None; at = place; pattern = pattern } in
+pub once_there : (case : Case) → EndsInVerdict → (IsBad : List ℕ → Type 0) (fold : Progress) (outcome : Outcome) → ComesTo case IsBad None outcome → fold ≡ taken (begun case.model.effect) None outcome → IsJudgedOn case (HasOneOutcome case) IsBad (ended fold)
+once_there case law IsBad fold outcome (inl is) step = inl ((None, outcome) ∷ [], (outcome, is, refl), ap ended step ∙ law case.model.effect ((None, outcome) ∷ []))
+once_there case law IsBad fold outcome (inr (place, pattern, bad, failed, is)) step =
+    let refusal : Refusal = refusal_at None place pattern in
     inr (
       refusal,
       bad,
-      ap ended (failed_settles (begun m.effect) fold None (record { cause = Pattern; at = place }) refl (step ∙ ap (taken (begun m.effect) None) failed)),
-      ((None, outcome) ∷ [], (outcome, is, refl), ap ended step ∙ fold_law m.effect ((None, outcome) ∷ [])),
+      ap ended (failed_settles (begun case.model.effect) fold None (record { cause = Pattern; at = place }) refl (step ∙ ap (taken (begun case.model.effect) None) failed)),
+      ((None, outcome) ∷ [], (outcome, is, refl), ap ended step ∙ law case.model.effect ((None, outcome) ∷ [])),
     )
-
--- what a truth comes to
-pub comes_to : (m : Judging) (q : List Datum) (IsBad : List ℕ → Type 0) (row : Option (List (List ℕ))) (truth : Bool) (o : Outcome) → IsTruthOf (λ b. b) m q row IsBad (Ok truth) → o ≡ outcome_of (Ok truth) (word_of_row m.policy_columns row) → ComesTo m q IsBad row o
-comes_to m q IsBad row truth o (b, same, is) gives = inl (Ok truth, subst (λ (x : Bool). IsTruth (without_roles m.request_columns q m.policy_columns row None) m.matcher (Ok x)) (sym same) is, gives)
-
--- and a fault in its place
-pub comes_to_fault : (m : Judging) (q : List Datum) (IsBad : List ℕ → Type 0) (row : Option (List (List ℕ))) (given : Stop) (failed : Fault) → IsTruthOf {X = Bool} (λ b. b) m q row IsBad (Err given) → given ≡ stop.Fault failed → ComesTo m q IsBad row (Failed failed)
-comes_to_fault m q IsBad row given failed is same = go (subst (λ (s : Stop). IsTruthOf {X = Bool} (λ b. b) m q row IsBad (Err s)) same is)
-  where
-    go : IsTruthOf {X = Bool} (λ b. b) m q row IsBad (Err (stop.Fault failed)) → ComesTo m q IsBad row (Failed failed)
-    go (inl is) = inl (Err failed, is, refl)
-    go (inr (pattern, bad, cause, is)) = inr (failed.at, pattern, bad, ap (λ (c : Cause). Failed (record { cause = c; at = failed.at })) cause, (Err failed, is, refl))
-
--- what counts as refused in a part counts so in the whole
-pub comes_for_more : (m : Judging) (q : List Datum) (IsBad IsBadToo : List ℕ → Type 0) (row : Option (List (List ℕ))) (o : Outcome) → ((pattern : List ℕ) → IsBad pattern → IsBadToo pattern) → ComesTo m q IsBad row o → ComesTo m q IsBadToo row o
-comes_for_more m q IsBad IsBadToo row o more (inl is) = inl is
-comes_for_more m q IsBad IsBadToo row o more (inr (at, pattern, bad, failed, is)) = inr (at, pattern, more pattern bad, failed, is)
-
--- a fault of a pattern comes only where the finder refused
-pub rose_of_refusal : ((model : Judging) (request : List Datum) (rows : Rows) (v : Verdict) → IsPerm model request rows None v → is_refusal v ≡ false) → (m : Judging) (q : List Datum) (rows : Rows) (before now : Refusals) (r : Result Verdict NoMemory)
-    → IfOk r (IsJudged m q rows (IsRefused before now)) → IfOk r (λ v. is_refusal v ≡ true → Rose before.count now.count)
-rose_of_refusal law m q rows before now (Ok v) (inl perm) = λ h. absurd (true≢false (sym h ∙ law m q rows v perm))
-rose_of_refusal law m q rows before now (Ok v) (inr refused) = λ h. refused.1.rose
-rose_of_refusal law m q rows before now (Err e) h = tt

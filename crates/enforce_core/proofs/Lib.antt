@@ -1,3 +1,9 @@
-mod TreeLemmas
+mod RowLemmas
+mod DepthLemmas
+mod OutcomeLemmas
 mod FoldLemmas
-mod EvaluateLemmas
+mod FirstLemmas
+mod JudgedLemmas
+mod SuitLemmas
+mod NamedRowLemmas
+pub mod CallerLemmas

@@ -1,4 +1,6 @@
 -- What the steps of a decision see and give: helps for proofs, which no public clause cites.
-pub mod Ends
+pub mod Parts
+pub mod Asked
 pub mod Outcomes
-pub mod Steps
+pub mod Suiting
+pub mod Firsts

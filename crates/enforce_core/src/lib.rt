@@ -1,26 +1,19 @@
-//! The decision: the verdict of a model on a request over the rules of its policy.
+//! The decision: the verdict of a model on a request over a policy.
 #![tactic(auto)]
 
-mod arithmetic;
-mod attributes;
-mod calls;
-mod case;
-mod decide;
-mod evaluate;
-mod faults;
-mod halt;
+mod asking;
+mod by_rows;
+mod by_subjects;
+mod candidates;
+mod deciding;
+mod depths;
+mod links;
 mod names;
-mod operators;
+mod outcome;
 mod program;
-mod rows;
 mod scratch;
-mod stop;
-mod tree_values;
-mod truth;
+mod suiting;
 
-pub use decide::decide_rows;
+pub use deciding::decide;
 pub use program::{Arity, Program, make_program};
-pub use rows::Rows;
 pub use scratch::Scratch;
-pub use stop::Stop;
-pub use tree_values::tree_value;

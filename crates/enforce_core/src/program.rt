@@ -1,27 +1,33 @@
-ghost use Rattle.std.specs.Prelude.{◌≡◌, ◌↔◌, ◌≢◌, None, IfErr, IfOk, Ok, length, position, codes};
-ghost use Rattle.std.specs.Str.{bytes_eq};
-ghost use Rattle.matcher_meaning.specs.Perm.{names_policy};
+ghost use Rattle.std.specs.Prelude.{◌≡◌, ◌↔◌, ◌≢◌, IfErr, IfOk, IsTrue, Ok, length};
+ghost use Rattle.enforce_core.specs.Programs.{Suits};
 
+use crate::asking::Asking;
 use crate::names::names_policy;
+use crate::suiting::is_suited;
+use matcher_code::{Code, build};
 use model_conf::Model;
 use perm_base::{NoMemory, Share};
 use perm_value::Request;
+use policy_state::PolicyState;
+use std::alloc::Global;
 
 /// A model, ready to judge requests. Contracts see the model.
 #[derive(Drop)]
 pub struct Program {
     model: Model,
+    code: Code,
     // Whether the matcher names a column of the policy.
     by_row: bool,
-    // The place of the policy's column `eft`.
+    // The places of the policy's columns `eft` and `dom`.
     effect_place: Option<u32>,
+    domain_place: Option<u32>,
 }
 
 impl std::marker::Model for Program {
     ghost use Rattle.std.specs.Coded.{Coded, codes};
     ghost use Rattle.model_conf.specs.Helps.ExpressionCode.{Sign, expression_code};
     ghost use Rattle.model_conf.specs.ModelText.{ModelParts};
-    ghost use Rattle.enforce_core.specs.Helps.Outcomes.{IsProgram};
+    ghost use Rattle.enforce_core.specs.Helps.Parts.{IsProgram};
 
     ghost Value = { ModelParts };
 
@@ -29,7 +35,7 @@ impl std::marker::Model for Program {
 
     ghost view = { λ p. p.model };
 
-    ghost invariant = { λ p. IsProgram p.model p.by_row p.effect_place };
+    ghost invariant = { λ p. IsProgram p.model p.code p.by_row p.effect_place p.domain_place };
 }
 
 impl Share for Program {}
@@ -41,16 +47,20 @@ pub struct Arity {
     pub want: u32,
 }
 
-/// Makes a model ready to judge requests. A refusal drops it.
-pub fn make_program(model: Model) -> Result<Program, NoMemory>
+/// Makes a model ready to judge requests: its matcher becomes code. A refusal drops the model.
+pub fn make_program(alloc: Global, model: Model) -> Result<Program, NoMemory>
     ensures { IfOk result (λ program. program ≡ model) }
 {
+    let code = build(alloc, &model)?;
     let by_row = names_policy(model.matcher());
     let effect_place = model.policy_columns().place_of(b"eft");
+    let domain_place = model.policy_columns().place_of(b"dom");
     Ok(Program {
         model,
+        code,
         by_row,
         effect_place,
+        domain_place,
     })
 }
 
@@ -76,24 +86,40 @@ impl Program {
         Ok(())
     }
 
-    /// The column of the policy by which rules are indexed: none.
-    pub fn index_column(&self) -> Option<u32>
-        ensures { result ≡ None }
+    /// Whether the shapes of a policy are those of the model, whatever functions its names are compared by and whatever
+    /// the hierarchy limit. It takes no memory.
+    pub fn suits(&self, state: &PolicyState) -> bool
+        ensures { IsTrue result ↔ Suits self.now state.now.shapes }
     {
-        None
+        state.kept();
+        is_suited(&self.model, state.shapes())
     }
+}
 
-    /// Whether the matcher names a column of the policy.
-    pub(crate) fn by_row(&self) -> bool
-        ensures { result ≡ names_policy self.now.matcher }
-    {
-        self.by_row
-    }
+impl Program {
+    ghost use Rattle.enforce_core.specs.Helps.Asked.{IsAsked};
 
-    /// The place of the policy's column `eft`.
-    pub(crate) fn effect_place(&self) -> Option<u32>
-        ensures { result ≡ position (bytes_eq (codes "eft")) self.now.policy }
+    /// What a request over a policy is asked for.
+    pub(crate) fn asking<'a>(
+        &'a self,
+        alloc: Global,
+        state: &'a PolicyState,
+        request: &'a Request,
+    ) -> Asking<'a>
+        ensures asked { IsAsked result }
+        ensures model { result.model.now ≡ self.now }
+        ensures state { result.state.now ≡ state.now }
+        ensures request { result.request.now ≡ request.now }
     {
-        self.effect_place
+        Asking {
+            alloc,
+            model: &self.model,
+            code: &self.code,
+            by_row: self.by_row,
+            effect_place: self.effect_place,
+            domain_place: self.domain_place,
+            state,
+            request,
+        }
     }
 }

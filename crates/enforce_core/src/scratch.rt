@@ -1,15 +1,20 @@
 use crate::program::Program;
 use std::alloc::Global;
 
-/// Room for judging requests by one program. It keeps the allocator.
+/// What judging requests by one program keeps from one to the next: the allocator.
 #[derive(Drop)]
 pub struct Scratch {
-    _alloc: Global,
+    alloc: Global,
 }
 
 impl Scratch {
-    /// Room for a program. It takes no memory.
+    /// That of a program. It takes no memory.
     pub fn for_program(alloc: Global, _program: &Program) -> Scratch {
-        Scratch { _alloc: alloc }
+        Scratch { alloc }
+    }
+
+    /// The allocator.
+    pub(crate) fn alloc(&self) -> Global {
+        self.alloc
     }
 }

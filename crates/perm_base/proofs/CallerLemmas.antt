@@ -1,7 +1,9 @@
 -- What callers cite.
 pub use Rattle.perm_base.proofs.FieldLineLemmas.{LineIs, fields_of-fault, fields_of-is, line_is}
+pub use Rattle.perm_base.proofs.LastLemmas.{front_of, last_before, last_here}
 pub use Rattle.perm_base.proofs.PrintLemmas.{printed_is}
-pub use Rattle.perm_base.proofs.TableLemmas.{name_from_named, named_from_name}
+pub use Rattle.perm_base.proofs.RoleLemmas.{found_number}
+pub use Rattle.perm_base.proofs.TableLemmas.{name_from_named, named_from_name, plain_name}
 pub use Rattle.perm_base.proofs.WrittenLemmas.{first_read}
 use Rattle.std.proofs.Common.{◌≡◌, ℕ, ◌+◌, false, List, [], Option, Some, None, refl, sym, ◌∙◌, true≢false}
 use Rattle.std.specs.List.{list_any}

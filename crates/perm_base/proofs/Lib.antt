@@ -6,4 +6,6 @@ pub mod ReadLemmas
 pub mod WrittenLemmas
 pub mod FieldLineLemmas
 pub mod TableLemmas
+mod LastLemmas
+mod RoleLemmas
 pub mod CallerLemmas

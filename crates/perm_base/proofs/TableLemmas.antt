@@ -1,10 +1,12 @@
 -- The names of the tables.
-use Rattle.std.proofs.Common.{◌≡◌, ℕ, zero, suc, List, [], codes, Option, Some, None, get_or, option_map, slice_get, refl, sym, ap, ◌∙◌, arith}
+use Rattle.std.proofs.Common.{◌≡◌, ℕ, zero, suc, List, [], codes, All, Option, Some, None, get_or, option_map, slice_get, refl, sym, ap, subst, ◌∙◌, arith}
 use Rattle.std.specs.Prelude.{position}
 use Rattle.std.specs.Str.{bytes_eq}
+use Rattle.std.proofs.lemmas.List.Elements.{All-from_recursion}
 use Rattle.std.proofs.lemmas.List.Quantifiers.{position-Some}
-use Rattle.std.proofs.lemmas.Option.{slice_get-get_or, slice_get_within}
+use Rattle.std.proofs.lemmas.Option.{get_or_from_slice_get, slice_get-get_or, slice_get_within}
 use Rattle.std.proofs.lemmas.Slice.Eq.{bytes_eq-Decides}
+use Rattle.perm_base.specs.FieldLine.{printed_field}
 use Rattle.perm_base.specs.TableNames.{name_of, table_at, table_named, table_names}
 use Rattle.perm_base.specs.declared.shapes.TableId.{TableId}
 use Rattle.perm_base.specs.declared.shapes.TableId.TheVariants.{P, G}
@@ -42,3 +44,13 @@ by_place table name (Some place) e is =
 -- what names a table is its name
 pub name_from_named : (table : TableId) (name : List ℕ) → table_named name ≡ Some table → name_of table ≡ Some name
 name_from_named table name is = by_place table name (position (bytes_eq name) table_names) refl is
+
+-- the name of a table is printed as it is
+pub plain_name : (table : TableId) (name : List ℕ) → name_of table ≡ Some name → printed_field name ≡ name
+unfolding printed_field
+plain_name P name e = let same : codes "p" ≡ name = cc in subst (λ (t : List ℕ). printed_field t ≡ t) same refl
+plain_name (G zero) name e = absurd cc
+plain_name (G (suc at)) name e =
+    let all : All (λ (text : List ℕ). printed_field text ≡ text) table_names
+    = All-from_recursion (λ (text : List ℕ). printed_field text ≡ text) table_names (refl, (refl, (refl, (refl, (refl, (refl, (refl, (refl, (refl, tt))))))))) in
+    subst (λ (text : List ℕ). printed_field text ≡ text) (get_or_from_slice_get table_names (suc at) name name e) (all (suc at) name (slice_get_within table_names (suc at) name e))

@@ -22,7 +22,7 @@ pub use quoted::{
     FieldFault, every_line_is_fields_or_at_fault, fault_of_a_line_is_unique,
     fields_of_a_line_are_unique, line_at_fault_is_no_fields, read_fields,
 };
-pub use quoted_print::{print_fields, printed_fields_are_read, push_fields};
+pub use quoted_print::{print_fields, printed_fields_are_read, push_fields, push_named};
 pub use role_shapes::RoleShapes;
 pub use rule::{Rule, RuleFault};
 pub use rules::Rules;

@@ -1,4 +1,4 @@
-ghost use Rattle.std.specs.Prelude.{◌≡◌, ◌<◌, ◌≤◌, ◌++◌, ℕ, List, IfOk, IsUtf8, Ok, OnOk, length, string_bytes};
+ghost use Rattle.std.specs.Prelude.{◌≡◌, ◌<◌, ◌≤◌, ◌++◌, ◌∷◌, ℕ, List, IfOk, IsUtf8, Ok, OnOk, length, string_bytes};
 ghost use Rattle.text_parts.specs.Blanks.{is_blank};
 ghost use Rattle.text_parts.specs.Lines.{has_byte};
 ghost use Rattle.perm_base.specs.LineEnds.{AreFields};
@@ -29,6 +29,22 @@ pub fn push_fields(text: &mut String, rule: &Rule) -> Result<(), NoMemory>
         }
         push_field(text, field.as_str())?;
     }
+    Ok(())
+}
+
+/// Appends a name that needs no quotes and the fields of a rule, as `print_fields` prints them as fields of one line.
+pub fn push_named(text: &mut String, name: &str, rule: &Rule) -> Result<(), NoMemory>
+    requires { printed_field name.now ≡ name.now }
+    ensures line { OnOk result (string_bytes text.new
+        ≡ string_bytes text.old ++ printed (name.now ∷ rule.now)) }
+    ensures fields { OnOk result (AreFields rule.now) }
+{
+    text.push_str(name)?;
+    if rule.fields().is_empty() {
+        return Ok(());
+    }
+    text.push_str(", ")?;
+    push_fields(text, rule)?;
     Ok(())
 }
 

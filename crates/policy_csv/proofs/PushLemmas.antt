@@ -19,20 +19,6 @@ use Rattle.policy_csv.specs.Printed.{HaveFields, all_tables, printed, table_line
 use Rattle.policy_table.specs.Tables.{Fields, Policy, place, rows}
 use Rattle.text_parts.specs.Lines.{with_ends}
 
--- ---- one rule
-
-pub pushed_name : (old new name : List ℕ) (rule : Fields) → length rule ≡ 0 → printed_field name ≡ name → new ≡ old ++ name → new ≡ old ++ field.printed (name ∷ rule)
-pushed_name old new name rule none plain is =
-    let empty : rule ≡ [] = nil_from_length rule none in
-    is ∙ ap (λ (t : List ℕ). old ++ t) (sym (ap (λ (r : Fields). field.printed (name ∷ r)) empty ∙ append-nil (printed_field name) ∙ plain))
-
-pub pushed_rule : (old one two new name : List ℕ) (rule : Fields) → 0 < length rule → printed_field name ≡ name → one ≡ old ++ name → two ≡ one ++ 44 ∷ 32 ∷ [] → new ≡ two ++ field.printed rule → new ≡ old ++ field.printed (name ∷ rule)
-pushed_rule old one two new name [] some plain first second third = absurd (omega arith)
-pushed_rule old one two new name (text ∷ rule) some plain first second third =
-    let parts : new ≡ ((old ++ name) ++ 44 ∷ 32 ∷ []) ++ field.printed (text ∷ rule) = third ∙ ap (λ (t : List ℕ). t ++ field.printed (text ∷ rule)) (second ∙ ap (λ (t : List ℕ). t ++ 44 ∷ 32 ∷ []) first) in
-    let regroup : ((old ++ name) ++ 44 ∷ 32 ∷ []) ++ field.printed (text ∷ rule) ≡ old ++ (name ++ (44 ∷ 32 ∷ field.printed (text ∷ rule))) = simp append_assoc in
-    parts ∙ regroup ∙ ap (λ (n : List ℕ). old ++ (n ++ (44 ∷ 32 ∷ field.printed (text ∷ rule)))) (sym plain)
-
 -- ---- the rules of a table
 
 -- lines with one more
@@ -92,16 +78,6 @@ no_place (G (suc (suc (suc (suc (suc (suc (suc (suc (suc more)))))))))) none = f
 
 pub no_fields : (policy : Policy) (table : TableId) → None ≡ name_of table → HaveFields policy table
 no_fields policy table none = subst (All AreFields) (sym (no_rules policy table (no_place table none))) (All-nil AreFields)
-
--- no name needs quotes
-pub plain_name : (table : TableId) (name : List ℕ) → Some name ≡ name_of table → printed_field name ≡ name
-unfolding printed_field
-plain_name P name e = let same : codes "p" ≡ name = cc in subst (λ (t : List ℕ). printed_field t ≡ t) same refl
-plain_name (G zero) name e = absurd cc
-plain_name (G (suc at)) name e =
-    let all : All (λ (text : List ℕ). printed_field text ≡ text) table_names
-    = All-from_recursion (λ (text : List ℕ). printed_field text ≡ text) table_names (refl, (refl, (refl, (refl, (refl, (refl, (refl, (refl, (refl, tt))))))))) in
-    subst (λ (text : List ℕ). printed_field text ≡ text) (get_or_from_slice_get table_names (suc at) name name (sym e)) (all (suc at) name (slice_get_within table_names (suc at) name (sym e)))
 
 -- ---- all tables
 

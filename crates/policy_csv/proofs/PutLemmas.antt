@@ -7,7 +7,8 @@ use Rattle.perm_base.specs.declared.shapes.RoleShape.{RoleShape}
 use Rattle.perm_base.specs.declared.shapes.Shapes.{Shapes}
 use Rattle.perm_base.specs.declared.shapes.TableId.{TableId}
 use Rattle.perm_base.specs.declared.shapes.TableId.TheVariants.{P, G}
-use Rattle.policy_csv.proofs.RelationLemmas.{found_number, found_place}
+use Rattle.perm_base.proofs.CallerLemmas.{found_number}
+use Rattle.policy_csv.proofs.RelationLemmas.{found_place}
 use Rattle.policy_csv.specs.Policy.{with_entry}
 use Rattle.policy_csv.specs.declared.entry.Entry.{Entry}
 use Rattle.policy_table.proofs.CallerLemmas.{counted_changed, rows_other, rows_possible}

@@ -9,18 +9,7 @@ use Rattle.perm_base.specs.declared.shapes.RoleShape.{RoleShape}
 use Rattle.perm_base.specs.declared.shapes.TableId.TheVariants.{G}
 use Rattle.policy_table.specs.Tables.{place}
 
--- the relation that is found has the number, and is one of these
-pub found_number : (roles : List RoleShape) (number : ℕ) (shape : RoleShape) → shape_of roles number ≡ Some shape → shape.number ≡ number
-found_number [] number shape found = absurd cc
-found_number (role ∷ roles) number shape found = by (eqb role.number number) refl found (found_number roles number shape)
-  where
-    by : (test : Bool) → eqb role.number number ≡ test → cond test (Some role) (shape_of roles number) ≡ Some shape → (shape_of roles number ≡ Some shape → shape.number ≡ number) → shape.number ≡ number
-    by true e is rest =
-        let own : shape ≡ role = cc in
-        subst (λ (r : RoleShape). r.number ≡ number) (sym own) (eqb-true role.number number e)
-    by false e is rest = rest is
-
--- and its place among the tables
+-- the place of a relation that is found, among the tables
 pub found_place : (roles : List RoleShape) (number : ℕ) (shape : RoleShape) → AreRoles roles → shape_of roles number ≡ Some shape → is_some (place (G shape.number)) ≡ true
 found_place roles number shape are found = at roles (recursion_from_All IsNumbered roles are.each) found
   where

@@ -8,7 +8,7 @@ ghost use Rattle.policy_csv.specs.Printed.{HaveFields, printed, table_lines};
 ghost use Rattle.policy_table.specs.Limits.{AreSound};
 ghost use Rattle.text_parts.specs.Lines.{with_ends};
 
-use perm_base::{NoMemory, Rule, TableId, Text, push_fields};
+use perm_base::{NoMemory, Rule, TableId, Text, push_named};
 use policy_table::Tables;
 use std::alloc::Global;
 
@@ -62,23 +62,7 @@ fn push_line(text: &mut String, name: &str, rule: &Rule) -> Result<(), NoMemory>
         ≡ string_bytes text.old ++ (field.printed (name.now ∷ rule.now) ++ 10 ∷ [])) }
     ensures fields { OnOk result (AreFields rule.now) }
 {
-    push_rule(text, name, rule)?;
+    push_named(text, name, rule)?;
     text.push_str("\n")?;
-    Ok(())
-}
-
-// Appends the name of a table and the fields of a rule.
-fn push_rule(text: &mut String, name: &str, rule: &Rule) -> Result<(), NoMemory>
-    requires { field.printed_field name.now ≡ name.now }
-    ensures line { OnOk result (string_bytes text.new
-        ≡ string_bytes text.old ++ field.printed (name.now ∷ rule.now)) }
-    ensures fields { OnOk result (AreFields rule.now) }
-{
-    text.push_str(name)?;
-    if rule.fields().is_empty() {
-        return Ok(());
-    }
-    text.push_str(", ")?;
-    push_fields(text, rule)?;
     Ok(())
 }

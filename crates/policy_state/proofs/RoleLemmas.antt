@@ -17,17 +17,6 @@ use Rattle.policy_table.specs.declared.limit.Limit.{Limit}
 use Rattle.policy_table.specs.declared.limit.Limit.TheVariants.{Domains, PatternRows, PolicyRows, RoleRows}
 use Rattle.policy_table.proofs.CallerLemmas.{sum_passing}
 
--- the relation that is found has the number
-pub found_number : (roles : List RoleShape) (number : ℕ) (shape : RoleShape) → shape_of roles number ≡ Some shape → shape.number ≡ number
-found_number [] number shape found = absurd cc
-found_number (role ∷ roles) number shape found = by (eqb role.number number) refl found (found_number roles number shape)
-  where
-    by : (test : Bool) → eqb role.number number ≡ test → cond test (Some role) (shape_of roles number) ≡ Some shape → (shape_of roles number ≡ Some shape → shape.number ≡ number) → shape.number ≡ number
-    by true e is rest =
-        let itself : shape ≡ role = cc in
-        subst (λ (r : RoleShape). r.number ≡ number) (sym itself) (eqb-true role.number number e)
-    by false e is rest = rest is
-
 -- relations whose numbers rise
 abbrev AreRising : List RoleShape → Type 0
 AreRising roles = (i j : ℕ) (d : RoleShape) → i < j → j < length roles → (get_or roles i d).number < (get_or roles j d).number

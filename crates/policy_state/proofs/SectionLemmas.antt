@@ -15,7 +15,8 @@ use Rattle.policy_state.specs.Helps.Kept.{AreSections, CanTake, Kept, changes_in
 use Rattle.policy_state.specs.Ready.{CanLink}
 use Rattle.policy_state.proofs.AdmittedLemmas.{KeepSound, all_apply, all_fitting, all_have_columns, all_sound}
 use Rattle.policy_state.proofs.FollowLemmas.{edit_follows, possible_follows, rows_only}
-use Rattle.policy_state.proofs.RoleLemmas.{few_patterns_of, found_itself, found_number}
+use Rattle.perm_base.proofs.CallerLemmas.{found_number}
+use Rattle.policy_state.proofs.RoleLemmas.{few_patterns_of, found_itself}
 use Rattle.policy_table.specs.Changes.{edited, flat}
 use Rattle.policy_table.specs.Limits.{AreSound, columns_of, role_columns}
 use Rattle.policy_table.specs.Tables.{Fields, Policy, most_tables, rows}

@@ -104,6 +104,37 @@ stands-inserted ranked x rule rules = sym (list_any-IsPermutation (same x) (rule
 pub stands-without : (x rule : Fields) (rules : List Fields) → stands x (without rule rules) ≡ (stands x rules && not (same rule x))
 stands-without x rule rules = stands-filter (λ (other : Fields). not (same rule other)) x rules
 
+-- and with a new rule in the place of an old one
+pub stands-in_place : (old new x : Fields) (rules : List Fields) → stands x (in_place old new rules) ≡ ((same x new && stands old rules) || (stands x rules && not (same old x)))
+stands-in_place old new x [] = none (same x new)
+  where
+    none : (b : Bool) → false ≡ ((b && false) || (false && not (same old x)))
+    none true = refl
+    none false = refl
+stands-in_place old new x (y ∷ rules) = by (same old y) refl (stands-in_place old new x rules)
+  where
+    here : (n s o : Bool) → (n || ((n && stands old rules) || (s && not o))) ≡ ((n && true) || ((o || s) && not o))
+    here true s o = refl
+    here false true true = refl
+    here false false true = refl
+    here false s false = refl
+
+    there : (y p s o : Bool) → (y ≡ true → o ≡ false) → (y || (p || (s && not o))) ≡ (p || ((y || s) && not o))
+    there false p s o apart = refl
+    there true true s false apart = refl
+    there true false s false apart = refl
+    there true p s true apart = absurd (true≢false (apart refl))
+
+    by : (b : Bool) → same old y ≡ b → stands x (in_place old new rules) ≡ ((same x new && stands old rules) || (stands x rules && not (same old x)))
+        → (same x (if b then new else y) || stands x (in_place old new rules)) ≡ ((same x new && (b || stands old rules)) || ((same x y || stands x rules) && not (same old x)))
+    by true e rest =
+        let is : same old x ≡ same x y = same_symm old x ∙ ap (same x) ((same-Decides old y).0 e) in
+        ap (λ (b : Bool). same x new || b) rest ∙ here (same x new) (stands x rules) (same old x)
+        ∙ ap (λ (b : Bool). (same x new && true) || ((b || stands x rules) && not (same old x))) is
+    by false e rest =
+        ap (λ (b : Bool). same x y || b) rest
+        ∙ there (same x y) (same x new && stands old rules) (stands x rules) (same old x) (λ is. ap (same old) ((same-Decides x y).0 is) ∙ e)
+
 -- no rule of these is this one
 abbrev AreApart : Fields → List Fields → Type 0
 AreApart rule rules = AllByRecursion (λ (other : Fields). same rule other ≡ false) rules

@@ -3,7 +3,7 @@ use Rattle.std.proofs.Common.{◌≡◌, ◌⊎◌, inl, inr, ◌≤◌, ◌&&�
 use Rattle.std.specs.Prelude.{All, if◌then◌else◌, is_some, unwrap_or}
 use Rattle.std.specs.List.{Contains, count_by}
 use Rattle.std.specs.Str.{bytes_eq}
-use Rattle.std.proofs.lemmas.Bool.{and_parts, false≢true}
+use Rattle.std.proofs.lemmas.Bool.{and_parts}
 use Rattle.std.proofs.lemmas.List.Elements.{All-contains}
 use Rattle.std.proofs.lemmas.Slice.Eq.{bytes_eq-Decides}
 use Rattle.perm_base.specs.Patterns.{is_pattern}
@@ -25,7 +25,7 @@ use Rattle.role_graph.proofs.CallerLemmas.{same_itself, stands_from_times, times
 use Rattle.role_meaning.specs.Distances.{IsFar}
 use Rattle.role_meaning.specs.Fits.{Fits}
 use Rattle.role_meaning.specs.Implied.{AreImplied, IsImplied, IsNearer}
-use Rattle.role_meaning.specs.Links.{CountsIn, HasRoles, Reaches, SomeLink, domain_of, role_of, user_of}
+use Rattle.role_meaning.specs.Links.{CountsIn, HasRoles, Reaches, domain_of, role_of, user_of}
 use Rattle.role_meaning.proofs.CallerLemmas.{map_stands, plain_fits}
 
 -- rows, and the domain in which they are asked
@@ -175,25 +175,29 @@ no_domain (a ∷ b ∷ c ∷ rest) long = absurd (omega (arith, long))
 itself : (asked : Asked) (row : Fields) → Contains asked.rows row → CountsIn asked.shape asked.domain row → Counterpart asked row
 itself asked row stands counts = record { one = row; stands = stands; counts = counts; user = refl; role = refl }
 
--- a relation as its rows are asked, and as they are kept
-pub outer_alike : (shape : RoleShape) (limit : ℕ) (rows : List Fields) (domain : Option (List ℕ)) (text : List ℕ) → All (λ (row : Fields). length row ≡ role_columns shape) rows → is_some domain ≡ shape.with_domain → text ≡ unwrap_or domain [] → Alike (inner_of (terms_of shape limit) rows text) (outer_of shape rows domain)
-outer_alike shape limit rows domain text columns asks is = by domain asks is
+-- which rows count, and which have a domain that the text fits
+pub row_counts : (shape : RoleShape) (rows : List Fields) (domain : Option (List ℕ)) (text : List ℕ) → All (λ (row : Fields). length row ≡ role_columns shape) rows → is_some domain ≡ shape.with_domain → text ≡ unwrap_or domain [] → (row : Fields) → Contains rows row → Fits (fit_of shape) text (domain_of row) ↔ CountsIn shape domain row
+row_counts shape rows domain text columns asks is row stands = by domain asks is
   where
-    two : (row : Fields) → Contains rows row → shape.with_domain ≡ false → length row ≡ 2
-    two row stands none = All-contains (λ (r : Fields). length r ≡ role_columns shape) rows row columns stands ∙ ap (λ (b : Bool). if b then 3 else 2) none
+    two : shape.with_domain ≡ false → length row ≡ 2
+    two none = All-contains (λ (r : Fields). length r ≡ role_columns shape) rows row columns stands ∙ ap (λ (b : Bool). if b then 3 else 2) none
 
-    by : (asked : Option (List ℕ)) → is_some asked ≡ shape.with_domain → text ≡ unwrap_or asked [] → Alike (inner_of (terms_of shape limit) rows text) (outer_of shape rows asked)
-    by None none same = record {
-      there = record { names = refl; each = λ row stands counts. itself (outer_of shape rows None) row stands tt };
-      back = record { names = refl; each = λ row stands counts. itself (inner_of (terms_of shape limit) rows text) row stands (fits_same (fit_of shape) text (domain_of row) (same ∙ sym (no_domain row (two row stands (sym none))))) };
-    }
-    by (Some domain) some same = record {
-      there = record { names = refl; each = λ row stands counts. itself (outer_of shape rows (Some domain)) row stands (subst (λ (t : List ℕ). Fits shape.domains t (domain_of row)) same (subst (λ (fit : Fit). Fits fit text (domain_of row)) fit counts)) };
-      back = record { names = refl; each = λ row stands counts. itself (inner_of (terms_of shape limit) rows text) row stands (subst (λ (f : Fit). Fits f text (domain_of row)) (sym fit) (subst (λ (t : List ℕ). Fits shape.domains t (domain_of row)) (sym same) counts)) };
-    }
+    by : (asked : Option (List ℕ)) → is_some asked ≡ shape.with_domain → text ≡ unwrap_or asked [] → Fits (fit_of shape) text (domain_of row) ↔ CountsIn shape asked row
+    by None none same = (λ fits. tt, λ counts. fits_same (fit_of shape) text (domain_of row) (same ∙ sym (no_domain row (two (sym none)))))
+    by (Some domain) some same = (
+      λ fits. subst (λ (t : List ℕ). Fits shape.domains t (domain_of row)) same (subst (λ (f : Fit). Fits f text (domain_of row)) fit fits),
+      λ counts. subst (λ (f : Fit). Fits f text (domain_of row)) (sym fit) (subst (λ (t : List ℕ). Fits shape.domains t (domain_of row)) (sym same) counts),
+    )
       where
         fit : fit_of shape ≡ shape.domains
         fit = ap (λ (b : Bool). if b then shape.domains else Exact) (sym some)
+
+-- a relation as its rows are asked, and as they are kept
+pub outer_alike : (shape : RoleShape) (limit : ℕ) (rows : List Fields) (domain : Option (List ℕ)) (text : List ℕ) → All (λ (row : Fields). length row ≡ role_columns shape) rows → is_some domain ≡ shape.with_domain → text ≡ unwrap_or domain [] → Alike (inner_of (terms_of shape limit) rows text) (outer_of shape rows domain)
+outer_alike shape limit rows domain text columns asks is = record {
+  there = record { names = refl; each = λ row stands counts. itself (outer_of shape rows domain) row stands ((row_counts shape rows domain text columns asks is row stands).0 counts) };
+  back = record { names = refl; each = λ row stands counts. itself (inner_of (terms_of shape limit) rows text) row stands ((row_counts shape rows domain text columns asks is row stands).1 counts) };
+}
 
 -- a graph whose rows are the users and roles of the rows that count
 pub graph_alike : (names : Fit) (terms : Terms) (graph rows : List Fields) (text : List ℕ) (test : List ℕ → Bool) → names ≡ terms.names → Tells terms.domains text test → ((one : Fields) → times one graph ≡ counted test one rows) → Alike (graph_of names graph) (inner_of terms rows text)

@@ -1,8 +1,8 @@
 -- What is asked of names in a domain of a section.
-use Rattle.std.proofs.Common.{◌≡◌, ◌⊎◌, inl, inr, ◌<◌, ◌≤◌, ◌↔◌, ◌||◌, ℕ, Bool, true, false, List, [], ◌∷◌, Option, None, Some, IsTrue, length, map, refl, sym, ap, subst, ◌∙◌, arith}
-use Rattle.std.specs.Prelude.{All, if◌then◌else◌, is_some, not, unwrap_or}
+use Rattle.std.proofs.Common.{◌≡◌, ◌⊎◌, inl, inr, ◌≤◌, ◌↔◌, ◌+◌, ◌&&◌, ◌||◌, ℕ, Bool, true, false, List, [], ◌∷◌, Option, None, Some, IsTrue, length, map, refl, sym, ap, subst, ◌∙◌, arith, le-leb, leb-true}
+use Rattle.std.specs.Prelude.{filter, if◌then◌else◌, is_some, nat_le, not, unwrap_or}
 use Rattle.std.specs.Borrow.{Bor}
-use Rattle.std.specs.List.{Contains, count_by, list_any}
+use Rattle.std.specs.List.{Contains, list_any}
 use Rattle.std.specs.Option.{option_copied}
 use Rattle.std.specs.Str.{bytes_eq}
 use Rattle.std.proofs.lemmas.Bool.{false≢true}
@@ -11,6 +11,8 @@ use Rattle.std.proofs.lemmas.List.Elements.{All-contains}
 use Rattle.std.proofs.lemmas.Map.Made.{length-le_from_is_member}
 use Rattle.std.proofs.lemmas.Slice.Eq.{bytes_eq-Decides}
 use Rattle.indexmap.proofs.CallerLemmas.{Contains-list_any}
+use Rattle.perm_base.specs.Patterns.{is_pattern}
+use Rattle.perm_base.specs.declared.shapes.Fit.{Fit}
 use Rattle.perm_base.specs.declared.shapes.RoleShape.{RoleShape}
 use Rattle.perm_base.specs.declared.shapes.TableId.TheVariants.{G}
 use Rattle.policy_table.specs.Limits.{different, domains_of, role_columns}
@@ -18,24 +20,30 @@ use Rattle.policy_table.specs.Tables.{Fields, Policy, rows}
 use Rattle.policy_table.proofs.CallerLemmas.{among_different, distinct_different}
 use Rattle.role_domain.specs.Domains.{IsDomain, IsRight, found}
 use Rattle.role_domain.specs.Helps.Kept.{IsSection, relation_in}
-use Rattle.role_domain.specs.Helps.Walks.{IsDistance, Walks, inner, walk_of}
-use Rattle.role_domain.specs.Relations.{HasFewRoles, IsNamed, Tells, counted, named, terms_of}
+use Rattle.role_domain.specs.Helps.Walks.{IsDistance, inner, walk_of}
+use Rattle.role_domain.specs.Relations.{HasFewRoles, IsNamed, Tells, TellsRows, asked_rows, counted, named, pair_of, terms_of}
 use Rattle.role_domain.specs.declared.domain.Domain.{Domain}
 use Rattle.role_domain.specs.declared.terms.Terms.{Terms}
-use Rattle.role_domain.proofs.Across.{Alike, Asked, all_implied_across, alike_on, far_across, few_across, graph_alike, graph_of, has_across, inner_of, linked_across, outer_alike, outer_of, patterns_alike}
+use Rattle.role_domain.proofs.Across.{Alike, all_implied_across, alike_on, far_across, few_across, graph_alike, graph_of, has_across, inner_of, linked_across, outer_alike, outer_of, patterns_alike, row_counts}
 use Rattle.role_domain.proofs.Bringing.{FitsDecided, tells_of, test_of}
-use Rattle.role_domain.proofs.Counting.{Passes, passing_counts, some_passes}
+use Rattle.role_domain.proofs.Counting.{Passes, count_agree_on, count_alike, count_filter, count_map, pairs_of, passing_counts, some_passes, times_pairs}
 use Rattle.role_domain.proofs.Walking.{far_told, linked_told}
-use Rattle.role_graph.specs.Graph.{Graph, GraphReaches, IsGraphFar, shape_of}
+use Rattle.role_graph.specs.Graph.{Graph, GraphReaches, IsGraphFar, asked_rows as graph_asked, shape_of}
 use Rattle.role_graph.specs.Groups.{times}
 use Rattle.role_meaning.specs.Distances.{IsFar}
 use Rattle.role_meaning.specs.Implied.{AreImplied}
-use Rattle.role_meaning.specs.Links.{HasRoles, IsLinked, domain_of, role_of}
+use Rattle.role_meaning.specs.Links.{HasRoles, IsLinked, domain_of, role_of, user_of}
 use Rattle.role_meaning.proofs.CallerLemmas.{map_cases, map_stands, stands_cases, stands_nowhere}
 
 pub copied_some : {X : Type 0} (o : Option (Bor X)) → is_some (option_copied o) ≡ is_some o
 copied_some None = refl
 copied_some (Some x) = refl
+
+-- two tests of which each tells the other
+same_tests : (one other : Bool) → (IsTrue one → IsTrue other) → (IsTrue other → IsTrue one) → one ≡ other
+same_tests true other there back = sym (there refl)
+same_tests false true there back = back refl
+same_tests false false there back = refl
 
 -- a section that is asked in a domain
 module _ (shape : RoleShape) (limit : ℕ) (policy : Policy) (entries : List (List ℕ × Domain)) (patterns : List Fields) (sound : IsSection shape limit policy entries patterns)
@@ -121,6 +129,34 @@ module _ (shape : RoleShape) (limit : ℕ) (policy : Policy) (entries : List (Li
           where
             among_names : (one : List ℕ) → (row : Fields) × Contains there.graph.rows row × (role_of row ≡ one) → Contains given.names one
             among_names one (row, stands, same) = subst (Contains given.names) same (given.all row stands tt)
+
+    -- the rows of the graph that are asked are those that count
+    asked_there : (x : List ℕ) (test : Fields → Bool) → TellsRows shape all_rows domain test → graph_asked there.graph.names x there.graph.rows ≡ asked_rows shape test x all_rows
+    asked_there x test tells =
+        ap (λ (names : Fit). graph_asked names x there.graph.rows) right.names
+        ∙ count_alike asks_it there.graph.rows (pairs_of told all_rows) (λ one. right.rows told (tells_of decided (terms_of shape limit).domains text) one ∙ sym (times_pairs told one all_rows))
+        ∙ count_map asks_it pair_of (filter (λ (row : Fields). told (domain_of row)) all_rows)
+        ∙ count_filter (λ (row : Fields). asks_it (pair_of row)) (λ (row : Fields). told (domain_of row)) all_rows
+        ∙ count_agree_on (λ (row : Fields). told (domain_of row) && asks_it (pair_of row)) (λ (row : Fields). test row && asks_it row) all_rows (λ row stands. ap (λ (b : Bool). b && asks_it row) (agree row stands))
+      where
+        asks_it : Fields → Bool
+        asks_it one = bytes_eq x (user_of one) || is_pattern shape.names (user_of one)
+
+        told : List ℕ → Bool
+        told = test_of decided (terms_of shape limit).domains text
+
+        agree : (row : Fields) → Contains all_rows row → told (domain_of row) ≡ test row
+        agree row stands =
+            let counts = row_counts shape all_rows domain text sound.columns asks is row stands in
+            let fits = (tells_of decided (terms_of shape limit).domains text).told (domain_of row) in
+            same_tests (told (domain_of row)) (test row) (λ holds. (tells.told row stands).1 (counts.0 (fits.0 holds))) (λ holds. fits.1 (counts.1 ((tells.told row stands).0 holds)))
+
+    -- a question takes at most as many steps as these, and one more
+    pub steps_there : (x : List ℕ) (before after : ℕ) (test : Fields → Bool) → (length (different (map role_of there.graph.rows)) ≤ 1024 → after ≤ before + graph_asked there.graph.names x there.graph.rows + 1) → TellsRows shape all_rows domain test → HasFewRoles shape all_rows domain → after ≤ before + asked_rows shape test x all_rows + 1
+    steps_there x before after test few_steps tells few =
+        let count : ℕ = length (different (map role_of there.graph.rows)) in
+        let kept : IsTrue (nat_le count 1024) = (kept_there (nat_le count 1024) (leb-true count 1024, le-leb count 1024)).1 (is_named, few) in
+        omega (arith, few_steps (leb-true count 1024 kept), asked_there x test tells)
 
   -- a domain that no row names
   module _ (nowhere : None ≡ found entries text) where

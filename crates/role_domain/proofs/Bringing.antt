@@ -1,21 +1,20 @@
 -- What rows bring to the domain of a text, one row after the other.
-use Rattle.std.proofs.Common.{◌≡◌, ◌<◌, ◌≤◌, ◌+◌, ◌↔◌, ◌&&◌, ◌||◌, ℕ, zero, suc, Bool, true, false, List, [], ◌∷◌, ◌++◌, IsTrue, if◌then◌else◌, length, take, get_or, refl, sym, ap, subst, ◌∙◌, arith, add-one}
+use Rattle.std.proofs.Common.{◌≡◌, ◌<◌, ◌+◌, ◌↔◌, ◌&&◌, ◌||◌, ℕ, zero, suc, Bool, true, false, List, [], ◌∷◌, ◌++◌, IsTrue, if◌then◌else◌, length, take, get_or, refl, sym, ap, subst, ◌∙◌, arith}
 use Rattle.std.specs.Prelude.{All}
-use Rattle.std.specs.List.{AllByRecursion, IsDistinct, count_by, list_any}
+use Rattle.std.specs.List.{AllByRecursion, IsDistinct, list_any}
 use Rattle.std.specs.Str.{bytes_eq}
 use Rattle.std.proofs.lemmas.Bool.{false≢true}
 use Rattle.std.proofs.lemmas.Cmp.{nat_list_eq_equiv}
 use Rattle.std.proofs.lemmas.List.{take_more}
 use Rattle.std.proofs.lemmas.List.Elements.{All-nil, All-push}
 use Rattle.std.proofs.lemmas.List.Folds.{list_any_more}
-use Rattle.std.proofs.lemmas.List.Sums.{count_by-le-length}
 use Rattle.perm_base.specs.Patterns.{is_pattern}
 use Rattle.perm_base.specs.declared.shapes.Fit.{Fit}
 use Rattle.policy_table.specs.Tables.{Fields, same}
 use Rattle.role_domain.specs.Helps.Tallies.{Brings, Tallies, meets, own_at, rows_at}
-use Rattle.role_domain.specs.Relations.{Tells, counted, named, pair_of}
+use Rattle.role_domain.specs.Relations.{Tells, pair_of}
 use Rattle.role_domain.proofs.Counting.{count_more}
-use Rattle.role_domain.proofs.Keyed.{same_text, text_itself}
+use Rattle.role_domain.proofs.Keyed.{same_text}
 use Rattle.role_graph.specs.Groups.{times}
 use Rattle.role_graph.proofs.CallerLemmas.{once, times_more}
 use Rattle.role_meaning.specs.Fits.{Fits}

@@ -1,12 +1,12 @@
 -- The changes of one relation among those of edits.
-use Rattle.std.proofs.Common.{◌≡◌, ◌<◌, ◌^◌, ◌+◌, ◌&&◌, ◌==◌, ℕ, zero, suc, Bool, true, false, cond, List, [], ◌∷◌, ◌++◌, length, take, get_or, refl, sym, ap, subst, ◌∙◌, arith, append_assoc, append-nil, true≢false}
+use Rattle.std.proofs.Common.{◌≡◌, ◌<◌, ◌^◌, ◌+◌, ℕ, zero, suc, Bool, true, false, cond, List, [], ◌∷◌, ◌++◌, length, take, get_or, refl, sym, ap, subst, ◌∙◌, arith, append_assoc, append-nil, true≢false}
 use Rattle.std.specs.Prelude.{All}
 use Rattle.std.proofs.lemmas.Bool.{and_parts, eqb-true, lt-ltb}
 use Rattle.std.proofs.lemmas.List.{get_or_default, take_more}
 use Rattle.std.proofs.lemmas.List.Elements.{All-weaker, filter-append}
 use Rattle.perm_base.specs.declared.shapes.TableId.{TableId}
 use Rattle.perm_base.specs.declared.shapes.TableId.TheVariants.{G, P}
-use Rattle.policy_table.specs.Changes.{applies, changed, edited, flat, is_table, own, table_of}
+use Rattle.policy_table.specs.Changes.{changed, edited, flat, is_table, own, table_of}
 use Rattle.policy_table.specs.Tables.{AreLists, Fields, Policy, rows}
 use Rattle.policy_table.specs.declared.change.Change.{Change}
 use Rattle.policy_table.specs.declared.change.Change.TheVariants.{Insert, Remove, Replace}

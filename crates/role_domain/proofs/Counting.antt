@@ -3,12 +3,12 @@ use Rattle.std.proofs.Common.{◌≡◌, ◌⊎◌, inl, inr, ◌≤◌, ◌+◌
 use Rattle.std.specs.List.{AllByRecursion, Contains, IsDistinct, count_by}
 use Rattle.std.proofs.lemmas.Bool.{false≢true}
 use Rattle.std.proofs.lemmas.List.{length-map}
-use Rattle.std.proofs.lemmas.List.Sums.{count_by-le-length, length-filter, sum_by-append, sum_by-cons, sum_by-le-sum_by}
+use Rattle.std.proofs.lemmas.List.Sums.{length-filter, sum_by-append, sum_by-cons, sum_by-le-sum_by}
 use Rattle.policy_table.specs.Tables.{Fields, same, stands}
 use Rattle.policy_table.proofs.CallerLemmas.{same-Decides}
 use Rattle.role_domain.specs.Relations.{counted, pair_of}
 use Rattle.role_graph.specs.Groups.{times}
-use Rattle.role_graph.proofs.CallerLemmas.{Parted, as_long, once, parted, same_itself, times_both, times_filter, times_first}
+use Rattle.role_graph.proofs.CallerLemmas.{as_long, once, parted, same_itself, times_first}
 use Rattle.role_meaning.specs.Links.{domain_of}
 use Rattle.role_meaning.proofs.CallerLemmas.{stands_behind, stands_cases, stands_here, stands_nowhere}
 
@@ -116,7 +116,7 @@ passing_counts test (first ∷ rows) row stands passes = by (stands_cases first 
 abbrev pub pairs_of : (List ℕ → Bool) → List Fields → List Fields
 pairs_of test rows = map pair_of (filter (λ (row : Fields). test (domain_of row)) rows)
 
-times_pairs : (test : List ℕ → Bool) (one : Fields) (rows : List Fields) → times one (pairs_of test rows) ≡ counted test one rows
+pub times_pairs : (test : List ℕ → Bool) (one : Fields) (rows : List Fields) → times one (pairs_of test rows) ≡ counted test one rows
 times_pairs test one [] = refl
 times_pairs test one (row ∷ rows) = by (test (domain_of row)) refl (times_pairs test one rows)
   where

@@ -1,24 +1,24 @@
 -- What changes say of rules, and which come and go.
-use Rattle.std.proofs.Common.{◌≡◌, ◌⊎◌, inl, inr, ◌<◌, ◌≤◌, ◌+◌, ℕ, Bool, true, false, not, ◌&&◌, ◌||◌, cond, List, [], ◌∷◌, ◌++◌, Option, None, Some, filter, length, take, get_or, refl, sym, ap, subst, ◌∙◌, arith}
+use Rattle.std.proofs.Common.{◌≡◌, ◌⊎◌, inl, inr, ◌<◌, ◌+◌, ℕ, Bool, true, false, not, ◌&&◌, ◌||◌, cond, List, [], ◌∷◌, ◌++◌, Option, None, Some, filter, length, take, get_or, refl, sym, ap, subst, ◌∙◌, arith}
 use Rattle.std.specs.Prelude.{All, if◌then◌else◌, is_some, unwrap_or}
-use Rattle.std.specs.List.{Contains, IsDistinct, count_by, list_any}
+use Rattle.std.specs.List.{Contains, IsDistinct, count_by}
 use Rattle.std.specs.Map.{keys_of, lookup}
-use Rattle.std.proofs.lemmas.Bool.{and_parts, false≢true, or_parts}
+use Rattle.std.proofs.lemmas.Bool.{and_parts, false≢true}
 use Rattle.std.proofs.lemmas.List.{take_more}
 use Rattle.std.proofs.lemmas.List.Elements.{All-head, All-tail}
 use Rattle.std.proofs.lemmas.Map.Made.{is_some-lookup}
 use Rattle.perm_base.specs.declared.shapes.TableId.{TableId}
 use Rattle.perm_base.specs.declared.shapes.TableId.TheVariants.{G}
-use Rattle.policy_table.specs.Changes.{applies, changed, changed_rules, edited, in_place, is_possible, is_table, own, suits, table_of}
+use Rattle.policy_table.specs.Changes.{applies, changed, changed_rules, edited, is_possible, is_table, own, suits, table_of}
 use Rattle.policy_table.specs.Tables.{AreOrdered, Fields, Policy, is_ranked, place, rows, same, stands}
 use Rattle.policy_table.specs.declared.change.Change.{Change}
 use Rattle.policy_table.specs.declared.change.Change.TheVariants.{Insert, Remove, Replace}
-use Rattle.policy_table.proofs.CallerLemmas.{first_possible, ordered_changed, distinct_filter, rest_possible, rows_possible, same-Decides, same_symm, same_table, stands-inserted, stands-without}
+use Rattle.policy_table.proofs.CallerLemmas.{first_possible, ordered_changed, distinct_filter, rest_possible, rows_possible, same-Decides, same_symm, same_table, stands-in_place, stands-inserted, stands-without}
 use Rattle.role_domain.specs.Domains.{ArePatterns}
-use Rattle.role_domain.specs.Helps.Turns.{IsTurned, Turn, said_of, stands_after, stands_behind, turns}
-use Rattle.role_domain.specs.Relations.{Relation, has_pattern}
+use Rattle.role_domain.specs.Helps.Turns.{IsTurned, said_of, stands_after, stands_behind, turns}
+use Rattle.role_domain.specs.Relations.{has_pattern}
 use Rattle.role_domain.specs.declared.terms.Terms.{Terms}
-use Rattle.role_domain.proofs.Counting.{count_agree, count_agree_on, count_alike, count_both, count_filter, times_distinct}
+use Rattle.role_domain.proofs.Counting.{count_agree_on, count_alike, count_both, count_filter, times_distinct}
 use Rattle.role_graph.specs.Groups.{times}
 use Rattle.role_graph.proofs.CallerLemmas.{once, times_both, times_filter}
 use Rattle.role_meaning.proofs.CallerLemmas.{stands_cases, stands_nowhere}
@@ -47,37 +47,6 @@ there_stands (rule ∷ rules) one there = by (stands_cases rule rules one there)
     by (inr behind) more = ap (λ (b : Bool). same one rule || b) (more behind) ∙ or_true (same one rule)
 
 -- ---- which rules stand behind changes
-
--- with a new rule in the place of an old one
-stands-in_place : (old new x : Fields) (rules : List Fields) → stands x (in_place old new rules) ≡ ((same x new && stands old rules) || (stands x rules && not (same old x)))
-stands-in_place old new x [] = none (same x new)
-  where
-    none : (b : Bool) → false ≡ ((b && false) || (false && not (same old x)))
-    none true = refl
-    none false = refl
-stands-in_place old new x (y ∷ rules) = by (same old y) refl (stands-in_place old new x rules)
-  where
-    here : (n s o : Bool) → (n || ((n && stands old rules) || (s && not o))) ≡ ((n && true) || ((o || s) && not o))
-    here true s o = refl
-    here false true true = refl
-    here false false true = refl
-    here false s false = refl
-
-    there : (y p s o : Bool) → (y ≡ true → o ≡ false) → (y || (p || (s && not o))) ≡ (p || ((y || s) && not o))
-    there false p s o apart = refl
-    there true true s false apart = refl
-    there true false s false apart = refl
-    there true p s true apart = absurd (false≢true (sym (apart refl)))
-
-    by : (b : Bool) → same old y ≡ b → stands x (in_place old new rules) ≡ ((same x new && stands old rules) || (stands x rules && not (same old x)))
-        → (same x (if b then new else y) || stands x (in_place old new rules)) ≡ ((same x new && (b || stands old rules)) || ((same x y || stands x rules) && not (same old x)))
-    by true e rest =
-        let is : same old x ≡ same x y = same_symm old x ∙ ap (same x) ((same-Decides old y).0 e) in
-        ap (λ (b : Bool). same x new || b) rest ∙ here (same x new) (stands x rules) (same old x)
-        ∙ ap (λ (b : Bool). (same x new && true) || ((b || stands x rules) && not (same old x))) is
-    by false e rest =
-        ap (λ (b : Bool). same x y || b) rest
-        ∙ there (same x y) (same x new && stands old rules) (stands x rules) (same old x) (λ is. ap (same old) ((same-Decides x y).0 is) ∙ e)
 
 -- behind a change of unranked rules that suits them
 one_stands : (change : Change) (rules : List Fields) (one : Fields) → suits change rules ≡ true → stands one (changed_rules false change rules) ≡ stands_behind change one (stands one rules)

@@ -1,5 +1,5 @@
 -- Tables with the rules of one relation alone: they follow the tables that they are of, and are made by inserting each rule.
-use Rattle.std.proofs.Common.{◌≡◌, ◌⊎◌, ◌<◌, ◌&&◌, ◌||◌, ◌==◌, ℕ, zero, suc, Bool, true, false, not, cond, List, [], ◌∷◌, ◌++◌, Option, None, Some, IsTrue, map, length, replicate, set, get_or, refl, sym, ap, subst, ◌∙◌, arith, append_assoc, append-nil}
+use Rattle.std.proofs.Common.{◌≡◌, ◌<◌, ◌&&◌, ◌||◌, ℕ, zero, suc, Bool, true, false, not, cond, List, [], ◌∷◌, ◌++◌, Option, None, Some, map, length, replicate, set, get_or, refl, sym, ap, subst, ◌∙◌, append_assoc, append-nil}
 use Rattle.std.specs.Prelude.{All, IsSome, if◌then◌else◌, is_some, nat_lt}
 use Rattle.std.specs.List.{AllByRecursion, IsDistinct}
 use Rattle.std.specs.Option.{option_map_or}
@@ -15,8 +15,7 @@ use Rattle.policy_table.specs.Tables.{Fields, Lists, Policy, is_ranked, most_tab
 use Rattle.policy_table.specs.declared.change.Change.{Change}
 use Rattle.policy_table.specs.declared.change.Change.TheVariants.{Insert}
 use Rattle.policy_table.proofs.CallerLemmas.{counted_changed, itself, place_number, rows_at, rows_other, rows_own, same_symm, same_table}
-use Rattle.role_domain.specs.Relations.{HasFewPatterns}
-use Rattle.role_domain.specs.Sections.{Section, all_columns, only, own_of, puts_columns, rows_after}
+use Rattle.role_domain.specs.Sections.{Section, all_columns, only, own_of, rows_after}
 use Rattle.role_domain.proofs.ChangeLemmas.{alone}
 
 -- nine lists of no rules

@@ -1,7 +1,7 @@
 -- A section while an edit is prepared.
-use Rattle.std.proofs.Common.{◌≡◌, ◌⊎◌, inl, inr, ◌<◌, ◌≤◌, ◌+◌, ◌&&◌, ℕ, Bool, true, false, List, [], ◌∷◌, ◌++◌, IsTrue, filter, length, refl, sym, ap, subst, ◌∙◌, arith}
+use Rattle.std.proofs.Common.{◌≡◌, ◌≤◌, ◌&&◌, ℕ, Bool, true, false, List, [], ◌∷◌, ◌++◌, IsTrue, filter, length, refl, sym, ap, subst, ◌∙◌, arith}
 use Rattle.std.specs.Prelude.{All, if◌then◌else◌}
-use Rattle.std.specs.List.{Contains, IsDistinct, count_by, list_any}
+use Rattle.std.specs.List.{IsDistinct, count_by}
 use Rattle.std.specs.Map.{keys_of}
 use Rattle.std.proofs.lemmas.Bool.{and_parts}
 use Rattle.std.proofs.lemmas.List.Elements.{All-contains, All-weaker, filter_passes}
@@ -12,14 +12,14 @@ use Rattle.perm_base.specs.declared.shapes.Fit.TheVariants.{Exact}
 use Rattle.perm_base.specs.declared.shapes.RoleShape.{RoleShape}
 use Rattle.perm_base.specs.declared.shapes.TableId.TheVariants.{G}
 use Rattle.policy_table.specs.Changes.{applies, edited, flat, own}
-use Rattle.policy_table.specs.Held.{Held, IsPreparedFor as CanBeMade}
+use Rattle.policy_table.specs.Held.{IsPreparedFor as CanBeMade}
 use Rattle.policy_table.specs.Limits.{domains_of, role_columns}
 use Rattle.policy_table.specs.Tables.{Fields, IsKept, Policy, rows, same, stands}
 use Rattle.policy_table.specs.declared.change.Change.{Change}
 use Rattle.policy_table.proofs.CallerLemmas.{order_of, ordered_edited, same-Decides}
 use Rattle.role_domain.specs.Domains.{ArePatterns, Domains}
 use Rattle.role_domain.specs.Helps.Kept.{IsSection}
-use Rattle.role_domain.specs.Helps.Turns.{CanTurn, Turn, said_of, stands_after, turns}
+use Rattle.role_domain.specs.Helps.Turns.{CanTurn, said_of, stands_after, turns}
 use Rattle.role_domain.specs.Relations.{HasFewPatterns, Relation, fit_of, has_pattern, terms_of}
 use Rattle.role_domain.specs.Sections.{Draft, IsPreparedFor, Section, all_columns, relation_after}
 use Rattle.role_domain.specs.Steps.{AreReady, Touched}

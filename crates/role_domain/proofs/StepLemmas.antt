@@ -1,5 +1,5 @@
 -- What becomes of the domain of a text while rows come and go.
-use Rattle.std.proofs.Common.{◌≡◌, ◌⊎◌, inl, inr, ◌<◌, ◌≤◌, ◌+◌, ◌-◌, ◌^◌, ◌&&◌, ℕ, Bool, true, false, not, List, [], ◌∷◌, Option, None, Some, if◌then◌else◌, length, refl, sym, ap, subst, ◌∙◌, arith}
+use Rattle.std.proofs.Common.{◌≡◌, ◌<◌, ◌≤◌, ◌+◌, ◌-◌, ◌^◌, ◌&&◌, ℕ, Bool, true, false, not, List, [], Option, None, Some, if◌then◌else◌, length, refl, sym, ap, ◌∙◌, arith}
 use Rattle.std.specs.List.{count_by}
 use Rattle.std.specs.Str.{bytes_eq}
 use Rattle.std.proofs.lemmas.Bool.{and_parts, false≢true}
@@ -12,14 +12,13 @@ use Rattle.role_domain.specs.Domains.{IsDomain, IsRight}
 use Rattle.role_domain.specs.Helps.Tallies.{Tallies, meets, own_at, rows_at}
 use Rattle.role_domain.specs.Helps.Turns.{CanStep, Turn, after_of}
 use Rattle.role_domain.specs.Relations.{Relation, Tells, counted, has_pattern, named, pair_of}
-use Rattle.role_domain.specs.Steps.{IsChanged, IsReady}
+use Rattle.role_domain.specs.Steps.{IsReady}
 use Rattle.role_domain.specs.declared.domain.Domain.{Domain}
 use Rattle.role_domain.specs.declared.prepared.Step.TheVariants.{Changed}
 use Rattle.role_domain.proofs.Counting.{count_agree, count_split, count_weaker, counted_long}
 use Rattle.role_domain.proofs.Fitting.{fits_same}
 use Rattle.role_graph.specs.Graph.{Edit, IsPreparedFor}
 use Rattle.role_graph.specs.Groups.{after, times}
-use Rattle.role_meaning.specs.Fits.{Fits}
 use Rattle.role_meaning.specs.Links.{domain_of}
 use Rattle.role_meaning.proofs.CallerLemmas.{plain_fits}
 

@@ -1,5 +1,5 @@
 -- All domains while rows come and go.
-use Rattle.std.proofs.Common.{◌≡◌, ◌≤◌, ℕ, Bool, true, false, List, [], Option, None, Some, length, refl, sym, ap, subst, ◌∙◌, arith}
+use Rattle.std.proofs.Common.{◌≡◌, ◌≤◌, ℕ, Bool, false, List, [], Option, None, Some, length, refl, sym, ap, subst, ◌∙◌, arith}
 use Rattle.std.specs.Prelude.{All, is_some}
 use Rattle.std.specs.Global.{Vec}
 use Rattle.std.specs.List.{IsDistinct, list_any}
@@ -12,8 +12,7 @@ use Rattle.role_domain.specs.Domains.{AreDomains, Domains, IsRight, by_text, fou
 use Rattle.role_domain.specs.Helps.Tallies.{Brings, Tallies, has_text, own_at, rows_at}
 use Rattle.role_domain.specs.Helps.Turns.{CanStep, CanTurn, IsTurnOf, Turn, after_of}
 use Rattle.role_domain.specs.Relations.{Relation}
-use Rattle.role_domain.specs.Steps.{AreReady, IsReady, is_touched}
-use Rattle.role_domain.specs.declared.domain.Domain.{Domain}
+use Rattle.role_domain.specs.Steps.{AreReady, IsReady}
 use Rattle.role_domain.specs.declared.prepared.Step.{Step}
 use Rattle.role_domain.specs.declared.terms.Terms.{Terms}
 use Rattle.role_domain.proofs.Keyed.{as_many}

@@ -1,15 +1,15 @@
 -- Walks over rows, level by level.
-use Rattle.std.proofs.Common.{◌≡◌, ◌⊎◌, inl, inr, ◌<◌, ◌≤◌, ◌+◌, ℕ, zero, suc, Bool, true, false, List, [], ◌∷◌, ◌++◌, Option, None, Some, IsTrue, length, get_or, refl, sym, ap, subst, ◌∙◌, arith}
+use Rattle.std.proofs.Common.{◌≡◌, ◌⊎◌, inl, inr, ◌<◌, ◌≤◌, ◌+◌, ℕ, zero, suc, Bool, List, [], Option, None, Some, IsTrue, length, get_or, refl, sym, ap, subst, ◌∙◌, arith}
 use Rattle.std.specs.Prelude.{◌↔◌, is_some, unwrap_or}
 use Rattle.std.specs.List.{Contains}
-use Rattle.std.proofs.lemmas.Bool.{cases_eq, cases_lt, false≢true}
+use Rattle.std.proofs.lemmas.Bool.{cases_lt, false≢true}
 use Rattle.std.proofs.lemmas.List.{get_or_default}
 use Rattle.std.proofs.lemmas.List.Elements.{Contains-get_or}
 use Rattle.policy_table.specs.Tables.{Fields}
-use Rattle.role_domain.specs.Helps.Walks.{Enters, Extends, GoesOn, IsDistance, IsEntered, IsMarked, IsNext, IsRoleAt, Walk, Walks, inner}
+use Rattle.role_domain.specs.Helps.Walks.{Enters, GoesOn, IsDistance, IsEntered, IsMarked, IsNext, IsRoleAt, Walk, Walks, inner}
 use Rattle.role_meaning.specs.Fits.{Fits}
 use Rattle.role_meaning.specs.Least.{IsLeast}
-use Rattle.role_meaning.specs.Links.{CountsIn, HasRoles, Reaches, SomeLink, domain_of, role_of, user_of}
+use Rattle.role_meaning.specs.Links.{Reaches, SomeLink, domain_of, role_of, user_of}
 use Rattle.role_meaning.proofs.CallerLemmas.{reaches_itself, reaches_last, reaches_more, reaches_on}
 
 -- ---- levels

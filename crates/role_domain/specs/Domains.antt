@@ -1,26 +1,16 @@
 -- The domains of a relation: one for each text that a row has as its domain, with the graph of the rows that count there.
-use Rattle.std.specs.Prelude.{◌≡◌, ◌<◌, ◌≤◌, ℕ, Bool, ◌&&◌, List, Option, None, Some, length, map}
-use Rattle.std.specs.Global.{Vec}
+use Rattle.std.specs.Prelude.{◌≡◌, ◌<◌, ◌≤◌, ℕ, Bool, ◌&&◌, List, Option, None, Some, length}
 use Rattle.std.specs.List.{count_by}
-use Rattle.std.specs.Map.{lookup}
-use Rattle.std.specs.Str.{bytes_eq}
 use Rattle.policy_table.specs.Tables.{Fields}
 use Rattle.role_domain.specs.Relations.{Relation, Tells, counted, has_pattern, named}
 use Rattle.role_domain.specs.declared.domain.Domain.{Domain}
 use Rattle.role_graph.specs.Groups.{times}
+pub use Rattle.role_graph.specs.Keyed.{by_text, found}
 
 -- the domains by their texts, and for how many further ones there is room
 pub record Domains : Type 0 where
   pub entries : List (List ℕ × Domain)
   pub spare : ℕ
-
--- what stands under vectors, under their texts
-abbrev pub by_text : {X : Type 0} → List (Vec ℕ × X) → List (List ℕ × X)
-by_text {X} entries = map (λ (entry : Vec ℕ × X). (entry.0.items, entry.1)) entries
-
--- what is found at a text
-abbrev pub found : {X : Type 0} → List (List ℕ × X) → List ℕ → Option X
-found entries text = lookup (bytes_eq text) entries
 
 -- the domain of a text that some row has: how many do, and a graph with the user and the role of each row that counts
 pub record IsDomain (relation : Relation) (text : List ℕ) (domain : Domain) : Type 0 where

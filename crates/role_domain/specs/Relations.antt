@@ -1,5 +1,5 @@
 -- A role relation by its domains: which of its rows count in one (Casbin, RBAC with domains).
-use Rattle.std.specs.Prelude.{◌≡◌, ◌↔◌, ◌≤◌, ℕ, Bool, ◌&&◌, IsTrue, List, [], ◌∷◌, length, filter, Option, None, Some, ⊤, if◌then◌else◌}
+use Rattle.std.specs.Prelude.{◌↔◌, ◌≤◌, ℕ, Bool, ◌&&◌, ◌||◌, IsTrue, List, [], ◌∷◌, length, filter, Option, None, Some, ⊤, if◌then◌else◌}
 use Rattle.std.specs.List.{Contains, count_by}
 use Rattle.std.specs.Str.{bytes_eq}
 use Rattle.perm_base.specs.Patterns.{is_pattern}
@@ -58,3 +58,11 @@ pub record HasFewRoles (shape : RoleShape) (rows : List Fields) (domain : Option
   pub names : List (List ℕ)
   pub few : length names ≤ 1024
   pub all : (row : Fields) → Contains rows row → CountsIn shape domain row → Contains names (role_of row)
+
+-- the test tells which of the rows count in the domain
+pub record TellsRows (shape : RoleShape) (rows : List Fields) (domain : Option (List ℕ)) (test : Fields → Bool) : Type 0 where
+  pub told : (row : Fields) → Contains rows row → IsTrue (test row) ↔ CountsIn shape domain row
+
+-- how many of the rows that pass the test have the name as their user, or a pattern
+abbrev pub asked_rows : RoleShape → (Fields → Bool) → List ℕ → List Fields → ℕ
+asked_rows shape test x rows = count_by (λ (row : Fields). test row && (bytes_eq x (user_of row) || is_pattern shape.names (user_of row))) rows

@@ -1,15 +1,15 @@
 //! A role relation over its domains.
 
-ghost use Rattle.std.specs.Prelude.{◌≡◌, ◌↔◌, ◌≤◌, ℕ, All, [], IfOk, IsSome, IsTrue, List, false, is_some, length, true, unwrap_or};
+ghost use Rattle.std.specs.Prelude.{◌≡◌, ◌+◌, ◌↔◌, ◌≤◌, ℕ, All, Bool, [], IfOk, IsSome, IsTrue, List, false, is_some, length, true, unwrap_or};
 ghost use Rattle.std.specs.Option.{option_copied};
 ghost use Rattle.perm_base.specs.declared.shapes.TableId.TheVariants.{G};
 ghost use Rattle.policy_table.specs.Changes.{applies, edited};
 ghost use Rattle.policy_table.specs.Limits.{role_columns};
-ghost use Rattle.policy_table.specs.Tables.{place, rows, without_rules};
+ghost use Rattle.policy_table.specs.Tables.{Fields, place, rows, without_rules};
 ghost use Rattle.role_meaning.specs.Distances.{IsFar};
 ghost use Rattle.role_meaning.specs.Implied.{AreImplied};
 ghost use Rattle.role_meaning.specs.Links.{HasRoles, IsLinked};
-ghost use Rattle.role_domain.specs.Relations.{HasFewPatterns, HasFewRoles, IsNamed};
+ghost use Rattle.role_domain.specs.Relations.{HasFewPatterns, HasFewRoles, IsNamed, TellsRows, asked_rows};
 ghost use Rattle.role_domain.specs.Sections.{IsPreparedFor, all_columns, only, own_of, rows_after, rows_in};
 
 use crate::changes::{inserts, own_changes};
@@ -128,7 +128,9 @@ impl RoleSection {
     }
 
     /// Whether the one name reaches the other in the domain by at most as many links as the limit
-    /// says (Casbin, `hasLink`). It takes no memory.
+    /// says (Casbin, `hasLink`). It takes no memory. A step is a kept distance that is read: where the
+    /// domain has at most 1,024 roles, at most one for each row that counts there and whose user is
+    /// the name or a pattern, and one more.
     pub fn linked<L: Ledger>(
         &self,
         x: &[u8],
@@ -140,6 +142,11 @@ impl RoleSection {
         ensures found { IsTrue result ↔ IsLinked self.now.shape (rows_in self.now) self.now.limit
             (option_copied domain.entry) x.now y.now }
         ensures steps { steps.old ≤ steps.new }
+        ensures few_steps { (test : Fields → Bool)
+            → TellsRows self.now.shape (rows_in self.now) (option_copied domain.entry) test
+            → HasFewRoles self.now.shape (rows_in self.now) (option_copied domain.entry)
+            → steps.new ≤ steps.old
+            + asked_rows self.now.shape test x.now (rows_in self.now) + 1 }
     {
         links_are_decided();
         let text = asked(domain);
@@ -153,7 +160,7 @@ impl RoleSection {
     }
 
     /// The least number of links by which the one name reaches the other in the domain, or 255 where
-    /// it is above 254 or there is none. It takes no memory.
+    /// it is above 254 or there is none. It takes no memory, and as many steps as `linked`.
     pub fn far<L: Ledger>(
         &self,
         x: &[u8],
@@ -165,6 +172,11 @@ impl RoleSection {
         ensures far { IsFar self.now.shape (rows_in self.now) (option_copied domain.entry) x.now
             y.now result }
         ensures steps { steps.old ≤ steps.new }
+        ensures few_steps { (test : Fields → Bool)
+            → TellsRows self.now.shape (rows_in self.now) (option_copied domain.entry) test
+            → HasFewRoles self.now.shape (rows_in self.now) (option_copied domain.entry)
+            → steps.new ≤ steps.old
+            + asked_rows self.now.shape test x.now (rows_in self.now) + 1 }
     {
         links_are_decided();
         let text = asked(domain);

@@ -53,7 +53,7 @@ differ x y apart = by (cases_Bool (bytes_eq x y))
     by (inl same) = absurd (apart (same_text x y same))
     by (inr other) = other
 
-distinct_both : (xs ys : List (List ℕ)) → IsDistinct bytes_eq xs → IsDistinct bytes_eq ys → ((y : List ℕ) → Contains xs y → Contains ys y → ⊥) → IsDistinct bytes_eq (xs ++ ys)
+pub distinct_both : (xs ys : List (List ℕ)) → IsDistinct bytes_eq xs → IsDistinct bytes_eq ys → ((y : List ℕ) → Contains xs y → Contains ys y → ⊥) → IsDistinct bytes_eq (xs ++ ys)
 unfolding IsDistinct
 distinct_both [] ys first second apart = second
 distinct_both (x ∷ xs) ys first second apart = (
@@ -62,11 +62,11 @@ distinct_both (x ∷ xs) ys first second apart = (
   distinct_both xs ys first.1 second (λ y one two. apart y (stands_behind x xs y one) two),
 )
 
-distinct_one : (y : List ℕ) → IsDistinct bytes_eq (y ∷ [])
+pub distinct_one : (y : List ℕ) → IsDistinct bytes_eq (y ∷ [])
 unfolding IsDistinct
 distinct_one y = (tt, tt)
 
-distinct_none : IsDistinct bytes_eq []
+pub distinct_none : IsDistinct bytes_eq []
 unfolding IsDistinct
 distinct_none = tt
 
@@ -80,7 +80,7 @@ or_left : (a b : Bool) → a ≡ true → (a || b) ≡ true
 or_left true b is = refl
 or_left false b is = absurd (false≢true is)
 
-or_which : (a b : Bool) → (a || b) ≡ true → (a ≡ true) ⊎ (b ≡ true)
+pub or_which : (a b : Bool) → (a || b) ≡ true → (a ≡ true) ⊎ (b ≡ true)
 or_which true b is = inl refl
 or_which false b is = inr is
 
@@ -301,7 +301,7 @@ equal_bytes (x ∷ xs) (y ∷ ys) e = by (nat_cmp x y) refl e (equal_bytes xs ys
 pub bytes_order : IsStrictWeakOrder is_before
 bytes_order = ranks_by nat_list_cmp_total (λ (text : List ℕ). text)
 
-strictly : (texts : List (List ℕ)) → IsSortedBy is_before texts → IsDistinct bytes_eq texts → AllPairs (λ (y z : List ℕ). slice_cmp nat_cmp y z ≡ Less) texts
+pub strictly : (texts : List (List ℕ)) → IsSortedBy is_before texts → IsDistinct bytes_eq texts → AllPairs (λ (y z : List ℕ). slice_cmp nat_cmp y z ≡ Less) texts
 strictly texts sorted once = λ i j d less within.
     by i j d less within (slice_cmp nat_cmp (get_or texts i d) (get_or texts j d)) refl
   where
@@ -314,7 +314,7 @@ strictly texts sorted once = λ i j d less within.
         let back : slice_cmp nat_cmp (get_or texts j d) (get_or texts i d) ≡ Less = nat_list_cmp_total.antisymm (get_or texts j d) (get_or texts i d) ∙ ap ordering_reverse is in
         absurd (false≢true (sym (sorted_far is_before bytes_order texts sorted i j d (omega arith) within) ∙ ap is_lt back))
 
-flips : (x y : List ℕ) → bytes_eq x y ≡ bytes_eq y x
+pub flips : (x y : List ℕ) → bytes_eq x y ≡ bytes_eq y x
 flips x y = nat_list_eq_equiv.symm x y
 
 -- the names are those that were seen
@@ -382,7 +382,7 @@ role_of_link shape rows (suc links) x y link = by link.holds (role_of_link shape
     by (inl same) more = subst (Contains (map role_of rows)) same (map_stands role_of rows link.row link.stands)
     by (inr on) more = more on
 
-role_reached : (shape : RoleShape) (rows : List Fields) (links : ℕ) (x y : List ℕ) → y ≢ x → Reaches shape rows None links x y → Contains (map role_of rows) y
+pub role_reached : (shape : RoleShape) (rows : List Fields) (links : ℕ) (x y : List ℕ) → y ≢ x → Reaches shape rows None links x y → Contains (map role_of rows) y
 unfolding Reaches
 role_reached shape rows zero x y other same = absurd (other (sym same))
 role_reached shape rows (suc links) x y other (inl same) = absurd (other (sym same))
@@ -416,7 +416,7 @@ nearer_differ shape rows x y z nearer same = by nearer.before
     by (inl less) = omega (arith, equal)
     by (inr (even, bytes)) = not_below y (subst (λ (w : List ℕ). slice_cmp nat_cmp y w ≡ Less) (sym same) bytes)
 
-stands_any : (y : List ℕ) (xs : List (List ℕ)) → list_any (bytes_eq y) xs ≡ true → Contains xs y
+pub stands_any : (y : List ℕ) (xs : List (List ℕ)) → list_any (bytes_eq y) xs ≡ true → Contains xs y
 stands_any y [] is = absurd (false≢true is)
 stands_any y (x ∷ xs) is = by (or_which (bytes_eq y x) (list_any (bytes_eq y) xs) is) (stands_any y xs)
   where
@@ -424,7 +424,7 @@ stands_any y (x ∷ xs) is = by (or_which (bytes_eq y x) (list_any (bytes_eq y) 
     by (inl same) more = subst (Contains (x ∷ xs)) (sym (same_text y x same)) (stands_here x xs)
     by (inr behind) more = stands_behind x xs y (more behind)
 
-any_stands : (y : List ℕ) (xs : List (List ℕ)) → Contains xs y → list_any (bytes_eq y) xs ≡ true
+pub any_stands : (y : List ℕ) (xs : List (List ℕ)) → Contains xs y → list_any (bytes_eq y) xs ≡ true
 any_stands y [] none = absurd (stands_nowhere y none)
 any_stands y (x ∷ xs) stands = by (stands_cases x xs y stands) (any_stands y xs)
   where

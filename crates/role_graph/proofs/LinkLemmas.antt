@@ -135,3 +135,24 @@ roles_told parts name test sound told = (λ holds. by (told.0 holds), λ has. to
 
     back : (has : HasRoles (shape_of parts.names) (rows_of (linked_of parts).groups) None name) → InGroup (linked_of parts).groups has.row → (at : ℕ) × FitsAt (linked_of parts) name at
     back has found = (found.at, record { within = found.within; fits = subst (Fits parts.names name) (ap user_of found.is) has.fits })
+
+-- ---- the next group that a name fits
+
+-- a group whose user the name is, and the only one among those that are no patterns
+pub text_first : (parts : Parts) (name : List ℕ) (place other : ℕ) → AreLinks parts.names parts.plain.groups parts.patterned.groups → IsPlace parts.plain.groups name place → other < length parts.plain.groups → FitsAt (linked_of parts) name other → other ≡ place
+text_first parts name place other sound is within fits = is.2 other within (text_fits parts name other sound within fits)
+
+pub text_none : (parts : Parts) (name : List ℕ) (other : ℕ) → AreLinks parts.names parts.plain.groups parts.patterned.groups → ((at : ℕ) → at < length parts.plain.groups → (get_or parts.plain.groups at no_group).user ≡ name → ⊥) → other < length parts.plain.groups → FitsAt (linked_of parts) name other → ⊥
+text_none parts name other sound none within fits = none other within (text_fits parts name other sound within fits)
+
+-- a pattern by its place among all groups
+pub pattern_at : (parts : Parts) (name : List ℕ) (at : ℕ) → length parts.plain.groups ≤ at → at < length (linked_of parts).groups → Fits parts.names name (get_or parts.patterned.groups (at - length parts.plain.groups) no_group).user → FitsAt (linked_of parts) name at
+pattern_at parts name at past within fits =
+    let same : length parts.plain.groups + (at - length parts.plain.groups) ≡ at = omega arith in
+    subst (FitsAt (linked_of parts) name) same
+    (pattern_fits parts name (at - length parts.plain.groups) (omega (arith, within, length-append parts.plain.groups parts.patterned.groups)) fits)
+
+pub at_pattern : (parts : Parts) (name : List ℕ) (at : ℕ) → length parts.plain.groups ≤ at → FitsAt (linked_of parts) name at → Fits parts.names name (get_or parts.patterned.groups (at - length parts.plain.groups) no_group).user
+at_pattern parts name at past fits =
+    let same : at ≡ length parts.plain.groups + (at - length parts.plain.groups) = omega arith in
+    fits_pattern parts name (at - length parts.plain.groups) (subst (FitsAt (linked_of parts) name) same fits)

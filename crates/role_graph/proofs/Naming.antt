@@ -16,9 +16,9 @@ use Rattle.role_meaning.proofs.CallerLemmas.{all_standing, pairs_head, pairs_tai
 use Rattle.role_graph.specs.Graph.{shape_of}
 use Rattle.role_graph.specs.Groups.{rows_of}
 use Rattle.role_graph.specs.Helps.Marks.{IsSet}
-use Rattle.role_graph.specs.Helps.Walks.{AreReached, IsEntered, IsRoleAt, Linked}
+use Rattle.role_graph.specs.Helps.Walks.{AreReached, IsEntered, IsLink, IsRoleAt, Linked}
 use Rattle.role_graph.proofs.Putting.{same_text, text_itself}
-use Rattle.role_graph.proofs.Walking.{LinkedBy, group_link, level_cases, reached_on}
+use Rattle.role_graph.proofs.Walking.{group_link, level_cases, reached_on}
 
 abbrev pub ReachesIn : Linked → ℕ → List ℕ → List ℕ → Type 0
 ReachesIn linked links x y = Reaches (shape_of linked.names) (rows_of linked.groups) None links x y
@@ -67,49 +67,38 @@ named_none linked x = record {
   order = λ i j d less within. absurd (omega arith);
 }
 
-pub named_more : (linked : Linked) (x : List ℕ) (level : ℕ) (all groups : List ℕ) (names fresh : List (List ℕ)) → level < 254 → AreReached linked x level all groups → AreNamed linked x level names → AreFresh linked x groups names fresh → AreNamed linked x (suc level) (names ++ fresh)
-named_more linked x level all groups names fresh low are named new = record {
+-- the names that are reached by one link more than those before, by bytes
+pub record IsLevel (linked : Linked) (x : List ℕ) (level : ℕ) (names fresh : List (List ℕ)) : Type 0 where
+  pub sound : (y : List ℕ) → Contains fresh y → (y ≢ x) × (¬ Contains names y) × ReachesIn linked (suc level) x y
+  pub whole : (y : List ℕ) → y ≢ x → ReachesIn linked (suc level) x y → Contains names y ⊎ Contains fresh y
+  pub order : AllPairs (λ (y z : List ℕ). slice_cmp nat_cmp y z ≡ Less) fresh
+
+pub named_level : (linked : Linked) (x : List ℕ) (level : ℕ) (names fresh : List (List ℕ)) → level < 254 → AreNamed linked x level names → IsLevel linked x level names fresh → AreNamed linked x (suc level) (names ++ fresh)
+named_level linked x level names fresh low named new = record {
   sound = λ y stands. sound y (Contains-append_cases names fresh y stands);
-  whole = whole;
+  whole = λ y other reaches. whole y (new.whole y other reaches);
   near = λ y stands. near y (Contains-append_cases names fresh y stands);
   order = pairs_both (IsNearer (shape_of linked.names) (rows_of linked.groups) None x) names fresh named.order fresh_order between;
 }
   where
-    reached : (y : List ℕ) → Contains fresh y → ReachesIn linked (suc level) x y
-    reached y stands =
-        let facts = new.sound y stands in
-        reached_on linked x y level facts.2 (are.sound facts.2 (are.reached facts.2 facts.3)) facts.4
-
     far : (y : List ℕ) → Contains fresh y → FarIn linked x y (suc level)
     far y stands = record {
       within = omega arith;
-      holds = λ _. reached y stands;
+      holds = λ _. (new.sound y stands).2;
       least = λ lower less early. (new.sound y stands).1 (named.whole y (new.sound y stands).0 (reaches_more (shape_of linked.names) (rows_of linked.groups) None lower level x y (omega arith) early));
     }
 
     sound : (y : List ℕ) → Contains names y ⊎ Contains fresh y → (y ≢ x) × ReachesIn linked (suc level) x y
     sound y (inl old) = ((named.sound y old).0, reaches_more (shape_of linked.names) (rows_of linked.groups) None level (suc level) x y (omega arith) (named.sound y old).1)
-    sound y (inr found) = ((new.sound y found).0, reached y found)
+    sound y (inr found) = ((new.sound y found).0, (new.sound y found).2)
 
     near : (y : List ℕ) → Contains names y ⊎ Contains fresh y → (k : ℕ) × (k ≤ suc level) × FarIn linked x y k
     near y (inl old) = let before = named.near y old in (before.0, omega (arith, before.1), before.2)
     near y (inr found) = (suc level, omega arith, far y found)
 
-    by_link : (y z : List ℕ) → y ≢ x → ReachesIn linked level x z → LinkedBy linked z y → Contains (names ++ fresh) y
-    by_link y z other before link = which (level_cases linked x level all groups link.at are (record { name = z; reached = before; fits = link.fits })) (is_named y names)
-      where
-        which : IsSet groups link.at ⊎ ((fewer : ℕ) × (suc fewer ≡ level) × IsEntered linked x fewer link.at) → Contains names y ⊎ (¬ Contains names y) → Contains (names ++ fresh) y
-        which at_level (inl old) = Contains-append_left names fresh y old
-        which (inl is) (inr none) = Contains-append_right names fresh y (new.whole y link.at other none is link.stands)
-        which (inr (fewer, e, early)) (inr none) =
-            absurd (none (named.whole y other (subst (λ (k : ℕ). ReachesIn linked k x y) e (reached_on linked x y fewer link.at early link.stands))))
-
-    whole : (y : List ℕ) → y ≢ x → ReachesIn linked (suc level) x y → Contains (names ++ fresh) y
-    whole y other reaches = by (reaches_last (shape_of linked.names) (rows_of linked.groups) None level x y reaches)
-      where
-        by : ReachesIn linked level x y ⊎ ((z : List ℕ) × ReachesIn linked level x z × SomeLink (shape_of linked.names) (rows_of linked.groups) None z (λ role. role ≡ y)) → Contains (names ++ fresh) y
-        by (inl early) = Contains-append_left names fresh y (named.whole y other early)
-        by (inr (z, before, last)) = by_link y z other before (group_link linked z y last)
+    whole : (y : List ℕ) → Contains names y ⊎ Contains fresh y → Contains (names ++ fresh) y
+    whole y (inl old) = Contains-append_left names fresh y old
+    whole y (inr found) = Contains-append_right names fresh y found
 
     fresh_order : AllPairs (IsNearer (shape_of linked.names) (rows_of linked.groups) None x) fresh
     fresh_order = λ i j d less within. record {
@@ -124,3 +113,27 @@ named_more linked x level all groups names fresh low are named new = record {
     between y z old found =
         let before = named.near y old in
         record { near = before.0; far = suc level; to_one = before.2; to_other = far z found; before = inl (omega (arith, before.1)) }
+
+-- the roles of the groups at a level are those
+pub named_more : (linked : Linked) (x : List ℕ) (level : ℕ) (all groups : List ℕ) (names fresh : List (List ℕ)) → level < 254 → AreReached linked x level all groups → AreNamed linked x level names → AreFresh linked x groups names fresh → AreNamed linked x (suc level) (names ++ fresh)
+named_more linked x level all groups names fresh low are named new = named_level linked x level names fresh low named (record {
+  sound = λ y stands. let facts = new.sound y stands in (facts.0, facts.1, reached_on linked x y level facts.2 (are.sound facts.2 (are.reached facts.2 facts.3)) facts.4);
+  whole = whole;
+  order = new.order;
+})
+  where
+    by_link : (y z : List ℕ) → y ≢ x → ReachesIn linked level x z → IsLink linked z y → Contains names y ⊎ Contains fresh y
+    by_link y z other before link = which (level_cases linked x level all groups link.at are (record { name = z; reached = before; fits = link.fits })) (is_named y names)
+      where
+        which : IsSet groups link.at ⊎ ((fewer : ℕ) × (suc fewer ≡ level) × IsEntered linked x fewer link.at) → Contains names y ⊎ (¬ Contains names y) → Contains names y ⊎ Contains fresh y
+        which at_level (inl old) = inl old
+        which (inl is) (inr none) = inr (new.whole y link.at other none is link.stands)
+        which (inr (fewer, e, early)) (inr none) =
+            absurd (none (named.whole y other (subst (λ (k : ℕ). ReachesIn linked k x y) e (reached_on linked x y fewer link.at early link.stands))))
+
+    whole : (y : List ℕ) → y ≢ x → ReachesIn linked (suc level) x y → Contains names y ⊎ Contains fresh y
+    whole y other reaches = by (reaches_last (shape_of linked.names) (rows_of linked.groups) None level x y reaches)
+      where
+        by : ReachesIn linked level x y ⊎ ((z : List ℕ) × ReachesIn linked level x z × SomeLink (shape_of linked.names) (rows_of linked.groups) None z (λ role. role ≡ y)) → Contains names y ⊎ Contains fresh y
+        by (inl early) = inl (named.whole y other early)
+        by (inr (z, before, last)) = by_link y z other before (group_link linked z y last)

@@ -6,7 +6,7 @@ use Rattle.std.proofs.lemmas.List.{length-map}
 use Rattle.std.proofs.lemmas.List.Sums.{count_by-le-length}
 use Rattle.perm_base.specs.LineEnds.{has_line_end}
 use Rattle.role_meaning.specs.Links.{role_of}
-use Rattle.role_graph.specs.Graph.{Edit, Graph, IsPreparedFor}
+use Rattle.role_graph.specs.Graph.{Edit, Graph, IsPreparedFor, most_kept, role_count}
 use Rattle.role_graph.specs.Helps.Roles.{Counted, count_of}
 use Rattle.policy_table.specs.Tables.{Fields}
 use Rattle.role_graph.specs.Groups.{Group, after, rows_of, rows_with, times}
@@ -28,9 +28,19 @@ prepared_few rows others insert remove equal few =
     let long : length (others ++ remove) ≡ length (rows ++ insert) = as_long (others ++ remove) (rows ++ insert) (λ one. times_both one others remove ∙ equal one ∙ sym (times_both one rows insert)) in
     omega (arith, long, few, length-append others remove, length-append rows insert)
 
+-- how many rows have each role afterwards
+pub changed_roles : (rows others insert remove : List Fields) → ((one : Fields) → times one others + times one remove ≡ times one rows + times one insert) → (role : List ℕ) → rows_with role others + rows_with role remove ≡ rows_with role rows + rows_with role insert
+changed_roles rows others insert remove equal role =
+    omega (
+      arith,
+      roles_alike (others ++ remove) (rows ++ insert) (λ one. times_both one others remove ∙ equal one ∙ sym (times_both one rows insert)) role,
+      rows_with_both role others remove,
+      rows_with_both role rows insert,
+    )
+
 -- what an edit comes to, in a graph whose rows these are
-pub prepared_for : (graph : Graph) (edit : Edit) (rows : List Fields) (changed : List Group) (added removed : List (List ℕ)) (insert remove : List Fields) → graph.rows ≡ rows → edit.changed ≡ changed → edit.added ≡ added → edit.removed ≡ removed → list_any has_line_end added ≡ false → added ≡ map role_of insert → removed ≡ map role_of remove → AreApart changed → length changed ≤ graph.spare → length added ≤ graph.spare_roles → ((one : Fields) → times one (after changed rows) + times one remove ≡ times one rows + times one insert) → length rows + length insert ≤ 200000 + length remove → IsPreparedFor graph edit
-prepared_for graph edit rows changed added removed insert remove same changed_is added_is removed_is lines come go apart room room_of_roles equal few = record {
+pub prepared_for : (graph : Graph) (edit : Edit) (rows : List Fields) (changed : List Group) (added removed : List (List ℕ)) (insert remove : List Fields) → graph.rows ≡ rows → edit.changed ≡ changed → edit.added ≡ added → edit.removed ≡ removed → list_any has_line_end added ≡ false → added ≡ map role_of insert → removed ≡ map role_of remove → AreApart changed → length changed ≤ graph.spare → length added ≤ graph.spare_roles → ((one : Fields) → times one (after changed rows) + times one remove ≡ times one rows + times one insert) → length rows + length insert ≤ 200000 + length remove → (role_count (after changed rows) ≤ most_kept → role_count (after changed rows) ≤ graph.places) → IsPreparedFor graph edit
+prepared_for graph edit rows changed added removed insert remove same changed_is added_is removed_is lines come go apart room room_of_roles equal few distances = record {
   once = subst AreApart (sym changed_is) apart;
   room = omega (arith, ap length changed_is, room);
   room_of_roles = omega (arith, ap length added_is, room_of_roles);
@@ -54,10 +64,9 @@ prepared_for graph edit rows changed added removed insert remove same changed_is
     ap (rows_with role) same,
     ap (count_by (bytes_eq role)) (added_is ∙ come),
     ap (count_by (bytes_eq role)) (removed_is ∙ go),
-    roles_alike (after changed rows ++ remove) (rows ++ insert) alike role,
-    rows_with_both role (after changed rows) remove,
-    rows_with_both role rows insert,
+    changed_roles rows (after changed rows) insert remove equal role,
   );
+  room_of_distances = λ low. omega (arith, ap role_count behind, distances (omega (arith, ap role_count behind, low)));
 }
   where
     behind : after edit.changed graph.rows ≡ after changed rows
@@ -72,17 +81,16 @@ can_count graph edit roles added good counted few short role =
     let within : rows_with role graph.rows ≤ length (map role_of graph.rows) = count_by-le-length (bytes_eq role) (map role_of graph.rows) in
     omega (arith, within, length-map graph.rows role_of, counted role, few, short)
 
-pub are_counted : (graph : Graph) (edit : Edit) (old new : Counted) (added removed : List (List ℕ)) → IsPreparedFor graph edit → added ≡ edit.added → removed ≡ edit.removed → ((role : List ℕ) → count_of old role ≡ rows_with role graph.rows) → ((role : List ℕ) → count_of new role ≡ count_of old role + count_by (bytes_eq role) added) → (role : List ℕ) → count_by (bytes_eq role) removed ≤ count_of new role
-are_counted graph edit old new added removed good come go counted more role =
-    omega (arith, good.roles role, counted role, more role, ap (count_by (bytes_eq role)) come, ap (count_by (bytes_eq role)) go)
+pub are_counted : (graph : Graph) (edit : Edit) (old : Counted) (added removed : List (List ℕ)) → IsPreparedFor graph edit → added ≡ edit.added → removed ≡ edit.removed → ((role : List ℕ) → count_of old role ≡ rows_with role graph.rows) → (role : List ℕ) → count_by (bytes_eq role) removed ≤ count_of old role + count_by (bytes_eq role) added
+are_counted graph edit old added removed good come go counted role = omega (arith, good.roles role, counted role, ap (count_by (bytes_eq role)) come, ap (count_by (bytes_eq role)) go)
 
-pub counted_after : (graph : Graph) (edit : Edit) (old between new : Counted) (added removed : List (List ℕ)) (rows : List Fields) → IsPreparedFor graph edit → added ≡ edit.added → removed ≡ edit.removed → ((role : List ℕ) → count_of old role ≡ rows_with role graph.rows) → ((role : List ℕ) → count_of between role ≡ count_of old role + count_by (bytes_eq role) added) → ((role : List ℕ) → count_of new role + count_by (bytes_eq role) removed ≡ count_of between role) → ((one : Fields) → times one rows ≡ times one (after edit.changed graph.rows)) → (role : List ℕ) → count_of new role ≡ rows_with role rows
-counted_after graph edit old between new added removed rows good come go counted more fewer alike role =
-    omega (arith, good.roles role, counted role, more role, fewer role, ap (count_by (bytes_eq role)) come, ap (count_by (bytes_eq role)) go, roles_alike rows (after edit.changed graph.rows) alike role)
+pub counted_after : (graph : Graph) (edit : Edit) (old new : Counted) (added removed : List (List ℕ)) (rows : List Fields) → IsPreparedFor graph edit → added ≡ edit.added → removed ≡ edit.removed → ((role : List ℕ) → count_of old role ≡ rows_with role graph.rows) → ((role : List ℕ) → count_of new role + count_by (bytes_eq role) removed ≡ count_of old role + count_by (bytes_eq role) added) → ((one : Fields) → times one rows ≡ times one (after edit.changed graph.rows)) → (role : List ℕ) → count_of new role ≡ rows_with role rows
+counted_after graph edit old new added removed rows good come go counted change alike role =
+    omega (arith, good.roles role, counted role, change role, ap (count_by (bytes_eq role)) come, ap (count_by (bytes_eq role)) go, roles_alike rows (after edit.changed graph.rows) alike role)
 
 -- an edit stays prepared while the rows are the same and the room is not less
-pub still_prepared : (old new : Graph) (edit : Edit) → new.rows ≡ old.rows → old.spare ≤ new.spare → old.spare_roles ≤ new.spare_roles → IsPreparedFor old edit → IsPreparedFor new edit
-still_prepared old new edit same more more_roles good = record {
+pub still_prepared : (old new : Graph) (edit : Edit) → new.rows ≡ old.rows → old.spare ≤ new.spare → old.spare_roles ≤ new.spare_roles → old.places ≤ new.places → IsPreparedFor old edit → IsPreparedFor new edit
+still_prepared old new edit same more more_roles more_places good = record {
   once = good.once;
   room = omega (arith, good.room, more);
   room_of_roles = omega (arith, good.room_of_roles, more_roles);
@@ -90,4 +98,5 @@ still_prepared old new edit same more more_roles good = record {
   long = omega (arith, good.long, ap length same, ap length (ap (after edit.changed) same));
   whole_lines = good.whole_lines;
   roles = λ role. omega (arith, good.roles role, ap (rows_with role) same, ap (rows_with role) (ap (after edit.changed) same));
+  room_of_distances = λ few. let count : role_count (after edit.changed new.rows) ≡ role_count (after edit.changed old.rows) = ap (λ (rows : List Fields). role_count (after edit.changed rows)) same in omega (arith, count, more_places, good.room_of_distances (omega (arith, count, few)));
 }

@@ -9,14 +9,14 @@ use Rattle.role_meaning.proofs.CallerLemmas.{reaches_itself, reaches_last, reach
 use Rattle.role_graph.specs.Graph.{shape_of}
 use Rattle.role_graph.specs.Groups.{row, rows_of}
 use Rattle.role_graph.specs.Helps.Marks.{Extends, IsNext, IsSet}
-use Rattle.role_graph.specs.Helps.Walks.{AreReached, FitsAt, GoesOn, IsDistance, IsEntered, IsRoleAt, Linked, no_group}
+use Rattle.role_graph.specs.Helps.Walks.{AreReached, FitsAt, GoesOn, IsDistance, IsEntered, IsLink, IsRoleAt, Linked, no_group}
 use Rattle.role_graph.proofs.GroupRows.{InGroup, in_group, row_stands}
 use Rattle.role_graph.proofs.Marking.{extends_both, extends_none, extends_weaker}
 
 -- ---- levels
 
 -- the link of a row of a group
-row_link : (linked : Linked) (name role : List ℕ) (at : ℕ) → FitsAt linked name at → IsRoleAt linked role at → SomeLink (shape_of linked.names) (rows_of linked.groups) None name (λ found. found ≡ role)
+pub row_link : (linked : Linked) (name role : List ℕ) (at : ℕ) → FitsAt linked name at → IsRoleAt linked role at → SomeLink (shape_of linked.names) (rows_of linked.groups) None name (λ found. found ≡ role)
 row_link linked name role at fits stands = record {
   row = row (get_or linked.groups at no_group).user role;
   stands = row_stands linked.groups at role stands.within stands.stands;
@@ -26,15 +26,10 @@ row_link linked name role at fits stands = record {
 }
 
 -- the group of a link
-pub record LinkedBy (linked : Linked) (name role : List ℕ) : Type 0 where
-  pub at : ℕ
-  pub fits : FitsAt linked name at
-  pub stands : IsRoleAt linked role at
-
-pub group_link : (linked : Linked) (name role : List ℕ) → SomeLink (shape_of linked.names) (rows_of linked.groups) None name (λ found. found ≡ role) → LinkedBy linked name role
+pub group_link : (linked : Linked) (name role : List ℕ) → SomeLink (shape_of linked.names) (rows_of linked.groups) None name (λ found. found ≡ role) → IsLink linked name role
 group_link linked name role link = by (in_group linked.groups link.row link.stands)
   where
-    by : InGroup linked.groups link.row → LinkedBy linked name role
+    by : InGroup linked.groups link.row → IsLink linked name role
     by found =
         let same : found.role ≡ role = sym (ap role_of found.is) ∙ link.holds in
         record {
@@ -78,7 +73,7 @@ level_cases linked x level all new at are entered = are.old at (are.whole at ent
 pub not_further : (linked : Linked) (x y : List ℕ) (level : ℕ) (all new : List ℕ) → AreReached linked x level all new → ((at : ℕ) → IsSet new at → IsRoleAt linked y at → ⊥) → ¬ Reaches (shape_of linked.names) (rows_of linked.groups) None level x y → ¬ Reaches (shape_of linked.names) (rows_of linked.groups) None (suc level) x y
 not_further linked x y level all new are none never reaches = by (reaches_last (shape_of linked.names) (rows_of linked.groups) None level x y reaches)
   where
-    found : (z : List ℕ) → Reaches (shape_of linked.names) (rows_of linked.groups) None level x z → LinkedBy linked z y → ⊥
+    found : (z : List ℕ) → Reaches (shape_of linked.names) (rows_of linked.groups) None level x z → IsLink linked z y → ⊥
     found z reached link = which (level_cases linked x level all new link.at are (record { name = z; reached = reached; fits = link.fits }))
       where
         which : IsSet new link.at ⊎ ((fewer : ℕ) × (suc fewer ≡ level) × IsEntered linked x fewer link.at) → ⊥
@@ -114,7 +109,7 @@ next_reached linked x level all new all_after next are on marked = record {
     whole_by at entered (inl now) = on.keeps at (are.whole at (record { name = entered.name; reached = now; fits = entered.fits }))
     whole_by at entered (inr (z, before, last)) = found (group_link linked z entered.name last)
       where
-        found : LinkedBy linked z entered.name → IsSet all_after at
+        found : IsLink linked z entered.name → IsSet all_after at
         found link = which (level_cases linked x level all new link.at are (record { name = z; reached = before; fits = link.fits }))
           where
             which : IsSet new link.at ⊎ ((fewer : ℕ) × (suc fewer ≡ level) × IsEntered linked x fewer link.at) → IsSet all_after at
@@ -179,7 +174,7 @@ stuck : (linked : Linked) (x : List ℕ) (level : ℕ) (all new : List ℕ) → 
 stuck linked x level all new are none zero at less entered = subst (λ (k : ℕ). IsEntered linked x k at) (let e : zero ≡ level = omega arith in e) entered
 stuck linked x level all new are none (suc links) at less entered = by (cases_lt links level) (stuck linked x level all new are none links)
   where
-    found : (z : List ℕ) → Reaches (shape_of linked.names) (rows_of linked.groups) None links x z → LinkedBy linked z entered.name → ((k : ℕ) → level ≤ links → IsEntered linked x links k → IsEntered linked x level k) → level ≤ links → IsEntered linked x level at
+    found : (z : List ℕ) → Reaches (shape_of linked.names) (rows_of linked.groups) None links x z → IsLink linked z entered.name → ((k : ℕ) → level ≤ links → IsEntered linked x links k → IsEntered linked x level k) → level ≤ links → IsEntered linked x level at
     found z reached link more low =
         which (level_cases linked x level all new link.at are (more link.at low (record { name = z; reached = reached; fits = link.fits })))
       where
@@ -203,7 +198,7 @@ pub walk_stops : (linked : Linked) (x y : List ℕ) (level : ℕ) (all new : Lis
 walk_stops linked x y level all new walking none zero less reaches = walking.never (subst (λ (k : ℕ). Reaches (shape_of linked.names) (rows_of linked.groups) None k x y) (let e : zero ≡ level = omega arith in e) reaches)
 walk_stops linked x y level all new walking none (suc most) less reaches = by (cases_lt most level) (walk_stops linked x y level all new walking none most)
   where
-    found : (z : List ℕ) → Reaches (shape_of linked.names) (rows_of linked.groups) None most x z → LinkedBy linked z y → level ≤ most → ⊥
+    found : (z : List ℕ) → Reaches (shape_of linked.names) (rows_of linked.groups) None most x z → IsLink linked z y → level ≤ most → ⊥
     found z reached link low =
         which (level_cases linked x level all new link.at walking.reached_are
         (stuck linked x level all new walking.reached_are none most link.at low (record { name = z; reached = reached; fits = link.fits })))

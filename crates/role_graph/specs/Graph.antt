@@ -1,28 +1,43 @@
 -- What contracts see of a role graph.
-use Rattle.std.specs.Prelude.{◌≡◌, ◌≤◌, ◌+◌, ℕ, length, map, false, List, None}
+use Rattle.std.specs.Prelude.{◌≡◌, ◌≤◌, ◌+◌, ◌||◌, ℕ, length, map, false, List, None}
 use Rattle.std.specs.List.{IsDistinct, count_by, list_any}
 use Rattle.std.specs.Str.{bytes_eq}
 use Rattle.perm_base.specs.LineEnds.{has_line_end}
+use Rattle.perm_base.specs.Patterns.{is_pattern}
 use Rattle.perm_base.specs.declared.shapes.Fit.{Fit}
 use Rattle.perm_base.specs.declared.shapes.Fit.TheVariants.{Exact}
 use Rattle.perm_base.specs.declared.shapes.RoleShape.{RoleShape}
+use Rattle.policy_table.specs.Limits.{different}
 use Rattle.policy_table.specs.Tables.{Fields}
 use Rattle.role_graph.specs.Groups.{Group, after, rows_with}
 use Rattle.role_meaning.specs.Distances.{IsFar}
-use Rattle.role_meaning.specs.Links.{Reaches}
+use Rattle.role_meaning.specs.Links.{Reaches, role_of, user_of}
 
--- the rows in an order of the graph's own, how names are compared with users, the hierarchy limit, and for how many further
--- users and roles there is room
+-- the rows in an order of the graph's own, how names are compared with users, the hierarchy limit, for how many further users
+-- and roles there is room, and between how many roles in all there is room for distances
 pub record Graph : Type 0 where
   pub rows : List Fields
   pub names : Fit
   pub limit : ℕ
   pub spare : ℕ
   pub spare_roles : ℕ
+  pub places : ℕ
 
 -- the greatest number of rows
 abbrev pub most_rows : ℕ
 most_rows = 200000
+
+-- the greatest number of different roles between which the distances are kept
+abbrev pub most_kept : ℕ
+most_kept = 1024
+
+-- how many different roles the rows have
+abbrev pub role_count : List Fields → ℕ
+role_count rows = length (different (map role_of rows))
+
+-- how many rows have the name as their user, or a pattern
+abbrev pub asked_rows : Fit → List ℕ → List Fields → ℕ
+asked_rows names x rows = count_by (λ (one : Fields). bytes_eq x (user_of one) || is_pattern names (user_of one)) rows
 
 -- an edit: the users whose rows change, with all their roles afterwards, and the roles of the rows that come and that go
 pub record Edit : Type 0 where
@@ -31,7 +46,8 @@ pub record Edit : Type 0 where
   pub removed : List (List ℕ)
 
 -- the edit can be made in the graph as it stands: no user is named twice, there is room, there are no more rows than may be
--- afterwards, and the roles that come and go are those of the rows and hold no line end
+-- afterwards, the roles that come and go are those of the rows and hold no line end, and there is room for the distances that
+-- are kept afterwards
 pub record IsPreparedFor (graph : Graph) (edit : Edit) : Type 0 where
   pub once : IsDistinct bytes_eq (map (λ (group : Group). group.user) edit.changed)
   pub room : length edit.changed ≤ graph.spare
@@ -41,6 +57,7 @@ pub record IsPreparedFor (graph : Graph) (edit : Edit) : Type 0 where
   pub whole_lines : list_any has_line_end edit.added ≡ false
   pub roles : (role : List ℕ)
       → rows_with role (after edit.changed graph.rows) + count_by (bytes_eq role) edit.removed ≡ rows_with role graph.rows + count_by (bytes_eq role) edit.added
+  pub room_of_distances : role_count (after edit.changed graph.rows) ≤ most_kept → role_count (after edit.changed graph.rows) ≤ graph.places
 
 -- the shape of a relation without domains
 abbrev pub shape_of : Fit → RoleShape

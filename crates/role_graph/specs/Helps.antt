@@ -1,7 +1,9 @@
 -- What only private functions and proofs say.
 pub mod Marks
 pub mod Walks
+pub mod Roles
 pub mod Kept
 pub mod Edits
-pub mod Roles
 pub mod Names
+pub mod Squares
+pub mod Distances

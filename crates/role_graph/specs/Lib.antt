@@ -1,3 +1,4 @@
 pub mod Groups
 pub mod Graph
+pub mod Keyed
 pub mod Helps

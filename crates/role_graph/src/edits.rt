@@ -7,6 +7,7 @@ ghost use Rattle.role_meaning.specs.Links.{role_of, user_of};
 ghost use Rattle.role_graph.specs.Groups.{Group};
 ghost use Rattle.role_graph.specs.Helps.Kept.{AreApart, roles_in};
 ghost use Rattle.role_graph.specs.Helps.Edits.{overlay, standing};
+ghost use Rattle.role_graph.specs.Helps.Walks.{no_group};
 
 use crate::links::Links;
 use indexmap::IndexMap;
@@ -47,6 +48,17 @@ impl Edits {
         ensures apart { AreApart self.now }
     {
         self.entries.len()
+    }
+
+    /// A user whose rows change.
+    pub(crate) fn user_at(&self, place: usize) -> &[u8]
+        requires { place < length self.now }
+        ensures { result.now ≡ (get_or self.now place no_group).user }
+    {
+        match self.entries.get_index(place) {
+            Some((user, _)) => user.as_slice(),
+            None => &[],
+        }
     }
 
     /// The last user and its roles afterwards.

@@ -9,15 +9,20 @@ ghost use Rattle.policy_table.specs.Limits.{different};
 ghost use Rattle.policy_table.specs.Tables.{Fields};
 ghost use Rattle.role_graph.specs.Groups.{after, times};
 ghost use Rattle.role_graph.specs.Helps.Edits.{standing};
-ghost use Rattle.role_graph.specs.Graph.{GraphReaches, IsGraphFar, IsPreparedFor, most_rows, shape_of};
+ghost use Rattle.role_graph.specs.Graph.{GraphReaches, IsGraphFar, IsPreparedFor, asked_rows, most_rows, shape_of};
 
+use crate::asked::nearest;
+use crate::closure::refresh;
 use crate::edits::Edits;
 use crate::implied::implied;
 use crate::links::Links;
-use crate::prepared::{Prepared, roles_of};
+use crate::listing::listed;
+use crate::prepared::{Prepared, names_of, roles_of};
+use crate::reserving::reserve_square;
 use crate::roles::Roles;
+use crate::touching::{MOST_NODES, touched};
 use crate::walk::distance;
-use dist_rows::Steps;
+use dist_rows::{DistRows, Steps};
 use perm_base::{Fit, NoMemory, Rule, Share, Text};
 use std::alloc::Global;
 use std::marker::Model;
@@ -26,25 +31,28 @@ use std::sync::ledger::Ledger;
 /// The greatest number of links that is told.
 const FARTHEST: u8 = 254;
 
-/// The greatest number of different roles in the rows of a graph that is kept.
-const MOST_KEPT_ROLES: usize = 1024;
-
 /// What tells that there are more links than that, or none at all.
 const TOO_FAR: u8 = 255;
 
 /// The rows of a role relation that count in one domain. Contracts see the rows, in an order of the
-/// graph's own, how names are compared with users, and the hierarchy limit.
+/// graph's own, how names are compared with users, the hierarchy limit, and the room for more.
+///
+/// Where at most 1,024 different roles stand, the distances between these are kept, a byte for each
+/// pair, and questions read them; where there are more, questions walk the rows.
 #[derive(Drop)]
 pub struct RoleGraph {
+    alloc: Global,
     links: Links,
     limit: u8,
     // How many rows have each role, and how many rows there are.
     roles: Roles,
     count: usize,
+    // The distances between the roles, of which each is a node; none where there are too many.
+    square: DistRows,
 }
 
 impl Model for RoleGraph {
-    ghost use Rattle.std.specs.Prelude.{min};
+    ghost use Rattle.std.specs.Prelude.{◌+◌, length, min};
     ghost use Rattle.role_graph.specs.Graph.{Graph};
     ghost use Rattle.role_graph.specs.Groups.{rows_of};
     ghost use Rattle.role_graph.specs.Helps.Kept.{IsSound, linked_of};
@@ -57,9 +65,10 @@ impl Model for RoleGraph {
       limit = g.limit;
       spare = min g.links.plain.spare g.links.patterned.spare;
       spare_roles = g.roles.spare;
+      places = length g.square.cells + g.square.spare;
     } };
 
-    ghost invariant = { λ g. IsSound g.links g.limit g.roles g.count };
+    ghost invariant = { λ g. IsSound g.links g.limit g.roles g.count g.square.cells };
 }
 
 /// A graph without rows, whose users are compared by `names`. It takes no memory.
@@ -71,10 +80,12 @@ pub fn new_graph(alloc: Global, names: Fit, limit: u8) -> RoleGraph
     ensures limit { result.limit ≡ limit }
 {
     RoleGraph {
+        alloc,
         links: Links::new(alloc, names),
         limit,
         roles: Roles::new(alloc),
         count: 0,
+        square: DistRows::empty(alloc),
     }
 }
 
@@ -106,7 +117,7 @@ impl RoleGraph {
     pub fn is_kept(&self) -> bool
         ensures { IsTrue result ↔ (length (different (map role_of self.now.rows)) ≤ 1024) }
     {
-        self.roles.different() <= MOST_KEPT_ROLES
+        self.roles.different() <= MOST_NODES
     }
 
     /// Whether the name has a role: whether it fits the user of some row. It takes no memory.
@@ -118,20 +129,31 @@ impl RoleGraph {
     }
 
     /// Whether the one name reaches the other by at most as many links as the limit says (Casbin,
-    /// `hasLink`). It takes no memory.
+    /// `hasLink`). It takes no memory. A step is a kept distance that is read: at most one for each
+    /// row whose user is the name or a pattern, and one more.
     pub fn linked<L: Ledger>(&self, x: &[u8], y: &[u8], steps: &mut Steps<L>) -> bool
         ensures found { IsTrue result ↔ GraphReaches self.now self.now.limit x.now y.now }
         ensures steps { steps.old ≤ steps.new }
+        ensures few_steps { length (different (map role_of self.now.rows)) ≤ 1024
+            → steps.new ≤ steps.old + asked_rows self.now.names x.now self.now.rows + 1 }
     {
+        if self.is_kept() {
+            return nearest(&self.links, &self.roles, &self.square, x, y, steps) <= self.limit;
+        }
         distance(&self.links, x, y, self.limit).is_some()
     }
 
     /// The least number of links by which the one name reaches the other, or 255 where it is above
-    /// 254 or there is none. It takes no memory.
+    /// 254 or there is none. It takes no memory, and as many steps as `linked`.
     pub fn far<L: Ledger>(&self, x: &[u8], y: &[u8], steps: &mut Steps<L>) -> u8
         ensures far { IsGraphFar self.now x.now y.now result }
         ensures steps { steps.old ≤ steps.new }
+        ensures few_steps { length (different (map role_of self.now.rows)) ≤ 1024
+            → steps.new ≤ steps.old + asked_rows self.now.names x.now self.now.rows + 1 }
     {
+        if self.is_kept() {
+            return nearest(&self.links, &self.roles, &self.square, x, y, steps);
+        }
         distance(&self.links, x, y, FARTHEST).unwrap_or(TOO_FAR)
     }
 
@@ -141,9 +163,20 @@ impl RoleGraph {
         ensures { IfOk result (λ names. AreImplied (shape_of self.now.names) self.now.rows
             self.now.limit None x.now names) }
     {
-        self.roles.whole_lines();
-        let names = implied(&self.links, alloc, x, self.limit)?;
+        let _names = self.roles.len();
+        let names = self.names_within(alloc, x)?;
         Ok(rule_of(names))
+    }
+
+    // The same as a list.
+    fn names_within(&self, alloc: Global, x: &[u8]) -> Result<Vec<Text>, NoMemory>
+        ensures { IfOk result (λ names. AreImplied (shape_of self.now.names) self.now.rows
+            self.now.limit None x.now names.items) }
+    {
+        if self.is_kept() {
+            return listed(&self.links, &self.roles, &self.square, alloc, x, self.limit);
+        }
+        implied(&self.links, alloc, x, self.limit)
     }
 
     /// Prepares to take the rows of `remove` out, each once, and to add those of `insert`. The
@@ -167,14 +200,16 @@ impl RoleGraph {
         ensures same_limit { self.new.limit ≡ self.old.limit }
         ensures more { self.old.spare ≤ self.new.spare }
         ensures more_roles { self.old.spare_roles ≤ self.new.spare_roles }
+        ensures more_places { self.old.places ≤ self.new.places }
     {
         let mut edits = Edits::new(alloc);
         remove_all(&mut edits, &self.links, alloc, remove)?;
         add_all(&mut edits, &self.links, alloc, insert)?;
-        let added = roles_of(alloc, insert)?;
+        let added = names_of(alloc, insert)?;
         let removed = roles_of(alloc, remove)?;
         self.links.reserve(edits.len())?;
         self.roles.reserve(added.len())?;
+        reserve_square(&mut self.square, alloc, &self.roles, &added, removed.len())?;
         Ok(Prepared::new(edits, added, removed))
     }
 
@@ -188,9 +223,18 @@ impl RoleGraph {
     {
         let (edits, added, removed) = prepared.into_parts();
         self.count = self.count + added.len() - removed.len();
-        self.roles.add_all(added);
-        self.roles.take_all(&removed);
+        let whole = self.roles.recount(added, &removed);
+        let known = self.square.size() as usize;
+        let touched = touched(&self.roles, self.links.names(), &edits, known);
         self.links.change(edits);
+        refresh(
+            &mut self.square,
+            self.alloc,
+            &self.links,
+            &self.roles,
+            whole,
+            touched,
+        );
     }
 }
 

@@ -125,8 +125,8 @@ fn push_new(
     Ok(())
 }
 
-// Puts texts into rising order.
-fn sort(texts: &mut Vec<Text>) -> Result<(), NoMemory>
+/// Puts texts into rising order.
+pub(crate) fn sort(texts: &mut Vec<Text>) -> Result<(), NoMemory>
     ensures same { IsPermutation texts.old.items texts.new.items }
     ensures rising { OnOk result (IsSortedBy is_before texts.new.items) }
 {

@@ -1,15 +1,22 @@
 //! The role graph of one domain: its rows, whether they link two names, and how far.
 #![tactic(auto)]
 
+mod asked;
+mod closure;
 mod edits;
 mod graph;
 mod groups;
 mod implied;
+mod inserting;
 mod law;
 mod links;
+mod listing;
 mod marks;
+mod names;
 mod prepared;
+mod reserving;
 mod roles;
+mod touching;
 mod walk;
 
 pub use dist_rows::Steps;

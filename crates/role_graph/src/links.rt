@@ -1,16 +1,17 @@
 //! The groups of a graph: those whose users are patterns apart from the others.
 
-ghost use Rattle.std.specs.Prelude.{◌≡◌, ◌+◌, ◌<◌, ◌≤◌, ◌⊎◌, ◌++◌, ◌↔◌, ℕ, List, [], OnOk, IsTrue, get_or, length};
+ghost use Rattle.std.specs.Prelude.{◌≡◌, ◌+◌, ◌<◌, ◌≤◌, ◌⊎◌, ◌++◌, ◌↔◌, ℕ, List, [], OnOk, IfNone, IfSome, IsTrue, Some, get_or, length};
 ghost use Rattle.std.specs.List.{Contains};
 ghost use Rattle.policy_table.specs.Tables.{Fields};
 ghost use Rattle.role_graph.specs.Groups.{after, rows_of, times};
 ghost use Rattle.role_graph.specs.Helps.Kept.{AreApart, AreLinks, HasRoom, linked_of, roles_in};
 ghost use Rattle.role_graph.specs.Helps.Marks.{Extends, IsSet};
-ghost use Rattle.role_graph.specs.Helps.Walks.{FitsAt, no_group};
+ghost use Rattle.role_graph.specs.Helps.Walks.{FitsAt, IsLink, no_group};
 
 use crate::edits::Edits;
 use crate::groups::Groups;
 use crate::marks::{Marks, reach};
+use crate::walk::holds;
 use perm_base::{Fit, NoMemory, Share, Text, is_pattern};
 use role_meaning::fits;
 use std::alloc::Global;
@@ -119,6 +120,72 @@ impl Links {
         } else {
             self.patterned.roles_at(group - count)
         }
+    }
+
+    /// The first group from a place on whose user a name fits.
+    pub(crate) fn next_fitting(&self, name: &[u8], from: usize) -> Option<usize>
+        ensures found { IfSome result (λ at. (from ≤ at)
+            × FitsAt (linked_of self.now) name.now at) }
+        ensures first { IfSome result (λ at. (other : ℕ) → from ≤ other → other < at
+            → FitsAt (linked_of self.now) name.now other → ⊥) }
+        ensures none { IfNone result ((other : ℕ) → from ≤ other
+            → FitsAt (linked_of self.now) name.now other → ⊥) }
+    {
+        let count = self.plain.len();
+        if let Some(at) = self.text_from(name, from) {
+            return Some(at);
+        }
+        self.next_pattern(name, from.max(count))
+    }
+
+    // The group whose user a name is, where it stands at a place or behind it.
+    fn text_from(&self, name: &[u8], from: usize) -> Option<usize>
+        ensures found { IfSome result (λ at. (from ≤ at) × (at < length self.now.plain.groups)
+            × FitsAt (linked_of self.now) name.now at) }
+        ensures first { (other : ℕ) → from ≤ other → other < length self.now.plain.groups
+            → FitsAt (linked_of self.now) name.now other → result ≡ Some other }
+    {
+        let Some(at) = self.plain.place_of(name) else {
+            return None;
+        };
+        if at < from {
+            return None;
+        }
+        Some(at)
+    }
+
+    // The first group from a place on whose user is a pattern that a name fits.
+    fn next_pattern(&self, name: &[u8], from: usize) -> Option<usize>
+        requires { length self.now.plain.groups ≤ from }
+        ensures found { IfSome result (λ at. (from ≤ at)
+            × FitsAt (linked_of self.now) name.now at) }
+        ensures first { IfSome result (λ at. (other : ℕ) → from ≤ other → other < at
+            → FitsAt (linked_of self.now) name.now other → ⊥) }
+        ensures none { IfNone result ((other : ℕ) → from ≤ other
+            → FitsAt (linked_of self.now) name.now other → ⊥) }
+    {
+        let count = self.plain.len();
+        for at in from..self.len() {
+            if fits(self.names, name, self.patterned.user_at(at - count)) {
+                return Some(at);
+            }
+        }
+        None
+    }
+
+    /// Whether a row links the one name to the other.
+    pub(crate) fn has_link(&self, x: &[u8], y: &[u8]) -> bool
+        ensures { IsTrue result ↔ IsLink (linked_of self.now) x.now y.now }
+    {
+        let _few = self.len();
+        let mut place = 0;
+        while let Some(at) = self.next_fitting(x, place) {
+            if holds(self.roles_at(at), y) {
+                return true;
+            }
+            place = at + 1;
+        }
+        false
     }
 
     /// Marks the groups whose users a name fits, and notes as new those that were not marked.

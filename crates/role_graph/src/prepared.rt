@@ -7,6 +7,7 @@ ghost use Rattle.role_meaning.specs.Links.{role_of};
 ghost use Rattle.role_graph.specs.Graph.{Edit};
 
 use crate::edits::Edits;
+use crate::names::Names;
 use perm_base::{NoMemory, Rule, Text};
 use std::alloc::Global;
 use std::marker::Model;
@@ -16,7 +17,7 @@ use std::marker::Model;
 #[derive(Drop)]
 pub struct Prepared {
     edits: Edits,
-    added: Vec<Text>,
+    added: Names,
     removed: Vec<Text>,
 }
 
@@ -27,15 +28,15 @@ impl Model for Prepared {
 
     ghost view = { λ p. record {
       changed = p.edits;
-      added = p.added.items;
+      added = p.added;
       removed = p.removed.items;
     } };
 }
 
 impl Prepared {
-    pub(crate) fn new(edits: Edits, added: Vec<Text>, removed: Vec<Text>) -> Prepared
+    pub(crate) fn new(edits: Edits, added: Names, removed: Vec<Text>) -> Prepared
         ensures changed { result.changed ≡ edits }
-        ensures added { result.added ≡ added.items }
+        ensures added { result.added ≡ added }
         ensures removed { result.removed ≡ removed.items }
     {
         Prepared {
@@ -46,20 +47,32 @@ impl Prepared {
     }
 
     /// The users whose rows change, the roles of the rows that come, and of those that go.
-    pub(crate) fn into_parts(self) -> (Edits, Vec<Text>, Vec<Text>)
+    pub(crate) fn into_parts(self) -> (Edits, Names, Vec<Text>)
         ensures changed { result.0 ≡ self.changed }
-        ensures added { result.1.items ≡ self.added }
+        ensures added { result.1 ≡ self.added }
         ensures removed { result.2.items ≡ self.removed }
     {
         (self.edits, self.added, self.removed)
     }
 }
 
+/// The names of the roles of rows.
+pub(crate) fn names_of(alloc: Global, rows: &[Rule]) -> Result<Names, NoMemory>
+    requires { All (λ row. length row ≡ 2) rows.now }
+    ensures names { IfOk result (λ names. names ≡ map role_of rows.now) }
+    ensures whole_lines { IfOk result (λ names. list_any has_line_end names ≡ false) }
+{
+    let mut names = Names::new(alloc);
+    for row in rows {
+        names.push(alloc, row.field(1))?;
+    }
+    Ok(names)
+}
+
 /// The roles of rows.
 pub(crate) fn roles_of(alloc: Global, rows: &[Rule]) -> Result<Vec<Text>, NoMemory>
     requires { All (λ row. length row ≡ 2) rows.now }
-    ensures roles { IfOk result (λ roles. roles.items ≡ map role_of rows.now) }
-    ensures whole_lines { IfOk result (λ roles. list_any has_line_end roles.items ≡ false) }
+    ensures { IfOk result (λ roles. roles.items ≡ map role_of rows.now) }
 {
     let mut roles = Vec::with_capacity(alloc, rows.len())?;
     for row in rows {

@@ -1,41 +1,45 @@
 //! The roles of a graph's rows.
 
-ghost use Rattle.std.specs.Prelude.{◌≡◌, false, ◌+◌, ◌<◌, ◌≤◌, ◌^◌, List, ℕ, IfOk, IsOk, OnErr, OnOk, if◌then◌else◌, length};
-ghost use Rattle.std.specs.List.{IsDistinct, count_by, list_any};
-ghost use Rattle.std.specs.Map.{keys_of};
-ghost use Rattle.std.specs.Str.{bytes_eq};
+ghost use Rattle.std.specs.Prelude.{◌≡◌, false, ◌+◌, ◌++◌, ◌<◌, ◌≤◌, ◌⊎◌, ◌^◌, ◌↔◌, [], List, ℕ, IfNone, IfSome, IsOk, IsTrue, OnOk, get_or, if◌then◌else◌, length};
+ghost use Rattle.std.specs.List.{Contains, IsDistinct, count_by, list_any};
+ghost use Rattle.std.specs.Str.{IsUtf8, bytes_eq};
 ghost use Rattle.perm_base.specs.LineEnds.{has_line_end};
 ghost use Rattle.policy_table.specs.Limits.{different};
-ghost use Rattle.role_graph.specs.Helps.Roles.{HasNoZero, HasWholeLines, count_of};
+ghost use Rattle.role_graph.specs.Helps.Roles.{HasNames, HasNoZero, count_of, nodes_of};
 
+use crate::names::Names;
 use indexmap::IndexMap;
 use perm_base::{NoMemory, Share, Text};
 use std::alloc::Global;
 use std::marker::Model;
+use std::str;
 
-/// The different roles of rows, each with the number of its rows.
+/// The different roles of rows, each with the number of its rows, at places of their own.
 #[derive(Drop)]
 pub(crate) struct Roles {
-    counts: IndexMap<Text, u64>,
+    counts: IndexMap<Vec<u8>, u64>,
 }
 
 impl Model for Roles {
     ghost use Rattle.indexmap.specs.IndexMap.{spare};
-    ghost use Rattle.role_graph.specs.Helps.Roles.{Counted, HasNoZero, HasWholeLines};
+    ghost use Rattle.role_graph.specs.Keyed.{by_text};
+    ghost use Rattle.role_graph.specs.Helps.Roles.{Counted, HasNames, HasNoZero};
 
     ghost Value = { Counted };
 
     ghost view = { λ r. record {
-      entries = r.counts.entries;
+      entries = by_text r.counts.entries;
       spare = spare r.counts;
     } };
 
-    ghost invariant = { λ r. HasNoZero r.counts.entries × HasWholeLines r.counts.entries };
+    ghost invariant = { λ r. HasNoZero (by_text r.counts.entries)
+        × HasNames (by_text r.counts.entries) };
 }
 
 impl Roles {
     pub(crate) fn new(alloc: Global) -> Roles
-        ensures { (role : List ℕ) → count_of result role ≡ 0 }
+        ensures counts { (role : List ℕ) → count_of result role ≡ 0 }
+        ensures none { nodes_of result ≡ [] }
     {
         Roles {
             counts: IndexMap::new(alloc),
@@ -43,27 +47,57 @@ impl Roles {
     }
 
     // How often a role is counted.
-    fn count(&self, role: &Text) -> u64
+    fn count(&self, role: &[u8]) -> u64
         ensures { result ≡ count_of self.now role.now }
     {
-        self.counts.get(role).copied().unwrap_or(0)
+        match self.counts.get(role) {
+            Some(count) => *count,
+            None => 0,
+        }
     }
 
-    /// No role that is counted holds a line end.
-    pub(crate) fn whole_lines(&self)
-        ensures { (role : List ℕ) → 1 ≤ count_of self.now role → has_line_end role ≡ false }
-    {
-        let _texts = self.texts();
-    }
-
-    // The different roles.
-    fn texts(&self) -> &[Text]
-        ensures value { result.now ≡ keys_of self.now.entries }
-        ensures once { IsDistinct bytes_eq (keys_of self.now.entries) }
+    /// How many different roles there are.
+    pub(crate) fn len(&self) -> usize
+        ensures count { result ≡ length (nodes_of self.now) }
+        ensures small { result < 2 ^ 63 }
+        ensures once { IsDistinct bytes_eq (nodes_of self.now) }
         ensures some { HasNoZero self.now.entries }
-        ensures whole_lines { HasWholeLines self.now.entries }
+        ensures names { HasNames self.now.entries }
     {
-        self.counts.keys().as_slice()
+        self.counts.len()
+    }
+
+    /// The role at a place.
+    pub(crate) fn name_at(&self, node: usize) -> &[u8]
+        requires { node < length (nodes_of self.now) }
+        ensures { result.now ≡ get_or (nodes_of self.now) node [] }
+    {
+        match self.counts.get_index(node) {
+            Some((name, _)) => name.as_slice(),
+            None => &[],
+        }
+    }
+
+    /// The role at a place, as a text.
+    pub(crate) fn text_at(&self, node: usize) -> &str
+        requires { node < length (nodes_of self.now) }
+        ensures { result.now ≡ get_or (nodes_of self.now) node [] }
+    {
+        let _names = self.len();
+        let Ok(text) = str::from_utf8(self.name_at(node)) else {
+            unreachable!()
+        };
+        text
+    }
+
+    /// The place of a role.
+    pub(crate) fn place_of(&self, name: &[u8]) -> Option<usize>
+        ensures found { IfSome result (λ node. (node < length (nodes_of self.now))
+            × (get_or (nodes_of self.now) node [] ≡ name.now)) }
+        ensures none { IfNone result (Contains (nodes_of self.now) name.now → ⊥) }
+        ensures once { IsDistinct bytes_eq (nodes_of self.now) }
+    {
+        self.counts.get_index_of(name)
     }
 
     /// How many different roles there are.
@@ -72,37 +106,43 @@ impl Roles {
             → ((role : List ℕ) → count_of self.now role ≡ count_by (bytes_eq role) roles)
             → result ≡ length (different roles) }
     {
-        self.texts().len()
+        self.len()
     }
 
     /// Makes room for so many further roles.
     pub(crate) fn reserve(&mut self, count: usize) -> Result<(), NoMemory>
-        ensures same { (role : List ℕ) → count_of self.new role ≡ count_of self.old role }
+        ensures same { self.new.entries ≡ self.old.entries }
         ensures room { OnOk result (count ≤ self.new.spare) }
         ensures more { self.old.spare ≤ self.new.spare }
     {
         Ok(self.counts.reserve(count)?)
     }
 
-    // Counts a role once more.
-    fn add(&mut self, role: Text) -> Result<(), NoMemory>
-        requires few { count_of self.old role + 1 < 2 ^ 64 }
-        requires whole_line { has_line_end role ≡ false }
-        ensures counted { OnOk result ((name : List ℕ) → count_of self.new name
-            ≡ count_of self.old name + (if bytes_eq name role then 1 else 0)) }
-        ensures room { 0 < self.old.spare → IsOk result }
+    // Counts a role once more; a new one gets the last place.
+    fn add(&mut self, role: Vec<u8>)
+        requires few { count_of self.old role.items + 1 < 2 ^ 64 }
+        requires whole_line { has_line_end role.items ≡ false }
+        requires utf8 { IsUtf8 role.items }
+        requires room { 0 < self.old.spare }
+        ensures counted { (name : List ℕ) → count_of self.new name
+            ≡ count_of self.old name + (if bytes_eq name role.items then 1 else 0) }
         ensures spare { self.old.spare ≤ self.new.spare + 1 }
+        ensures places { (more : List (List ℕ))
+            × (nodes_of self.new ≡ nodes_of self.old ++ more) }
     {
-        let count = self.count(&role) + 1;
-        let _before = self.counts.insert(role, count)?;
-        Ok(())
+        let count = self.count(role.as_slice()) + 1;
+        let Ok(_before) = self.counts.insert(role, count) else {
+            unreachable!()
+        };
     }
 
-    // Counts a role once less.
-    fn take(&mut self, role: &Text)
+    // Counts a role once less; the last one gets the place of one that is gone.
+    fn take(&mut self, role: &[u8])
         requires { 1 ≤ count_of self.old role.now }
-        ensures { (name : List ℕ) → count_of self.new name
+        ensures counted { (name : List ℕ) → count_of self.new name
             + (if bytes_eq name role.now then 1 else 0) ≡ count_of self.old name }
+        ensures places { (nodes_of self.new ≡ nodes_of self.old)
+            ⊎ (length (nodes_of self.new) < length (nodes_of self.old)) }
     {
         let count = self.count(role);
         if count == 1 {
@@ -112,27 +152,53 @@ impl Roles {
         }
     }
 
-    /// Counts roles once more.
-    pub(crate) fn add_all(&mut self, mut roles: Vec<Text>)
-        requires few { (name : List ℕ) → count_of self.old name + length roles.items < 2 ^ 64 }
-        requires room { length roles.items ≤ self.old.spare }
-        requires whole_lines { list_any has_line_end roles.items ≡ false }
-        ensures { (name : List ℕ) → count_of self.new name
-            ≡ count_of self.old name + count_by (bytes_eq name) roles.items }
+    /// Counts some roles once more and others once less. Tells whether none is gone, so that all keep
+    /// their places.
+    pub(crate) fn recount(&mut self, added: Names, removed: &[Text]) -> bool
+        requires few { (name : List ℕ) → count_of self.old name + length added < 2 ^ 64 }
+        requires room { length added ≤ self.old.spare }
+        requires whole_lines { list_any has_line_end added ≡ false }
+        requires stand { (name : List ℕ) → count_by (bytes_eq name) removed.now
+            ≤ count_of self.old name + count_by (bytes_eq name) added }
+        ensures counted { (name : List ℕ) → count_of self.new name
+            + count_by (bytes_eq name) removed.now
+            ≡ count_of self.old name + count_by (bytes_eq name) added }
+        ensures once { IsDistinct bytes_eq (nodes_of self.new) }
+        ensures some { HasNoZero self.new.entries }
+        ensures whole { IsTrue result → (more : List (List ℕ))
+            × (nodes_of self.new ≡ nodes_of self.old ++ more) }
+    {
+        self.add_all(added);
+        let grown = self.len();
+        self.take_all(removed);
+        self.len() == grown
+    }
+
+    // Counts roles once more.
+    fn add_all(&mut self, mut roles: Names)
+        requires few { (name : List ℕ) → count_of self.old name + length roles < 2 ^ 64 }
+        requires room { length roles ≤ self.old.spare }
+        requires whole_lines { list_any has_line_end roles ≡ false }
+        ensures counted { (name : List ℕ) → count_of self.new name
+            ≡ count_of self.old name + count_by (bytes_eq name) roles }
+        ensures places { (more : List (List ℕ))
+            × (nodes_of self.new ≡ nodes_of self.old ++ more) }
     {
         while let Some(role) = roles.pop() {
-            self.add(role).unwrap();
+            self.add(role);
         }
     }
 
-    /// Counts roles once less.
-    pub(crate) fn take_all(&mut self, roles: &[Text])
+    // Counts roles once less.
+    fn take_all(&mut self, roles: &[Text])
         requires { (name : List ℕ) → count_by (bytes_eq name) roles.now ≤ count_of self.old name }
-        ensures { (name : List ℕ) → count_of self.new name + count_by (bytes_eq name) roles.now
-            ≡ count_of self.old name }
+        ensures counted { (name : List ℕ) → count_of self.new name
+            + count_by (bytes_eq name) roles.now ≡ count_of self.old name }
+        ensures places { (nodes_of self.new ≡ nodes_of self.old)
+            ⊎ (length (nodes_of self.new) < length (nodes_of self.old)) }
     {
         for role in roles {
-            self.take(role);
+            self.take(role.bytes());
         }
     }
 }

@@ -61,8 +61,8 @@ fn has_role(links: &Links, name: &[u8], groups: &Marks) -> bool
     false
 }
 
-// Whether a name stands among texts.
-fn holds(texts: &[Text], name: &[u8]) -> bool
+/// Whether a name stands among texts.
+pub(crate) fn holds(texts: &[Text], name: &[u8]) -> bool
     ensures { IsTrue result ↔ Contains texts.now name.now }
 {
     texts.iter().any(|text| text.bytes() == name)

@@ -1,6 +1,7 @@
 use anyhow::{Context, Result, bail, ensure};
 use case_list::Case;
-use enforce_core::{Stop, tree_value};
+use matcher_code::{Links, Stack, Stop, WideStack, build, run};
+use matcher_meaning::links_of_tables_are_decided;
 use model_conf::{Model, read_model};
 use perm_base::{Rule, read_fields};
 use perm_value::{Request, View, request_of_fields};
@@ -38,6 +39,24 @@ fn rule_of(alloc: Global, line: &str) -> Result<Rule> {
         .context("the fields are no rule")
 }
 
+// No role relation, so that no name is linked to another.
+struct NoLinks;
+
+impl Links for NoLinks {
+    ghost use Rattle.policy_table.specs.Tables.{without_rules};
+    ghost use Rattle.std.specs.Prelude.{false};
+    ghost use Rattle.run_cases.specs.Shapes.{without_roles};
+
+    ghost shapes = { λ _. without_roles };
+
+    ghost policy = { λ _. without_rules false };
+
+    fn linked(&self, _relation: u8, _x: &[u8], _y: &[u8], _domain: Option<&[u8]>) -> bool {
+        links_of_tables_are_decided();
+        false
+    }
+}
+
 // Asks for the truth. What the contract says is of no use here, so this function keeps it from the others.
 fn asked(
     alloc: Global,
@@ -46,7 +65,11 @@ fn asked(
     rule: Option<&Rule>,
     finder: &mut ListFinder,
 ) -> Result<String> {
-    match tree_value(model, request, rule, finder) {
+    let code = build(alloc, model).ok().context("memory ran out")?;
+    let mut stack: WideStack = Stack::new();
+    match run(
+        alloc, &code, model, request, rule, &NoLinks, finder, &mut stack,
+    ) {
         Ok(View::Truth(truth)) => Ok(format!(in alloc; "truth {truth}")?),
         Ok(_) => bail!("the matcher has a value that is no truth"),
         Err(Stop::Fault(fault)) => Ok(format!(in alloc; "{:?} at {}", fault.cause, fault.at)?),

@@ -7,3 +7,4 @@ pub mod EndLemmas
 pub mod BlockLemmas
 pub mod ScriptLemmas
 pub mod PairLemmas
+mod NamedLemmas

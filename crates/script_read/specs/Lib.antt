@@ -6,3 +6,4 @@ pub mod Items
 pub mod Blocks
 pub mod Script
 pub mod Helps
+pub mod Named

@@ -1,4 +1,5 @@
-ghost use Rattle.std.specs.Prelude.{◌≡◌, ◌⊎◌, ℕ, Bool, List, IsUtf8};
+ghost use Rattle.std.specs.Prelude.{◌≡◌, ◌⊎◌, ℕ, All, Bool, List, IsUtf8, true};
+ghost use Rattle.script_read.specs.Named.{is_named};
 ghost use Rattle.script_read.specs.Reads.{Reader};
 ghost use Rattle.script_read.specs.Said.{Said};
 ghost use Rattle.script_read.specs.Script.{IsRequests, IsScript, IsScriptFault};
@@ -50,4 +51,12 @@ pub fn every_input_is_requests_or_at_fault()
         → ((items : List Said) × IsRequests json bytes items) ⊎ (¬ (IsUtf8 bytes)) }
     ensures never_both { (json : Bool) (bytes : List ℕ) (items : List Said)
         → IsRequests json bytes items → IsUtf8 bytes }
+{}
+
+/// The law that the tables of the items that a text says have names, and that none is a want of memory.
+pub fn items_are_named()
+    ensures script { (json : Bool) (bytes : List ℕ) (items : List Said)
+        → IsScript json bytes items → All (λ item. is_named item ≡ true) items }
+    ensures requests { (json : Bool) (bytes : List ℕ) (items : List Said)
+        → IsRequests json bytes items → All (λ item. is_named item ≡ true) items }
 {}

@@ -6,6 +6,7 @@ use Rattle.std.specs.Option.{option_map_or, option_or}
 use Rattle.std.proofs.lemmas.Bool.{eqb-true, lt-ltb}
 use Rattle.std.proofs.lemmas.List.Elements.{recursion_from_All}
 use Rattle.std.proofs.lemmas.Option.{same_Some}
+use Rattle.edit_calls.proofs.CallerLemmas.{has_place}
 use Rattle.edit_calls.specs.Admitted.{admits}
 use Rattle.edit_calls.specs.Answers.{Answer, answer, within}
 use Rattle.edit_calls.specs.Edits.{edit_by}
@@ -72,43 +73,6 @@ found shapes policy call edit = by_refusal (refusal shapes call) refl
     by_refusal : (refused : Option CallRefused) → refusal shapes call ≡ refused → refused_by refused ≡ Ok (Some edit) → IsFound shapes policy call edit
     by_refusal None passes told = by_edit (edit_by shapes policy call) passes refl told
     by_refusal (Some refused) passes told = absurd cc
-
--- ---- the table of a call that is not refused has a place
-
-has_columns : (shapes : Shapes) (call : Call) → refusal shapes call ≡ None → is_some (columns_of shapes (table_of call)) ≡ true
-has_columns shapes call passes = by (columns_of shapes (table_of call)) passes
-  where
-    by : (p : Option ℕ) → option_map_or (λ (columns : ℕ). option_or (other_length columns (named_rules call)) (option_or (filter_fault columns call) (if has_long_field (added_rules call) then Some FieldTooLong else None))) p (Some (NoTable (table_of call))) ≡ None
-        → is_some p ≡ true
-    by None is = absurd cc
-    by (Some columns) is = refl
-
--- a relation that is found has a number from 1 to 8
-numbered : (roles : List RoleShape) (number : ℕ) → AllByRecursion IsNumbered roles → is_some (shape_of roles number) ≡ true → (0 < number) × (number ≤ 8)
-numbered [] number each found = absurd cc
-numbered (role ∷ roles) number each found = by (eqb role.number number) refl found (numbered roles number each.1)
-  where
-    by : (test : Bool) → eqb role.number number ≡ test → is_some (cond test (Some role) (shape_of roles number)) ≡ true → (is_some (shape_of roles number) ≡ true → (0 < number) × (number ≤ 8)) → (0 < number) × (number ≤ 8)
-    by true e is rest =
-        let same : role.number ≡ number = eqb-true role.number number e in
-        (subst (λ n. 0 < n) same each.0.some, subst (λ n. n ≤ 8) same each.0.few)
-    by false e is rest = rest is
-
-has_place : (shapes : Shapes) (call : Call) → AreValid shapes → refusal shapes call ≡ None → is_some (place (table_of call)) ≡ true
-has_place shapes call valid passes = by (table_of call) (has_columns shapes call passes)
-  where
-    here : (number : ℕ) → 0 < number → number ≤ 8 → is_some (place (G number)) ≡ true
-    here number some few = rw (lt-ltb 0 number some, lt-ltb number 9 (omega (arith, few))) refl
-
-    shaped : (p : Option RoleShape) → is_some (option_map_or (λ (shape : RoleShape). Some (role_columns shape)) p None) ≡ true → is_some p ≡ true
-    shaped None is = is
-    shaped (Some shape) is = refl
-
-    by : (table : TableId) → is_some (columns_of shapes table) ≡ true → is_some (place table) ≡ true
-    by P is = refl
-    by (G number) is =
-        let range = numbered shapes.roles number (recursion_from_All IsNumbered shapes.roles valid.roles.each) (shaped (shape_of shapes.roles number) is) in
-        here number range.0 range.1
 
 -- ---- edits that are admitted one after the other
 

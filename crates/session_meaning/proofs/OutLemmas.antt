@@ -1,7 +1,8 @@
 -- The version that is out, and the published edits.
 use Rattle.std.proofs.Common.{◌≡◌, ℕ, ◌+◌, ◌-◌, ◌≤◌, Bool, true, false, not, cond, List, [], ◌∷◌, ◌++◌, length, length-append, take, take_all, drop, refl, sym, ap, ◌∙◌, arith}
-use Rattle.std.specs.List.{before_last, prefix_len, suffix_len}
-use Rattle.std.proofs.lemmas.List.{reverse-append, take-append-drop, take-append-le}
+use Rattle.std.specs.List.{before_last, suffix_len}
+use Rattle.std.proofs.lemmas.List.{take-append-drop}
+use Rattle.perm_base.proofs.CallerLemmas.{front_of, last_before, last_here}
 use Rattle.perm_base.specs.declared.shapes.Shapes.{Shapes}
 use Rattle.policy_table.specs.Changes.{replay}
 use Rattle.policy_table.specs.Tables.{Policy}
@@ -12,26 +13,6 @@ use Rattle.session_meaning.specs.Desks.{history}
 use Rattle.session_meaning.specs.Given.{given}
 use Rattle.session_meaning.specs.Versions.{is_publish, out, published}
 use Rattle.session_meaning.proofs.GivenLemmas.{Begins, given_both, given_none}
-
--- ---- what stands before the last of a kind, behind one item more
-
-front_of : {X : Type 0} (xs ys : List X) → take (length xs) (xs ++ ys) ≡ xs
-front_of xs ys = take-append-le (length xs) xs ys (omega arith) ∙ take_all (length xs) xs (omega arith)
-
-suffix_more : {X : Type 0} (p : X → Bool) (xs : List X) (x : X) → suffix_len p (xs ++ x ∷ []) ≡ cond (p x) (1 + suffix_len p xs) 0
-suffix_more p xs x = ap (prefix_len p) (reverse-append xs (x ∷ []))
-
-last_here : {X : Type 0} (p : X → Bool) (xs : List X) (x : X) → p x ≡ true → before_last p (xs ++ x ∷ []) ≡ xs
-last_here {X} p xs x is =
-    let none : suffix_len (λ (y : X). not (p y)) (xs ++ x ∷ []) ≡ 0 = suffix_more (λ (y : X). not (p y)) xs x ∙ ap (λ (b : Bool). cond (not b) (1 + suffix_len (λ (y : X). not (p y)) xs) 0) is in
-    let size : length (xs ++ x ∷ []) - suffix_len (λ (y : X). not (p y)) (xs ++ x ∷ []) - 1 ≡ length xs = omega (arith, none, length-append xs (x ∷ [])) in
-    ap (λ (n : ℕ). take n (xs ++ x ∷ [])) size ∙ front_of xs (x ∷ [])
-
-last_before : {X : Type 0} (p : X → Bool) (xs : List X) (x : X) → p x ≡ false → before_last p (xs ++ x ∷ []) ≡ before_last p xs
-last_before {X} p xs x is =
-    let more : suffix_len (λ (y : X). not (p y)) (xs ++ x ∷ []) ≡ 1 + suffix_len (λ (y : X). not (p y)) xs = suffix_more (λ (y : X). not (p y)) xs x ∙ ap (λ (b : Bool). cond (not b) (1 + suffix_len (λ (y : X). not (p y)) xs) 0) is in
-    let size : length (xs ++ x ∷ []) - suffix_len (λ (y : X). not (p y)) (xs ++ x ∷ []) - 1 ≡ length xs - suffix_len (λ (y : X). not (p y)) xs - 1 = omega (arith, more, length-append xs (x ∷ [])) in
-    ap (λ (n : ℕ). take n (xs ++ x ∷ [])) size ∙ take-append-le (length xs - suffix_len (λ (y : X). not (p y)) xs - 1) xs (x ∷ []) (omega arith)
 
 module _ (shapes : Shapes) (opening : Policy) where
   -- ---- one item more

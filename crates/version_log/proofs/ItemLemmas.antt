@@ -64,9 +64,6 @@ is_plain (G (suc at)) name e =
     let all : All IsPlain table_names = All-from_recursion IsPlain table_names plain_names in
     subst IsPlain (get_or_from_slice_get table_names (suc at) name name e) (all (suc at) name (slice_get_within table_names (suc at) name e))
 
-pub plain_name : (table : TableId) (name : List ℕ) → name_of table ≡ Some name → printed_field name ≡ name
-plain_name table name e = (is_plain table name e).plain
-
 -- the name of a table and a rule are fields, and printed they are read
 pub named_fields : (table : TableId) (name : List ℕ) (rule : Fields) → name_of table ≡ Some name → length rule ≤ 32 → AreFields rule → AreFields (name ∷ rule)
 named_fields table name rule named few fields = record { few = omega (arith, few); whole_lines = rw ((is_plain table name named).whole, fields.whole_lines) refl }

@@ -1,13 +1,12 @@
-ghost use Rattle.std.specs.Prelude.{◌≡◌, ◌++◌, ◌∷◌, [], IfOk, OnOk, flat_map, string_bytes};
+ghost use Rattle.std.specs.Prelude.{◌≡◌, ◌++◌, IfOk, OnOk, flat_map, string_bytes};
 ghost use Rattle.std.specs.List.{AllByRecursion};
-ghost use Rattle.perm_base.specs.FieldLine as field;
 ghost use Rattle.perm_base.specs.LineEnds.{AreFields};
 ghost use Rattle.text_parts.specs.Lines.{with_ends};
 ghost use Rattle.version_log.specs.EditText.{IsEditText, IsWhole, NameRules, change_items, item_lines, printed_edit};
 ghost use Rattle.version_log.specs.declared.item.Item.TheVariants.{Signed};
 
 use crate::item::Sign;
-use perm_base::{NoMemory, Rule, TableId, Text, push_fields};
+use perm_base::{NoMemory, Rule, TableId, Text, push_named};
 use policy_table::{Change, Edit};
 use std::alloc::Global;
 
@@ -54,22 +53,7 @@ fn push_line(text: &mut String, sign: Sign, table: TableId, rule: &Rule) -> Resu
         return Ok(());
     };
     text.push_str(sign.text())?;
-    push_rule(text, name, rule)?;
+    push_named(text, name, rule)?;
     text.push_str("\n")?;
-    Ok(())
-}
-
-// Appends the name of a table and the fields of a rule.
-fn push_rule(text: &mut String, name: &str, rule: &Rule) -> Result<(), NoMemory>
-    requires { field.printed_field name.now ≡ name.now }
-    ensures { OnOk result (string_bytes text.new
-        ≡ string_bytes text.old ++ field.printed (name.now ∷ rule.now)) }
-{
-    text.push_str(name)?;
-    if rule.fields().is_empty() {
-        return Ok(());
-    }
-    text.push_str(", ")?;
-    push_fields(text, rule)?;
     Ok(())
 }

@@ -2,10 +2,10 @@
 use Rattle.std.specs.Prelude.{◌≡◌, ◌≤◌, ◌+◌, true, false, ℕ, Bool, not, ◌&&◌, List, [], ◌∷◌, Option, All, length, is_some, unwrap_or, if◌then◌else◌}
 use Rattle.std.specs.List.{count_by}
 use Rattle.std.specs.Map.{lookup}
-use Rattle.policy_table.specs.Tables.{Fields, same, stands}
+use Rattle.policy_table.specs.Tables.{Fields, same}
 use Rattle.policy_table.specs.declared.change.Change.{Change}
 use Rattle.policy_table.specs.declared.change.Change.TheVariants.{Insert, Remove, Replace}
-use Rattle.role_domain.specs.Domains.{AreDomains, ArePatterns, Domains, IsRight, found}
+use Rattle.role_domain.specs.Domains.{AreDomains, ArePatterns, Domains, IsRight}
 use Rattle.role_domain.specs.Helps.Tallies.{Brings, Tallies}
 use Rattle.role_domain.specs.Relations.{Relation}
 use Rattle.role_domain.specs.declared.domain.Domain.{Domain}

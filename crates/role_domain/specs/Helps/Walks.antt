@@ -1,5 +1,5 @@
 -- Walks from a name over rows, level by level, in one domain.
-use Rattle.std.specs.Prelude.{◌≡◌, ◌⊎◌, ◌<◌, ◌≤◌, true, false, ℕ, suc, Bool, List, [], Option, None, Some, length, get_or}
+use Rattle.std.specs.Prelude.{◌≡◌, ◌⊎◌, ◌<◌, ◌≤◌, true, false, ℕ, Bool, List, [], Option, None, Some, length, get_or}
 use Rattle.perm_base.specs.declared.shapes.RoleShape.{RoleShape}
 use Rattle.policy_table.specs.Tables.{Fields}
 use Rattle.role_domain.specs.declared.terms.Terms.{Terms}

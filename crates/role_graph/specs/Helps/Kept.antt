@@ -6,7 +6,8 @@ use Rattle.std.specs.Global.{Vec}
 use Rattle.perm_base.specs.Patterns.{is_pattern}
 use Rattle.perm_base.specs.declared.shapes.Fit.{Fit}
 use Rattle.role_graph.specs.Groups.{Group, rows_of, rows_with}
-use Rattle.role_graph.specs.Helps.Roles.{Counted, count_of}
+use Rattle.role_graph.specs.Helps.Roles.{Counted, count_of, nodes_of}
+use Rattle.role_graph.specs.Helps.Squares.{AreNodes, IsExact}
 use Rattle.role_graph.specs.Helps.Walks.{Linked}
 
 -- the groups, and for how many further ones there is room
@@ -62,11 +63,15 @@ pub record HasRoom (count : ℕ) (parts : Parts) : Type 0 where
   pub plain : count ≤ parts.plain.spare
   pub patterned : count ≤ parts.patterned.spare
 
--- what a graph keeps: sound groups, no more rows than may be, a limit of its range, how many rows have each role, and how many
--- there are
-pub record IsSound (parts : Parts) (limit : ℕ) (roles : Counted) (count : ℕ) : Type 0 where
+-- what a graph keeps: sound groups, no more rows than may be, a limit of its range, how many rows have each role, how many rows
+-- there are, the roles as nodes, and the distances between these, where they are not too many
+pub record IsSound (parts : Parts) (limit : ℕ) (roles : Counted) (count : ℕ) (cells : List (List ℕ)) : Type 0 where
   pub links : AreLinks parts.names parts.plain.groups parts.patterned.groups
   pub few : length (rows_of (linked_of parts).groups) ≤ 200000
+  pub some : 1 ≤ limit
   pub limited : limit ≤ 250
   pub counted : (role : List ℕ) → count_of roles role ≡ rows_with role (rows_of (linked_of parts).groups)
   pub number : count ≡ length (rows_of (linked_of parts).groups)
+  pub nodes : AreNodes (linked_of parts) (nodes_of roles)
+  pub exact : length (nodes_of roles) ≤ 1024 → IsExact (linked_of parts) (nodes_of roles) cells
+  pub empty : 1024 < length (nodes_of roles) → cells ≡ []

@@ -53,3 +53,9 @@ pub record GoesOn (linked : Linked) (from : List ℕ) (at : ℕ) : Type 0 where
   pub marked : IsSet from place
   pub stands : IsRoleAt linked role place
   pub fits : FitsAt linked role at
+
+-- a row of the graph links the one name to the other
+pub record IsLink (linked : Linked) (name role : List ℕ) : Type 0 where
+  pub at : ℕ
+  pub fits : FitsAt linked name at
+  pub stands : IsRoleAt linked role at

@@ -1,5 +1,5 @@
 use Rattle.std.proofs.Common.{sym}
-use Rattle.answer_lines.proofs.PushLemmas.{plain_name}
+use Rattle.perm_base.proofs.CallerLemmas.{plain_name}
 use Rattle.answer_lines.proofs.rows.push_signed.Goals as goal
 
 pub push_row-requires : goal.push_row-requires

@@ -2,13 +2,14 @@ use Rattle.std.proofs.Common.{◌≤◌, length, rules}
 use Rattle.std.proofs.lemmas.Result.{err_from_is_err_and}
 use Rattle.outside.specs.Faults.{Rose}
 use Rattle.outside.specs.Files.{Holds}
-use Rattle.casbin_run.specs.Parts.{model_limit}
+use Rattle.run_status.specs.Parts.{limit_of}
+use Rattle.run_status.specs.declared.part.Part.TheVariants as part
 use Rattle.casbin_run.proofs.ReadingLemmas.{model_stops}
 use Rattle.casbin_run.proofs.files.read_model_file.Goals as goal
 
-pub returns-in_err-model-clause-stopped : goal.returns-in_err-model-clause-stopped
-returns-in_err-model-clause-stopped g c =
-    let p = err_from_is_err_and c.from_residual-in_err-model.result c.from_residual-in_err-model.ensures.1 in
+pub returns-in_err-read_model-clause-stopped : goal.returns-in_err-read_model-clause-stopped
+returns-in_err-read_model-clause-stopped g c =
+    let p = err_from_is_err_and c.from_residual-in_err-read_model.result c.from_residual-in_err-read_model.ensures.1 in
     let holds : Holds (g.F.Shelf.files c.args.shelf.now) c.args.name.now c.deref.result.now = search rules in
-    let within : length c.deref.result.now ≤ model_limit = search rules in
-    rw (p.1, p.2) (model_stops (g.F.Shelf.files c.args.shelf.now) c.args.name.now (Rose (g.F.Shelf.faults c.args.shelf.now) (g.F.Shelf.faults c.fetch.new.shelf)) c.deref.result.now c.in_err-model.field-0.0 holds within c.in_err-model.ensures.fault)
+    let within : length c.deref.result.now ≤ limit_of part.Model = search rules in
+    rw (p.1, p.2) (model_stops (g.F.Shelf.files c.args.shelf.now) c.args.name.now (Rose (g.F.Shelf.faults c.args.shelf.now) (g.F.Shelf.faults c.fetch.new.shelf)) c.deref.result.now c.in_err-read_model.field-0.0 holds within c.in_err-read_model.ensures.fault)

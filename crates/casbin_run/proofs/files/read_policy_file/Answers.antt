@@ -2,7 +2,8 @@ use Rattle.std.proofs.Common.{◌≤◌, length, rules}
 use Rattle.std.proofs.lemmas.Result.{err_from_is_err_and}
 use Rattle.outside.specs.Faults.{Rose}
 use Rattle.outside.specs.Files.{Holds}
-use Rattle.casbin_run.specs.Parts.{policy_limit}
+use Rattle.run_status.specs.Parts.{limit_of}
+use Rattle.run_status.specs.declared.part.Part.TheVariants as part
 use Rattle.casbin_run.proofs.ReadingLemmas.{policy_stops}
 use Rattle.casbin_run.proofs.files.read_policy_file.Goals as goal
 
@@ -10,5 +11,5 @@ pub returns-in_err-read_policy-clause-stopped : goal.returns-in_err-read_policy-
 returns-in_err-read_policy-clause-stopped g c =
     let p = err_from_is_err_and c.from_residual-in_err-read_policy.result c.from_residual-in_err-read_policy.ensures.1 in
     let holds : Holds (g.F.Shelf.files c.args.shelf.now) c.args.name.now c.deref.result.now = search rules in
-    let within : length c.deref.result.now ≤ policy_limit = search rules in
+    let within : length c.deref.result.now ≤ limit_of part.Policy = search rules in
     rw (p.1, p.2) (policy_stops (g.F.Shelf.files c.args.shelf.now) c.args.name.now c.args.shapes.now (Rose (g.F.Shelf.faults c.args.shelf.now) (g.F.Shelf.faults c.fetch.new.shelf)) c.deref.result.now c.in_err-read_policy.field-0.0 holds within c.in_err-read_policy.ensures.fault)

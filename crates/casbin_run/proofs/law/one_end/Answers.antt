@@ -1,11 +1,71 @@
-use Rattle.casbin_run.proofs.OneEnd.{one_cause, no_cause, one_text}
+use Rattle.std.proofs.Common.{false, inl, inr, ⊎_elim}
+use Rattle.std.specs.Prelude.{IsUtf8}
+use Rattle.casbin_run.proofs.ModelLemmas.{HasMatchers, some_model}
+use Rattle.casbin_run.proofs.SomeEnd.{SaysSome, some_end}
+use Rattle.casbin_run.proofs.OneEnd.{SaysOnce, no_cause, one_cause, one_text}
 use Rattle.casbin_run.proofs.law.one_end.Goals as goal
 
 pub returns-clause-one_cause : goal.returns-clause-one_cause
-returns-clause-one_cause c = one_cause (record { model = c.text_says_one_model.ensures; fault = c.text_has_one_model_fault.ensures; either = c.faulty_text_is_no_model.ensures; policy = c.text_says_one_policy.ensures; policy_fault = c.text_has_one_policy_fault.ensures; policy_either = c.faulty_text_is_no_policy.ensures; lines = record { fields = c.fields_of_a_line_are_unique.ensures; fault = c.fault_of_a_line_is_unique.ensures.fault; exclusive = c.line_at_fault_is_no_fields.ensures; verdict = c.verdict_is_unique.ensures } })
+returns-clause-one_cause c =
+    let once : SaysOnce = record {
+      model = c.text_says_one_model.ensures;
+      model_fault = c.text_has_one_model_fault.ensures;
+      model_either = c.faulty_text_is_no_model.ensures;
+      policy = c.text_says_one_policy.ensures;
+      policy_fault = c.text_has_one_policy_fault.ensures;
+      policy_either = c.faulty_text_is_no_policy.ensures;
+      script = c.text_says_one_script.ensures;
+      script_fault = c.text_has_one_script_fault.ensures;
+      script_either = c.faulty_text_is_no_script.ensures;
+      requests = c.input_says_one_list_of_requests.ensures;
+      lines = c.lines_are_one.ensures.none_bad;
+    } in
+    one_cause once
 
 pub returns-clause-no_cause : goal.returns-clause-no_cause
-returns-clause-no_cause c = no_cause (record { model = c.text_says_one_model.ensures; fault = c.text_has_one_model_fault.ensures; either = c.faulty_text_is_no_model.ensures; policy = c.text_says_one_policy.ensures; policy_fault = c.text_has_one_policy_fault.ensures; policy_either = c.faulty_text_is_no_policy.ensures; lines = record { fields = c.fields_of_a_line_are_unique.ensures; fault = c.fault_of_a_line_is_unique.ensures.fault; exclusive = c.line_at_fault_is_no_fields.ensures; verdict = c.verdict_is_unique.ensures } })
+returns-clause-no_cause c =
+    let once : SaysOnce = record {
+      model = c.text_says_one_model.ensures;
+      model_fault = c.text_has_one_model_fault.ensures;
+      model_either = c.faulty_text_is_no_model.ensures;
+      policy = c.text_says_one_policy.ensures;
+      policy_fault = c.text_has_one_policy_fault.ensures;
+      policy_either = c.faulty_text_is_no_policy.ensures;
+      script = c.text_says_one_script.ensures;
+      script_fault = c.text_has_one_script_fault.ensures;
+      script_either = c.faulty_text_is_no_script.ensures;
+      requests = c.input_says_one_list_of_requests.ensures;
+      lines = c.lines_are_one.ensures.none_bad;
+    } in
+    no_cause once
 
 pub returns-clause-one_text : goal.returns-clause-one_text
-returns-clause-one_text c = one_text (record { model = c.text_says_one_model.ensures; fault = c.text_has_one_model_fault.ensures; either = c.faulty_text_is_no_model.ensures; policy = c.text_says_one_policy.ensures; policy_fault = c.text_has_one_policy_fault.ensures; policy_either = c.faulty_text_is_no_policy.ensures; lines = record { fields = c.fields_of_a_line_are_unique.ensures; fault = c.fault_of_a_line_is_unique.ensures.fault; exclusive = c.line_at_fault_is_no_fields.ensures; verdict = c.verdict_is_unique.ensures } })
+returns-clause-one_text c =
+    let once : SaysOnce = record {
+      model = c.text_says_one_model.ensures;
+      model_fault = c.text_has_one_model_fault.ensures;
+      model_either = c.faulty_text_is_no_model.ensures;
+      policy = c.text_says_one_policy.ensures;
+      policy_fault = c.text_has_one_policy_fault.ensures;
+      policy_either = c.faulty_text_is_no_policy.ensures;
+      script = c.text_says_one_script.ensures;
+      script_fault = c.text_has_one_script_fault.ensures;
+      script_either = c.faulty_text_is_no_script.ensures;
+      requests = c.input_says_one_list_of_requests.ensures;
+      lines = c.lines_are_one.ensures.none_bad;
+    } in
+    one_text once
+
+pub returns-clause-there : goal.returns-clause-there
+returns-clause-there c =
+    let matchers : HasMatchers = record {
+      matcher = c.every_text_is_a_matcher_or_at_fault.ensures;
+      utf8 = λ bytes. ⊎_elim (λ said. inl (c.every_input_is_requests_or_at_fault.ensures.never_both false bytes said.0 said.1)) (λ none. inr none) (c.every_input_is_requests_or_at_fault.ensures.always false bytes);
+    } in
+    let some : SaysSome = record {
+      model = some_model matchers;
+      policy = c.every_text_is_a_policy_or_at_fault.ensures;
+      script = c.every_text_is_a_script_or_at_fault.ensures;
+      requests = c.every_input_is_requests_or_at_fault.ensures.always;
+    } in
+    some_end some

@@ -1,10 +1,11 @@
-use Rattle.std.proofs.Common.{◌≡◌, ◌<◌, List, length, get_or, ap, ◌∙◌, arith}
+use Rattle.std.proofs.Common.{◌≡◌, ◌<◌, List, length, get_or, sym, ap, ◌∙◌, arith}
 use Rattle.policy_table.specs.Tables.{Fields, rows}
-use Rattle.policy_csv.proofs.PushLemmas.{fields_more, plain_name, pushed_line}
+use Rattle.perm_base.proofs.CallerLemmas.{plain_name}
+use Rattle.policy_csv.proofs.PushLemmas.{fields_more, pushed_line}
 use Rattle.policy_csv.proofs.printing.push_table.Goals as goal
 
 pub push_line-requires : goal.push_line-requires
-push_line-requires c = plain_name c.args.table c.in-Some.name.now c.in-Some.ensures
+push_line-requires c = plain_name c.args.table c.in-Some.name.now (sym c.in-Some.ensures)
 
 pub loop-rule-preserved : goal.loop-rule-preserved
 loop-rule-preserved c =

@@ -1,4 +1,4 @@
-use Rattle.std.proofs.Common.{◌≡◌, length, ap, arith}
+use Rattle.std.proofs.Common.{◌≡◌, ap, arith}
 use Rattle.policy_table.specs.Tables.{Fields}
 use Rattle.role_graph.specs.Groups.{times}
 use Rattle.role_graph.proofs.CallerLemmas.{as_long}

@@ -1,5 +1,4 @@
-use Rattle.std.proofs.Common.{◌≡◌, List, filter, take}
-use Rattle.std.specs.Map.{keys_of}
+use Rattle.std.proofs.Common.{◌≡◌, filter, take}
 use Rattle.policy_table.specs.Tables.{Fields, rows, stands}
 use Rattle.role_domain.specs.Helps.Turns.{said_of, turns}
 use Rattle.role_domain.proofs.moves.moved.Given as goal

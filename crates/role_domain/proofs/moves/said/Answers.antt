@@ -1,6 +1,6 @@
 use Rattle.std.proofs.Common.{ap, sym, ◌∙◌}
 use Rattle.role_domain.specs.Helps.Turns.{stands_behind}
-use Rattle.role_domain.proofs.MoveLemmas.{patterns_turned, stands_next}
+use Rattle.role_domain.proofs.MoveLemmas.{stands_next}
 use Rattle.role_domain.proofs.moves.said.Goals as goal
 
 pub loop-change-preserved : goal.loop-change-preserved

@@ -1,4 +1,4 @@
-use Rattle.std.proofs.Common.{◌≡◌, List, filter, take, true}
+use Rattle.std.proofs.Common.{◌≡◌, filter, take, true}
 use Rattle.policy_table.specs.Tables.{Fields}
 use Rattle.role_domain.specs.Helps.Turns.{said_of}
 use Rattle.role_domain.proofs.patterns.staying.Given as goal

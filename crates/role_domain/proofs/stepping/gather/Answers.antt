@@ -1,4 +1,4 @@
-use Rattle.std.proofs.Common.{List, ℕ, subst, take}
+use Rattle.std.proofs.Common.{List, subst, take}
 use Rattle.std.specs.Prelude.{is_some}
 use Rattle.std.proofs.lemmas.List.{take_all}
 use Rattle.policy_table.specs.Tables.{Fields}

@@ -1,4 +1,4 @@
-use Rattle.std.proofs.Common.{◌≡◌, ◌∙◌, Bool, List, ℕ, ap, length, subst, sym, arith}
+use Rattle.std.proofs.Common.{◌∙◌, Bool, List, ℕ, ap, length, subst, sym, arith}
 use Rattle.role_domain.specs.Relations.{Tells}
 use Rattle.role_domain.specs.declared.terms.Terms.{Terms}
 use Rattle.role_domain.proofs.Bringing.{tells_of, test_of}

@@ -1,4 +1,4 @@
-use Rattle.std.proofs.Common.{◌≡◌, ◌<◌, ◌↔◌, ◌&&◌, ◌++◌, ◌∷◌, [], Bool, ℕ, List, IsTrue, if◌then◌else◌, length, ap, sym, subst, ◌∙◌, arith}
+use Rattle.std.proofs.Common.{◌<◌, ◌↔◌, ◌&&◌, ◌++◌, ◌∷◌, [], Bool, ℕ, List, IsTrue, if◌then◌else◌, length, ap, sym, subst, ◌∙◌, arith}
 use Rattle.std.specs.List.{list_any}
 use Rattle.std.specs.Map.{keys_of}
 use Rattle.std.specs.Str.{bytes_eq}

@@ -1,6 +1,6 @@
 use Rattle.std.proofs.Common.{refl, ap, length, arith}
 use Rattle.role_domain.proofs.Bringing.{tells_of, test_of}
-use Rattle.role_domain.proofs.StepLemmas.{changed_ready, own_after, own_enough, own_small, rows_few, rows_stand, same_domain}
+use Rattle.role_domain.proofs.StepLemmas.{changed_ready, rows_few, rows_stand, same_domain}
 use Rattle.role_graph.specs.Groups.{times}
 use Rattle.role_domain.proofs.stepping.step_of.Goals as goal
 

@@ -1,7 +1,6 @@
-use Rattle.std.proofs.Common.{◌≡◌, ◌<◌, ◌+◌, ◌⊎◌, inl, inr, ◌∙◌, ℕ, [], length, get_or, refl, sym, ap, arith}
+use Rattle.std.proofs.Common.{◌≡◌, ◌<◌, inl, inr, ◌∙◌, ℕ, [], length, get_or, refl, sym, ap, arith}
 use Rattle.std.proofs.lemmas.Bool.{cases_eq}
 use Rattle.std.proofs.lemmas.List.{get_or_default}
-use Rattle.role_domain.specs.Helps.Walks.{IsMarked}
 use Rattle.role_domain.proofs.Marks.{field_is}
 use Rattle.role_meaning.specs.Links.{role_of}
 use Rattle.role_meaning.proofs.CallerLemmas.{they_agree, they_differ}

@@ -1,11 +1,6 @@
-use Rattle.std.proofs.Common.{◌≡◌, false, map, take}
-use Rattle.std.specs.List.{list_any}
-use Rattle.perm_base.specs.LineEnds.{has_line_end}
+use Rattle.std.proofs.Common.{◌≡◌, map, take}
 use Rattle.role_meaning.specs.Links.{role_of}
 use Rattle.role_graph.proofs.prepared.roles_of.Given as goal
 
 abbrev pub invariant-loop-row : goal.invariant-loop-row
-invariant-loop-row l = record {
-  roles : l.roles.items ≡ map role_of (take l.row-index l.rows);
-  whole_lines : list_any has_line_end l.roles.items ≡ false;
-}
+invariant-loop-row l = l.roles.items ≡ map role_of (take l.row-index l.rows)

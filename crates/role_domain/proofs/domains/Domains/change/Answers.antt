@@ -1,7 +1,6 @@
 use Rattle.std.proofs.Common.{◌≡◌, Some, refl, ap, sym, subst, ◌∙◌}
 use Rattle.std.specs.Prelude.{IsSome}
 use Rattle.std.proofs.lemmas.Option.{same_Some}
-use Rattle.policy_table.specs.Tables.{Fields}
 use Rattle.role_domain.specs.Domains.{Domains, found}
 use Rattle.role_domain.specs.declared.domain.Domain.{Domain}
 use Rattle.role_domain.proofs.Keyed.{found_other, found_there, seen_at}

@@ -1,4 +1,4 @@
-use Rattle.std.proofs.Common.{Option, None, Some, refl, ap, subst, sym, ◌∙◌}
+use Rattle.std.proofs.Common.{Option, Some, refl, ap, subst, sym, ◌∙◌}
 use Rattle.std.specs.Prelude.{IsSome}
 use Rattle.role_domain.specs.Domains.{Domains, IsRight, found}
 use Rattle.role_domain.specs.Helps.Turns.{CanStep, Turn, after_of}

@@ -3,12 +3,11 @@ use Rattle.std.specs.Prelude.{All}
 use Rattle.std.specs.List.{list_any}
 use Rattle.std.specs.Map.{keys_of}
 use Rattle.std.specs.Str.{bytes_eq}
-use Rattle.std.proofs.lemmas.List.{take_all}
 use Rattle.std.proofs.lemmas.Map.Entries.{length-keys_of}
 use Rattle.std.proofs.lemmas.Map.Made.{is_some-lookup}
 use Rattle.role_domain.specs.Domains.{by_text, found}
 use Rattle.role_domain.specs.Helps.Turns.{CanStep, Turn, after_of}
-use Rattle.role_domain.specs.Steps.{IsReady, Touched}
+use Rattle.role_domain.specs.Steps.{IsReady}
 use Rattle.role_domain.specs.declared.domain.Domain.{Domain}
 use Rattle.role_domain.specs.declared.prepared.Step.{Step}
 use Rattle.role_domain.proofs.Bringing.{first_there}

@@ -1,10 +1,11 @@
-use Rattle.std.proofs.Common.{◌≡◌, ◌≤◌, ◌∙◌, List, ℕ, Bool, IsTrue, length, ap, subst, sym}
-use Rattle.std.specs.Prelude.{◌↔◌, All, is_some}
+use Rattle.std.proofs.Common.{◌≤◌, ◌+◌, ◌∙◌, Bool, length, ap, subst, sym}
+use Rattle.std.specs.Prelude.{All}
 use Rattle.std.specs.Option.{option_copied}
 use Rattle.policy_table.specs.Tables.{Fields}
 use Rattle.role_domain.specs.Helps.Kept.{relation_in}
+use Rattle.role_domain.specs.Relations.{HasFewRoles, TellsRows, asked_rows}
 use Rattle.role_domain.specs.Sections.{Section, rows_in}
-use Rattle.role_domain.proofs.AskLemmas.{copied_some, far_nowhere, far_there}
+use Rattle.role_domain.proofs.AskLemmas.{copied_some, far_nowhere, far_there, steps_there}
 use Rattle.role_domain.proofs.SectionLemmas.{pattern_columns}
 use Rattle.role_meaning.specs.Distances.{IsFar}
 use Rattle.role_domain.proofs.section.RoleSection.far.Goals as goal
@@ -21,3 +22,11 @@ pub returns-in-None-clause-far : goal.returns-in-None-clause-far
 returns-in-None-clause-far g c =
     subst (λ (s : Section). IsFar s.shape (rows_in s) (option_copied c.args.domain) c.args.x.now c.args.y.now c.unwrap_or.result) c.self.view_is
     (far_nowhere c.self.inside.shape c.self.inside.limit c.self.inside.tables.policy c.self.inside.domains.entries c.self.inside.patterns.items c.self.invariant (option_copied c.args.domain) c.asked-text.result.now (copied_some c.args.domain ∙ c.requires ∙ sym (ap (λ (s : Section). s.shape.with_domain) c.self.view_is)) c.asked-text.ensures c.in-None.ensures c.terms_of-terms.result c.deref.result.now c.args.x.now c.args.y.now c.distance.result c.unwrap_or.result c.terms_of-terms.ensures c.deref.ensures.value c.unwrap_or.ensures c.distance.ensures)
+
+pub returns-in-Some-clause-few_steps : goal.returns-in-Some-clause-few_steps
+returns-in-Some-clause-few_steps g c =
+    subst
+    (λ (s : Section). (test : Fields → Bool) → TellsRows s.shape (rows_in s) (option_copied c.args.domain) test → HasFewRoles s.shape (rows_in s) (option_copied c.args.domain) → c.far.new.steps ≤ c.args.steps.now + asked_rows s.shape test c.args.x.now (rows_in s) + 1)
+    c.self.view_is
+    (λ test tells few.
+    steps_there c.self.inside.shape c.self.inside.limit c.self.inside.tables.policy c.self.inside.domains.entries c.self.inside.patterns.items c.self.invariant (option_copied c.args.domain) c.asked-text.result.now (copied_some c.args.domain ∙ c.requires ∙ sym (ap (λ (s : Section). s.shape.with_domain) c.self.view_is)) c.asked-text.ensures c.links_are_decided.ensures.fits c.in-Some.found.now c.in-Some.ensures c.args.x.now c.args.steps.now c.far.new.steps test c.far.ensures.few_steps tells few)

@@ -1,5 +1,5 @@
-use Rattle.std.proofs.Common.{◌≡◌, ◌≤◌, ◌∙◌, List, ℕ, Bool, IsTrue, length, ap, subst, sym}
-use Rattle.std.specs.Prelude.{◌↔◌, All, is_some}
+use Rattle.std.proofs.Common.{◌≤◌, ◌∙◌, IsTrue, length, ap, subst, sym}
+use Rattle.std.specs.Prelude.{◌↔◌, All}
 use Rattle.std.specs.Option.{option_copied}
 use Rattle.policy_table.specs.Tables.{Fields}
 use Rattle.role_domain.specs.Helps.Kept.{relation_in}

@@ -1,11 +1,8 @@
-use Rattle.std.proofs.Common.{◌≡◌, ◌≤◌, ◌∙◌, List, ℕ, Bool, IsTrue, length, ap, subst, sym}
-use Rattle.std.specs.Prelude.{◌↔◌, All, is_some}
+use Rattle.std.proofs.Common.{◌∙◌, IsTrue, ap, subst, sym}
+use Rattle.std.specs.Prelude.{◌↔◌}
 use Rattle.std.specs.Option.{option_copied}
-use Rattle.policy_table.specs.Tables.{Fields}
-use Rattle.role_domain.specs.Helps.Kept.{relation_in}
 use Rattle.role_domain.specs.Sections.{Section, rows_in}
 use Rattle.role_domain.proofs.AskLemmas.{copied_some, kept_nowhere, kept_there}
-use Rattle.role_domain.proofs.SectionLemmas.{pattern_columns}
 use Rattle.role_domain.specs.Relations.{HasFewRoles, IsNamed}
 use Rattle.role_domain.proofs.section.RoleSection.is_kept.Goals as goal
 

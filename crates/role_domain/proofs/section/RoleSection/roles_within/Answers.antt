@@ -1,4 +1,4 @@
-use Rattle.std.proofs.Common.{◌≡◌, ◌≤◌, ◌+◌, ◌∙◌, List, ℕ, Bool, length, ap, subst, sym, arith}
+use Rattle.std.proofs.Common.{◌≤◌, ◌∙◌, length, ap, subst, sym, arith}
 use Rattle.std.specs.Prelude.{All}
 use Rattle.std.specs.Option.{option_copied}
 use Rattle.policy_table.specs.Tables.{Fields}

@@ -1,0 +1,36 @@
+-- How a run ends, by its status.
+use Rattle.std.specs.Prelude.{◌≡◌, Bool, true, false}
+use Rattle.run_status.specs.Messages.{line_of}
+use Rattle.run_status.specs.Statuses.{status_of}
+use Rattle.run_status.specs.Told.{IsTold}
+use Rattle.run_status.specs.declared.status.Status.{Status}
+use Rattle.run_status.specs.declared.status.Status.TheVariants.{Done, WriteFault, NoMemory}
+use Rattle.run_status.specs.declared.stop.Stop.{Stop}
+use Rattle.casbin_run.specs.Answered.{TookAll}
+use Rattle.casbin_run.specs.Causes.{EndsBy}
+use Rattle.casbin_run.specs.Given.{Given}
+use Rattle.casbin_run.specs.Worlds.{Taken, World}
+
+-- the run was done: `out` took the text that answers what is given, and `err` nothing
+pub record IsDone (g : Given) (before now : World) (err err_now : Taken) : Type 0 where
+  pub all : TookAll g before now
+  pub silent : err_now.bytes ≡ err.bytes
+
+-- the run stopped: its status and the line that `err` took are those of a stop that had its cause
+pub record HasStopped (g : Given) (before now : World) (err err_now : Taken) (status : Status) : Type 0 where
+  pub stop : Stop
+  pub status_is : status ≡ status_of stop
+  pub cause : EndsBy g before now stop
+  pub told : IsTold err.bytes err_now.bytes err.faults err_now.faults (line_of stop)
+
+-- how a run with this status ends
+abbrev pub Ends : Given → World → World → Taken → Taken → Status → Type 0
+Ends g before now err err_now Done = IsDone g before now err err_now
+Ends g before now err err_now status = HasStopped g before now err err_now status
+
+-- with any other status nothing goes to `out`
+abbrev pub may_write : Status → Bool
+may_write Done = true
+may_write WriteFault = true
+may_write NoMemory = true
+may_write _ = false

@@ -1,0 +1,69 @@
+-- What is given to a run, and what it says, part after part. Where files or an input are not told, some bytes stand for what
+-- was read.
+use Rattle.std.specs.Prelude.{◌≡◌, ℕ, ◌≤◌, List, [], Option, Some, None, length, ⊤}
+use Rattle.outside.specs.Files.{Files, Holds}
+use Rattle.model_conf.specs.ModelText.{IsModel, ModelParts}
+use Rattle.policy_csv.specs.Policy.{IsPolicy}
+use Rattle.policy_table.specs.Tables as table
+use Rattle.run_status.specs.Parts.{limit_of}
+use Rattle.run_status.specs.declared.part.Part.{Part}
+use Rattle.run_status.specs.declared.part.Part.TheVariants.{Model, Policy, Input}
+use Rattle.script_read.specs.Said.{Said}
+use Rattle.script_read.specs.Script.{IsRequests, IsScript}
+use Rattle.casbin_run.specs.declared.job.Job.{Job}
+use Rattle.casbin_run.specs.declared.job.Task.{Task}
+use Rattle.casbin_run.specs.declared.job.Task.TheVariants.{Enforce, Serve, Check, Format}
+use Rattle.casbin_run.specs.Jobs.{absent_in, job_asked, shapes_with}
+
+-- the words, and the files and the input where they are told
+pub record Given : Type 0 where
+  pub words : List (List ℕ)
+  pub files : Option Files
+  pub input : Option (List ℕ)
+
+abbrev pub given : List (List ℕ) → Option Files → Option (List ℕ) → Given
+given words files input = record { words = words; files = files; input = input }
+
+-- the file of that name has at most as many bytes as the part may have, and the fact holds of them
+abbrev pub FileIs : Option Files → List ℕ → Part → (List ℕ → Type 0) → Type 0
+FileIs files name part fact = (bytes : List ℕ) × Holds files name bytes × (length bytes ≤ limit_of part) × fact bytes
+
+-- the bytes are those that are told
+abbrev pub Tells : Option (List ℕ) → List ℕ → Type 0
+Tells None bytes = ⊤
+Tells (Some told) bytes = told ≡ bytes
+
+-- the input has at most as many bytes as it may have, and the fact holds of them
+abbrev pub InputIs : Option (List ℕ) → (List ℕ → Type 0) → Type 0
+InputIs input fact = (bytes : List ℕ) × Tells input bytes × (length bytes ≤ limit_of Input) × fact bytes
+
+-- the model's file is this model
+abbrev pub ModelIs : Option Files → Job → ModelParts → Type 0
+ModelIs files job model = FileIs files job.files.model Model (λ bytes. IsModel bytes model)
+
+-- besides, it has all that the options name
+pub record Fits (files : Option Files) (job : Job) (model : ModelParts) : Type 0 where
+  pub is_model : ModelIs files job model
+  pub none_absent : absent_in job.options model ≡ None
+
+-- besides, the policy's file is this policy
+pub record AreFiles (files : Option Files) (job : Job) (model : ModelParts) (policy : table.Policy) : Type 0 where
+  pub fits : Fits files job model
+  pub is_policy : FileIs files job.files.policy Policy (λ bytes. IsPolicy (shapes_with job.options model) bytes policy)
+
+-- the input says these items: requests alone, or a script; none where it is not read
+abbrev pub SaysItems : Task → Option (List ℕ) → List Said → Type 0
+SaysItems (Enforce json) input items = InputIs input (λ bytes. IsRequests json bytes items)
+SaysItems (Serve json) input items = InputIs input (λ bytes. IsScript json bytes items)
+SaysItems Check input items = items ≡ []
+SaysItems Format input items = items ≡ []
+
+-- the words ask for this, and files and input are in order
+pub record IsInOrder (g : Given) : Type 0 where
+  pub job : Job
+  pub model : ModelParts
+  pub policy : table.Policy
+  pub items : List Said
+  pub asked : job_asked g.words ≡ Some job
+  pub are_files : AreFiles g.files job model policy
+  pub says : SaysItems job.task g.input items

@@ -1,0 +1,58 @@
+-- What a command is done on. A session is done on one thread, and a demonstration is none of these.
+use Rattle.std.specs.Prelude.{ℕ, ◌==◌, Bool, true, false, List, [], Option, Some, None, if◌then◌else◌}
+use Rattle.std.specs.Option.{option_and_then, option_map_or}
+use Rattle.command_words.specs.Commands.{command_of}
+use Rattle.command_words.specs.declared.command.Command.{Command}
+use Rattle.command_words.specs.declared.command.Command.TheVariants as command
+use Rattle.command_words.specs.declared.command.Options.{Options}
+use Rattle.model_conf.specs.ModelText.{ModelParts}
+use Rattle.model_conf.specs.Shapes.{first_absent, shapes_of}
+use Rattle.perm_base.specs.declared.shapes.Fit.{Fit}
+use Rattle.perm_base.specs.declared.shapes.Shapes.{Shapes}
+use Rattle.casbin_run.specs.declared.job.Job.{Job}
+use Rattle.casbin_run.specs.declared.job.Task.{Task}
+use Rattle.casbin_run.specs.declared.job.Task.TheVariants.{Enforce, Serve, Check, Format}
+
+-- what a command is done on
+abbrev pub job_of : Command → Option Job
+job_of (command.Enforce files options json) = Some (record { files = files; options = Some options; task = Enforce json })
+job_of (command.Session files options json workers) = if workers == 0 then Some (record { files = files; options = Some options; task = Serve json }) else None
+job_of (command.Check files) = Some (record { files = files; options = None; task = Check })
+job_of (command.Format files) = Some (record { files = files; options = None; task = Format })
+job_of (command.Demo count workers) = None
+
+-- what the words ask for, where they are a command that is done
+abbrev pub job_asked : List (List ℕ) → Option Job
+job_asked words = option_and_then job_of (command_of words)
+
+-- the input is read by all but `check` and `format`
+abbrev pub reads_input : Task → Bool
+reads_input (Enforce json) = true
+reads_input (Serve json) = true
+reads_input Check = false
+reads_input Format = false
+
+-- the words ask for a command that reads the input
+abbrev pub ask_for_input : List (List ℕ) → Bool
+ask_for_input words = option_map_or (λ (job : Job). reads_input job.task) (job_asked words) false
+
+-- the relations whose names are compared by a function, those whose domains are, and the limit of links, which is 10 unless it is told
+abbrev pub names_in : Option Options → List (ℕ × Fit)
+names_in None = []
+names_in (Some options) = options.names
+
+abbrev pub domains_in : Option Options → List (ℕ × Fit)
+domains_in None = []
+domains_in (Some options) = options.domains
+
+abbrev pub limit_in : Option Options → ℕ
+limit_in None = 10
+limit_in (Some options) = options.limit
+
+-- the shapes of the model's policies with these options
+abbrev pub shapes_with : Option Options → ModelParts → Shapes
+shapes_with options model = shapes_of model (names_in options) (domains_in options) (limit_in options)
+
+-- the first relation or domain column that options name and the model lacks
+abbrev pub absent_in : Option Options → ModelParts → Option ℕ
+absent_in options model = first_absent model.relations (names_in options) (domains_in options)

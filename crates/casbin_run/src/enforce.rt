@@ -1,0 +1,156 @@
+ghost use Rattle.std.specs.Prelude.{◌≡◌, ◌≤◌, ◌+◌, [], None, IfErr, IfOk, IfSome, OnOk, min, true};
+ghost use Rattle.outside.specs.Faults.{Rose};
+ghost use Rattle.policy_state.specs.States.{tables};
+ghost use Rattle.regex_gate.specs.Refusals.{IsRefused, IsUsed};
+ghost use Rattle.script_read.specs.Named.{is_named};
+ghost use Rattle.script_read.specs.Reads.{Says};
+ghost use Rattle.script_read.specs.Said.{asks, reading};
+ghost use Rattle.script_read.specs.Script.{IsRequests};
+ghost use Rattle.version_log.specs.Log.{versions};
+ghost use Rattle.enforce_core.specs.Programs.{Suits};
+ghost use Rattle.casbin_run.specs.Helps.Working.{AnswersLine, DidAll, IsQuiet, IsReady, PrintedAll, PrintedSome};
+ghost use Rattle.casbin_run.specs.Helps.Working.{Rises, WorkStops, ground};
+ghost use Rattle.casbin_run.specs.declared.job.Task.TheVariants as tasks;
+
+use crate::files::Loaded;
+use crate::gather::push_full;
+use crate::input::read_text;
+use answer_lines::push_line;
+use enforce_core::{Program, Scratch, make_program};
+use live_round::{Line, answer_request};
+use matcher_meaning::{case_verdict_is_there, pattern_comes_by_refusal_alone};
+use perm_base::{NoMemory, Sink, Source, push_all};
+use perm_value::RequestFault;
+use policy_state::{PolicyState, make_state, states_stand_for_their_history};
+use regex_gate::{Finder, uses_add_up};
+use run_status::Stop;
+use script_read::{Asked, next_request, read_request, texts_are_read_in_one_way};
+use std::alloc::Global;
+
+/// What requests are answered by: a program, a policy that suits it, and whether requests are JSON.
+#[derive(Clone, Copy)]
+pub(crate) struct Court<'a> {
+    pub program: &'a Program,
+    pub state: &'a PolicyState,
+    pub json: bool,
+}
+
+/// Reads the input, and answers each request of it by a line.
+pub(crate) fn enforce<S: Source, K: Sink, P: Finder>(
+    alloc: Global,
+    loaded: Loaded,
+    json: bool,
+    input: &mut S,
+    out: &mut K,
+    finder: &mut P,
+) -> Result<(), Stop>
+    requires { IsReady loaded }
+    ensures done { OnOk result (DidAll (ground (tasks.Enforce json) loaded (S.left input.old))
+        (IsRefused (P.refusals finder.old) (P.refusals finder.new))
+        (Rises (P.refusals finder.old) (P.refusals finder.new))
+        (K.taken out.old) (K.taken out.new)) }
+    ensures ended { OnOk result (IfSome (S.left input.new) (λ rest. rest ≡ [])) }
+    ensures stopped { IfErr result (WorkStops
+        (ground (tasks.Enforce json) loaded (S.left input.old))
+        (IsRefused (P.refusals finder.old) (P.refusals finder.new))
+        (Rises (P.refusals finder.old) (P.refusals finder.new))
+        (K.taken out.old) (K.taken out.new)
+        (Rose (S.faults input.old) (S.faults input.new))
+        (Rose (K.faults out.old) (K.faults out.new))) }
+    ensures quiet { IfErr result (λ stop. IsQuiet stop → K.taken out.new ≡ K.taken out.old) }
+    ensures idle { IfErr result (λ stop. IsQuiet stop → finder.new ≡ finder.old) }
+    ensures input_counted { S.faults input.old ≤ S.faults input.new }
+    ensures out_counted { K.faults out.old ≤ K.faults out.new }
+    ensures used { IsUsed (P.refusals finder.old) (P.refusals finder.new) None }
+{
+    uses_add_up();
+    states_stand_for_their_history();
+    let text = read_text(alloc, input, json)?;
+    let program = make_program(alloc, loaded.model)?;
+    let state = make_state(alloc, loaded.shapes, None, loaded.tables)?;
+    let court = Court {
+        program: &program,
+        state: &state,
+        json,
+    };
+    print_answers(alloc, out, &court, text.as_str(), finder)
+}
+
+// Prints a line for each request of a text, numbered from 1.
+fn print_answers<K: Sink, P: Finder>(
+    alloc: Global,
+    out: &mut K,
+    court: &Court<'_>,
+    input: &str,
+    finder: &mut P,
+) -> Result<(), Stop>
+    requires suits { Suits court.now.program.now court.now.state.now.shapes }
+    requires opening { versions court.now.state.now.log ≡ 0 }
+    ensures printed { OnOk result (PrintedAll (IsRequests court.now.json input.now)
+        court.now.program.now court.now.state.now.shapes (tables court.now.state.now)
+        (P.refusals finder.old) (P.refusals finder.new) (K.taken out.old) (K.taken out.new)) }
+    ensures stopped { IfErr result (PrintedSome (IsRequests court.now.json input.now)
+        court.now.program.now court.now.state.now.shapes (tables court.now.state.now)
+        (P.refusals finder.old) (P.refusals finder.new) (K.taken out.old) (K.taken out.new)
+        (Rose (K.faults out.old) (K.faults out.new))) }
+    ensures counted { K.faults out.old ≤ K.faults out.new }
+    ensures used { IsUsed (P.refusals finder.old) (P.refusals finder.new) None }
+{
+    uses_add_up();
+    texts_are_read_in_one_way();
+    case_verdict_is_there();
+    pattern_comes_by_refusal_alone();
+    let mut scratch = Scratch::for_program(alloc, court.program);
+    let mut text = String::new(alloc);
+    let mut rest = input;
+    let mut number = 0;
+    while let Some((line, after)) = next_request(rest) {
+        number = next_number(number);
+        push_answer(alloc, &mut text, number, court, line, finder, &mut scratch)?;
+        push_full(out, &mut text)?;
+        rest = after;
+    }
+    push_all(out, text.as_bytes())?;
+    Ok(())
+}
+
+// The number behind this one, as far as numbers go.
+fn next_number(number: u32) -> u32
+    ensures { result ≡ min (number + 1) 4294967295 }
+{
+    number.saturating_add(1)
+}
+
+// Appends the line of the request with this number.
+fn push_answer<P: Finder>(
+    alloc: Global,
+    text: &mut String,
+    number: u32,
+    court: &Court<'_>,
+    line: &str,
+    finder: &mut P,
+    scratch: &mut Scratch,
+) -> Result<(), NoMemory>
+    requires suits { Suits court.now.program.now court.now.state.now.shapes }
+    ensures answered { OnOk result (AnswersLine court.now.program.now court.now.state.now
+        court.now.json (P.refusals finder.old) (P.refusals finder.new) line.now number
+        text.old text.new) }
+    ensures used { IsUsed (P.refusals finder.old) (P.refusals finder.new) None }
+{
+    uses_add_up();
+    let asked = ask(alloc, court.json, line)?;
+    let answer = answer_request(alloc, court.state, court.program, &asked, finder, scratch)?;
+    push_line(text, &Line { number, answer })
+}
+
+// What a line asks, or why it is no request.
+fn ask(alloc: Global, json: bool, line: &str) -> Result<Asked, NoMemory>
+    ensures says { IfOk result (λ asked. Says json line.now (reading asked)) }
+    ensures named { IfOk result (λ asked. is_named (asks (reading asked)) ≡ true) }
+{
+    match read_request(alloc, json, line) {
+        Ok(request) => Ok(Asked::Request(request)),
+        Err(RequestFault::NoMemory) => Err(NoMemory),
+        Err(fault) => Ok(Asked::Refused(fault)),
+    }
+}

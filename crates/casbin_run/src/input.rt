@@ -1,0 +1,62 @@
+ghost use Rattle.std.specs.Prelude.{◌≡◌, ◌≤◌, [], IfOk, IfErr, IfSome, OnOk, map, string_bytes};
+ghost use Rattle.outside.specs.Faults.{Rose};
+ghost use Rattle.script_read.specs.Said.{seen};
+ghost use Rattle.casbin_run.specs.Causes.{HasFault};
+ghost use Rattle.casbin_run.specs.Given.{InputIs, SaysItems};
+ghost use Rattle.casbin_run.specs.Helps.Loading.{BytesStop, InputStops};
+ghost use Rattle.casbin_run.specs.declared.job.Task.TheVariants.{Enforce, Serve};
+
+use perm_base::{ReadStop, Source, read_all};
+use run_status::{Part, Stop};
+use script_read::{Script, ScriptFault, read_script};
+use std::alloc::Global;
+
+/// Reads an input of requests to its end. With `json` they are JSON.
+pub(crate) fn read_text<S: Source>(alloc: Global, input: &mut S, json: bool) -> Result<String, Stop>
+    ensures read { IfOk result (λ text. InputIs (S.left input.old)
+        (λ bytes. bytes ≡ string_bytes text)) }
+    ensures ended { OnOk result (IfSome (S.left input.new) (λ rest. rest ≡ [])) }
+    ensures stopped { IfErr result (InputStops (Enforce json) (S.left input.old)
+        (Rose (S.faults input.old) (S.faults input.new))) }
+    ensures counted { S.faults input.old ≤ S.faults input.new }
+{
+    let bytes = read_bytes(alloc, input)?;
+    match String::from_utf8(bytes) {
+        Ok(text) => Ok(text),
+        Err(_) => Err(Stop::NoScript(ScriptFault::NotUtf8)),
+    }
+}
+
+/// Reads an input to its end as a script.
+pub(crate) fn read_items<S: Source>(
+    alloc: Global,
+    input: &mut S,
+    json: bool,
+) -> Result<Script, Stop>
+    ensures read { IfOk result (λ script. SaysItems (Serve json) (S.left input.old)
+        (map seen script)) }
+    ensures ended { OnOk result (IfSome (S.left input.new) (λ rest. rest ≡ [])) }
+    ensures stopped { IfErr result (InputStops (Serve json) (S.left input.old)
+        (Rose (S.faults input.old) (S.faults input.new))) }
+    ensures counted { S.faults input.old ≤ S.faults input.new }
+{
+    let bytes = read_bytes(alloc, input)?;
+    Ok(read_script(alloc, &bytes, json)?)
+}
+
+// Reads the bytes of an input to its end.
+fn read_bytes<S: Source>(alloc: Global, input: &mut S) -> Result<Vec<u8>, Stop>
+    ensures read { IfOk result (λ bytes. InputIs (S.left input.old)
+        (λ told. told ≡ bytes.items)) }
+    ensures ended { OnOk result (IfSome (S.left input.new) (λ rest. rest ≡ [])) }
+    ensures stopped { IfErr result (BytesStop (S.left input.old)
+        (Rose (S.faults input.old) (S.faults input.new))) }
+    ensures counted { S.faults input.old ≤ S.faults input.new }
+{
+    match read_all(alloc, input, Part::Input.limit()) {
+        Ok(bytes) => Ok(bytes),
+        Err(ReadStop::Failed) => Err(Stop::CannotRead(Part::Input)),
+        Err(ReadStop::TooLong) => Err(Stop::TooLong(Part::Input)),
+        Err(ReadStop::NoMemory) => Err(Stop::NoMemory),
+    }
+}

@@ -1,0 +1,79 @@
+ghost use Rattle.std.specs.Prelude.{◌≡◌, ◌<◌, ◌≤◌, IfSome};
+ghost use Rattle.command_words.specs.Items.{texts};
+ghost use Rattle.casbin_run.specs.Jobs.{job_asked, job_of, limit_in};
+
+use command_words::{Command, Files, Options, read_words};
+
+/// What is done with the model, the policy and the input.
+#[derive(Clone, Copy)]
+pub(crate) enum Task {
+    /// The requests of the input are answered; with `json` they are JSON.
+    Enforce { json: bool },
+    /// The items of a script are done one after the other.
+    Serve { json: bool },
+    /// The model is printed, and the rules of its tables are counted.
+    Check,
+    /// The policy is printed.
+    Format,
+}
+
+/// What a command is done on: its files, what it says of roles, where it may, and its task.
+#[derive(Drop)]
+pub(crate) struct Job<'a> {
+    pub files: Files<'a>,
+    pub options: Option<Options>,
+    pub task: Task,
+}
+
+/// What the words ask for, where they are a command that is done. It takes no memory.
+pub(crate) fn read_job(words: &[String]) -> Option<Job<'_>>
+    ensures asked { result ≡ job_asked (texts words.now) }
+    ensures limit { IfSome result (λ job.
+        (0 < limit_in job.options) × (limit_in job.options ≤ 250)) }
+{
+    job_of(read_words(words)?)
+}
+
+// What a command is done on.
+fn job_of(command: Command<'_>) -> Option<Job<'_>>
+    ensures { result ≡ job_of command.entry }
+{
+    match command {
+        Command::Enforce {
+            files,
+            options,
+            json,
+        } => Some(Job {
+            files,
+            options: Some(options),
+            task: Task::Enforce { json },
+        }),
+        Command::Session {
+            files,
+            options,
+            json,
+            workers,
+        } => {
+            if workers == 0 {
+                Some(Job {
+                    files,
+                    options: Some(options),
+                    task: Task::Serve { json },
+                })
+            } else {
+                None
+            }
+        }
+        Command::Check(files) => Some(Job {
+            files,
+            options: None,
+            task: Task::Check,
+        }),
+        Command::Format(files) => Some(Job {
+            files,
+            options: None,
+            task: Task::Format,
+        }),
+        Command::Demo { .. } => None,
+    }
+}

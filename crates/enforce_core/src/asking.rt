@@ -1,0 +1,20 @@
+use matcher_code::Code;
+use model_conf::Model;
+use perm_value::Request;
+use policy_state::PolicyState;
+use std::alloc::Global;
+
+/// What a decision is asked for: a model with its code and the places of columns that it knows, a policy, and a request.
+#[derive(Clone, Copy)]
+pub(crate) struct Asking<'a> {
+    pub(crate) alloc: Global,
+    pub(crate) model: &'a Model,
+    pub(crate) code: &'a Code,
+    // Whether the matcher names a column of the policy.
+    pub(crate) by_row: bool,
+    // The places of the policy's columns `eft` and `dom`.
+    pub(crate) effect_place: Option<u32>,
+    pub(crate) domain_place: Option<u32>,
+    pub(crate) state: &'a PolicyState,
+    pub(crate) request: &'a Request,
+}

@@ -1,0 +1,8 @@
+mod FrontLemmas
+mod AddingLemmas
+mod StoryLemmas
+mod SideLemmas
+mod LineLemmas
+mod OpeningLemmas
+mod LifeLemmas
+pub mod CallerLemmas

@@ -1,0 +1,124 @@
+-- What an administrator hands over, and what it keeps.
+use Rattle.std.proofs.Common.{◌≡◌, ℕ, ◌+◌, ◌≤◌, List, [], ◌∷◌, ◌++◌, length, refl, ap, sym, subst, ◌∙◌, arith, length-append, drop, Bool, Some, None, Result, Ok, Err, IfOk, OnErr}
+use Rattle.std.proofs.lemmas.List.{append-nil}
+use mathlib.Core.List.{IsPrefix}
+use Rattle.edit_calls.specs.Answers.{Answer}
+use Rattle.edit_calls.specs.declared.call.Call.{Call}
+use Rattle.edit_calls.specs.declared.refused.CallRefused.{CallRefused}
+use Rattle.live_pair.proofs.FrontLemmas.{prefix_self, prefix_trans, rest_all}
+use Rattle.live_pair.proofs.SideLemmas.{admitted_rest, version_stands}
+use Rattle.live_pair.proofs.StoryLemmas.{all_edits, edits_more, staged_rest}
+use Rattle.live_pair.specs.Helps.Lines.{IsAdmin}
+use Rattle.live_pair.specs.Helps.Sides.{history}
+use Rattle.live_pair.specs.Story.{edits_in, publishes, unpublished}
+use Rattle.live_pair.specs.declared.edits.Event.{Event}
+use Rattle.live_pair.specs.declared.edits.Event.TheVariants.{Staged}
+use Rattle.perm_base.specs.declared.shapes.Shapes.{Shapes}
+use Rattle.policy_desk.specs.Answers.{desk_answer, pending_after}
+use Rattle.policy_desk.specs.Desks.{IsDesk, Work}
+use Rattle.policy_state.specs.Admitted.{AreAdmitted}
+use Rattle.policy_state.specs.States.{State, StandsFor, tables}
+use Rattle.policy_table.specs.Changes.{replay}
+use Rattle.policy_table.specs.Tables.{Policy}
+use Rattle.policy_table.specs.declared.change.Change.{Change}
+use Rattle.version_log.proofs.CallerLemmas.{replay_both, tables_after}
+use Rattle.version_log.specs.Log.{most_versions}
+
+-- edits that come behind a history are admitted there, and there are no more than there may be
+pub record CanStage (shapes : Shapes) (opening : Policy) (first : List (List Change)) (log : List Event) (es : List (List Change)) : Type 0 where
+  pub admitted : AreAdmitted shapes (replay (history first log) opening) es
+  pub few : length (history first log) + length es ≤ most_versions
+
+-- the pending edits that were not handed over yet are such ones
+pub can_stage : (shapes : Shapes) (opening : Policy) (first : List (List Change)) (log : List Event) (desk : Work) (es : List (List Change)) (w : ℕ) → IsDesk desk → desk.state.shapes ≡ shapes
+    → StandsFor desk.state opening (edits_in (publishes first log)) → IsPrefix (unpublished first log) desk.pending → w ≡ length (unpublished first log) → es ≡ drop w desk.pending
+    → CanStage shapes opening first log es
+can_stage shapes opening first log desk es w kept same stands begun count is =
+    let done : List (List Change) = edits_in (publishes first log) in
+    let rest : List (List Change) = unpublished first log in
+    let all : rest ++ es ≡ desk.pending = ap (λ (l : List (List Change)). rest ++ l) (is ∙ ap (λ (n : ℕ). drop n desk.pending) count) ∙ rest_all rest desk.pending begun in
+    let here : AreAdmitted shapes (tables desk.state) (rest ++ es)
+    = subst (λ (s : Shapes). AreAdmitted s (tables desk.state) (rest ++ es)) same (subst (AreAdmitted desk.state.shapes (tables desk.state)) (sym all) kept.admitted) in
+    let base : replay rest (tables desk.state) ≡ replay (history first log) opening
+    = ap (replay rest) (tables_after desk.state.log opening done stands) ∙ sym (replay_both done rest opening) ∙ ap (λ (l : List (List Change)). replay l opening) (all_edits first log) in
+    record {
+      admitted = subst (λ (p : Policy). AreAdmitted shapes p es) base (admitted_rest shapes rest es (tables desk.state) here);
+      few = omega (arith, kept.few, version_stands desk.state.log opening done stands, ap (λ (l : List (List Change)). length l) all, length-append rest es, ap (λ (l : List (List Change)). length l) (all_edits first log), length-append done rest);
+    }
+
+-- the desk's policy behind one publish more
+pub stands_more : (opening : Policy) (list : List (List (List Change))) (es : List (List Change)) (state new : State) → StandsFor state opening (edits_in list)
+    → ((opening : Policy) (history : List (List Change)) → StandsFor state opening history → StandsFor new opening (history ++ es)) → StandsFor new opening (edits_in (list ++ es ∷ []))
+stands_more opening list es state new stands made = subst (StandsFor new opening) (sym (edits_more list es)) (made opening (edits_in list) stands)
+
+-- ---- what an administrator keeps behind a call
+
+-- the pending edits behind a call begin with those before
+pending_grows : (answered : Answer) (pending : List (List Change)) → IsPrefix pending (pending_after answered pending)
+pending_grows (Ok (Some edit)) pending = (edit ∷ [], refl)
+pending_grows (Ok None) pending = prefix_self pending
+pending_grows (Err refused) pending = prefix_self pending
+
+begun_after : (answered : Answer) (before after : List (List Change)) (result : Result Bool CallRefused) → IfOk result (λ (_ : Bool). after ≡ pending_after answered before) → OnErr result (after ≡ before) → IsPrefix before after
+begun_after answered before after (Ok changed) made kept = subst (IsPrefix before) (sym made) (pending_grows answered before)
+begun_after answered before after (Err refused) made kept = subst (IsPrefix before) (sym kept) (prefix_self before)
+
+pub admin_called : (shapes : Shapes) (opening : Policy) (first : List (List Change)) (line : List Event) (list : List (List (List Change))) (desk new : Work) (call : Call) (result : Result Bool CallRefused)
+    → IsAdmin shapes opening first line list desk → new.state ≡ desk.state
+    → IfOk result (λ (_ : Bool). new.pending ≡ pending_after (desk_answer desk call) desk.pending) → OnErr result (new.pending ≡ desk.pending)
+    → IsAdmin shapes opening first line list new
+admin_called shapes opening first line list desk new call result is same made kept = record {
+  list_is = is.list_is;
+  begun = prefix_trans (unpublished first line) desk.pending new.pending is.begun (begun_after (desk_answer desk call) desk.pending new.pending result made kept);
+  shapes_are = ap (λ (s : State). s.shapes) same ∙ is.shapes_are;
+  stands = subst (λ (s : State). StandsFor s opening (edits_in list)) (sym same) is.stands;
+}
+
+-- ---- where edits are handed over, behind a look at the history
+
+-- what was seen is the history, and the edits are the pending ones that it lacks
+pub record Lacks (first : List (List Change)) (old seen : List Event) (es pending : List (List Change)) : Type 0 where
+  pub same : seen ≡ old
+  pub begun : IsPrefix (unpublished first old) pending
+  pub edits_are : es ≡ drop (length (unpublished first old)) pending
+
+pub lacks : (first : List (List Change)) (old log seen : List Event) (es given pending : List (List Change)) (w : ℕ) → log ≡ old → seen ≡ log → IsPrefix (unpublished first old) pending
+    → w ≡ length (unpublished first log) → es ≡ drop w given → given ≡ pending → Lacks first old seen es pending
+lacks first old log seen es given pending w same again begun count is all = record {
+  same = again ∙ same;
+  begun = begun;
+  edits_are = is ∙ ap (drop w) all ∙ ap (λ (n : ℕ). drop n pending) (count ∙ ap (λ (l : List Event). length (unpublished first l)) same);
+}
+
+pub can_stage_here : (shapes : Shapes) (opening : Policy) (first : List (List Change)) (old seen : List Event) (desk : Work) (es : List (List Change)) → Lacks first old seen es desk.pending
+    → IsDesk desk → desk.state.shapes ≡ shapes → StandsFor desk.state opening (edits_in (publishes first old)) → CanStage shapes opening first seen es
+can_stage_here shapes opening first old seen desk es is kept same stands =
+    subst (λ (l : List Event). CanStage shapes opening first l es) (sym is.same)
+    (can_stage shapes opening first old desk es (length (unpublished first old)) kept same stands is.begun refl is.edits_are)
+
+-- behind them nothing pending is lacking
+pub begun_here : (first : List (List Change)) (old seen next last : List Event) (es pending : List (List Change)) → Lacks first old seen es pending → next ≡ seen ++ Staged es ∷ [] → last ≡ next
+    → IsPrefix (unpublished first last) pending
+begun_here first old seen next last es pending is more again =
+    let whole : unpublished first next ≡ pending = staged_rest first old next es pending (length (unpublished first old)) is.begun refl is.edits_are (more ∙ ap (λ (l : List Event). l ++ Staged es ∷ []) is.same) in
+    ([], append-nil (unpublished first last) ∙ ap (λ (l : List Event). unpublished first l) again ∙ whole)
+
+-- ---- what an administrator keeps behind a publish
+
+-- a policy behind edits stands for these too
+abbrev pub Follows : State → State → List (List Change) → Type 0
+Follows state new es = (opening : Policy) (history : List (List Change)) → StandsFor state opening history → StandsFor new opening (history ++ es)
+
+pub admin_published : (shapes : Shapes) (opening : Policy) (first : List (List Change)) (old given line : List Event) (list front last : List (List (List Change))) (desk ready new : Work)
+    → IsAdmin shapes opening first old list desk → ready.state.shapes ≡ desk.state.shapes → StandsFor ready.state opening (edits_in list)
+    → publishes first given ≡ publishes first old → unpublished first given ≡ ready.pending → front ≡ publishes first given ++ unpublished first given ∷ []
+    → publishes first line ≡ front → unpublished first line ≡ [] → last ≡ front
+    → new.state.shapes ≡ ready.state.shapes → Follows ready.state new.state ready.pending → new.pending ≡ [] → IsAdmin shapes opening first line last new
+admin_published shapes opening first old given line list front last desk ready new is same stands done rest shown out none again kept made empty =
+    let more : last ≡ list ++ ready.pending ∷ [] = again ∙ shown ∙ ap (λ (l : List (List (List Change))). l ++ unpublished first given ∷ []) (done ∙ is.list_is) ∙ ap (λ (p : List (List Change)). list ++ p ∷ []) rest in
+    record {
+      list_is = out ∙ sym again;
+      begun = ([], append-nil (unpublished first line) ∙ none ∙ sym empty);
+      shapes_are = kept ∙ same ∙ is.shapes_are;
+      stands = subst (λ (l : List (List (List Change))). StandsFor new.state opening (edits_in l)) (sym more) (stands_more opening list ready.pending ready.state new.state stands made);
+    }

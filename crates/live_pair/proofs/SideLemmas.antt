@@ -1,0 +1,138 @@
+-- What a copy stands for behind one event more, and which edits it can take.
+use Rattle.std.proofs.Common.{◌≡◌, ℕ, ◌+◌, ◌-◌, ◌≤◌, List, [], ◌∷◌, ◌++◌, length, ap, sym, subst, ◌∙◌, arith, append_assoc, length-append, length-drop, Bool, true, false, MatchBool, drop, take}
+use Rattle.std.proofs.lemmas.List.{append-nil}
+use Rattle.live_pair.proofs.StoryLemmas.{all_edits, handed_both}
+use Rattle.live_pair.specs.Helps.Sides.{AreGiven, IsUpTo, handed, history}
+use Rattle.live_pair.specs.Story.{edits_in, publishes, unpublished}
+use Rattle.live_pair.specs.declared.edits.Event.{Event}
+use Rattle.live_pair.specs.declared.edits.Event.TheVariants.{Staged, Publish}
+use Rattle.perm_base.specs.declared.shapes.Shapes.{Shapes}
+use Rattle.policy_state.specs.Admitted.{AreAdmitted}
+use Rattle.policy_state.specs.States.{State, StandsFor, tables}
+use Rattle.policy_table.specs.Changes.{edited, replay}
+use Rattle.policy_table.specs.Tables.{Policy}
+use Rattle.policy_table.specs.declared.change.Change.{Change}
+use Rattle.version_log.proofs.CallerLemmas.{replay_both, tables_after}
+use Rattle.version_log.specs.Log.{Logged, Stands, most_versions, versions}
+
+-- ---- edits that are admitted one after the other
+
+pub admitted_rest : (shapes : Shapes) (front back : List (List Change)) (policy : Policy) → AreAdmitted shapes policy (front ++ back) → AreAdmitted shapes (replay front policy) back
+admitted_rest shapes [] back policy all = all
+admitted_rest shapes (edit ∷ front) back policy all = admitted_rest shapes front back (edited edit policy) all.1
+
+admitted_both : (shapes : Shapes) (front back : List (List Change)) (policy : Policy) → AreAdmitted shapes policy front → AreAdmitted shapes (replay front policy) back → AreAdmitted shapes policy (front ++ back)
+admitted_both shapes [] back policy one other = other
+admitted_both shapes (edit ∷ front) back policy one other = (one.0, admitted_both shapes front back (edited edit policy) one.1 other)
+
+-- ---- all edits of a history behind one event more
+
+pub history_staged : (first : List (List Change)) (log next : List Event) (es : List (List Change)) → next ≡ log ++ Staged es ∷ [] → history first next ≡ history first log ++ es
+history_staged first log next es more =
+    ap (history first) more
+    ∙ ap (λ (l : List (List Change)). first ++ l) (handed_both log (Staged es ∷ []) ∙ ap (λ (l : List (List Change)). handed log ++ l) (append-nil es))
+    ∙ sym (append_assoc first (handed log) es)
+
+pub history_published : (first : List (List Change)) (log next : List Event) → next ≡ log ++ Publish ∷ [] → history first next ≡ history first log
+history_published first log next more =
+    ap (history first) more ∙ ap (λ (l : List (List Change)). first ++ l) (handed_both log (Publish ∷ []) ∙ append-nil (handed log))
+
+-- ---- what is known of every beginning
+
+pub given_none : (shapes : Shapes) (opening : Policy) (first : List (List Change)) → length first ≤ most_versions → AreGiven shapes opening first []
+given_none shapes opening first few = record {
+  admitted = tt;
+  few = omega (arith, few, ap (λ (l : List (List Change)). length l) (append-nil first));
+}
+
+pub given_staged : (shapes : Shapes) (opening : Policy) (first : List (List Change)) (log next : List Event) (es : List (List Change)) → next ≡ log ++ Staged es ∷ [] → AreGiven shapes opening first log
+    → AreAdmitted shapes (replay (history first log) opening) es → length (history first log) + length es ≤ most_versions → AreGiven shapes opening first next
+given_staged shapes opening first log next es more given admitted few =
+    let new : handed next ≡ handed log ++ es = ap handed more ∙ handed_both log (Staged es ∷ []) ∙ ap (λ (l : List (List Change)). handed log ++ l) (append-nil es) in
+    let here : AreAdmitted shapes (replay (handed log) (replay first opening)) es = subst (λ (p : Policy). AreAdmitted shapes p es) (replay_both first (handed log) opening) admitted in
+    record {
+      admitted = subst (AreAdmitted shapes (replay first opening)) (sym new) (admitted_both shapes (handed log) es (replay first opening) given.admitted here);
+      few = omega (arith, few, ap (λ (l : List (List Change)). length l) (history_staged first log next es more), length-append (history first log) es);
+    }
+
+pub given_published : (shapes : Shapes) (opening : Policy) (first : List (List Change)) (log next : List Event) → next ≡ log ++ Publish ∷ [] → AreGiven shapes opening first log → AreGiven shapes opening first next
+given_published shapes opening first log next more given =
+    let new : handed next ≡ handed log = ap handed more ∙ handed_both log (Publish ∷ []) ∙ append-nil (handed log) in
+    record {
+      admitted = subst (AreAdmitted shapes (replay first opening)) (sym new) given.admitted;
+      few = omega (arith, given.few, ap (λ (l : List (List Change)). length l) (history_published first log next more));
+    }
+
+-- ---- what a policy stands for
+
+-- its version is the number of edits
+pub version_stands : (log : Logged) (opening : Policy) (edits : List (List Change)) → Stands log opening edits → versions log ≡ length edits
+version_stands log opening edits stands =
+    let size : length log.tail ≡ length edits - log.start = ap (λ (l : List (List Change)). length l) stands.tail ∙ length-drop log.start edits in
+    omega (arith, size, stands.within)
+
+-- a log as it was
+pub stands_same : (log new : Logged) (opening : Policy) (edits : List (List Change)) → new.start ≡ log.start → new.base ≡ log.base → new.tail ≡ log.tail → Stands log opening edits → Stands new opening edits
+stands_same log new opening edits start base tail stands = record {
+  within = omega (arith, stands.within, start);
+  base = base ∙ stands.base ∙ ap (λ (n : ℕ). replay (take n edits) opening) (sym start);
+  tail = tail ∙ stands.tail ∙ ap (λ (n : ℕ). drop n edits) (sym start);
+}
+
+-- a log that starts at 0 stands for its edits
+pub stands_opened : (log : Logged) (opening : Policy) (first : List (List Change)) → log.start ≡ 0 → log.base ≡ opening → log.tail ≡ first → Stands log opening first
+stands_opened log opening first start base tail = record {
+  within = omega (arith, start);
+  base = base ∙ ap (λ (n : ℕ). replay (take n first) opening) (sym start);
+  tail = tail ∙ ap (λ (n : ℕ). drop n first) (sym start);
+}
+
+pub up_to_opened : (shapes : Shapes) (opening : Policy) (first : List (List Change)) (state : State) → state.shapes ≡ shapes → state.log.start ≡ 0 → state.log.base ≡ opening → state.log.tail ≡ first → IsUpTo shapes opening first [] state
+up_to_opened shapes opening first state same start base tail = record {
+  shapes_are = same;
+  stands = subst (StandsFor state opening) (sym (append-nil first)) (stands_opened state.log opening first start base tail);
+}
+
+-- ---- the edits that come next can be made in a copy
+
+pub record CanMake (state : State) (es : List (List Change)) : Type 0 where
+  pub admitted : AreAdmitted state.shapes (tables state) es
+  pub few : versions state.log + length es ≤ most_versions
+
+pub can_make : (shapes : Shapes) (opening : Policy) (first : List (List Change)) (log next : List Event) (es : List (List Change)) (state : State) → next ≡ log ++ Staged es ∷ []
+    → AreGiven shapes opening first next → IsUpTo shapes opening first log state → CanMake state es
+can_make shapes opening first log next es state more given up =
+    let new : handed next ≡ handed log ++ es = ap handed more ∙ handed_both log (Staged es ∷ []) ∙ ap (λ (l : List (List Change)). handed log ++ l) (append-nil es) in
+    let rest : AreAdmitted shapes (replay (handed log) (replay first opening)) es = admitted_rest shapes (handed log) es (replay first opening) (subst (AreAdmitted shapes (replay first opening)) new given.admitted) in
+    let here : replay (handed log) (replay first opening) ≡ tables state = sym (replay_both first (handed log) opening) ∙ sym (tables_after state.log opening (history first log) up.stands) in
+    record {
+      admitted = subst (λ (s : Shapes). AreAdmitted s (tables state) es) (sym up.shapes_are) (subst (λ (p : Policy). AreAdmitted shapes p es) here rest);
+      few = omega (arith, given.few, version_stands state.log opening (history first log) up.stands, ap (λ (l : List (List Change)). length l) (history_staged first log next es more), length-append (history first log) es);
+    }
+
+-- and leave one that stands for them too
+pub up_to_staged : (shapes : Shapes) (opening : Policy) (first : List (List Change)) (log next : List Event) (es : List (List Change)) (state new : State) → next ≡ log ++ Staged es ∷ []
+    → new.shapes ≡ state.shapes → ((opening : Policy) (history : List (List Change)) → StandsFor state opening history → StandsFor new opening (history ++ es))
+    → IsUpTo shapes opening first log state → IsUpTo shapes opening first next new
+up_to_staged shapes opening first log next es state new more same made up = record {
+  shapes_are = same ∙ up.shapes_are;
+  stands = subst (StandsFor new opening) (sym (history_staged first log next es more)) (made opening (history first log) up.stands);
+}
+
+pub up_to_published : (shapes : Shapes) (opening : Policy) (first : List (List Change)) (log next : List Event) (state : State) → next ≡ log ++ Publish ∷ []
+    → IsUpTo shapes opening first log state → IsUpTo shapes opening first next state
+up_to_published shapes opening first log next state more up = record {
+  shapes_are = up.shapes_are;
+  stands = subst (StandsFor state opening) (sym (history_published first log next more)) up.stands;
+}
+
+pub up_to_maybe : (shapes : Shapes) (opening : Policy) (first : List (List Change)) (log next : List Event) (state : State) (done : Bool) → MatchBool done (next ≡ log ++ Publish ∷ []) (next ≡ log)
+    → IsUpTo shapes opening first log state → IsUpTo shapes opening first next state
+up_to_maybe shapes opening first log next state true is up = up_to_published shapes opening first log next state is up
+up_to_maybe shapes opening first log next state false is up = subst (λ (l : List Event). IsUpTo shapes opening first l state) (sym is) up
+
+-- where every edit is in a publish
+pub stands_whole : (opening : Policy) (first : List (List Change)) (log : List Event) (state : State) → unpublished first log ≡ [] → StandsFor state opening (history first log) → StandsFor state opening (edits_in (publishes first log))
+stands_whole opening first log state none stands =
+    subst (StandsFor state opening)
+    (sym (all_edits first log) ∙ ap (λ (l : List (List Change)). edits_in (publishes first log) ++ l) none ∙ append-nil (edits_in (publishes first log))) stands

@@ -1,0 +1,17 @@
+use Rattle.std.proofs.Common.{◌≡◌, [], List, sym, ap, subst, ◌∙◌}
+use Rattle.live_pair.proofs.SideLemmas.{stands_whole}
+use Rattle.live_pair.specs.Seats.{Way}
+use Rattle.live_pair.specs.Story.{edits_in, publishes, unpublished}
+use Rattle.live_pair.specs.declared.edits.Event.{Event}
+use Rattle.policy_state.specs.States.{StandsFor}
+use Rattle.policy_table.specs.declared.change.Change.{Change}
+use Rattle.live_pair.proofs.entrance.Inside.state.Goals as goal
+
+pub returns-clause-stands : goal.returns-clause-stands
+returns-clause-stands g c =
+    let first = g.J.Naming.first in
+    let opening = g.J.Naming.opening in
+    let log : List Event = c.get.result.now in
+    let none : unpublished first log ≡ [] = subst (λ (l : List Event). unpublished first l ≡ []) (sym c.get.ensures) c.self.invariant.1 in
+    let front : publishes first log ≡ c.args.self.now.front = ap (λ (l : List Event). publishes first l) c.get.ensures ∙ sym c.self.invariant.0 ∙ ap (λ (w : Way). w.front) c.self.view_is in
+    subst (λ (f : List (List (List Change))). StandsFor c.state.result.now opening (edits_in f)) front (stands_whole opening first log c.state.result.now none c.state.ensures.stands)

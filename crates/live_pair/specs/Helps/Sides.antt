@@ -1,0 +1,43 @@
+-- What a copy stands for, and what is known of every beginning of the history.
+use Rattle.std.specs.Prelude.{◌≡◌, ℕ, ◌≤◌, List, [], ◌∷◌, ◌++◌, length, fold, Option, Some, None}
+use Rattle.live_pair.specs.Story.{edits_in, publishes, unpublished}
+use Rattle.live_pair.specs.declared.edits.Event.{Event}
+use Rattle.live_pair.specs.declared.edits.Event.TheVariants.{Staged, Publish}
+use Rattle.perm_base.specs.declared.shapes.Shapes.{Shapes}
+use Rattle.policy_state.specs.Admitted.{AreAdmitted}
+use Rattle.policy_state.specs.States.{State, StandsFor}
+use Rattle.policy_table.specs.Changes.{replay}
+use Rattle.policy_table.specs.Tables.{Policy}
+use Rattle.policy_table.specs.declared.change.Change.{Change}
+use Rattle.version_log.specs.Log.{most_versions}
+
+-- the last event
+abbrev pub ending : List Event → Option Event
+ending log = fold (λ _ event. Some event) None log
+
+-- the edits that were handed over, in publishes or not
+abbrev pub handed : List Event → List (List Change)
+handed [] = []
+handed (Staged edits ∷ log) = edits ++ handed log
+handed (Publish ∷ log) = handed log
+
+-- all edits, those of the policy that was opened first
+abbrev pub history : List (List Change) → List Event → List (List Change)
+history first log = first ++ handed log
+
+-- each edit that was handed over is admitted in the tables before it, and there are no more than there may be
+pub record AreGiven (shapes : Shapes) (opening : Policy) (first : List (List Change)) (log : List Event) : Type 0 where
+  pub admitted : AreAdmitted shapes (replay first opening) (handed log)
+  pub few : length (history first log) ≤ most_versions
+
+-- the numbers of a history
+pub record AreCounted (first : List (List Change)) (log : List Event) (entries parts waiting version : ℕ) : Type 0 where
+  pub entries_are : entries ≡ length log
+  pub parts_are : parts ≡ length (publishes first log)
+  pub waiting_is : waiting ≡ length (unpublished first log)
+  pub version_is : version ≡ length (edits_in (publishes first log))
+
+-- a policy has these shapes, and stands for all edits of a history
+pub record IsUpTo (shapes : Shapes) (opening : Policy) (first : List (List Change)) (log : List Event) (state : State) : Type 0 where
+  pub shapes_are : state.shapes ≡ shapes
+  pub stands : StandsFor state opening (history first log)

@@ -1,0 +1,5 @@
+pub mod Story
+pub mod Seats
+pub mod Admins
+pub mod Life
+pub mod Helps

@@ -1,0 +1,29 @@
+//! A pair of copies of a policy: one administrator edits and publishes, while seats read what is published without a lock.
+#![tactic(auto)]
+
+mod admin;
+mod book;
+mod edits;
+mod entrance;
+mod front;
+mod laws;
+mod line;
+mod naming;
+mod opening;
+mod places;
+mod seat;
+mod side;
+mod told;
+
+pub use admin::{Admin, AdminOver};
+pub use book::Opened;
+pub use entrance::Entrance;
+pub use front::Front;
+pub use laws::{administrators_live, entries_are_legal, publishes_are_counted};
+pub use naming::Naming;
+pub use opening::open_pair;
+pub use places::{ListPlaces, Places, Refused};
+pub use seat::{Entered, Seat, Shut};
+
+#[cfg(test)]
+mod tests;

@@ -1,0 +1,178 @@
+//! The value of which there are two copies.
+ghost use Rattle.std.specs.Prelude.{◌≡◌, ◌+◌, ◌≤◌, ◌++◌, [], IfSome, List, OnErr, OnOk, Some, length};
+ghost use Rattle.live_pair.specs.Helps.Sides.{IsUpTo, ending};
+ghost use Rattle.live_pair.specs.Story.{edits_in, publishes, unpublished};
+ghost use Rattle.live_pair.specs.declared.edits.Event.TheVariants.{Staged};
+ghost use Rattle.policy_state.specs.Admitted.{AreAdmitted};
+ghost use Rattle.policy_state.specs.States.{StandsFor, tables};
+ghost use Rattle.policy_table.specs.Tables.{Policy};
+ghost use Rattle.policy_table.specs.declared.change.Change.{Change};
+ghost use Rattle.version_log.specs.Log.{most_versions, versions};
+
+use crate::book::Head;
+use crate::edits::Edits;
+use crate::front::Front;
+use crate::naming::Naming;
+use crate::told::Told;
+use left_right::Absorb;
+use perm_base::NoMemory;
+use policy_state::PolicyState;
+use policy_table::Edit;
+use std::alloc::{AllocError, Global};
+use std::marker::Model;
+use std::sync::Arc;
+
+/// What goes to a copy: some further edits, the history up to them, and the version at which the copy's log may start.
+#[derive(Drop)]
+pub struct Op<J: Naming> {
+    edits: Edits,
+    told: Told<J>,
+    start: u32,
+    ghost last: { ending told ≡ Some (Staged edits) },
+}
+
+/// A copy: a policy, and the history that it stands for. Contracts see the history.
+#[derive(Drop)]
+pub struct Side<J: Naming> {
+    alloc: Global,
+    state: PolicyState,
+    told: Told<J>,
+    head: Arc<Head<J>>,
+}
+
+impl<J: Naming> Model for Side<J> {
+    ghost use Rattle.std.specs.Prelude.{List};
+    ghost use Rattle.live_pair.specs.declared.edits.Event.{Event};
+    ghost use Rattle.live_pair.specs.Helps.Sides.{IsUpTo};
+
+    ghost Value = { List Event };
+
+    ghost view = { λ s. s.told };
+
+    ghost invariant = { λ s. IsUpTo J.shapes J.opening J.first s.told s.state };
+}
+
+impl<J: Naming> Absorb<Op<J>> for Side<J> {
+    type State = ();
+
+    ghost state = { λ _. tt };
+
+    ghost applied = { λ s _. s };
+
+    /// The last operation of all makes the publish, at the moment when nothing can fail any more.
+    fn absorb_first(&mut self, operation: &Op<J>, _other: &Side<J>) -> Result<(), AllocError> {
+        self.take(operation)?;
+        self.publish();
+        Ok(())
+    }
+
+    /// The publish was made by the other copy.
+    fn absorb_second(&mut self, operation: Op<J>, other: &Side<J>) -> Result<(), Op<J>> {
+        match self.take(&operation) {
+            Ok(()) => {
+                self.follow(other);
+                Ok(())
+            }
+            Err(_) => Err(operation),
+        }
+    }
+}
+
+impl<J: Naming> Op<J> {
+    pub(crate) fn new(edits: Edits, told: Told<J>, start: u32) -> Op<J>
+        requires { ending told ≡ Some (Staged edits) }
+    {
+        Op { edits, told, start }
+    }
+}
+
+impl<J: Naming> Side<J> {
+    pub(crate) fn new(
+        alloc: Global,
+        state: PolicyState,
+        told: Told<J>,
+        head: Arc<Head<J>>,
+    ) -> Side<J>
+        requires { IsUpTo J.shapes J.opening J.first told state }
+        ensures { result ≡ told }
+    {
+        Side {
+            alloc,
+            state,
+            told,
+            head,
+        }
+    }
+
+    /// The history that it stands for.
+    pub(crate) fn told(&self) -> &Told<J>
+        ensures { result.now ≡ self.now }
+    {
+        &self.told
+    }
+
+    /// The policy, which stands for the history.
+    pub(crate) fn state(&self) -> &PolicyState
+        ensures { IsUpTo J.shapes J.opening J.first self.now result.now }
+    {
+        &self.state
+    }
+
+    /// The front that it stands for, if each edit of it is in a publish.
+    pub(crate) fn front(&self) -> Option<Front<J>>
+        ensures front { IfSome result (λ front. front ≡ publishes J.first self.now) }
+        ensures whole { IfSome result (λ _. unpublished J.first self.now ≡ []) }
+    {
+        if self.told.waiting() > 0 {
+            return None;
+        }
+        Some(Front::new(self.told.again()))
+    }
+
+    // Makes the edits, unless it has them.
+    fn take(&mut self, operation: &Op<J>) -> Result<(), AllocError> {
+        if operation.told.begins(&self.told) {
+            return Ok(());
+        }
+        if !self.told.is_one_short_of(&operation.told) {
+            return Err(AllocError);
+        }
+        operation.told.kept();
+        let edits = operation.edits.as_slice();
+        let Ok(()) = make(&mut self.state, self.alloc, edits, operation.start) else {
+            return Err(AllocError);
+        };
+        self.told = operation.told.again();
+        Ok(())
+    }
+
+    // Makes a publish, unless the history went on.
+    fn publish(&mut self) {
+        self.told.publish(&self.head);
+    }
+
+    // Takes the publish that the other made.
+    fn follow(&mut self, other: &Side<J>) {
+        if self.told.is_published_in(&other.told) {
+            self.told = other.told.again();
+        }
+    }
+}
+
+// Makes edits in a policy, all or none, and lets its log start at a version, as far as it can.
+fn make(state: &mut PolicyState, alloc: Global, edits: &[Edit], start: u32) -> Result<(), NoMemory>
+    requires admitted { AreAdmitted state.old.shapes (tables state.old) edits.now }
+    requires few { versions state.old.log + length edits.now ≤ most_versions }
+    ensures shapes { state.new.shapes ≡ state.old.shapes }
+    ensures stands { OnOk result ((opening : Policy) (history : List (List Change))
+        → StandsFor state.old opening history
+        → StandsFor state.new opening (history ++ edits.now)) }
+    ensures refused { OnErr result ((opening : Policy) (history : List (List Change))
+        → StandsFor state.old opening history
+        → StandsFor state.new opening history) }
+{
+    let start = start.min(state.version()).max(state.start());
+    let prepared = state.prepare(alloc, edits, start)?;
+    state.commit(prepared);
+    Ok(())
+}

@@ -1,0 +1,6 @@
+mod RequestLemmas
+mod StepLemmas
+mod QueryLemmas
+mod PublishLemmas
+mod PlainLemmas
+pub mod CallerLemmas

@@ -1,0 +1,76 @@
+ghost use Rattle.std.specs.Prelude.{◌≡◌, IfOk, None, OnErr};
+ghost use Rattle.regex_gate.specs.Refusals.{IsUsed};
+ghost use Rattle.script_read.specs.Said.{asks, reading, seen};
+ghost use Rattle.enforce_core.specs.Programs.{Suits};
+ghost use Rattle.live_round.specs.Steps.{IsStep, IsStopped};
+
+use crate::calling::{answer_call, answer_keep, answer_publish};
+use crate::querying::{
+    answer_has, answer_history, answer_roles, answer_rows, answer_sync, answer_users,
+};
+use crate::request::answer_request;
+use answer_lines::Answer;
+use enforce_core::{Program, Scratch};
+use perm_base::NoMemory;
+use policy_desk::Desk;
+use regex_gate::{Finder, uses_add_up};
+use script_read::{Asked, Item};
+use std::alloc::Global;
+
+/// Answers one item of a script at a desk, and does what it says: requests and queries are answered by the published policy,
+/// calls by the drafts (Casbin, enforce and management API). Refused is want of memory alone: then nothing is done, but that a
+/// publish may have raised the version before which edits may be let go.
+pub fn answer_item<P: Finder>(
+    alloc: Global,
+    desk: &mut Desk,
+    program: &Program,
+    item: &Item,
+    finder: &mut P,
+    scratch: &mut Scratch,
+) -> Result<Answer, NoMemory>
+    requires suits { Suits program.now desk.old.state.shapes }
+    ensures step { IfOk result (IsStep program.now (P.refusals finder.old)
+        (P.refusals finder.new) (seen item.now) desk.old desk.new) }
+    ensures shapes { desk.new.state.shapes ≡ desk.old.state.shapes }
+    ensures stopped { OnErr result (IsStopped desk.old desk.new) }
+    ensures used { IsUsed (P.refusals finder.old) (P.refusals finder.new) None }
+{
+    uses_add_up();
+    match item {
+        Item::Ask(asked) => answer_ask(alloc, desk, program, asked, finder, scratch),
+        Item::Edit(call) => answer_call(alloc, desk, call),
+        Item::Publish => answer_publish(alloc, desk),
+        Item::Sync => Ok(answer_sync(desk)),
+        Item::Has { table, rule } => answer_has(desk, *table, rule),
+        Item::Rows { table, at, values } => answer_rows(alloc, desk, *table, *at, values),
+        Item::Roles {
+            relation,
+            name,
+            domain,
+        } => answer_roles(alloc, desk, *relation, name, domain),
+        Item::Users {
+            relation,
+            name,
+            domain,
+        } => answer_users(alloc, desk, *relation, name, domain),
+        Item::Keep(count) => Ok(answer_keep(desk, *count)),
+        Item::History(number) => answer_history(alloc, desk, *number),
+    }
+}
+
+// Answers a line of requests by the published policy.
+fn answer_ask<P: Finder>(
+    alloc: Global,
+    desk: &Desk,
+    program: &Program,
+    asked: &Asked,
+    finder: &mut P,
+    scratch: &mut Scratch,
+) -> Result<Answer, NoMemory>
+    requires suits { Suits program.now desk.now.state.shapes }
+    ensures step { IfOk result (IsStep program.now (P.refusals finder.old)
+        (P.refusals finder.new) (asks (reading asked.now)) desk.now desk.now) }
+    ensures used { IsUsed (P.refusals finder.old) (P.refusals finder.new) None }
+{
+    answer_request(alloc, desk.state(), program, asked, finder, scratch)
+}

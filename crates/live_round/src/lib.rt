@@ -1,0 +1,15 @@
+//! Sessions: scripts that are answered at a desk, each item in its turn.
+#![tactic(auto)]
+
+mod calling;
+mod item;
+mod named;
+mod plain;
+mod querying;
+mod request;
+
+pub use answer_lines::{Answer, Line, Lines};
+pub use item::answer_item;
+pub use named::named_rule;
+pub use plain::run_plain;
+pub use request::answer_request;

@@ -1,0 +1,14 @@
+use Rattle.std.proofs.Common.{arith}
+use Rattle.role_graph.specs.Helps.Kept.{linked_of}
+use Rattle.role_graph.specs.Helps.Roles.{nodes_of}
+use Rattle.role_graph.proofs.Linking.{begun_anew, begun_stays}
+use Rattle.role_graph.proofs.closure.begin.Goals as goal
+
+pub returns-then-links_stay-clause-begun : goal.returns-then-links_stay-clause-begun
+returns-then-links_stay-clause-begun c =
+    begun_stays (linked_of c.args.links.now) (nodes_of c.args.roles.now) c.args.touched c.args.square.now.cells (c.requires.before c.if-whole.true) (c.links_stay.ensures c.if-links_stay.true)
+
+pub returns-clause-begun : goal.returns-clause-begun
+returns-clause-begun c =
+    begun_anew (linked_of c.args.links.now) (nodes_of c.args.roles.now) c.nodes_from.result c.clear.new.square.cells (λ a within. c.nodes_from.ensures a (omega arith) within) c.requires.few
+    (omega (arith, c.clear.ensures.long, c.shrink.ensures.few, c.len.ensures.count)) c.clear.ensures.closed c.clear.ensures.none

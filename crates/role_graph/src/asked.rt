@@ -1,0 +1,130 @@
+//! What is asked of a graph whose distances are kept.
+
+ghost use Rattle.std.specs.Prelude.{◌≡◌, ◌+◌, ◌<◌, ◌≤◌, ℕ, List, None, length};
+ghost use Rattle.std.specs.List.{Contains};
+ghost use Rattle.dist_rows.specs.Squares.{most_nodes};
+ghost use Rattle.role_meaning.specs.Distances.{IsFar, farthest};
+ghost use Rattle.role_meaning.specs.Least.{IsLeast};
+ghost use Rattle.role_graph.specs.Graph.{asked_rows, shape_of};
+ghost use Rattle.role_graph.specs.Groups.{rows_of};
+ghost use Rattle.role_graph.specs.Helps.Distances.{ReachesBy, ReachesByGroup, ReachesBySome};
+ghost use Rattle.role_graph.specs.Helps.Kept.{AreLinks, linked_of};
+ghost use Rattle.role_graph.specs.Helps.Roles.{nodes_of};
+ghost use Rattle.role_graph.specs.Helps.Squares.{AreNodes, IsExact, name_at};
+
+use crate::links::Links;
+use crate::roles::Roles;
+use dist_rows::{DistRows, Steps};
+use perm_base::Text;
+use std::sync::ledger::Ledger;
+
+/// What tells that there are more links than 254, or none at all.
+const TOO_FAR: u8 = 255;
+
+/// The least number of links by which the one name reaches the other, or 255 where it is above 254
+/// or there is none: one cell, or one for each row of a name that is no role.
+pub(crate) fn nearest<L: Ledger>(
+    links: &Links,
+    roles: &Roles,
+    square: &DistRows,
+    x: &[u8],
+    y: &[u8],
+    steps: &mut Steps<L>,
+) -> u8
+    requires nodes { AreNodes (linked_of links.now) (nodes_of roles.now) }
+    requires exact { IsExact (linked_of links.now) (nodes_of roles.now) square.now.cells }
+    requires few { length (nodes_of roles.now) ≤ most_nodes }
+    ensures far { IsFar (shape_of links.now.names) (rows_of (linked_of links.now).groups) None
+        x.now y.now result }
+    ensures steps { steps.old ≤ steps.new }
+    ensures few_steps { steps.new ≤ steps.old
+        + asked_rows links.now.names x.now (rows_of (linked_of links.now).groups) + 1 }
+{
+    if x == y {
+        return 0;
+    }
+    let Some(to) = roles.place_of(y) else {
+        return TOO_FAR;
+    };
+    match roles.place_of(x) {
+        Some(from) => square.cell(from as u32, to as u32, steps),
+        None => nearest_by_rows(links, roles, square, x, to, steps),
+    }
+}
+
+// The same for another name, by its rows.
+fn nearest_by_rows<L: Ledger>(
+    links: &Links,
+    roles: &Roles,
+    square: &DistRows,
+    x: &[u8],
+    to: usize,
+    steps: &mut Steps<L>,
+) -> u8
+    requires nodes { AreNodes (linked_of links.now) (nodes_of roles.now) }
+    requires exact { IsExact (linked_of links.now) (nodes_of roles.now) square.now.cells }
+    requires few { length (nodes_of roles.now) ≤ most_nodes }
+    requires to { to < length (nodes_of roles.now) }
+    ensures far { IsLeast farthest (λ far. ReachesByGroup (linked_of links.now) x.now
+        (name_at (nodes_of roles.now) to) (length (linked_of links.now).groups) far) result }
+    ensures steps { steps.old ≤ steps.new }
+    ensures few_steps { steps.new ≤ steps.old
+        + asked_rows links.now.names x.now (rows_of (linked_of links.now).groups) }
+{
+    let _few = links.len();
+    let mut least = TOO_FAR;
+    let mut place = 0;
+    while let Some(at) = links.next_fitting(x, place) {
+        least = least.min(nearest_by_roles(links, roles, square, links.roles_at(at), to, steps));
+        place = at + 1;
+    }
+    least
+}
+
+// The least number of links by way of some of the roles.
+fn nearest_by_roles<L: Ledger>(
+    links: &Links,
+    roles: &Roles,
+    square: &DistRows,
+    names: &[Text],
+    to: usize,
+    steps: &mut Steps<L>,
+) -> u8
+    requires exact { IsExact (linked_of links.now) (nodes_of roles.now) square.now.cells }
+    requires few { length (nodes_of roles.now) ≤ most_nodes }
+    requires to { to < length (nodes_of roles.now) }
+    requires roles { (role : List ℕ) → Contains names.now role
+        → Contains (nodes_of roles.now) role }
+    ensures far { IsLeast farthest (λ far. ReachesBySome (linked_of links.now) names.now
+        (name_at (nodes_of roles.now) to) far) result }
+    ensures steps { steps.new ≡ steps.old + length names.now }
+{
+    let mut least = TOO_FAR;
+    for name in names {
+        least = least.min(nearest_by_role(links, roles, square, name.bytes(), to, steps));
+    }
+    least
+}
+
+// The least number of links by way of a role.
+fn nearest_by_role<L: Ledger>(
+    _links: &Links,
+    roles: &Roles,
+    square: &DistRows,
+    name: &[u8],
+    to: usize,
+    steps: &mut Steps<L>,
+) -> u8
+    requires exact { IsExact (linked_of _links.now) (nodes_of roles.now) square.now.cells }
+    requires few { length (nodes_of roles.now) ≤ most_nodes }
+    requires to { to < length (nodes_of roles.now) }
+    requires role { Contains (nodes_of roles.now) name.now }
+    ensures far { IsLeast farthest (λ far. ReachesBy (linked_of _links.now) name.now
+        (name_at (nodes_of roles.now) to) far) result }
+    ensures steps { steps.new ≡ steps.old + 1 }
+{
+    let Some(from) = roles.place_of(name) else {
+        unreachable!()
+    };
+    square.cell(from as u32, to as u32, steps).saturating_add(1)
+}

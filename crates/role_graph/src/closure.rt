@@ -1,0 +1,242 @@
+//! The square of distances between the roles of a graph, after an edit.
+
+ghost use Rattle.std.specs.Prelude.{◌≡◌, ◌⊎◌, ◌+◌, ◌<◌, ◌≤◌, ◌↔◌, ℕ, [], IsTrue, length};
+ghost use Rattle.std.specs.List.{Contains};
+ghost use Rattle.dist_rows.specs.Squares.{IsSquare, cleared, most_nodes, widened};
+ghost use Rattle.role_graph.specs.Helps.Kept.{linked_of};
+ghost use Rattle.role_graph.specs.Helps.Roles.{nodes_of};
+ghost use Rattle.role_graph.specs.Helps.Squares.{AreNodes, Grows, IsBefore, IsBegun, IsClosed, IsExact, IsLinking, IsMarked, IsNear, IsNodeLink, name_at};
+
+use crate::inserting::{distance, insert_link};
+use crate::links::Links;
+use crate::roles::Roles;
+use crate::touching::{MOST_NODES, NodeMarks, nodes_from};
+use dist_rows::DistRows;
+use perm_base::Text;
+use std::alloc::Global;
+
+/// Makes the square follow an edit that was made: `whole` tells that no role is gone, and `touched`
+/// which nodes may have other links. Among more than 1,024 roles no distances are kept.
+pub(crate) fn refresh(
+    square: &mut DistRows,
+    alloc: Global,
+    links: &Links,
+    roles: &Roles,
+    whole: bool,
+    touched: NodeMarks,
+)
+    requires nodes { AreNodes (linked_of links.now) (nodes_of roles.now) }
+    requires before { IsTrue whole → length (nodes_of roles.now) ≤ most_nodes
+        → IsBefore (linked_of links.now) (nodes_of roles.now) touched square.old.cells }
+    requires room { length (nodes_of roles.now) ≤ most_nodes
+        → length (nodes_of roles.now) ≤ length square.old.cells + square.old.spare }
+    ensures exact { length (nodes_of roles.now) ≤ most_nodes
+        → IsExact (linked_of links.now) (nodes_of roles.now) square.new.cells }
+    ensures empty { most_nodes < length (nodes_of roles.now) → square.new.cells ≡ [] }
+{
+    if roles.len() > MOST_NODES {
+        *square = DistRows::empty(alloc);
+        return;
+    }
+    let touched = begin(square, links, roles, whole, touched);
+    widen(square, roles.len() as u32);
+    link_touched(square, links, roles, &touched);
+}
+
+// Leaves the square where no link is gone; else clears it, and all nodes are touched.
+fn begin(
+    square: &mut DistRows,
+    links: &Links,
+    roles: &Roles,
+    whole: bool,
+    touched: NodeMarks,
+) -> NodeMarks
+    requires few { length (nodes_of roles.now) ≤ most_nodes }
+    requires before { IsTrue whole
+        → IsBefore (linked_of links.now) (nodes_of roles.now) touched square.old.cells }
+    requires room { length (nodes_of roles.now) ≤ length square.old.cells + square.old.spare }
+    ensures begun { IsBegun (linked_of links.now) (nodes_of roles.now) result
+        square.new.cells }
+    ensures room { length (nodes_of roles.now) ≤ length square.new.cells + square.new.spare }
+{
+    if whole {
+        if links_stay(square, links, roles, &touched) {
+            return touched;
+        }
+    }
+    shrink(square, roles.len() as u32);
+    clear(square);
+    nodes_from(0)
+}
+
+// Whether the links of touched nodes that the square tells are links of the graph still.
+fn links_stay(square: &DistRows, links: &Links, roles: &Roles, touched: &NodeMarks) -> bool
+    requires few { length (nodes_of roles.now) ≤ most_nodes }
+    requires closed { IsClosed square.now.cells }
+    requires long { length square.now.cells ≤ length (nodes_of roles.now) }
+    ensures { IsTrue result → (a b : ℕ) → IsMarked touched.now a → IsNear square.now.cells a b
+        → (a ≡ b) ⊎ IsNodeLink (linked_of links.now) (nodes_of roles.now) a b }
+{
+    for node in 0..square.size() {
+        if !touched[node as usize] {
+            continue;
+        }
+        if !links_of_stay(square, links, roles, node) {
+            return false;
+        }
+    }
+    true
+}
+
+// The same for the links of one node.
+fn links_of_stay(square: &DistRows, links: &Links, roles: &Roles, node: u32) -> bool
+    requires closed { IsClosed square.now.cells }
+    requires long { length square.now.cells ≤ length (nodes_of roles.now) }
+    requires node { node < length square.now.cells }
+    ensures { IsTrue result → (b : ℕ) → IsNear square.now.cells node b
+        → (node ≡ b) ⊎ IsNodeLink (linked_of links.now) (nodes_of roles.now) node b }
+{
+    let name = roles.name_at(node as usize);
+    for other in 0..square.size() {
+        if distance(square, node, other) != 1 {
+            continue;
+        }
+        if !links.has_link(name, roles.name_at(other as usize)) {
+            return false;
+        }
+    }
+    true
+}
+
+// Takes the last nodes out, until there are no more than these.
+fn shrink(square: &mut DistRows, most: u32)
+    ensures few { length square.new.cells ≤ most }
+    ensures room { most ≤ length square.old.cells + square.old.spare
+        → most ≤ length square.new.cells + square.new.spare }
+{
+    'drop: while square.size() > most {
+        square.drop_node(square.size() - 1);
+    }
+}
+
+// Takes all links out.
+fn clear(square: &mut DistRows)
+    ensures long { length square.new.cells ≡ length square.old.cells }
+    ensures spare { square.new.spare ≡ square.old.spare }
+    ensures closed { IsClosed square.new.cells }
+    ensures none { (a b : ℕ) → IsNear square.new.cells a b → a ≡ b }
+{
+    for node in 0..square.size() {
+        clear_node(square, node);
+    }
+}
+
+// Takes the links of a node out.
+fn clear_node(square: &mut DistRows, node: u32)
+    requires { node < length square.old.cells }
+    ensures cells { square.new.cells ≡ cleared square.old.cells node }
+    ensures spare { square.new.spare ≡ square.old.spare }
+    ensures square { IsSquare square.new.cells }
+{
+    square.clear_row(node);
+    let _size = square.size();
+}
+
+// Adds nodes without links, until there are as many as these.
+fn widen(square: &mut DistRows, size: u32)
+    requires closed { IsClosed square.old.cells }
+    requires few { length square.old.cells ≤ size }
+    requires room { size ≤ length square.old.cells + square.old.spare }
+    ensures long { length square.new.cells ≡ size }
+    ensures grows { Grows (λ a b. a ≡ b) square.old.cells square.new.cells }
+{
+    'add: while square.size() < size {
+        add_node(square);
+    }
+}
+
+// Adds a node without links.
+fn add_node(square: &mut DistRows)
+    requires { 0 < square.old.spare }
+    ensures cells { square.new.cells ≡ widened square.old.cells }
+    ensures spare { square.new.spare + 1 ≡ square.old.spare }
+    ensures square { IsSquare square.new.cells }
+{
+    square.push_node();
+    let _size = square.size();
+}
+
+// Puts the links of touched nodes in.
+fn link_touched(square: &mut DistRows, links: &Links, roles: &Roles, touched: &NodeMarks)
+    requires nodes { AreNodes (linked_of links.now) (nodes_of roles.now) }
+    requires few { length (nodes_of roles.now) ≤ most_nodes }
+    requires linking { IsLinking (linked_of links.now) (nodes_of roles.now) touched.now 0
+        square.old.cells }
+    ensures { IsExact (linked_of links.now) (nodes_of roles.now) square.new.cells }
+{
+    for node in 0..square.size() {
+        if !touched[node as usize] {
+            continue;
+        }
+        link_node(square, links, roles, node);
+    }
+}
+
+// Puts the links of a node in.
+fn link_node(square: &mut DistRows, links: &Links, roles: &Roles, node: u32)
+    requires closed { IsClosed square.old.cells }
+    requires long { length square.old.cells ≡ length (nodes_of roles.now) }
+    requires few { length (nodes_of roles.now) ≤ most_nodes }
+    requires node { node < length square.old.cells }
+    ensures long { length square.new.cells ≡ length square.old.cells }
+    ensures grows { Grows (λ a b. (a ≡ node) × IsNodeLink (linked_of links.now)
+        (nodes_of roles.now) a b) square.old.cells square.new.cells }
+    ensures whole { (b : ℕ) → b < length (nodes_of roles.now)
+        → IsNodeLink (linked_of links.now) (nodes_of roles.now) node b
+        → IsNear square.new.cells node b }
+{
+    let _few = links.len();
+    let name = roles.name_at(node as usize);
+    let mut place = 0;
+    while let Some(at) = links.next_fitting(name, place) {
+        link_names(square, roles, node, links.roles_at(at));
+        place = at + 1;
+    }
+}
+
+// Puts links from a node to those of names in.
+fn link_names(square: &mut DistRows, roles: &Roles, node: u32, names: &[Text])
+    requires closed { IsClosed square.old.cells }
+    requires long { length square.old.cells ≡ length (nodes_of roles.now) }
+    requires few { length (nodes_of roles.now) ≤ most_nodes }
+    requires node { node < length square.old.cells }
+    ensures long { length square.new.cells ≡ length square.old.cells }
+    ensures grows { Grows (λ a b. (a ≡ node) × Contains names.now
+        (name_at (nodes_of roles.now) b)) square.old.cells square.new.cells }
+    ensures whole { (b : ℕ) → b < length (nodes_of roles.now)
+        → Contains names.now (name_at (nodes_of roles.now) b)
+        → IsNear square.new.cells node b }
+{
+    for name in names {
+        link_name(square, roles, node, name.bytes());
+    }
+}
+
+// Puts a link from a node to that of a name in.
+fn link_name(square: &mut DistRows, roles: &Roles, node: u32, name: &[u8])
+    requires closed { IsClosed square.old.cells }
+    requires long { length square.old.cells ≡ length (nodes_of roles.now) }
+    requires few { length (nodes_of roles.now) ≤ most_nodes }
+    requires node { node < length square.old.cells }
+    ensures long { length square.new.cells ≡ length square.old.cells }
+    ensures grows { Grows (λ a b. (a ≡ node) × (name_at (nodes_of roles.now) b ≡ name.now))
+        square.old.cells square.new.cells }
+    ensures whole { (b : ℕ) → b < length (nodes_of roles.now)
+        → name_at (nodes_of roles.now) b ≡ name.now
+        → IsNear square.new.cells node b }
+{
+    let Some(to) = roles.place_of(name) else {
+        return;
+    };
+    insert_link(square, node, to as u32);
+}

@@ -1,0 +1,6 @@
+pub mod Parts
+pub mod Statuses
+pub mod Stops
+pub mod Messages
+pub mod Told
+pub mod Helps
