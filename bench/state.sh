@@ -65,13 +65,15 @@ cat > "$program/src/desks.rt" <<'RATTLE'
 //! Desks over many rows.
 
 ghost use Rattle.perm_base.specs.Shapes.{AreValid};
-ghost use Rattle.std.specs.Prelude.{IfOk};
+ghost use Rattle.policy_table.specs.Limits.{AreSound};
+ghost use Rattle.std.specs.Prelude.{◌≡◌, IfOk};
 
-use anyhow::{Context, Result, bail};
+use anyhow::{Result, bail};
 use perm_base::{Fit, RoleShape, RoleShapes, Rule, Shapes, Text};
 use policy_csv::read_policy;
 use policy_desk::{Desk, open_desk};
-use policy_state::make_state;
+use policy_state::{PolicyState, make_state};
+use policy_table::Tables;
 use std::alloc::{AllocError, Global};
 use std::time::Instant;
 
@@ -88,13 +90,8 @@ pub enum Rows {
 pub fn desk_of(alloc: Global, rows: Rows, count: u32) -> Result<Desk> {
     let text = policy_text(alloc, rows, count)?;
     let shapes = shapes_of(alloc, rows)?;
-    let tables = read_policy(alloc, text.as_bytes(), &shapes)
-        .ok()
-        .context("no policy")?;
-    let state = make_state(alloc, shapes, Some(0), tables)
-        .ok()
-        .context("no memory")?;
-    open_desk(alloc, state).ok().context("no memory")
+    let tables = read(alloc, text.as_str(), &shapes)?;
+    opened(alloc, make(alloc, shapes, tables)?)
 }
 
 /// The microseconds of reading 200,000 rules of p, and of making the state.
@@ -103,19 +100,44 @@ pub fn made_state(rt: &HostRuntime) -> Result<(u128, u128)> {
     let text = policy_text(alloc, Rows::Rules, 200_000)?;
     let shapes = shapes_of(alloc, Rows::Rules)?;
     let start = Instant::now(rt)?;
-    let tables = read_policy(alloc, text.as_bytes(), &shapes)
-        .ok()
-        .context("no policy")?;
+    let tables = read(alloc, text.as_str(), &shapes)?;
     let reading = start.elapsed(rt)?.as_micros();
     let start = Instant::now(rt)?;
-    let state = make_state(alloc, shapes, Some(0), tables)
-        .ok()
-        .context("no memory")?;
+    let state = make(alloc, shapes, tables)?;
     let making = start.elapsed(rt)?.as_micros();
     if state.version() != 0 {
         bail!("another version");
     }
     Ok((reading, making))
+}
+
+// One call with a great contract a function.
+fn read(alloc: Global, text: &str, shapes: &Shapes) -> Result<Tables>
+    requires { AreValid shapes.now }
+    ensures { IfOk result (λ tables. AreSound shapes.now tables.policy) }
+{
+    match read_policy(alloc, text.as_bytes(), shapes) {
+        Ok(tables) => Ok(tables),
+        Err(_) => bail!("no policy"),
+    }
+}
+
+fn make(alloc: Global, shapes: Shapes, tables: Tables) -> Result<PolicyState>
+    requires valid { AreValid shapes }
+    requires columns { shapes.columns ≡ 3 }
+    requires sound { AreSound shapes tables.policy }
+{
+    match make_state(alloc, shapes, Some(0), tables) {
+        Ok(state) => Ok(state),
+        Err(_) => bail!("no memory"),
+    }
+}
+
+fn opened(alloc: Global, state: PolicyState) -> Result<Desk> {
+    match open_desk(alloc, state) {
+        Ok(desk) => Ok(desk),
+        Err(_) => bail!("no memory"),
+    }
 }
 
 /// The row of a number.
@@ -160,7 +182,8 @@ fn line_of(alloc: Global, rows: Rows, number: u32) -> Result<String> {
 }
 
 fn shapes_of(alloc: Global, rows: Rows) -> Result<Shapes, AllocError>
-    ensures { IfOk result AreValid }
+    ensures valid { IfOk result AreValid }
+    ensures columns { IfOk result (λ shapes. shapes.columns ≡ 3) }
 {
     let g = RoleShape {
         number: 1,
@@ -186,7 +209,7 @@ cat > "$program/src/questions.rt" <<'RATTLE'
 ghost use Rattle.std.specs.Prelude.{◌≡◌, ◌<◌, is_some};
 
 use crate::desks::{Rows, desk_of};
-use anyhow::{Context, Result, ensure};
+use anyhow::{Result, ensure};
 use policy_state::PolicyState;
 use role_domain::{RoleSection, Steps};
 use std::alloc::Global;
@@ -284,7 +307,7 @@ cat > "$program/src/edits.rt" <<'RATTLE'
 //! Calls at a desk, each published.
 
 use crate::desks::{Rows, desk_of, row};
-use anyhow::{Context, Result, ensure};
+use anyhow::{Result, ensure};
 use edit_calls::Call;
 use perm_base::TableId;
 use policy_desk::Desk;
@@ -335,11 +358,20 @@ fn table_of(rows: Rows) -> TableId {
 fn timed(rt: &HostRuntime, desk: &mut Desk, call: &Call) -> Result<u128> {
     let alloc: Global = rt.alloc();
     let start = Instant::now(rt)?;
-    let changes = desk.call(alloc, call).ok().context("refused")?;
-    desk.publish(alloc).ok().context("no memory")?;
+    let changes = call_at(alloc, desk, call);
+    let published = publish(alloc, desk);
     let took = start.elapsed(rt)?.as_nanos();
-    ensure!(changes, "nothing changes");
+    ensure!(changes && published, "nothing changes");
     Ok(took)
+}
+
+// One call with a great contract a function.
+fn call_at(alloc: Global, desk: &mut Desk, call: &Call) -> bool {
+    matches!(desk.call(alloc, call), Ok(true))
+}
+
+fn publish(alloc: Global, desk: &mut Desk) -> bool {
+    desk.publish(alloc).is_ok()
 }
 RATTLE
 cat > "$program/proofs/questions/linked/Invariants.antt" <<'ANTT'

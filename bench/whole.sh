@@ -1,9 +1,9 @@
 #!/usr/bin/env bash
 # Prints how many requests a processor second `enforce` answers over 10, 1,000 and 10,000 rules, for a model of three
-# equalities, one with roles, and one with roles in domains, the time to load model, policy and program taken out, each as a
-# ratio to the smallest policy; what a session of 100,000 edits, each published, takes beside reading its script; and what
-# reading 200,000 rules takes beside cutting their bytes into fields. Usage: bench/whole.sh [REQUESTS], how many over 10 rules;
-# over more rules there are fewer, by the same factor.
+# equalities, one with roles, of which there are a tenth as many as rules, and one with roles in domains, of which there are as
+# many as rules, the time to load model, policy and program taken out, each as a ratio to the smallest policy; what a session
+# of 100,000 edits, each published, takes beside reading its script; and what reading 200,000 rules takes beside cutting their
+# bytes into fields. Usage: bench/whole.sh [REQUESTS]
 source "$(dirname "${BASH_SOURCE[0]}")/timing.sh"
 most="${1:-200000}"
 build "$root"
@@ -39,21 +39,22 @@ workload() {
   awk -v kind="$1" -v n="$2" 'BEGIN {
     for (i = 1; i <= n; i++) {
       if (kind == "basic") printf "p, user%05d, data%05d, read\n", i, i
-      if (kind == "roles") printf "p, role%05d, data%05d, read\ng, user%05d, role%05d\n", i, i, i, i
+      if (kind == "roles") printf "p, role%05d, data%05d, read\ng, user%05d, role%05d\n", i % (n / 10), i, i, i % (n / 10)
       if (kind == "domains") printf "p, role%05d, dom%05d, data%05d, read\ng, user%05d, role%05d, dom%05d\n", i, i, i, i, i, i
     } }' >"$work/policy.csv"
   awk -v kind="$1" -v n="$2" -v q="$3" 'BEGIN {
     for (i = 0; i < q; i++) {
       act = i % 2 ? "write" : "read"
-      if (kind == "domains") printf "user%05d, dom%05d, data%05d, %s\n", n, n, n, act
-      else printf "user%05d, data%05d, %s\n", n, n, act
+      at = i % 2 ? (i * 7919) % n + 1 : n
+      if (kind == "domains") printf "user%05d, dom%05d, data%05d, %s\n", at, at, at, act
+      else printf "user%05d, data%05d, %s\n", at, at, act
     } }' >"$work/input"
 }
 
 for kind in basic roles domains; do
   first=""
   for rules in 10 1000 10000; do
-    requests=$((most * 10 / rules))
+    requests="$most"
     workload "$kind" "$rules" "$requests"
     load="$(took "$work/empty" enforce "$work/$kind.conf" "$work/policy.csv")"
     whole="$(took "$work/input" enforce "$work/$kind.conf" "$work/policy.csv")"

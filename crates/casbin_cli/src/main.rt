@@ -12,7 +12,7 @@ use crate::read_source::ReadSource;
 use crate::write_sink::WriteSink;
 use casbin_run::run_casbin;
 use perm_base::NoMemory;
-use regex_gate::RegexFinder;
+use regex_keep::KeepingFinder;
 use run_status::{Status, Stop, tell_stop};
 use std::alloc::Global;
 use std::process::ExitCode;
@@ -47,12 +47,12 @@ fn run(rt: &HostRuntime) -> Status {
 }
 
 // The finders of a run.
-fn finders(alloc: Global) -> Result<Vec<RegexFinder>, NoMemory>
+fn finders(alloc: Global) -> Result<Vec<KeepingFinder>, NoMemory>
     ensures { IfOk result (λ finders. length finders.items ≡ 9) }
 {
     let mut finders = Vec::with_capacity(alloc, FINDERS)?;
     for _ in 0..FINDERS {
-        finders.push(RegexFinder::new(alloc))?;
+        finders.push(KeepingFinder::new(alloc)?)?;
     }
     Ok(finders)
 }

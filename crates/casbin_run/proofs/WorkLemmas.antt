@@ -1,7 +1,9 @@
 -- What a task comes to.
 use Rattle.std.proofs.Common.{◌≡◌, ℕ, ◌<◌, ◌≤◌, List, [], inl, inr, ⊎_elim, refl, sym, ap, subst, ◌∙◌, Bool, true, false, arith}
-use Rattle.std.specs.Prelude.{Option}
+use Rattle.std.specs.Prelude.{Option, IfSome, length}
 use Rattle.answer_lines.specs.declared.answer.Line.{Line}
+use Rattle.enforce_core.proofs.CallerLemmas.{suits_columns}
+use Rattle.enforce_core.specs.Programs.{Suits}
 use Rattle.live_round.proofs.CallerLemmas.{judged_stays}
 use Rattle.live_round.specs.Refused.{refused_searches}
 use Rattle.model_conf.specs.ModelText.{ModelParts}
@@ -165,3 +167,10 @@ module _ (on : Ground) (IsBad IsWorse : List ℕ → Type 0) (Risen Raised : ℕ
 -- want of memory is not quiet
 pub memory_not_quiet : {A : Type 0} → IsQuiet NoMemory → A
 memory_not_quiet quiet = absurd cc
+
+-- ---- making a policy's state
+
+-- a column of a program's policy is one of the shapes that suit its model
+pub column_fits : (model program : ModelParts) (shapes : Shapes) (column : Option ℕ) → program ≡ model → Suits model shapes → IfSome column (λ (column : ℕ). column < length program.policy) → IfSome column (λ (column : ℕ). column < shapes.columns)
+column_fits model program shapes column same suits within =
+    subst (λ (size : ℕ). IfSome column (λ (column : ℕ). column < size)) (ap (λ (m : ModelParts). length m.policy) same ∙ sym (suits_columns model shapes suits)) within

@@ -15,9 +15,8 @@ ghost use Rattle.casbin_run.specs.declared.job.Task.TheVariants as tasks;
 use crate::files::Loaded;
 use crate::gather::push_full;
 use crate::input::read_text;
-use answer_lines::push_line;
 use enforce_core::{Program, Scratch, make_program};
-use live_round::{Line, answer_request};
+use live_round::push_request;
 use matcher_meaning::{case_verdict_is_there, pattern_comes_by_refusal_alone};
 use perm_base::{NoMemory, Sink, Source, push_all};
 use perm_value::RequestFault;
@@ -67,7 +66,7 @@ pub(crate) fn enforce<S: Source, K: Sink, P: Finder>(
     states_stand_for_their_history();
     let text = read_text(alloc, input, json)?;
     let program = make_program(alloc, loaded.model)?;
-    let state = make_state(alloc, loaded.shapes, None, loaded.tables)?;
+    let state = make_state(alloc, loaded.shapes, program.index_column(), loaded.tables)?;
     let court = Court {
         program: &program,
         state: &state,
@@ -139,8 +138,15 @@ fn push_answer<P: Finder>(
 {
     uses_add_up();
     let asked = ask(alloc, court.json, line)?;
-    let answer = answer_request(alloc, court.state, court.program, &asked, finder, scratch)?;
-    push_line(text, &Line { number, answer })
+    push_request(
+        text,
+        number,
+        court.state,
+        court.program,
+        &asked,
+        finder,
+        scratch,
+    )
 }
 
 // What a line asks, or why it is no request.

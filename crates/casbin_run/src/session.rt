@@ -54,7 +54,7 @@ pub(crate) fn serve<S: Source, K: Sink, P: Finder>(
     states_stand_for_their_history();
     let script = read_items(alloc, input, json)?;
     let program = make_program(alloc, loaded.model)?;
-    let state = make_state(alloc, loaded.shapes, None, loaded.tables)?;
+    let state = make_state(alloc, loaded.shapes, program.index_column(), loaded.tables)?;
     let mut desk = open_desk(alloc, state)?;
     let lines = run_plain(alloc, &mut desk, &program, &script, finder)?;
     print_lines(alloc, out, lines.as_slice())

@@ -1,5 +1,5 @@
 -- The row with the deepest subject among those that were matched or failed decides.
-use Rattle.std.proofs.Common.{◌≡◌, ◌⊎◌, inl, inr, ℕ, suc, ◌<◌, ◌≤◌, ◌==◌, Bool, true, false, cond, List, [], ◌∷◌, ◌++◌, map, find, get_or, length, Option, Some, None, Result, refl, sym, ap, ◌∙◌, subst, arith, append-nil, append_assoc}
+use Rattle.std.proofs.Common.{◌≡◌, ◌⊎◌, inl, inr, ℕ, suc, ◌<◌, ◌≤◌, ◌==◌, Bool, true, false, cond, List, [], ◌∷◌, ◌++◌, map, find, get_or, length, Option, Some, None, Ok, refl, sym, ap, ◌∙◌, subst, arith, append-nil, append_assoc}
 use Rattle.std.specs.Prelude.{nat_lt}
 use Rattle.std.specs.List.{AllByRecursion, AllPairs, AllZip, Contains}
 use Rattle.std.proofs.lemmas.Bool.{both_ways, cases_lt, eq-eqb, eqb-true, ltb-false, ltb-true, ne_eqb}
@@ -9,35 +9,29 @@ use Rattle.effect_fold.specs.Verdict.{Taken, ends, ends_with, settled_by, verdic
 use Rattle.effect_fold.specs.declared.effect.Effect.{Effect}
 use Rattle.effect_fold.specs.declared.effect.Effect.TheVariants as effect
 use Rattle.effect_fold.specs.declared.fault.Cause.TheVariants.{Pattern}
-use Rattle.effect_fold.specs.declared.fault.Fault.{Fault}
 use Rattle.effect_fold.specs.declared.outcome.Outcome.{Outcome}
 use Rattle.effect_fold.specs.declared.outcome.Outcome.TheVariants.{Unmatched, Matched, Failed}
 use Rattle.effect_fold.specs.declared.verdict.Verdict.{Verdict}
 use Rattle.perm_base.specs.RoleShapes.{shape_of}
-use Rattle.perm_base.specs.declared.shapes.RoleShape.{RoleShape}
-use Rattle.perm_base.specs.declared.shapes.TableId.TheVariants.{G}
-use Rattle.policy_table.specs.Tables.{Fields, rows as rows_of_table}
+use Rattle.policy_table.specs.Tables.{Fields}
 use Rattle.role_meaning.proofs.CallerLemmas.{pairs_head, pairs_tail, stands_behind, stands_cases, stands_here, stands_nowhere}
-use Rattle.role_meaning.specs.Depths.{IsDepth, IsOrderByDepth, by_depth}
-use Rattle.matcher_meaning.proofs.CallerLemmas.{OneTruthAt, SomeTruthAt, each_some, order_some, row_outcome_some}
+use Rattle.role_meaning.specs.Depths.{IsOrderByDepth, by_depth}
+use Rattle.matcher_meaning.proofs.CallerLemmas.{OneDepth, OneTruthAt, SomeDepth, SomeTruthAt, depth_one, each_some, order_some, row_outcome_one, row_outcome_some}
 use Rattle.matcher_meaning.specs.Cases.{Case}
-use Rattle.matcher_meaning.specs.Order.{AreDepths, AreInOrder, IsDepthBy, Numbered, domain_of_row, in_order_of, numbered, numbered_from}
-use Rattle.matcher_meaning.specs.Perm.{Refusal, outcome_of, refusal_fault, refused_at, row_word}
+use Rattle.matcher_meaning.specs.Order.{AreDepths, AreInOrder, IsDepthBy, Numbered, in_order_of, numbered, numbered_from}
+use Rattle.matcher_meaning.specs.Perm.{Refusal, refusal_fault}
 use Rattle.matcher_meaning.specs.Verdicts.{RowHasOutcome}
 use Rattle.enforce_core.specs.declared.by_subjects.First.{First}
+use Rattle.enforce_core.proofs.CoverLemmas.{covered_each, covered_stands, numbers_before}
 use Rattle.enforce_core.proofs.FoldLemmas.{here_refused, refusal_at, unrefused}
 use Rattle.enforce_core.proofs.OutcomeLemmas.{comes_for_more}
-use Rattle.enforce_core.proofs.RowLemmas.{each_at, each_push, each_standing, each_weaker, numbered_at, numbered_length, numbers_before, zip_at, zip_length}
+use Rattle.enforce_core.proofs.RowLemmas.{each_at, each_push, each_standing, each_weaker, numbered_at, numbered_length, zip_at, zip_length}
+use Rattle.enforce_core.specs.Helps.Covering.{Covers}
 use Rattle.enforce_core.specs.Helps.Firsts.{IsDepthOf, IsFirstWith, first_of, verdict_of_first}
+use Rattle.enforce_core.specs.Helps.Leaving.{IsLeftOut}
 use Rattle.enforce_core.specs.Helps.Outcomes.{ComesTo, HasOutcomesInOrder, IsJudgedOn, OutcomeIs, is_by_subjects}
 
--- a name has one depth at most, and has one; depths give an order
-abbrev pub OneDepth : Type 0
-OneDepth = (shape : RoleShape) (table : List Fields) (limit : ℕ) (domain : Option (List ℕ)) (name : List ℕ) (depth other : ℕ) → IsDepth shape table limit domain name depth → IsDepth shape table limit domain name other → depth ≡ other
-
-abbrev pub SomeDepth : Type 0
-SomeDepth = (shape : RoleShape) (table : List Fields) (limit : ℕ) (domain : Option (List ℕ)) (name : List ℕ) → (depth : ℕ) × IsDepth shape table limit domain name depth
-
+-- depths give an order
 abbrev pub OrdersByDepth : Type 0
 OrdersByDepth = (depths : List ℕ) → IsOrderByDepth depths (by_depth depths)
 
@@ -172,9 +166,9 @@ ending_more case IsBad seen row depth outcome (Some old) so earlier is_depth com
     by false is = first_stays case IsBad seen row depth old so (ltb-false old.depth depth is) old_number is_depth
 
 -- one row more
-pub sought_more : (case : Case) (IsBad : List ℕ → Type 0) (rows : List Fields) (rest : List Numbered) (row : Numbered) (outcome : Outcome) (before after : Option First) → IsSought case IsBad (numbered_from 1 rows) (row ∷ rest) before
-    → ComesTo case IsBad (Some row.fields) outcome → IsFirstWith case row outcome before after → IsSought case IsBad (numbered_from 1 rows) rest after
-sought_more case IsBad rows rest row outcome before after so comes with_row = record {
+pub sought_more : (case : Case) (IsBad : List ℕ → Type 0) (table : List Fields) (some rest : List Numbered) (row : Numbered) (outcome : Outcome) (before after : Option First) → Covers case (numbered_from 1 table) some → IsSought case IsBad some (row ∷ rest) before
+    → ComesTo case IsBad (Some row.fields) outcome → IsFirstWith case row outcome before after → IsSought case IsBad some rest after
+sought_more case IsBad table some rest row outcome before after covers so comes with_row = record {
   seen = so.seen ++ row ∷ [];
   parts = so.parts ∙ sym (append_assoc so.seen (row ∷ []) rest);
   is = by outcome comes with_row;
@@ -183,7 +177,7 @@ sought_more case IsBad rows rest row outcome before after so comes with_row = re
     ending : (outcome : Outcome) → ends_with effect.SubjectPriority outcome ≡ true → ComesTo case IsBad (Some row.fields) outcome → (depth : ℕ) → IsDepthOf case row.fields depth → after ≡ Some (first_of before (first_at row.number depth outcome)) → IsFirstOf case IsBad (so.seen ++ row ∷ []) after
     ending outcome ends comes depth is_depth e =
         subst (IsFirstOf case IsBad (so.seen ++ row ∷ [])) (sym e)
-        (ending_more case IsBad so.seen row depth outcome before so.is (numbers_before 1 rows so.seen row rest so.parts) is_depth comes ends)
+        (ending_more case IsBad so.seen row depth outcome before so.is (numbers_before case table some so.seen row rest covers so.parts) is_depth comes ends)
 
     quiet : ComesTo case IsBad (Some row.fields) Unmatched → IsQuiet case row
     quiet (inl is) = is
@@ -193,21 +187,6 @@ sought_more case IsBad rows rest row outcome before after so comes with_row = re
     by Unmatched comes e = subst (IsFirstOf case IsBad (so.seen ++ row ∷ [])) (sym e) (quiet_more case IsBad so.seen row before so.is (quiet comes))
     by (Matched allow) comes (depth, is_depth, e) = ending (Matched allow) refl comes depth is_depth e
     by (Failed fault) comes (depth, is_depth, e) = ending (Failed fault) refl comes depth is_depth e
-
--- a row has one depth at most
-one_depth : OneDepth → (case : Case) (fields : Fields) (r s : ℕ) → IsDepthOf case fields r → IsDepthOf case fields s → r ≡ s
-one_depth one case fields r s p q = by (shape_of case.shapes.roles 1) p q
-  where
-    by : (shape : Option RoleShape) → IsDepthBy case shape fields r → IsDepthBy case shape fields s → r ≡ s
-    by (Some shape) p q = one shape (rows_of_table case.policy (G 1)) case.shapes.limit (domain_of_row case shape fields) _ r s p q
-    by None p q = p ∙ sym q
-
--- a row comes to one outcome at most
-row_one : (case : Case) → OneTruthAt case → (refused : Option Refusal) (row : Numbered) (p q : Taken) → RowHasOutcome case refused row p → RowHasOutcome case refused row q → p ≡ q
-row_one case one refused row p q (number, (t, truth, e)) (other, (u, says, f)) =
-    let same : t ≡ u = one (Some row.fields) (refused_at refused (Some row.number)) t u truth says in
-    let outcome : p.1 ≡ q.1 = e ∙ ap (λ (r : Result Bool Fault). outcome_of r (row_word case.model.policy row.fields)) same ∙ sym f in
-    ap (λ (n : Option ℕ). (n, p.1)) (number ∙ sym other) ∙ ap (λ (o : Outcome). (q.0, o)) outcome
 
 -- the place of a row before another by their depths
 abbrev IsBefore : List ℕ → ℕ → ℕ → Type 0
@@ -282,13 +261,13 @@ place_there case rows set place within = (set.order.each place).1 (omega (arith,
 depth_at : (case : Case) (rows : List Fields) (set : IsSettled case rows) (place depth : ℕ) → place < length rows → IsDepthOf case (row_at rows place).fields depth → depth ≡ get_or set.depths place 0
 depth_at case rows set place depth within is =
     let fields : (row_at rows place).fields ≡ get_or rows place [] = ap (λ (row : Numbered). row.fields) (row_at_is rows place within) in
-    one_depth set.one_deep case (get_or rows place []) depth (get_or set.depths place 0)
+    depth_one set.one_deep case (shape_of case.shapes.roles 1) (get_or rows place []) depth (get_or set.depths place 0)
     (subst (λ (one : Fields). IsDepthOf case one depth) fields is)
     (zip_at (IsDepthBy case (shape_of case.shapes.roles 1)) rows set.depths place [] 0 within set.are)
 
 -- a row that comes to no match, where no search of it is refused
 quiet_taken : (case : Case) → OneTruthAt case → (refused : Option Refusal) (row : Numbered) (taken : Taken) → RowHasOutcome case refused row (Some row.number, Unmatched) → RowHasOutcome case refused row taken → ends effect.SubjectPriority taken ≡ false
-quiet_taken case one refused row taken quiet is = ap (ends effect.SubjectPriority) (row_one case one refused row taken (Some row.number, Unmatched) is quiet)
+quiet_taken case one refused row taken quiet is = ap (ends effect.SubjectPriority) (row_outcome_one case one refused row taken (Some row.number, Unmatched) is quiet)
 
 -- the row at another place, before that of the first, comes to no match
 before_is_quiet : (case : Case) (IsBad : List ℕ → Type 0) (rows : List Fields) (set : IsSettled case rows) (first : First) (so : StandsFirst case IsBad (numbered_from 1 rows) first) (k : ℕ) → k < length rows → row_at rows k ≡ so.row
@@ -355,7 +334,7 @@ verdict_at_place case some IsBad rows set first so refused is others k within sa
   where
     here : (taken : Taken) → IsAtPlace case refused rows k taken → taken ≡ (Some so.row.number, first.outcome)
     here taken taken_is =
-        row_one case set.one_truth refused so.row taken (Some so.row.number, first.outcome) (subst (λ (row : Numbered). RowHasOutcome case refused row taken) same taken_is) is
+        row_outcome_one case set.one_truth refused so.row taken (Some so.row.number, first.outcome) (subst (λ (row : Numbered). RowHasOutcome case refused row taken) same taken_is) is
 
     number_k : so.row.number ≡ suc k
     number_k = ap (λ (row : Numbered). row.number) (sym same ∙ row_at_is rows k within)
@@ -404,14 +383,32 @@ by_subjects_is effect.DenyOverride e = absurd cc
 by_subjects_is effect.AllowAndDeny e = absurd cc
 by_subjects_is effect.Priority e = absurd cc
 
+-- a row that is left out comes to no match
+out_is_quiet : (case : Case) (row : Numbered) → IsLeftOut case row.fields → IsQuiet case row
+out_is_quiet case row out = (Ok false, out None, refl)
+
+-- the row that stands first among those that are looked at stands first among all
+first_of_all : (case : Case) (IsBad : List ℕ → Type 0) (all some : List Numbered) (first : Option First) → Covers case all some → IsFirstOf case IsBad some first → IsFirstOf case IsBad all first
+first_of_all case IsBad all some None covers quiet = covered_each case (IsQuiet case) (out_is_quiet case) all some covers quiet
+first_of_all case IsBad all some (Some first) covers so = record {
+  row = so.row;
+  stands = covered_stands case all some so.row covers so.stands;
+  number = so.number;
+  depth = so.depth;
+  comes = so.comes;
+  ends = so.ends;
+  others = covered_each case (IsBeside case so.row first) (λ row out. inr (inl (out_is_quiet case row out))) all some covers so.others;
+}
+
 -- the search for the first row is at its end
-pub judged_by_first : (case : Case) → OneDepth → SomeDepth → OrdersByDepth → OneTruthAt case → SomeTruthAt case → (IsBad : List ℕ → Type 0) (rows : List Fields) (first : Option First) → is_by_subjects case.model.effect ≡ true → IsSought case IsBad (numbered_from 1 rows) [] first
+pub judged_by_first : (case : Case) → OneDepth → SomeDepth → OrdersByDepth → OneTruthAt case → SomeTruthAt case → (IsBad : List ℕ → Type 0) (rows : List Fields) (some : List Numbered) (first : Option First) → is_by_subjects case.model.effect ≡ true → Covers case (numbered_from 1 rows) some → IsSought case IsBad some [] first
     → IsJudgedOn case (HasOutcomesInOrder case rows) IsBad (verdict_of_first first)
-judged_by_first case one some orders one_truth some_truth IsBad rows first by_subjects so =
-    subst (λ (e : Effect). IsJudgedUnder e) (sym (by_subjects_is case.model.effect by_subjects)) (judged_first case some_truth IsBad rows set first (subst (λ (seen : List Numbered). IsFirstOf case IsBad seen first) (sym (so.parts ∙ append-nil so.seen)) so.is))
+judged_by_first case one some_depth orders one_truth some_truth IsBad rows some first by_subjects covers so =
+    subst (λ (e : Effect). IsJudgedUnder e) (sym (by_subjects_is case.model.effect by_subjects))
+    (judged_first case some_truth IsBad rows set first (first_of_all case IsBad (numbered_from 1 rows) some first covers (subst (λ (seen : List Numbered). IsFirstOf case IsBad seen first) (sym (so.parts ∙ append-nil so.seen)) so.is)))
   where
     found : (judged : List Numbered) × AreInOrder case effect.SubjectPriority rows judged
-    found = order_some some case effect.SubjectPriority rows
+    found = order_some some_depth case effect.SubjectPriority rows
 
     set : IsSettled case rows
     set = record { one_deep = one; one_truth = one_truth; depths = found.1.0; are = found.1.1; order = orders found.1.0 }

@@ -18,7 +18,9 @@ use Rattle.matcher_meaning.specs.Cases.{Case}
 use Rattle.matcher_meaning.specs.Order.{Numbered, numbered_from}
 use Rattle.matcher_meaning.specs.Perm.{Refusal, refusal_fault}
 use Rattle.matcher_meaning.specs.Verdicts.{HasOneOutcome, RowHasOutcome}
-use Rattle.enforce_core.proofs.RowLemmas.{numbers_before, zip_append}
+use Rattle.enforce_core.proofs.CoverLemmas.{numbers_before}
+use Rattle.enforce_core.proofs.RowLemmas.{zip_append}
+use Rattle.enforce_core.specs.Helps.Covering.{Covers}
 use Rattle.enforce_core.specs.Helps.Outcomes.{ComesTo, IsJudgedOn, OutcomeIs}
 
 -- a fold ends in the verdict
@@ -124,19 +126,19 @@ pub here_refused : (case : Case) (place : ℕ) (pattern : List ℕ) (row : Numbe
     → RowHasOutcome case (Some (refusal_at (Some row.number) place pattern)) row (Some row.number, outcome)
 here_refused case place pattern row outcome is = let same : (row.number == row.number) ≡ true = eq-eqb row.number row.number refl in (refl, rw same is)
 
--- the row that settles the verdict
-pub settled_there : (case : Case) → SomeTruthAt case → EndsInVerdict → (IsBad : List ℕ → Type 0) (rows : List Fields) (rest : List Numbered) (fold next : Progress) (row : Numbered) (outcome : Outcome) → IsFolded case (numbered_from 1 rows) (row ∷ rest) fold
-    → ComesTo case IsBad (Some row.fields) outcome → next ≡ taken fold (Some row.number) outcome → is_some next.settled ≡ true → IsJudgedOn case (λ refused. AreOutcomes case refused (numbered_from 1 rows)) IsBad (ended next)
-settled_there case truths law IsBad rows rest fold next row outcome so (inl is) step settled =
+-- the row that settles the verdict on the rows that are looked at
+pub settled_there : (case : Case) → SomeTruthAt case → EndsInVerdict → (IsBad : List ℕ → Type 0) (table : List Fields) (some rest : List Numbered) (fold next : Progress) (row : Numbered) (outcome : Outcome) → Covers case (numbered_from 1 table) some → IsFolded case some (row ∷ rest) fold
+    → ComesTo case IsBad (Some row.fields) outcome → next ≡ taken fold (Some row.number) outcome → is_some next.settled ≡ true → IsJudgedOn case (λ refused. AreOutcomes case refused some) IsBad (ended next)
+settled_there case truths law IsBad table some rest fold next row outcome covers so (inl is) step settled =
     let list = settled_list case truths law None (so.seen ++ row ∷ []) rest next (so.outcomes ++ (Some row.number, outcome) ∷ []) (more case None so.seen row outcome so.outcomes so.are (refl, is)) (next_fold case.model.effect so.outcomes fold next (Some row.number) outcome so.fold_is step) settled in
-    inl (list.0, subst (λ (all : List Numbered). AreOutcomes case None all list.0) (sym (parts_more (numbered_from 1 rows) so.seen row rest so.parts)) list.1, list.2)
-settled_there case truths law IsBad rows rest fold next row outcome so (inr (place, pattern, bad, failed, is)) step settled =
+    inl (list.0, subst (λ (rows : List Numbered). AreOutcomes case None rows list.0) (sym (parts_more some so.seen row rest so.parts)) list.1, list.2)
+settled_there case truths law IsBad table some rest fold next row outcome covers so (inr (place, pattern, bad, failed, is)) step settled =
     let refusal : Refusal = refusal_at (Some row.number) place pattern in
-    let before = refuse_later case row.number place pattern so.seen so.outcomes (numbers_before 1 rows so.seen row rest so.parts) so.are in
+    let before = refuse_later case row.number place pattern so.seen so.outcomes (numbers_before case table some so.seen row rest covers so.parts) so.are in
     let front = more case (Some refusal) so.seen row outcome so.outcomes before (here_refused case place pattern row outcome is) in
     let list = settled_list case truths law (Some refusal) (so.seen ++ row ∷ []) rest next (so.outcomes ++ (Some row.number, outcome) ∷ []) front (next_fold case.model.effect so.outcomes fold next (Some row.number) outcome so.fold_is step) settled in
     let ends : next ≡ progress fold.effect fold.allowed (Some (refusal_fault refusal)) = failed_settles fold next (Some row.number) (record { cause = Pattern; at = place }) so.open_still (step ∙ ap (taken fold (Some row.number)) failed) in
-    inr (refusal, bad, ap ended ends, (list.0, subst (λ (all : List Numbered). AreOutcomes case (Some refusal) all list.0) (sym (parts_more (numbered_from 1 rows) so.seen row rest so.parts)) list.1, list.2))
+    inr (refusal, bad, ap ended ends, (list.0, subst (λ (rows : List Numbered). AreOutcomes case (Some refusal) rows list.0) (sym (parts_more some so.seen row rest so.parts)) list.1, list.2))
 
 -- no row settles it
 pub open_end_there : (case : Case) → EndsInVerdict → (IsBad : List ℕ → Type 0) (all : List Numbered) (fold : Progress) → IsFolded case all [] fold → IsJudgedOn case (λ refused. AreOutcomes case refused all) IsBad (ended fold)

@@ -21,6 +21,7 @@ use Rattle.matcher_code.specs.declared.stop.Stop.{Stop}
 use Rattle.matcher_code.specs.declared.stop.Stop.TheVariants as stop
 use Rattle.enforce_core.specs.Helps.Outcomes.{ComesTo, SaysTruth, truth_in, word_of_row}
 use Rattle.enforce_core.specs.Helps.Parts.{IsProgram}
+use Rattle.enforce_core.specs.declared.index.Index.{Index}
 
 -- an answer of which more is known
 answer_weaker : {X : Type 0} (Says SaysToo : Option (ℕ × List ℕ) → Answer → Type 0) (value : X → Datum) (IsBad : List ℕ → Type 0) → ((refused : Option (ℕ × List ℕ)) (answer : Answer) → Says refused answer → SaysToo refused answer) → (r : Result X Stop)
@@ -31,9 +32,9 @@ answer_weaker Says SaysToo value IsBad weaker (Err (stop.Fault failed)) (inr (pa
 answer_weaker Says SaysToo value IsBad weaker (Err stop.NoMemory) is = tt
 
 -- what the code of a program comes to is the truth of its matcher
-truth_of_value : (case : Case) (code : CodeParts) (by_row : Bool) (effect domain : Option ℕ) → IsProgram case.model code by_row effect domain → (IsBad : List ℕ → Type 0) (r : Result View Stop)
+truth_of_value : (case : Case) (code : CodeParts) (by_row : Bool) (effect domain : Option ℕ) (index : Option Index) → IsProgram case.model code by_row effect domain index → (IsBad : List ℕ → Type 0) (r : Result View Stop)
     → IsValueOf case code.ops IsBad r → IsAnswer (SaysTruth case) datum_of_view IsBad r
-truth_of_value case code by_row effect domain program IsBad r is =
+truth_of_value case code by_row effect domain index program IsBad r is =
     answer_weaker (λ refused answer. CodeComesTo (where_refused case refused) code.ops answer) (SaysTruth case) datum_of_view IsBad
     (λ refused answer comes. program.truth (where_refused case refused) answer refl comes) r is
 
@@ -54,15 +55,15 @@ said_truth case v (t, is, truth) = by t is
     by (Err fault) e = absurd cc
 
 -- the truth that a run gives
-pub truth_given : (case : Case) (code : CodeParts) (by_row : Bool) (effect domain : Option ℕ) → IsProgram case.model code by_row effect domain → (IsBad : List ℕ → Type 0) (v : View) (b : Bool) → b ≡ truth_in v
+pub truth_given : (case : Case) (code : CodeParts) (by_row : Bool) (effect domain : Option ℕ) (index : Option Index) → IsProgram case.model code by_row effect domain index → (IsBad : List ℕ → Type 0) (v : View) (b : Bool) → b ≡ truth_in v
     → IsValueOf case code.ops IsBad (Ok v) → IsAnswer (SaysTruth case) datums.truth IsBad (Ok b)
-truth_given case code by_row effect domain program IsBad v b e is =
-    let said : SaysTruth case None (Ok (datum_of_view v)) = truth_of_value case code by_row effect domain program IsBad (Ok v) is in
+truth_given case code by_row effect domain index program IsBad v b e is =
+    let said : SaysTruth case None (Ok (datum_of_view v)) = truth_of_value case code by_row effect domain index program IsBad (Ok v) is in
     subst (λ (d : Datum). SaysTruth case None (Ok d)) (said_truth case v said ∙ ap (λ (c : Bool). datums.truth c) (sym e)) said
 
 -- or why it gives none
-pub stop_given : (case : Case) (code : CodeParts) (by_row : Bool) (effect domain : Option ℕ) → IsProgram case.model code by_row effect domain → (IsBad : List ℕ → Type 0) (why : Stop) → IsValueOf case code.ops IsBad (Err why) → IsAnswer {X = Bool} (SaysTruth case) datums.truth IsBad (Err why)
-stop_given case code by_row effect domain program IsBad why is = by why (truth_of_value case code by_row effect domain program IsBad (Err why) is)
+pub stop_given : (case : Case) (code : CodeParts) (by_row : Bool) (effect domain : Option ℕ) (index : Option Index) → IsProgram case.model code by_row effect domain index → (IsBad : List ℕ → Type 0) (why : Stop) → IsValueOf case code.ops IsBad (Err why) → IsAnswer {X = Bool} (SaysTruth case) datums.truth IsBad (Err why)
+stop_given case code by_row effect domain index program IsBad why is = by why (truth_of_value case code by_row effect domain index program IsBad (Err why) is)
   where
     by : (why : Stop) → IsAnswer {X = View} (SaysTruth case) datum_of_view IsBad (Err why) → IsAnswer {X = Bool} (SaysTruth case) datums.truth IsBad (Err why)
     by (stop.Fault failed) said = said

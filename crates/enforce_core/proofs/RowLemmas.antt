@@ -1,5 +1,5 @@
 -- Rows under their numbers, and what holds of them one by one.
-use Rattle.std.proofs.Common.{◌≡◌, ℕ, zero, suc, ◌+◌, ◌<◌, ◌≤◌, List, [], ◌∷◌, ◌++◌, get_or, length, refl, ap, ◌∙◌, subst, arith}
+use Rattle.std.proofs.Common.{◌≡◌, ℕ, zero, suc, ◌+◌, ◌<◌, List, [], ◌∷◌, ◌++◌, get_or, length, refl, ap, ◌∙◌, subst, arith}
 use Rattle.std.specs.List.{AllByRecursion, AllZip, Contains}
 use Rattle.policy_table.specs.Tables.{Fields}
 use Rattle.matcher_meaning.specs.Order.{Numbered, numbered, numbered_from}
@@ -17,6 +17,10 @@ each_push P (y ∷ ys) x each one = (each.0, each_push P ys x each.1 one)
 pub each_weaker : {X : Type 0} (P Q : X → Type 0) (xs : List X) → ((x : X) → P x → Q x) → AllByRecursion P xs → AllByRecursion Q xs
 each_weaker P Q [] weaker each = tt
 each_weaker P Q (x ∷ xs) weaker each = (weaker x each.0, each_weaker P Q xs weaker each.1)
+
+pub each_middle : {X : Type 0} (P : X → Type 0) (front : List X) (x : X) (back : List X) → AllByRecursion P (front ++ x ∷ back) → P x
+each_middle P [] x back each = each.0
+each_middle P (y ∷ front) x back each = each_middle P front x back each.1
 
 pub each_at : {X : Type 0} (P : X → Type 0) (xs : List X) (i : ℕ) (d : X) → i < length xs → AllByRecursion P xs → P (get_or xs i d)
 each_at P [] i d within each = absurd (omega arith)
@@ -48,23 +52,3 @@ numbered_at number (row ∷ rows) (suc i) d e within =
 pub numbered_length : (number : ℕ) (rows : List Fields) → length (numbered_from number rows) ≡ length rows
 numbered_length number [] = refl
 numbered_length number (row ∷ rows) = omega (arith, numbered_length (suc number) rows)
-
--- numbers from one on are not below it
-numbers_from : (number : ℕ) (rows : List Fields) (front : List Numbered) (row : Numbered) (back : List Numbered) → numbered_from number rows ≡ front ++ row ∷ back → number ≤ row.number
-numbers_from number [] [] row back e = absurd cc
-numbers_from number [] (one ∷ front) row back e = absurd cc
-numbers_from number (fields ∷ rows) [] row back e =
-    let same : numbered number fields ≡ row = cc in
-    omega (arith, ap (λ (r : Numbered). r.number) same)
-numbers_from number (fields ∷ rows) (one ∷ front) row back e =
-    let rest : numbered_from (suc number) rows ≡ front ++ row ∷ back = cc in
-    omega (arith, numbers_from (suc number) rows front row back rest)
-
--- the rows before one have lower numbers
-pub numbers_before : (number : ℕ) (rows : List Fields) (front : List Numbered) (row : Numbered) (back : List Numbered) → numbered_from number rows ≡ front ++ row ∷ back → AllByRecursion (λ (one : Numbered). one.number < row.number) front
-numbers_before number rows [] row back e = tt
-numbers_before number [] (one ∷ front) row back e = absurd cc
-numbers_before number (fields ∷ rows) (one ∷ front) row back e =
-    let same : numbered number fields ≡ one = cc in
-    let rest : numbered_from (suc number) rows ≡ front ++ row ∷ back = cc in
-    (omega (arith, ap (λ (r : Numbered). r.number) same, numbers_from (suc number) rows front row back rest), numbers_before (suc number) rows front row back rest)

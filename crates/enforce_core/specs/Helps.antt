@@ -4,3 +4,6 @@ pub mod Asked
 pub mod Outcomes
 pub mod Suiting
 pub mod Firsts
+pub mod Indexing
+pub mod Leaving
+pub mod Covering

@@ -30,7 +30,7 @@ pub(crate) fn verdict_by_rows<'a, P: Finder, const N: usize>(
     case_answer_is_there();
     fold_gives_verdict();
     let mut fold = Fold::new(asking.model.effect());
-    let mut candidates = Candidates::of(asking.state);
+    let mut candidates = Candidates::of(asking);
     while let Some((number, row)) = candidates.next() {
         let outcome = outcome(asking, Some(row), finder, stack)?;
         if fold.take(Some(number), outcome) {

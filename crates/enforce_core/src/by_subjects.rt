@@ -46,7 +46,7 @@ pub(crate) fn verdict_by_subjects<'a, P: Finder, const N: usize>(
     order_by_depth();
     let mut first = None;
     let mut last = None;
-    let mut candidates = Candidates::of(asking.state);
+    let mut candidates = Candidates::of(asking);
     while let Some((number, row)) = candidates.next() {
         let outcome = outcome(asking, Some(row), finder, stack)?;
         first = first_with(asking, first, number, row, outcome, &mut last);

@@ -1,54 +1,83 @@
 ghost use Rattle.std.specs.Prelude.{◌≡◌, [], ◌∷◌, MatchOption};
-ghost use Rattle.perm_base.specs.declared.shapes.TableId.TheVariants.{P};
-ghost use Rattle.policy_state.specs.States.{tables};
-ghost use Rattle.policy_table.specs.Tables.{rows};
 ghost use Rattle.matcher_meaning.specs.Order.{numbered, numbered_from};
+ghost use Rattle.enforce_core.specs.Helps.Asked.{IsAsked, case_in, rows_of};
+ghost use Rattle.enforce_core.specs.Helps.Covering.{Covers};
 
+use crate::asking::Asking;
+use crate::looking::{Looked, looked_at};
 use perm_base::{Rule, TableId};
-use policy_state::PolicyState;
 use std::marker::Model;
 
-/// The rows of p that may decide, each with its number: all of them, in the order of the table. Contracts see what is left
-/// of them.
+/// The rows of p that may decide, each with its number, in the order of the table. Contracts see what is left of them.
 #[derive(Drop)]
 pub(crate) struct Candidates<'a> {
-    rest: &'a [Rule],
-    // How many rows stand before these.
-    passed: u32,
+    table: &'a [Rule],
+    left: Left<'a>,
+}
+
+/// Which rows of a table are left to look at: all behind so many, or those at these places.
+#[derive(Clone, Copy)]
+pub(crate) enum Left<'a> {
+    Behind(u32),
+    At(&'a [u32]),
 }
 
 impl<'a> Model for Candidates<'a> {
-    ghost use Rattle.std.specs.Prelude.{List, ◌+◌, ◌<◌, ◌^◌, length, suc};
-    ghost use Rattle.matcher_meaning.specs.Order.{Numbered, numbered_from};
+    ghost use Rattle.std.specs.Prelude.{List};
+    ghost use Rattle.matcher_meaning.specs.Order.{Numbered};
+    ghost use Rattle.enforce_core.specs.Helps.Covering.{AreInTable, rows_left};
 
     ghost Value = { List Numbered };
 
-    ghost view = { λ c. numbered_from (suc c.passed) c.rest.now };
+    ghost view = { λ c. rows_left c.table.now c.left };
 
-    ghost invariant = { λ c. c.passed + length c.rest.now < 2 ^ 32 };
+    ghost invariant = { λ c. AreInTable c.table.now c.left };
 }
 
 impl<'a> Candidates<'a> {
-    /// Those of a policy.
-    pub(crate) fn of(state: &'a PolicyState) -> Candidates<'a>
-        ensures { result ≡ numbered_from 1 (rows (tables state.now) P) }
+    /// Those of what is asked for. It takes no memory.
+    pub(crate) fn of(asking: &Asking<'a>) -> Candidates<'a>
+        requires { IsAsked asking.now }
+        ensures { Covers (case_in asking.now) (numbered_from 1 (rows_of asking.now)) result }
     {
-        Candidates {
-            rest: state.tables().rows(TableId::P),
-            passed: 0,
+        let table = asking.state.tables().rows(TableId::P);
+        match looked_at(asking) {
+            Looked::All => Candidates {
+                table,
+                left: Left::Behind(0),
+            },
+            Looked::Nothing => Candidates {
+                table,
+                left: Left::At(&[]),
+            },
+            Looked::At(places) => Candidates {
+                table,
+                left: Left::At(places),
+            },
         }
     }
 
-    /// The next one, and its number, counted from 1.
+    /// The next one, and its number, counted from 1. Its time does not grow with the rows between.
     pub(crate) fn next(&mut self) -> Option<(u32, &'a Rule)>
         ensures { MatchOption result (self.old ≡ [])
             (λ found. self.old ≡ numbered found.0 found.1.now ∷ self.new) }
     {
-        let Some((row, rest)) = self.rest.split_first() else {
-            return None;
-        };
-        self.rest = rest;
-        self.passed += 1;
-        Some((self.passed, row))
+        match self.left {
+            Left::Behind(passed) => {
+                let Some(row) = self.table.get(passed as usize) else {
+                    return None;
+                };
+                self.left = Left::Behind(passed + 1);
+                Some((passed + 1, row))
+            }
+            Left::At(places) => {
+                let Some((place, places)) = places.split_first() else {
+                    return None;
+                };
+                let row = &self.table[*place as usize];
+                self.left = Left::At(places);
+                Some((*place + 1, row))
+            }
+        }
     }
 }

@@ -30,8 +30,9 @@ const NARROW: u32 = 16;
 /// The verdict of a program on a request over a policy (PERM: request, policy, matchers, effect). The matcher is evaluated
 /// for each rule of p in order, up to the first that settles the verdict or at which a fault stops it; once, without a
 /// rule, where it names no column of the policy or there is no rule. Under the priority of subjects every rule is
-/// evaluated, and the one with the deepest subject decides. Role relations are asked of the policy. A search that the
-/// finder refuses is a fault of its rule. Memory is taken by `regexMatch` and `eval` alone.
+/// evaluated, and the one with the deepest subject decides. Rules that cannot match by the policy's index are passed over,
+/// which changes no verdict. Role relations are asked of the policy. A search that the finder refuses is a fault of its
+/// rule. Memory is taken by `regexMatch` and `eval` alone.
 pub fn decide<P: Finder>(
     program: &Program,
     state: &PolicyState,

@@ -1,7 +1,9 @@
-ghost use Rattle.std.specs.Prelude.{◌≡◌, ◌↔◌, ◌≢◌, IfErr, IfOk, IsTrue, Ok, length};
+ghost use Rattle.std.specs.Prelude.{◌≡◌, ◌↔◌, ◌≢◌, ◌<◌, IfErr, IfOk, IfSome, IsTrue, Ok, length};
+ghost use Rattle.enforce_core.specs.Indexed.{index_column};
 ghost use Rattle.enforce_core.specs.Programs.{Suits};
 
 use crate::asking::Asking;
+use crate::index::{Index, index_of};
 use crate::names::names_policy;
 use crate::suiting::is_suited;
 use matcher_code::{Code, build};
@@ -21,6 +23,8 @@ pub struct Program {
     // The places of the policy's columns `eft` and `dom`.
     effect_place: Option<u32>,
     domain_place: Option<u32>,
+    // What is kept of the column of the index.
+    index: Option<Index>,
 }
 
 impl std::marker::Model for Program {
@@ -35,7 +39,8 @@ impl std::marker::Model for Program {
 
     ghost view = { λ p. p.model };
 
-    ghost invariant = { λ p. IsProgram p.model p.code p.by_row p.effect_place p.domain_place };
+    ghost invariant = { λ p.
+        IsProgram p.model p.code p.by_row p.effect_place p.domain_place p.index };
 }
 
 impl Share for Program {}
@@ -55,12 +60,14 @@ pub fn make_program(alloc: Global, model: Model) -> Result<Program, NoMemory>
     let by_row = names_policy(model.matcher());
     let effect_place = model.policy_columns().place_of(b"eft");
     let domain_place = model.policy_columns().place_of(b"dom");
+    let index = index_of(alloc, &model)?;
     Ok(Program {
         model,
         code,
         by_row,
         effect_place,
         domain_place,
+        index,
     })
 }
 
@@ -70,6 +77,15 @@ impl Program {
         ensures { result.now ≡ self.now }
     {
         &self.model
+    }
+
+    /// The column of the policy, counted from 0, by which an index finds the rows that may match; where there is none, all
+    /// may. It takes no memory.
+    pub fn index_column(&self) -> Option<u32>
+        ensures column { result ≡ index_column self.now }
+        ensures within { IfSome result (λ column. column < length self.now.policy) }
+    {
+        Some(self.index.as_ref()?.policy)
     }
 
     /// Whether a request has as many values as the model has columns for it.
@@ -118,6 +134,7 @@ impl Program {
             by_row: self.by_row,
             effect_place: self.effect_place,
             domain_place: self.domain_place,
+            index: self.index.as_ref(),
             state,
             request,
         }

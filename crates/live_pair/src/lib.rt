@@ -22,8 +22,5 @@ pub use front::Front;
 pub use laws::{administrators_live, entries_are_legal, publishes_are_counted};
 pub use naming::Naming;
 pub use opening::open_pair;
-pub use places::{ListPlaces, Places, Refused};
+pub use places::{ListPlaces, PairPlaces, Places, Refused};
 pub use seat::{Entered, Seat, Shut};
-
-#[cfg(test)]
-mod tests;

@@ -1,4 +1,5 @@
 ghost use Rattle.std.specs.Prelude.{◌≡◌, ◌≤◌, ℕ, IfOk, IsErr, OnErr, OnOk, true};
+ghost use Rattle.live_pair.specs.Seats.{raised};
 ghost use Rattle.outside.specs.Faults.{Rose};
 ghost use Rattle.outside.specs.Listed.{after_call, after_fault, fresh, is_listed};
 
@@ -88,6 +89,57 @@ impl Places for ListPlaces {
         match first.again() {
             Ok(more) => Ok(more),
             Err(_) => Err(self.refuse()),
+        }
+    }
+}
+
+/// Places that a program lends: they refuse where the pair has no more places or memory runs out, and nowhere else. Contracts
+/// see how often they have refused.
+#[derive(Drop)]
+pub struct PairPlaces {
+    refusals: u64,
+}
+
+impl Model for PairPlaces {
+    ghost use Rattle.std.specs.Prelude.{ℕ};
+
+    ghost Value = { ℕ };
+
+    ghost view = { λ p. p.refusals };
+}
+
+impl PairPlaces {
+    /// Places that have not refused yet. It takes no memory.
+    pub fn new() -> PairPlaces
+        ensures fresh { result ≡ 0 }
+    {
+        PairPlaces { refusals: 0 }
+    }
+
+    /// How often they have refused. The count stands still at 2^64 - 1.
+    pub fn refusals(&self) -> u64
+        ensures refusals { result ≡ self.now }
+    {
+        self.refusals
+    }
+}
+
+impl Places for PairPlaces {
+    ghost faults = { λ places. places };
+
+    fn more<J: Naming>(&mut self, first: &Entrance<J>) -> Result<Entrance<J>, Refused>
+        ensures more { IfOk result (λ more. more
+            ≡ record { front = first.now.front; refused = 0 }) }
+        ensures counted { self.old ≤ self.new }
+        ensures given { OnOk result (self.new ≡ self.old) }
+        ensures refused { OnErr result (self.new ≡ raised self.old) }
+    {
+        match first.again() {
+            Ok(more) => Ok(more),
+            Err(refused) => {
+                self.refusals = self.refusals.saturating_add(1);
+                Err(refused)
+            }
         }
     }
 }

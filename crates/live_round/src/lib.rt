@@ -5,6 +5,7 @@ mod calling;
 mod item;
 mod named;
 mod plain;
+mod pushing;
 mod querying;
 mod request;
 
@@ -12,4 +13,5 @@ pub use answer_lines::{Answer, Line, Lines};
 pub use item::answer_item;
 pub use named::named_rule;
 pub use plain::run_plain;
+pub use pushing::push_request;
 pub use request::answer_request;

@@ -12,7 +12,7 @@ use Rattle.text_parts.proofs.CallerLemmas.{position-None}
 use Rattle.policy_table.specs.Tables.{Fields}
 use Rattle.model_conf.specs.ModelText.{ModelParts}
 use Rattle.model_conf.specs.Uses.{Use, is_declared, sooner, first_by_place, first_undeclared}
-use Rattle.matcher_meaning.specs.Environment.{at_column, field_of}
+use Rattle.matcher_meaning.specs.Cases.{at_column, field_of}
 use Rattle.matcher_code.specs.Compiled.{number_of}
 use Rattle.matcher_code.specs.Machine.{field_at}
 

@@ -1,5 +1,5 @@
--- Each call of a function has one answer, and a search that is refused is its fault.
-use Rattle.std.proofs.Common.{◌≡◌, ◌⊎◌, inl, inr, ◌↔◌, ℕ, Bool, true, false, true≢false, List, [], ◌∷◌, Option, Some, None, Ok, IsTrue, refl, sym, ap, ◌∙◌, subst}
+-- Each call of a function has one answer.
+use Rattle.std.proofs.Common.{◌≡◌, ◌⊎◌, inl, inr, ◌↔◌, ℕ, Bool, true, false, true≢false, List, Option, Ok, IsTrue, refl, sym, ap, ◌∙◌, subst}
 use Rattle.effect_fold.specs.declared.fault.Cause.TheVariants.{Kind, BadAddress, BadBlock}
 use Rattle.ip_match.specs.declared.address.Address.{Address}
 use Rattle.ip_match.specs.declared.block.Block.{Block}
@@ -10,14 +10,11 @@ use Rattle.key_match.specs.Names.{CoversAlike}
 use Rattle.key_match.specs.Patterns.{brace_pieces, colon_pieces, glob_pieces}
 use Rattle.key_match.specs.Pieces.{Covers, Piece}
 use Rattle.key_match.specs.Stars.{AgreesToStar, part_at_star}
-use Rattle.matcher_read.specs.Expression.{Callee, function, relation, unknown}
 use Rattle.matcher_read.specs.declared.tree.Function.{Function}
 use Rattle.matcher_read.specs.declared.tree.Function.TheVariants as f
-use Rattle.perm_value.specs.Datum.{Datum}
 use Rattle.perm_value.specs.Datum as datum
 use Rattle.matcher_meaning.specs.Answers.{Answer, fails}
-use Rattle.matcher_meaning.specs.Calls.{IsWhether, IsText, searched, IsInBlock, without_query, OfTwo, OfThree, linked, CallsTwo, CallsThree, CallsTexts, texts_of, Calls}
-use Rattle.matcher_meaning.specs.Environment.{Environment}
+use Rattle.matcher_meaning.specs.Calls.{IsWhether, IsText, searched, IsInBlock, without_query, OfTwo, OfThree}
 
 -- two answers that a fact allows are one
 abbrev pub AtMostOne : {X : Type 0} → (X → Type 0) → Type 0
@@ -98,27 +95,6 @@ one_of_three agree at f.RegexMatch s t u q r = λ e g. e ∙ sym g
 one_of_three agree at f.IpMatch s t u q r = λ e g. e ∙ sym g
 one_of_three agree at f.KeyGet s t u q r = λ e g. e ∙ sym g
 
-one_calls_two : FunctionsAgree → (env : Environment) (at : ℕ) (callee : Callee) (s t : List ℕ) → AtMostOne (CallsTwo env at callee s t)
-one_calls_two agree env at (function called) s t q r = one_of_two agree env.refused at called s t q r
-one_calls_two agree env at (relation number) s t q r = λ e g. e ∙ sym g
-one_calls_two agree env at (unknown parts) s t q r = λ e g. e ∙ sym g
-
-one_calls_three : FunctionsAgree → (env : Environment) (at : ℕ) (callee : Callee) (s t u : List ℕ) → AtMostOne (CallsThree env at callee s t u)
-one_calls_three agree env at (function called) s t u q r = one_of_three agree at called s t u q r
-one_calls_three agree env at (relation number) s t u q r = λ e g. e ∙ sym g
-one_calls_three agree env at (unknown parts) s t u q r = λ e g. e ∙ sym g
-
-one_calls_texts : FunctionsAgree → (env : Environment) (at : ℕ) (callee : Callee) (ts : Option (List (List ℕ))) → AtMostOne (CallsTexts env at callee ts)
-one_calls_texts agree env at callee None q r = λ e g. e ∙ sym g
-one_calls_texts agree env at callee (Some []) q r = λ e g. e ∙ sym g
-one_calls_texts agree env at callee (Some (s ∷ [])) q r = λ e g. e ∙ sym g
-one_calls_texts agree env at callee (Some (s ∷ t ∷ [])) q r = one_calls_two agree env at callee s t q r
-one_calls_texts agree env at callee (Some (s ∷ t ∷ u ∷ [])) q r = one_calls_three agree env at callee s t u q r
-one_calls_texts agree env at callee (Some (s ∷ t ∷ u ∷ v ∷ more)) q r = λ e g. e ∙ sym g
-
-pub one_call : FunctionsAgree → (env : Environment) (at : ℕ) (callee : Callee) (ds : List Datum) → AtMostOne (Calls env at callee ds)
-one_call agree env at callee ds = one_calls_texts agree env at callee (texts_of ds)
-
 pub some_whether : (fact : Type 0) → (b : Bool) × (IsTrue b ↔ fact) → AtLeastOne (IsWhether fact)
 some_whether fact (b, p) = (Ok (datum.truth b), (b, p, refl))
 
@@ -164,18 +140,3 @@ some_of_three decide at f.GlobMatch s t u = (fails Kind at, refl)
 some_of_three decide at f.RegexMatch s t u = (fails Kind at, refl)
 some_of_three decide at f.IpMatch s t u = (fails Kind at, refl)
 some_of_three decide at f.KeyGet s t u = (fails Kind at, refl)
-
-some_calls_texts : FunctionsDecide → (env : Environment) (at : ℕ) (callee : Callee) (ts : Option (List (List ℕ))) → AtLeastOne (CallsTexts env at callee ts)
-some_calls_texts decide env at callee None = (fails Kind at, refl)
-some_calls_texts decide env at callee (Some []) = (fails Kind at, refl)
-some_calls_texts decide env at callee (Some (s ∷ [])) = (fails Kind at, refl)
-some_calls_texts decide env at (function called) (Some (s ∷ t ∷ [])) = some_of_two decide env.refused at called s t
-some_calls_texts decide env at (relation number) (Some (s ∷ t ∷ [])) = (linked env number s t None, refl)
-some_calls_texts decide env at (unknown parts) (Some (s ∷ t ∷ [])) = (fails Kind at, refl)
-some_calls_texts decide env at (function called) (Some (s ∷ t ∷ u ∷ [])) = some_of_three decide at called s t u
-some_calls_texts decide env at (relation number) (Some (s ∷ t ∷ u ∷ [])) = (linked env number s t (Some u), refl)
-some_calls_texts decide env at (unknown parts) (Some (s ∷ t ∷ u ∷ [])) = (fails Kind at, refl)
-some_calls_texts decide env at callee (Some (s ∷ t ∷ u ∷ v ∷ more)) = (fails Kind at, refl)
-
-pub some_call : FunctionsDecide → (env : Environment) (at : ℕ) (callee : Callee) (ds : List Datum) → AtLeastOne (Calls env at callee ds)
-some_call decide env at callee ds = some_calls_texts decide env at callee (texts_of ds)

@@ -1,4 +1,4 @@
--- In a case, too, a search that is refused leaves an answer as it is, or is its fault.
+-- A search that is refused leaves an answer as it is, or is its fault.
 use Rattle.std.proofs.Common.{◌≡◌, ◌⊎◌, inl, inr, ℕ, List, [], ◌∷◌, Option, Some, None, Result, refl}
 use Rattle.effect_fold.specs.declared.fault.Cause.TheVariants.{Pattern}
 use Rattle.effect_fold.specs.declared.fault.Fault.{Fault}

@@ -15,7 +15,7 @@ use Rattle.matcher_meaning.specs.Meaning.{along, truth_at}
 use Rattle.matcher_meaning.specs.Operators.{negated, opposed, as_truth, settled, joined, found}
 use Rattle.matcher_meaning.proofs.CallLemmas.{AtMostOne, AtLeastOne, FunctionsAgree, FunctionsDecide}
 use Rattle.matcher_meaning.proofs.CaseCallLemmas.{ReachingIsDecided, gives_one, gives_some}
-use Rattle.matcher_meaning.proofs.MeaningLemmas.{one_next, unless_one, after_one, first_one, some_next, unless_some, after_some, first_some}
+use Rattle.matcher_meaning.proofs.StepLemmas.{one_next, unless_one, after_one, first_one, some_next, unless_some, after_some, first_some}
 
 -- a text says one rule at most
 abbrev pub OneRule : Type 0

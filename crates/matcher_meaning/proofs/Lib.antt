@@ -1,8 +1,7 @@
 pub mod CallerLemmas
 mod CallLemmas
 mod RefusalLemmas
-mod MeaningLemmas
-mod PermLemmas
+mod StepLemmas
 mod PatternLemmas
 mod CaseCallLemmas
 mod ComesLemmas

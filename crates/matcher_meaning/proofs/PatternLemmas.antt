@@ -1,23 +1,21 @@
--- Where no search is refused, no fault is that of a pattern.
-use Rattle.std.proofs.Common.{◌≡◌, inl, inr, ℕ, ◌+◌, ℤ, ◌+ℤ◌, ◌-ℤ◌, ◌*ℤ◌, neg_ℤ, Bool, true, false, List, [], ◌∷◌, Option, Some, None, Result, Ok, Err, cond, find, if◌then◌else◌, pos, int_div, int_rem, refl, sym, ap, ◌∙◌, subst}
+-- What operators, functions and outcomes give where no search is refused is no fault of a pattern.
+use Rattle.std.proofs.Common.{◌≡◌, inl, inr, ℕ, ℤ, ◌+ℤ◌, ◌-ℤ◌, ◌*ℤ◌, neg_ℤ, Bool, true, false, List, [], ◌∷◌, Option, Some, None, Result, Ok, Err, cond, find, if◌then◌else◌, pos, int_div, int_rem, refl, sym, subst}
 use Rattle.std.specs.Bool.{⊤}
 use Rattle.std.specs.Ordering.{int_eq, is_lt, is_le, is_gt, is_ge}
 use Rattle.std.specs.declared.cmp.Ordering.{Ordering}
-use Rattle.effect_fold.specs.Verdict.{Taken, ends, unsettled, allow_by, allows, settled_by, verdict_at}
+use Rattle.effect_fold.specs.Verdict.{Taken, unsettled, allow_by, allows, settled_by, verdict_at}
 use Rattle.effect_fold.specs.declared.effect.Effect.{Effect}
 use Rattle.effect_fold.specs.declared.effect.Effect.TheVariants as effect
-use Rattle.effect_fold.specs.declared.fault.Cause.TheVariants.{Kind, Overflow, ZeroDivisor, BadAddress, BadBlock, RuleText}
+use Rattle.effect_fold.specs.declared.fault.Cause.TheVariants.{Kind, Overflow, ZeroDivisor, BadAddress, BadBlock}
 use Rattle.effect_fold.specs.declared.fault.Fault.{Fault}
 use Rattle.effect_fold.specs.declared.outcome.Outcome.{Outcome}
 use Rattle.effect_fold.specs.declared.outcome.Outcome.TheVariants.{Unmatched, Matched, Failed}
-use Rattle.effect_fold.specs.declared.verdict.Verdict.{Verdict}
 use Rattle.ip_match.specs.Blocks.{IsInside}
 use Rattle.key_match.specs.Divisions.{LongerFirst, ShorterSegmentFirst, IsNamedPart}
 use Rattle.key_match.specs.Names.{CoversAlike}
 use Rattle.key_match.specs.Patterns.{brace_pieces, colon_pieces, glob_pieces}
 use Rattle.key_match.specs.Pieces.{Covers}
 use Rattle.key_match.specs.Stars.{AgreesToStar, part_at_star}
-use Rattle.matcher_read.specs.Expression.{Callee, function, relation, unknown, Expression, text, whole, truth, request, policy, evaluated, negation, opposite, binary, among, call, Expressions, no_more, one_more, place}
 use Rattle.matcher_read.specs.declared.tree.Function.{Function}
 use Rattle.matcher_read.specs.declared.tree.Function.TheVariants as f
 use Rattle.matcher_read.specs.declared.tree.Operator.{Operator}
@@ -28,11 +26,10 @@ use Rattle.perm_value.specs.Datum as datum
 use Rattle.matcher_meaning.specs.Answers as answers
 use Rattle.matcher_meaning.specs.Answers.{Answer, After, Unless, with_first}
 use Rattle.matcher_meaning.specs.Arithmetic.{fits, fitted, divided, of_wholes}
-use Rattle.matcher_meaning.specs.Calls.{IsWhether, IsText, searched, IsInBlock, without_query, OfTwo, OfThree, linked, CallsTexts, texts_of, Calls}
-use Rattle.matcher_meaning.specs.Environment.{Environment, unrefused, without_roles, request_value, policy_text}
-use Rattle.matcher_meaning.specs.Meaning.{Means, IsAmong, AreArguments, IsTruth, along, truth_at}
+use Rattle.matcher_meaning.specs.Calls.{IsWhether, IsText, searched, IsInBlock, without_query, OfTwo, OfThree}
+use Rattle.matcher_meaning.specs.Meaning.{along, truth_at}
 use Rattle.matcher_meaning.specs.Operators.{negated, opposed, as_truth, ended_by, settled, ordered, joined, is_member, found}
-use Rattle.matcher_meaning.specs.Perm.{Judging, IsOutcome, AreOutcomes, IsOnce, HasOutcomes, IsPerm, outcome_of, row_word, names_policy, is_pattern, is_refusal}
+use Rattle.matcher_meaning.specs.Perm.{outcome_of, is_pattern, is_refusal}
 
 -- the result is a value, or a fault of another cause than a pattern
 abbrev pub IsClear : {X : Type 0} → Result X Fault → Type 0
@@ -177,54 +174,9 @@ three_clear at f.KeyGet2 s t u r p = text_clear (IsNamedPart LongerFirst (colon_
 three_clear at f.KeyGet3 s t u r p = text_clear (IsNamedPart ShorterSegmentFirst (brace_pieces t) s u) r p
 three_clear at _ s t u r e = same_clear r (answers.fails Kind at) e refl
 
-texts_clear : (env : Environment) (at : ℕ) (callee : Callee) (ts : Option (List (List ℕ))) → AreClear (CallsTexts (unrefused env) at callee ts)
-texts_clear env at (function called) (Some (s ∷ t ∷ [])) r p = two_clear at called s t r p
-texts_clear env at (relation number) (Some (s ∷ t ∷ [])) r e = same_clear r (linked env number s t None) e tt
-texts_clear env at (unknown parts) (Some (s ∷ t ∷ [])) r e = same_clear r (answers.fails Kind at) e refl
-texts_clear env at (function called) (Some (s ∷ t ∷ u ∷ [])) r p = three_clear at called s t u r p
-texts_clear env at (relation number) (Some (s ∷ t ∷ u ∷ [])) r e = same_clear r (linked env number s t (Some u)) e tt
-texts_clear env at (unknown parts) (Some (s ∷ t ∷ u ∷ [])) r e = same_clear r (answers.fails Kind at) e refl
-texts_clear env at callee None r e = same_clear r (answers.fails Kind at) e refl
-texts_clear env at callee (Some []) r e = same_clear r (answers.fails Kind at) e refl
-texts_clear env at callee (Some (s ∷ [])) r e = same_clear r (answers.fails Kind at) e refl
-texts_clear env at callee (Some (s ∷ t ∷ u ∷ v ∷ more)) r e = same_clear r (answers.fails Kind at) e refl
-
-mutual
-  pub value_clear : (env : Environment) (e : Expression) → AreClear (Means (unrefused env) e)
-  value_clear env (text at bytes) r e = same_clear r (Ok (datum.text bytes)) e tt
-  value_clear env (whole at n) r e = same_clear r (Ok (datum.whole n)) e tt
-  value_clear env (truth at b) r e = same_clear r (Ok (datum.truth b)) e tt
-  value_clear env (request at column path) r e = same_clear r (along at (request_value env column) path) e (along_clear at (request_value env column) path)
-  value_clear env (policy at column) r e = same_clear r (Ok (datum.text (policy_text env column))) e tt
-  value_clear env (evaluated at column) r e = same_clear r (answers.fails RuleText at) e refl
-  value_clear env (negation at e) r p = next_clear (Means (unrefused env) e) (λ x. answers.then x (negated at)) (value_clear env e) (λ x clear. then_clear x (negated at) clear (negated_clear at)) r p
-  value_clear env (opposite at e) r p = next_clear (Means (unrefused env) e) (λ x. answers.then x (opposed at)) (value_clear env e) (λ x clear. then_clear x (opposed at) clear (opposed_clear at)) r p
-  value_clear env (binary at o e g) r p =
-      after_clear (Means (unrefused env) e) (λ d r. Unless (settled at o d) ((y : Answer) × Means (unrefused env) g y × (r ≡ answers.then y (joined at o d))) r)
-      (value_clear env e)
-      (λ d. unless_clear (settled at o d) (λ r. (y : Answer) × Means (unrefused env) g y × (r ≡ answers.then y (joined at o d))) (settled_clear at o d)
-      (next_clear (Means (unrefused env) g) (λ y. answers.then y (joined at o d)) (value_clear env g) (λ y clear. then_clear y (joined at o d) clear (joined_clear at o d)))) r p
-  value_clear env (among at e es) r p = after_clear (Means (unrefused env) e) (λ d r. IsAmong (unrefused env) d es r) (value_clear env e) (λ d. among_clear env d es) r p
-  value_clear env (call at callee es) r p =
-      after_clear (AreArguments (unrefused env) es) (λ ds r. Calls (unrefused env) at callee ds r) (arguments_clear env es) (λ ds. texts_clear env at callee (texts_of ds)) r p
-
-  among_clear : (env : Environment) (d : Datum) (es : Expressions) → AreClear (IsAmong (unrefused env) d es)
-  among_clear env d no_more r e = same_clear r (Ok (datum.truth false)) e tt
-  among_clear env d (one_more e es) r (x, p, unless) =
-      unless_clear (found d x) (IsAmong (unrefused env) d es) (found_clear d x (value_clear env e x p)) (among_clear env d es) r unless
-
-  arguments_clear : (env : Environment) (es : Expressions) → AreClear (AreArguments (unrefused env) es)
-  arguments_clear env no_more r e = same_clear r (Ok []) e tt
-  arguments_clear env (one_more e es) r p =
-      after_clear (Means (unrefused env) e) (λ d r. (y : Result (List Datum) Fault) × AreArguments (unrefused env) es y × (r ≡ with_first d y)) (value_clear env e)
-      (λ d. next_clear (AreArguments (unrefused env) es) (with_first d) (arguments_clear env es) (first_clear d)) r p
-
 pub truth_at_clear : (at : ℕ) (d : Datum) → IsClear (truth_at at d)
 truth_at_clear at (datum.truth b) = tt
 truth_at_clear at _ = refl
-
-pub truth_clear : (env : Environment) (e : Expression) → AreClear (IsTruth (unrefused env) e)
-truth_clear env e = next_clear (Means (unrefused env) e) (λ x. answers.then x (truth_at (place e))) (value_clear env e) (λ x clear. then_clear x (truth_at (place e)) clear (truth_at_clear (place e)))
 
 -- the outcome is not the fault of a pattern
 abbrev pub IsClearOutcome : Outcome → Type 0
@@ -247,25 +199,6 @@ outcome_of_clear (Err failed) word clear = clear
 outcome_of_clear (Ok false) word clear = tt
 outcome_of_clear (Ok true) None clear = tt
 outcome_of_clear (Ok true) (Some word) clear = tt
-
-outcome_clear : (m : Judging) (q : List Datum) (row : Option (List (List ℕ))) (word : Option Bool) (outcome : Outcome) → IsOutcome m q None row word outcome → IsClearOutcome outcome
-outcome_clear m q row word outcome (t, is, e) =
-    subst IsClearOutcome (sym e) (outcome_of_clear t word (truth_clear (without_roles m.request_columns q m.policy_columns row None) m.matcher t is))
-
-outcomes_clear : (m : Judging) (q : List Datum) (number : ℕ) (rows : List (List (List ℕ))) (outcomes : List Taken) → AreOutcomes m q None number rows outcomes → AreClearOutcomes outcomes
-outcomes_clear m q number [] [] p = tt
-outcomes_clear m q number [] (taken ∷ others) p = absurd p
-outcomes_clear m q number (row ∷ rows) [] p = absurd p
-outcomes_clear m q number (row ∷ rows) (taken ∷ others) p =
-    (outcome_clear m q (Some row) (row_word m.policy_columns row) taken.1 p.1, outcomes_clear m q (number + 1) rows others p.2)
-
-once_clear : (m : Judging) (q : List Datum) (outcomes : List Taken) → IsOnce m q None outcomes → AreClearOutcomes outcomes
-once_clear m q outcomes (outcome, is, e) = subst AreClearOutcomes (sym e) (outcome_clear m q None (Some true) outcome is, tt)
-
-all_clear : (m : Judging) (q : List Datum) (named : Bool) (rows : List (List (List ℕ))) (outcomes : List Taken) → HasOutcomes m q None named rows outcomes → AreClearOutcomes outcomes
-all_clear m q false rows outcomes p = once_clear m q outcomes p
-all_clear m q true [] outcomes p = once_clear m q outcomes p
-all_clear m q true (row ∷ rows) outcomes p = outcomes_clear m q 1 (row ∷ rows) outcomes p
 
 pub find_clear : (test : Taken → Bool) (outcomes : List Taken) → AreClearOutcomes outcomes → IsClearFound (find test outcomes)
 find_clear test [] clear = tt
@@ -295,7 +228,3 @@ unsettled_clear effect.SubjectPriority outcomes = refl
 pub verdict_at_clear : (e : Effect) (outcomes : List Taken) (taken : Option Taken) → IsClearFound taken → is_refusal (verdict_at e outcomes taken) ≡ false
 verdict_at_clear e outcomes (Some taken) clear = settled_by_clear taken.0 taken.1 clear
 verdict_at_clear e outcomes None clear = unsettled_clear e outcomes
-
-pub verdict_clear : (m : Judging) (q : List Datum) (rows : List (List (List ℕ))) (v : Verdict) → IsPerm m q rows None v → is_refusal v ≡ false
-verdict_clear m q rows v (outcomes, are, e) =
-    ap is_refusal e ∙ verdict_at_clear m.effect outcomes (find (ends m.effect) outcomes) (find_clear (ends m.effect) outcomes (all_clear m q (names_policy m.matcher) rows outcomes are))

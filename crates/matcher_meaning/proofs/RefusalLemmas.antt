@@ -1,28 +1,21 @@
--- A search that is refused leaves an answer as it is, or is its fault.
-use Rattle.std.proofs.Common.{if◌then◌else◌, ◌≡◌, ◌⊎◌, inl, inr, ℕ, ◌==◌, ◌&&◌, Bool, true, false, List, [], ◌∷◌, Option, Some, None, Result, Ok, Err, refl, sym, ap, unwrap_or}
+-- Where a search is refused, a fact holds of a result as it was, or of the fault of that search.
+use Rattle.std.proofs.Common.{if◌then◌else◌, ◌≡◌, ◌⊎◌, inl, inr, ℕ, ◌==◌, ◌&&◌, Bool, true, false, List, Option, Some, None, Result, Ok, Err, refl, sym, ap, unwrap_or}
 use Rattle.std.proofs.lemmas.Bool.{eqb-true}
 use Rattle.std.specs.Str.{bytes_eq}
 use Rattle.effect_fold.specs.declared.fault.Cause.TheVariants.{Pattern}
 use Rattle.effect_fold.specs.declared.fault.Fault.{Fault}
-use Rattle.matcher_read.specs.Expression.{Callee, function, relation, unknown, Expression, text, whole, truth, request, policy, evaluated, negation, opposite, binary, among, call, Expressions, no_more, one_more}
 use Rattle.matcher_read.specs.declared.tree.Function.{Function}
 use Rattle.matcher_read.specs.declared.tree.Function.TheVariants as f
 use Rattle.perm_value.specs.Datum.{Datum}
 use Rattle.perm_value.specs.Datum as datum
 use Rattle.regex_gate.specs.Found.{found as has_match}
-use Rattle.matcher_meaning.specs.Answers as answers
-use Rattle.matcher_meaning.specs.Answers.{Answer, fails, After, Unless, with_first}
-use Rattle.matcher_meaning.specs.Calls.{is_refused, OfTwo, CallsTexts, texts_of, Calls}
-use Rattle.matcher_meaning.specs.Environment.{Environment, unrefused, refusing}
-use Rattle.matcher_meaning.specs.Meaning.{Means, IsAmong, AreArguments}
-use Rattle.matcher_meaning.specs.Operators.{negated, opposed, settled, joined, found}
+use Rattle.matcher_meaning.specs.Answers.{Answer, fails, After, Unless}
+use Rattle.matcher_meaning.specs.Calls.{is_refused, OfTwo}
+use Rattle.matcher_meaning.specs.Operators.{found}
 
 -- what holds of a result where nothing is refused holds where a search is refused, or its fault does
 abbrev pub Keeps : {X : Type 0} → ℕ → (P Q : Result X Fault → Type 0) → Type 0
 Keeps {X} at P Q = (r : Result X Fault) → P r → Q r ⊎ Q (fails Pattern at)
-
-kept : {X : Type 0} (at : ℕ) (P : Result X Fault → Type 0) → Keeps at P P
-kept at P r p = inl p
 
 pub then_keeps : {X Y : Type 0} (at : ℕ) (P Q : Result X Fault → Type 0) (next : Result X Fault → Result Y Fault) → next (fails Pattern at) ≡ fails Pattern at → Keeps at P Q
     → Keeps at (λ r. (x : Result X Fault) × P x × (r ≡ next x)) (λ r. (x : Result X Fault) × Q x × (r ≡ next x))
@@ -84,21 +77,6 @@ two_keeps at pattern place f.KeyGet s t r p = inl p
 two_keeps at pattern place f.KeyGet2 s t r p = inl p
 two_keeps at pattern place f.KeyGet3 s t r p = inl p
 
-texts_keep : (env : Environment) (at : ℕ) (pattern : List ℕ) (place : ℕ) (callee : Callee) (ts : Option (List (List ℕ))) → Keeps at (CallsTexts (unrefused env) place callee ts) (CallsTexts (refusing env at pattern) place callee ts)
-texts_keep env at pattern place (function called) (Some (s ∷ t ∷ [])) r p = two_keeps at pattern place called s t r p
-texts_keep env at pattern place (relation number) (Some (s ∷ t ∷ [])) r p = inl p
-texts_keep env at pattern place (unknown parts) (Some (s ∷ t ∷ [])) r p = inl p
-texts_keep env at pattern place (function called) (Some (s ∷ t ∷ u ∷ [])) r p = inl p
-texts_keep env at pattern place (relation number) (Some (s ∷ t ∷ u ∷ [])) r p = inl p
-texts_keep env at pattern place (unknown parts) (Some (s ∷ t ∷ u ∷ [])) r p = inl p
-texts_keep env at pattern place callee None r p = inl p
-texts_keep env at pattern place callee (Some []) r p = inl p
-texts_keep env at pattern place callee (Some (s ∷ [])) r p = inl p
-texts_keep env at pattern place callee (Some (s ∷ t ∷ u ∷ v ∷ more)) r p = inl p
-
-calls_keep : (env : Environment) (at : ℕ) (pattern : List ℕ) (place : ℕ) (callee : Callee) (ds : List Datum) → Keeps at (Calls (unrefused env) place callee ds) (Calls (refusing env at pattern) place callee ds)
-calls_keep env at pattern place callee ds = texts_keep env at pattern place callee (texts_of ds)
-
 -- the same with the premise that a value that was found may not be
 pub found_keeps : (at : ℕ) (P Q : Answer → Type 0) (R S : Answer → Type 0) (d : Datum) → Keeps at P Q → Keeps at R S
     → Keeps at (λ r. (x : Answer) × P x × Unless (found d x) (R r) r) (λ r. (x : Answer) × Q x × Unless (found d x) (S r) r)
@@ -114,42 +92,3 @@ found_keeps at P Q R S d keep rest r (x, p, unless) = first (keep x p)
     first : Q x ⊎ Q (fails Pattern at) → Kept r ⊎ Kept (fails Pattern at)
     first (inl q) = second q (unless_keeps at (found d x) R S rest r unless)
     first (inr q) = inr (fails Pattern at, q, refl)
-
-mutual
-  pub value_keeps : (env : Environment) (at : ℕ) (pattern : List ℕ) (e : Expression) → Keeps at (Means (unrefused env) e) (Means (refusing env at pattern) e)
-  value_keeps env at pattern (text place bytes) r p = inl p
-  value_keeps env at pattern (whole place n) r p = inl p
-  value_keeps env at pattern (truth place b) r p = inl p
-  value_keeps env at pattern (request place column path) r p = inl p
-  value_keeps env at pattern (policy place column) r p = inl p
-  value_keeps env at pattern (evaluated place column) r p = inl p
-  value_keeps env at pattern (negation place e) r p = then_keeps at (Means (unrefused env) e) (Means (refusing env at pattern) e) (λ x. answers.then x (negated place)) refl (value_keeps env at pattern e) r p
-  value_keeps env at pattern (opposite place e) r p = then_keeps at (Means (unrefused env) e) (Means (refusing env at pattern) e) (λ x. answers.then x (opposed place)) refl (value_keeps env at pattern e) r p
-  value_keeps env at pattern (binary place op e g) r p =
-      after_keeps at (Means (unrefused env) e) (Means (refusing env at pattern) e)
-      (λ d r. Unless (settled place op d) ((y : Answer) × Means (unrefused env) g y × (r ≡ answers.then y (joined place op d))) r)
-      (λ d r. Unless (settled place op d) ((y : Answer) × Means (refusing env at pattern) g y × (r ≡ answers.then y (joined place op d))) r)
-      (value_keeps env at pattern e)
-      (λ d. unless_keeps at (settled place op d) (λ r. (y : Answer) × Means (unrefused env) g y × (r ≡ answers.then y (joined place op d))) (λ r. (y : Answer) × Means (refusing env at pattern) g y × (r ≡ answers.then y (joined place op d)))
-      (then_keeps at (Means (unrefused env) g) (Means (refusing env at pattern) g) (λ y. answers.then y (joined place op d)) refl (value_keeps env at pattern g))) r p
-  value_keeps env at pattern (among place e es) r p =
-      after_keeps at (Means (unrefused env) e) (Means (refusing env at pattern) e) (λ d r. IsAmong (unrefused env) d es r) (λ d r. IsAmong (refusing env at pattern) d es r)
-      (value_keeps env at pattern e) (λ d. among_keeps env at pattern d es) r p
-  value_keeps env at pattern (call place callee es) r p =
-      after_keeps at (AreArguments (unrefused env) es) (AreArguments (refusing env at pattern) es) (λ ds r. Calls (unrefused env) place callee ds r) (λ ds r. Calls (refusing env at pattern) place callee ds r)
-      (arguments_keep env at pattern es) (λ ds. calls_keep env at pattern place callee ds) r p
-
-  among_keeps : (env : Environment) (at : ℕ) (pattern : List ℕ) (d : Datum) (es : Expressions) → Keeps at (IsAmong (unrefused env) d es) (IsAmong (refusing env at pattern) d es)
-  among_keeps env at pattern d no_more r p = inl p
-  among_keeps env at pattern d (one_more e es) r p =
-      found_keeps at (Means (unrefused env) e) (Means (refusing env at pattern) e) (IsAmong (unrefused env) d es) (IsAmong (refusing env at pattern) d es) d
-      (value_keeps env at pattern e) (among_keeps env at pattern d es) r p
-
-  pub arguments_keep : (env : Environment) (at : ℕ) (pattern : List ℕ) (es : Expressions) → Keeps at (AreArguments (unrefused env) es) (AreArguments (refusing env at pattern) es)
-  arguments_keep env at pattern no_more r p = inl p
-  arguments_keep env at pattern (one_more e es) r p =
-      after_keeps at (Means (unrefused env) e) (Means (refusing env at pattern) e)
-      (λ d r. (y : Result (List Datum) Fault) × AreArguments (unrefused env) es y × (r ≡ with_first d y))
-      (λ d r. (y : Result (List Datum) Fault) × AreArguments (refusing env at pattern) es y × (r ≡ with_first d y))
-      (value_keeps env at pattern e)
-      (λ d. then_keeps at (AreArguments (unrefused env) es) (AreArguments (refusing env at pattern) es) (with_first d) refl (arguments_keep env at pattern es)) r p

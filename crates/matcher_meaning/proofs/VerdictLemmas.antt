@@ -1,7 +1,7 @@
 -- A model comes to one verdict for a request over its tables.
 use Rattle.std.proofs.Common.{◌≡◌, ℕ, Bool, true, false, List, [], ◌∷◌, Option, Some, None, refl, sym, ap, ◌∙◌}
 use Rattle.std.specs.List.{AllZip}
-use Rattle.effect_fold.specs.Verdict.{verdict}
+use Rattle.effect_fold.specs.Verdict.{Taken, verdict}
 use Rattle.effect_fold.specs.declared.effect.Effect.{Effect}
 use Rattle.effect_fold.specs.declared.effect.Effect.TheVariants as effect
 use Rattle.effect_fold.specs.declared.outcome.Outcome.{Outcome}
@@ -20,8 +20,7 @@ use Rattle.matcher_meaning.specs.Order.{AreDepths, AreInOrder, IsDepthBy, Number
 use Rattle.matcher_meaning.specs.Perm.{Refusal, names_policy, outcome_of, refused_at, row_word}
 use Rattle.matcher_meaning.specs.Verdicts.{HasOutcome, RowHasOutcome, HasOneOutcome, HasOutcomesOver, IsVerdict, case_of}
 use Rattle.matcher_meaning.proofs.CallLemmas.{AtMostOne, AtLeastOne}
-use Rattle.matcher_meaning.proofs.MeaningLemmas.{one_next, first_one, some_next, first_some}
-use Rattle.matcher_meaning.proofs.PermLemmas.{same_taken}
+use Rattle.matcher_meaning.proofs.StepLemmas.{one_next, first_one, some_next, first_some}
 
 pub each_one : {X Y : Type 0} (Holds : X → Y → Type 0) → ((x : X) → AtMostOne (Holds x)) → (xs : List X) → AtMostOne (AllZip Holds xs)
 each_one Holds one [] [] [] p q = refl
@@ -45,7 +44,7 @@ OneDepth = (shape : RoleShape) (table : List Fields) (limit : ℕ) (domain : Opt
 abbrev pub SomeDepth : Type 0
 SomeDepth = (shape : RoleShape) (table : List Fields) (limit : ℕ) (domain : Option (List ℕ)) (name : List ℕ) → (depth : ℕ) × IsDepth shape table limit domain name depth
 
-depth_one : OneDepth → (case : Case) (shape : Option RoleShape) (fields : Fields) → AtMostOne (IsDepthBy case shape fields)
+pub depth_one : OneDepth → (case : Case) (shape : Option RoleShape) (fields : Fields) → AtMostOne (IsDepthBy case shape fields)
 depth_one one case (Some shape) fields r s p q = one shape (rows case.policy (G 1)) case.shapes.limit (domain_of_row case shape fields) _ r s p q
 depth_one one case None fields r s p q = p ∙ sym q
 
@@ -83,6 +82,9 @@ outcome_one case one row refused word = one_next (TruthIs (where_refused (at_row
 
 pub outcome_some : (case : Case) → SomeTruthAt case → (row : Option Fields) (refused : Option (ℕ × List ℕ)) (word : Option Bool) → AtLeastOne (HasOutcome (where_refused (at_row case row) refused) word)
 outcome_some case some row refused word = some_next (TruthIs (where_refused (at_row case row) refused) case.model.matcher) (λ t. outcome_of t word) (some row refused)
+
+pub same_taken : (p s : Taken) → p.0 ≡ s.0 → p.1 ≡ s.1 → p ≡ s
+same_taken p s row outcome = ap (λ (r : Option ℕ). (r, p.1)) row ∙ ap (λ (o : Outcome). (s.0, o)) outcome
 
 pub row_outcome_one : (case : Case) → OneTruthAt case → (refused : Option Refusal) (row : Numbered) → AtMostOne (RowHasOutcome case refused row)
 row_outcome_one case one refused row r s p q =

@@ -24,8 +24,8 @@ use Rattle.matcher_meaning.specs.Order.{Numbered}
 use Rattle.matcher_meaning.specs.Perm.{Refusal, names_policy, refusal_fault, refused_at, row_word, same_row}
 use Rattle.matcher_meaning.specs.Verdicts.{HasOutcome, RowHasOutcome, HasOneOutcome, HasOutcomesOver, IsVerdict, case_of}
 use Rattle.matcher_meaning.proofs.CaseRefusalLemmas.{comes_keeps}
-use Rattle.matcher_meaning.proofs.PermLemmas.{same_taken}
 use Rattle.matcher_meaning.proofs.RefusalLemmas.{Keeps, then_keeps}
+use Rattle.matcher_meaning.proofs.VerdictLemmas.{same_taken}
 
 pub truth_keeps : (case : Case) (at : ℕ) (pattern : List ℕ) (e : Expression) → Keeps at (TruthIs (where_refused case None) e) (TruthIs (where_refused case (Some (at, pattern))) e)
 truth_keeps case at pattern e =

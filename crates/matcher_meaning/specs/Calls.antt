@@ -1,4 +1,4 @@
--- What calls give for the values of their arguments (Casbin, functions in matchers). The place is the call's.
+-- What functions give for the texts of their arguments (Casbin, functions in matchers). The place is the call's.
 use Rattle.std.specs.Prelude.{◌≡◌, ◌⊎◌, ◌↔◌, ℕ, ◌==◌, ◌&&◌, Bool, false, List, [], ◌∷◌, Option, Some, None, unwrap_or, IsTrue, Ok, if◌then◌else◌}
 use Rattle.std.specs.List.{before_first}
 use Rattle.std.specs.Str.{bytes_eq}
@@ -12,14 +12,12 @@ use Rattle.key_match.specs.Names.{CoversAlike}
 use Rattle.key_match.specs.Patterns.{brace_pieces, colon_pieces, glob_pieces}
 use Rattle.key_match.specs.Pieces.{Covers}
 use Rattle.key_match.specs.Stars.{AgreesToStar, part_at_star}
-use Rattle.matcher_read.specs.Expression.{Callee, function, relation, unknown}
 use Rattle.matcher_read.specs.declared.tree.Function.{Function}
 use Rattle.matcher_read.specs.declared.tree.Function.TheVariants as f
 use Rattle.perm_value.specs.Datum.{Datum}
 use Rattle.perm_value.specs.Datum as datum
 use Rattle.regex_gate.specs.Found.{found}
 use Rattle.matcher_meaning.specs.Answers.{Answer, fails}
-use Rattle.matcher_meaning.specs.Environment.{Environment}
 
 -- whether a fact holds
 abbrev pub IsWhether : Type 0 → Answer → Type 0
@@ -70,28 +68,6 @@ OfThree at f.KeyGet2 key pattern name r = IsText (IsNamedPart LongerFirst (colon
 OfThree at f.KeyGet3 key pattern name r = IsText (IsNamedPart ShorterSegmentFirst (brace_pieces pattern) key name) r
 OfThree at _ _ _ _ r = r ≡ fails Kind at
 
--- whether a relation links two names
-abbrev pub linked : Environment → ℕ → List ℕ → List ℕ → Option (List ℕ) → Answer
-linked env number x y domain = Ok (datum.truth (env.link number x y domain))
-
--- a call with two arguments that are texts
-abbrev pub CallsTwo : Environment → ℕ → Callee → List ℕ → List ℕ → Answer → Type 0
-CallsTwo env at (function called) s t r = OfTwo env.refused at called s t r
-CallsTwo env at (relation number) s t r = r ≡ linked env number s t None
-CallsTwo env at (unknown parts) s t r = r ≡ fails Kind at
-
--- a call with three arguments that are texts
-abbrev pub CallsThree : Environment → ℕ → Callee → List ℕ → List ℕ → List ℕ → Answer → Type 0
-CallsThree env at (function called) s t u r = OfThree at called s t u r
-CallsThree env at (relation number) s t u r = r ≡ linked env number s t (Some u)
-CallsThree env at (unknown parts) s t u r = r ≡ fails Kind at
-
--- what a call gives for its arguments as texts, or none where one is no text: any but two or three texts are of another kind
-abbrev pub CallsTexts : Environment → ℕ → Callee → Option (List (List ℕ)) → Answer → Type 0
-CallsTexts env at callee (Some (s ∷ t ∷ [])) r = CallsTwo env at callee s t r
-CallsTexts env at callee (Some (s ∷ t ∷ u ∷ [])) r = CallsThree env at callee s t u r
-CallsTexts env at callee _ r = r ≡ fails Kind at
-
 -- a value as a text
 abbrev pub text_of : Datum → Option (List ℕ)
 text_of (datum.text t) = Some t
@@ -106,7 +82,3 @@ text_before _ _ = None
 abbrev pub texts_of : List Datum → Option (List (List ℕ))
 texts_of [] = Some []
 texts_of (d ∷ ds) = text_before (text_of d) (texts_of ds)
-
--- what a call gives for the values of its arguments
-abbrev pub Calls : Environment → ℕ → Callee → List Datum → Answer → Type 0
-Calls env at callee ds r = CallsTexts env at callee (texts_of ds) r

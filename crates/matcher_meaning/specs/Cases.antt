@@ -1,5 +1,6 @@
 -- What a matcher is judged in: a model, a request and a row, and the tables whose role rows are the links (Casbin, syntax for models: matchers; RBAC).
-use Rattle.std.specs.Prelude.{◌≡◌, ℕ, List, Option, Some, is_some}
+use Rattle.std.specs.Prelude.{◌≡◌, ℕ, List, [], Option, Some, None, is_some, option_and_then, unwrap_or, position, slice_get}
+use Rattle.std.specs.Str.{bytes_eq}
 use Rattle.perm_base.specs.RoleShapes.{shape_of}
 use Rattle.perm_base.specs.declared.shapes.RoleShape.{RoleShape}
 use Rattle.perm_base.specs.declared.shapes.Shapes.{Shapes}
@@ -8,7 +9,15 @@ use Rattle.perm_value.specs.Datum.{Datum}
 use Rattle.policy_table.specs.Tables.{Fields, Policy, rows}
 use Rattle.model_conf.specs.ModelText.{ModelParts}
 use Rattle.role_meaning.specs.Links.{IsLinked}
-use Rattle.matcher_meaning.specs.Environment.{at_column, field_of}
+
+-- what stands at the place of a column; None where no column has the name
+abbrev pub at_column : {X : Type 0} → List (List ℕ) → List X → List ℕ → Option X
+at_column columns values name = option_and_then (λ place. slice_get values place) (position (bytes_eq name) columns)
+
+-- the field of a row; without a row, or without the column, it is the empty text
+abbrev pub field_of : List (List ℕ) → Option (List (List ℕ)) → List ℕ → List ℕ
+field_of columns None name = []
+field_of columns (Some row) name = unwrap_or (at_column columns row name) []
 
 -- the model; a request by its columns, and a row of the policy, or none, by those of the policy; the shapes of the tables and the tables, whose role rows are the links; the place and the pattern of a search that was refused, or none
 pub record Case : Type 0 where

@@ -1,4 +1,3 @@
-pub mod Environment
 pub mod Answers
 pub mod Arithmetic
 pub mod Operators

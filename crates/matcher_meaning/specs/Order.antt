@@ -8,8 +8,7 @@ use Rattle.perm_base.specs.declared.shapes.RoleShape.{RoleShape}
 use Rattle.perm_base.specs.declared.shapes.TableId.TheVariants.{G}
 use Rattle.policy_table.specs.Tables.{Fields, rows}
 use Rattle.role_meaning.specs.Depths.{IsDepth, by_depth}
-use Rattle.matcher_meaning.specs.Cases.{Case}
-use Rattle.matcher_meaning.specs.Environment.{field_of}
+use Rattle.matcher_meaning.specs.Cases.{Case, field_of}
 
 -- a row of p and its number, which is its place in the table, counted from 1
 pub record Numbered : Type 0 where

@@ -4,7 +4,6 @@
 mod case_law;
 mod eval_law;
 mod judged_law;
-mod law;
 mod order_law;
 mod worked;
 
@@ -14,9 +13,5 @@ pub use case_law::{
 };
 pub use eval_law::{eval_comes_to_its_rule, only_searches_are_refused};
 pub use judged_law::judged_is_the_verdict;
-pub use law::{
-    meaning_is_there, meaning_is_unique, only_a_refusal_is_a_pattern, refusal_is_the_fault,
-    verdict_is_there, verdict_is_unique,
-};
 pub use order_law::{links_of_tables_are_decided, order_of_rows_is_one};
 pub use worked::worked_cases;

@@ -3,8 +3,10 @@
 
 mod calls;
 mod changes;
+mod finds;
 mod matches;
 mod shown;
+mod squares;
 mod words;
 
 use anyhow::Result;
@@ -18,15 +20,18 @@ fn main(rt: HostRuntime) -> Result<()> {
     })
 }
 
-// A case has calls without a state below `matches`, changes of tables below `changes`, and below `calls` management
-// calls on the tables whose shapes stand behind `tables`. `ranked p` says that p is ranked.
+// A case has calls without a state below `matches`, searches by one finder below `finds`, calls of a square of distances below
+// `squares`, changes of tables below `changes`, and below `calls` management calls on the tables whose shapes stand behind
+// `tables`. `ranked p` says that p is ranked.
 fn answer(alloc: Global, case: &Case, out: &mut impl Write) -> Result<()> {
     case.check_keys(
         &["tables", "domains", "ranked"],
-        &["matches", "changes", "calls"],
+        &["matches", "finds", "squares", "changes", "calls"],
     )?;
     writeln!(out, "case {}", case.name)?;
     matches::answer(alloc, case, out)?;
+    finds::answer(alloc, case, out)?;
+    squares::answer(alloc, case, out)?;
     changes::answer(alloc, case, out)?;
     calls::answer(alloc, case, out)
 }

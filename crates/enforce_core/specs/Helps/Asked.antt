@@ -1,5 +1,5 @@
 -- What a decision is asked for, as a case over the tables of its policy.
-use Rattle.std.specs.Prelude.{◌≤◌, ℕ, List, map}
+use Rattle.std.specs.Prelude.{◌≤◌, ℕ, List, map, option_copied}
 use Rattle.perm_base.specs.declared.shapes.TableId.TheVariants.{P}
 use Rattle.perm_value.specs.Seen.{datum}
 use Rattle.policy_state.specs.States.{tables}
@@ -19,7 +19,7 @@ rows_of asking = rows (tables asking.state.now) P
 
 -- what it knows beside the model is that of a program
 abbrev pub IsAsked : Asking → Type 0
-IsAsked asking = IsProgram asking.model.now asking.code.now asking.by_row asking.effect_place asking.domain_place
+IsAsked asking = IsProgram asking.model.now asking.code.now asking.by_row asking.effect_place asking.domain_place (option_copied asking.index)
 
 -- the same, and a stack of so many places has room for the code
 pub record CanRun (asking : Asking) (places : ℕ) : Type 0 where

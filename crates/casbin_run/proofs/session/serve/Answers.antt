@@ -3,8 +3,12 @@ use Rattle.std.specs.Prelude.{map}
 use Rattle.std.proofs.lemmas.Result.{IfErr-weaker, err_from_is_err_and, on_ok_weaker}
 use Rattle.policy_state.specs.States.{State, tables}
 use Rattle.script_read.specs.Said.{seen}
-use Rattle.casbin_run.proofs.WorkLemmas.{memory_not_quiet, served_all, served_stops, text_not_quiet}
+use Rattle.casbin_run.proofs.WorkLemmas.{column_fits, memory_not_quiet, served_all, served_stops, text_not_quiet}
 use Rattle.casbin_run.proofs.session.serve.Goals as goal
+
+pub make_state-requires-clause-column : goal.make_state-requires-clause-column
+make_state-requires-clause-column g c =
+    column_fits c.args.loaded.model c.in_ok-program.program c.args.loaded.shapes c.index_column.result c.in_ok-program.ensures c.requires.suits c.index_column.ensures.within
 
 pub returns-in_err-lines-clause-stopped : goal.returns-in_err-lines-clause-stopped
 returns-in_err-lines-clause-stopped g c =

@@ -1,7 +1,7 @@
-use Rattle.std.proofs.Common.{sym, subst, List, None, ℕ}
+use Rattle.std.proofs.Common.{refl, sym, subst, List, None, ℕ}
 use Rattle.regex_gate.proofs.CallerLemmas.{refused_since, refused_still, used_none, used_then}
 use Rattle.regex_gate.specs.Refusals.{IsRefused}
-use Rattle.matcher_meaning.specs.Order.{Numbered, numbered, numbered_from}
+use Rattle.matcher_meaning.specs.Order.{Numbered, numbered}
 use Rattle.enforce_core.specs.Helps.Asked.{case_in, rows_of}
 use Rattle.enforce_core.specs.Helps.Outcomes.{HasOutcomesInOrder, IsJudgedOn}
 use Rattle.effect_fold.specs.declared.verdict.Verdict.{Verdict}
@@ -11,18 +11,18 @@ use Rattle.enforce_core.proofs.OutcomeLemmas.{comes_for_more}
 use Rattle.enforce_core.proofs.by_subjects.verdict_by_subjects.Goals as goal
 
 pub loop-number-init : goal.loop-number-init
-loop-number-init g c = record { sought = sought_none (case_in c.args.asking.now) _ _ _ c.of-candidates.ensures; known = tt; used = used_none _ }
+loop-number-init g c = record { sought = sought_none (case_in c.args.asking.now) _ _ _ refl; known = tt; used = used_none _ }
 
 pub loop-number-preserved : goal.loop-number-preserved
 loop-number-preserved g c =
     let case = case_in c.args.asking.now in
     let IsBad : List ℕ → Type 0 = IsRefused (g.P.Finder.refusals c.args.finder.now) (g.P.Finder.refusals c.outcome.new.finder) in
     let row : Numbered = numbered c.in-Some.number c.in-Some.row.now in
-    let so = subst (λ (rest : List Numbered). IsSought case (IsRefused (g.P.Finder.refusals c.args.finder.now) (g.P.Finder.refusals c.loop-number.finder)) (numbered_from 1 (rows_of c.args.asking.now)) rest c.loop-number.first) c.in-Some.ensures c.loop-number.invariant.sought in
+    let so = subst (λ (rest : List Numbered). IsSought case (IsRefused (g.P.Finder.refusals c.args.finder.now) (g.P.Finder.refusals c.loop-number.finder)) c.of-candidates.result rest c.loop-number.first) c.in-Some.ensures c.loop-number.invariant.sought in
     let still = sought_for_more case _ IsBad _ _ c.loop-number.first (λ pattern bad. refused_still _ _ _ pattern bad c.in_ok-outcome.ensures.used) so in
     let comes = comes_for_more case _ IsBad _ _ (λ pattern bad. refused_since _ _ _ pattern c.loop-number.invariant.used bad) c.in_ok-outcome.ensures.comes in
     record {
-      sought = sought_more case IsBad (rows_of c.args.asking.now) _ row c.in_ok-outcome.outcome c.loop-number.first _ still comes c.first_with-first.ensures.first;
+      sought = sought_more case IsBad (rows_of c.args.asking.now) c.of-candidates.result _ row c.in_ok-outcome.outcome c.loop-number.first _ c.of-candidates.ensures still comes c.first_with-first.ensures.first;
       known = c.first_with-first.ensures.known;
       used = used_then _ _ _ None c.loop-number.invariant.used c.in_ok-outcome.ensures.used;
     }
@@ -31,6 +31,6 @@ pub returns-clause-judged : goal.returns-clause-judged
 returns-clause-judged g c =
     let case = case_in c.args.asking.now in
     let IsBad : List ℕ → Type 0 = IsRefused (g.P.Finder.refusals c.args.finder.now) (g.P.Finder.refusals c.loop-number.finder) in
-    let so = subst (λ (rest : List Numbered). IsSought case IsBad (numbered_from 1 (rows_of c.args.asking.now)) rest c.loop-number.first) c.in_default.ensures c.loop-number.invariant.sought in
+    let so = subst (λ (rest : List Numbered). IsSought case IsBad c.of-candidates.result rest c.loop-number.first) c.in_default.ensures c.loop-number.invariant.sought in
     subst (λ (v : Verdict). IsJudgedOn case (HasOutcomesInOrder case (rows_of c.args.asking.now)) IsBad v) (sym c.verdict_of.ensures)
-    (judged_by_first case c.depth_is_one.ensures.unique c.depth_is_one.ensures.there c.order_by_depth.ensures (one_truth_at c.case_answer_is_unique.ensures.truth case) (truths_at c.case_answer_is_there.ensures.truth case) IsBad (rows_of c.args.asking.now) c.loop-number.first c.requires.effect so)
+    (judged_by_first case c.depth_is_one.ensures.unique c.depth_is_one.ensures.there c.order_by_depth.ensures (one_truth_at c.case_answer_is_unique.ensures.truth case) (truths_at c.case_answer_is_there.ensures.truth case) IsBad (rows_of c.args.asking.now) c.of-candidates.result c.loop-number.first c.requires.effect c.of-candidates.ensures so)

@@ -1,14 +1,13 @@
 use Rattle.std.proofs.Common.{IfSome, None, length}
 use Rattle.regex_gate.specs.Refusals.{IsRefused, IsUsed}
-use Rattle.matcher_meaning.specs.Order.{numbered_from}
-use Rattle.enforce_core.specs.Helps.Asked.{case_in, rows_of}
+use Rattle.enforce_core.specs.Helps.Asked.{case_in}
 use Rattle.enforce_core.specs.Helps.Firsts.{IsKnownIn}
 use Rattle.enforce_core.proofs.FirstLemmas.{IsSought}
 use Rattle.enforce_core.proofs.by_subjects.verdict_by_subjects.Given as goal
 
 abbrev pub invariant-loop-number : goal.invariant-loop-number
 invariant-loop-number g l = record {
-  sought : IsSought (case_in l.asking) (IsRefused (g.P.Finder.refusals l.initial.finder) (g.P.Finder.refusals l.finder)) (numbered_from 1 (rows_of l.asking)) l.candidates l.first;
+  sought : IsSought (case_in l.asking) (IsRefused (g.P.Finder.refusals l.initial.finder) (g.P.Finder.refusals l.finder)) l.initial.candidates l.candidates l.first;
   known : IfSome l.last (IsKnownIn (case_in l.asking));
   used : IsUsed (g.P.Finder.refusals l.initial.finder) (g.P.Finder.refusals l.finder) None;
 }

@@ -1,0 +1,339 @@
+#!/usr/bin/env bash
+# Prints what entering a seat of a pair and leaving it costs, with one thread of a seat and with two and four beside each other,
+# each without an administrator and with one who publishes an edit all the time in a thread of its own: the nanoseconds of an
+# entry, how many entries a second all threads make together, and the time of an entry as a ratio of one run to that of one
+# thread without an administrator. Each thread makes 1,000,000 entries. The threads share the processors, of which it first says
+# how many there are: more threads than those wait for one another. Builds a program over copies of the crates, in a folder of
+# its own: the first time proves them where no check of them is kept, and how long that takes was not yet measured.
+source "$(dirname "${BASH_SOURCE[0]}")/program.sh"
+make_program pair_costs edit_calls live_pair perm_base policy_desk policy_state policy_table
+mkdir -p "$program/proofs/pairs/measured"
+cat > "$program/src/main.rt" <<'RATTLE'
+//! Prints what entering a seat and leaving it costs, as ratios of times of one run.
+#![tactic(auto)]
+
+mod desks;
+mod edits;
+mod entries;
+mod pairs;
+
+use anyhow::Result;
+use entries::ENTRIES;
+use pairs::{Took, measured};
+
+fn main(rt: HostRuntime) -> Result<()> {
+    let alloc = rt.alloc();
+    let one = measured(&rt, alloc, 1, false)?;
+    say(&rt, 1, &one, &one)?;
+    say(&rt, 1, &measured(&rt, alloc, 1, true)?, &one)?;
+    say(&rt, 2, &measured(&rt, alloc, 2, false)?, &one)?;
+    say(&rt, 2, &measured(&rt, alloc, 2, true)?, &one)?;
+    say(&rt, 4, &measured(&rt, alloc, 4, false)?, &one)?;
+    say(&rt, 4, &measured(&rt, alloc, 4, true)?, &one)
+}
+
+fn say(rt: &HostRuntime, threads: u8, took: &Took, one: &Took) -> Result<()> {
+    let entries = u128::from(ENTRIES);
+    let all = entries.saturating_mul(u128::from(threads));
+    println!(rt;
+        "threads {threads}, publishes beside them {}: {} ns an entry, {} entries a second of all, ratio {} in a hundred",
+        took.publishes,
+        took.nanos / entries,
+        all.saturating_mul(1_000_000_000) / took.nanos.max(1),
+        took.nanos.saturating_mul(100) / one.nanos.max(1)
+    )?;
+    Ok(())
+}
+RATTLE
+cat > "$program/src/desks.rt" <<'RATTLE'
+//! A desk without rules.
+ghost use Rattle.std.specs.Prelude.{◌≡◌, [], IfOk};
+
+use perm_base::{NoMemory, RoleShapes, Shapes};
+use policy_desk::{Desk, open_desk};
+use policy_state::make_state;
+use policy_table::no_tables;
+use std::alloc::Global;
+
+/// A desk over a policy without rules, whose p has a subject, an object and an action.
+pub fn desk(alloc: Global) -> Result<Desk, NoMemory>
+    ensures start { IfOk result (λ desk. desk.state.log.start ≡ 0) }
+    ensures pending { IfOk result (λ desk. desk.pending ≡ []) }
+{
+    let shapes = Shapes {
+        columns: 3,
+        effect_column: None,
+        subject_column: 0,
+        roles: RoleShapes::from_vec(Vec::new(alloc)),
+        limit: 10,
+        ranked: false,
+    };
+    open_desk(alloc, make_state(alloc, shapes, Some(0), no_tables(alloc))?)
+}
+RATTLE
+cat > "$program/src/pairs.rt" <<'RATTLE'
+//! Pairs whose seats are entered.
+ghost use Rattle.std.specs.Prelude.{◌≡◌, ◌<◌, ◌≤◌, []};
+
+use crate::desks::desk;
+use crate::edits::edits_until;
+use crate::entries::{ENTRIES, all_enter};
+use anyhow::{Result, bail, ensure};
+use live_pair::{Admin, Naming, Opened, PairPlaces, Seat, open_pair};
+use policy_desk::Desk;
+use std::alloc::Global;
+use std::marker::Brand;
+use std::sync::{Mutex, Wait};
+use std::thread::{Threads, join};
+use std::time::{Clock, Instant};
+
+/// The nanoseconds in which all threads made their entries, and the publishes beside them.
+#[derive(Drop)]
+pub struct Took {
+    pub nanos: u128,
+    pub publishes: u64,
+}
+
+/// What the entries of so many threads take, where the policy is edited beside them or is not.
+pub fn measured<R: Clock + Threads + Wait + Sync>(
+    rt: &R,
+    alloc: Global,
+    threads: u8,
+    is_edited: bool,
+) -> Result<Took>
+    requires some { 0 < threads }
+    requires few { threads ≤ 8 }
+{
+    let Ok(desk) = desk(alloc) else {
+        bail!("no memory");
+    };
+    measured_over::<Brand, R>(rt, alloc, Opened::new(), desk, threads, is_edited)
+}
+
+fn measured_over<J: Naming + Send + Sync, R: Clock + Threads + Wait + Sync>(
+    rt: &R,
+    alloc: Global,
+    opened: Opened,
+    desk: Desk,
+    threads: u8,
+    is_edited: bool,
+) -> Result<Took>
+    requires book { opened ≡ J.book }
+    requires shapes { desk.state.shapes ≡ J.shapes }
+    requires start { desk.state.log.start ≡ 0 }
+    requires base { desk.state.log.base ≡ J.opening }
+    requires tail { desk.state.log.tail ≡ J.first }
+    requires pending { desk.pending ≡ [] }
+    requires some { 0 < threads }
+    requires few { threads ≤ 8 }
+{
+    let mut places = PairPlaces::new();
+    let pair = open_pair::<J, R, PairPlaces>(rt, alloc, opened, desk, threads, &mut places);
+    let Ok((mut admin, seats)) = pair else {
+        bail!("no memory");
+    };
+    let is_whole = seats.len() == threads as usize;
+    let took = if is_edited {
+        run_edited(rt, alloc, &mut admin, seats)
+    } else {
+        run(rt, seats)
+    };
+    drop(admin.close(rt));
+    ensure!(is_whole, "a seat is missing");
+    match took {
+        Some(took) => Ok(took),
+        None => bail!("an entry or an edit is refused, or there is no clock"),
+    }
+}
+
+// The entries with no edit beside them.
+fn run<J: Naming + Send + Sync, R: Clock + Threads + Sync>(
+    rt: &R,
+    seats: Vec<Seat<J>>,
+) -> Option<Took> {
+    let nanos = timed(rt, seats)?;
+    Some(Took {
+        nanos,
+        publishes: 0,
+    })
+}
+
+// The entries beside an administrator who publishes until they are made.
+fn run_edited<J: Naming + Send + Sync, R: Clock + Threads + Wait + Sync>(
+    rt: &R,
+    alloc: Global,
+    admin: &mut Admin<J>,
+    seats: Vec<Seat<J>>,
+) -> Option<Took> {
+    let done = Mutex::new(false);
+    let (nanos, publishes) = join(
+        rt,
+        || timed_until(rt, seats, &done),
+        || edits_until(rt, alloc, admin, &done),
+    );
+    Some(Took {
+        nanos: nanos?,
+        publishes: publishes?,
+    })
+}
+
+fn timed_until<J: Naming + Send + Sync, R: Clock + Threads + Wait + Sync>(
+    rt: &R,
+    seats: Vec<Seat<J>>,
+    done: &Mutex<bool>,
+) -> Option<u128> {
+    let nanos = timed(rt, seats);
+    *done.lock(rt) = true;
+    nanos
+}
+
+// The nanoseconds until the last of the seats has made its entries.
+fn timed<J: Naming + Send + Sync, R: Clock + Threads + Sync>(
+    rt: &R,
+    seats: Vec<Seat<J>>,
+) -> Option<u128> {
+    let wanted = ENTRIES.saturating_mul(seats.len() as u64);
+    let Ok(start) = Instant::now(rt) else {
+        return None;
+    };
+    let entries = all_enter(rt, seats);
+    let Ok(took) = start.elapsed(rt) else {
+        return None;
+    };
+    if entries == wanted {
+        Some(took.as_nanos())
+    } else {
+        None
+    }
+}
+RATTLE
+cat > "$program/src/entries.rt" <<'RATTLE'
+//! Seats that enter and leave.
+
+use live_pair::{Naming, Seat};
+use std::thread::{Threads, join};
+
+/// How often each seat enters.
+pub const ENTRIES: u64 = 1_000_000;
+
+/// Lets one, two or four seats enter, each in a thread of its own, and counts the entries of all.
+pub fn all_enter<J: Naming + Send + Sync, R: Threads + Sync>(rt: &R, seats: Vec<Seat<J>>) -> u64 {
+    let mut seats = seats;
+    let Some(first) = seats.pop() else {
+        return 0;
+    };
+    let Some(second) = seats.pop() else {
+        return enters(first);
+    };
+    let Some(third) = seats.pop() else {
+        return two_enter(rt, first, second);
+    };
+    let Some(fourth) = seats.pop() else {
+        return 0;
+    };
+    let (front, back) = join(
+        rt,
+        || two_enter(rt, first, second),
+        || two_enter(rt, third, fourth),
+    );
+    front.saturating_add(back)
+}
+
+fn two_enter<J: Naming + Send + Sync, R: Threads>(rt: &R, first: Seat<J>, second: Seat<J>) -> u64 {
+    let (one, other) = join(rt, || enters(first), || enters(second));
+    one.saturating_add(other)
+}
+
+// Enters and leaves again and again, and counts the entries.
+fn enters<J: Naming>(seat: Seat<J>) -> u64 {
+    let mut seat = seat;
+    for _ in 0..ENTRIES {
+        seat = once(seat);
+    }
+    seat.entries()
+}
+
+fn once<J: Naming>(seat: Seat<J>) -> Seat<J> {
+    match seat.enter() {
+        Ok(entered) => entered.leave(),
+        Err(shut) => shut.seat,
+    }
+}
+RATTLE
+cat > "$program/src/edits.rt" <<'RATTLE'
+//! An administrator who publishes all the time.
+
+use edit_calls::Call;
+use live_pair::{Admin, Naming};
+use perm_base::{NoMemory, Rule, TableId, Text};
+use std::alloc::Global;
+use std::sync::{Mutex, Wait};
+
+/// Adds a rule and removes it again, each published by itself, until the seats are done, and counts the publishes. The log keeps
+/// no edit, so that a publish costs the same however many there were.
+pub fn edits_until<J: Naming, R: Wait>(
+    rt: &R,
+    alloc: Global,
+    admin: &mut Admin<J>,
+    done: &Mutex<bool>,
+) -> Option<u64> {
+    let table = TableId::P;
+    let Ok((added, removed)) = two_rules(alloc) else {
+        return None;
+    };
+    let add = Call::Add { table, rule: added };
+    let remove = Call::Remove {
+        table,
+        rule: removed,
+    };
+    admin.keep(0);
+    let mut publishes = 0u64;
+    for number in 0..u64::MAX {
+        if *done.lock(rt) {
+            break;
+        }
+        let call = if number % 2 == 0 { &add } else { &remove };
+        if !is_called(alloc, admin, call) || !is_published(rt, alloc, admin) {
+            return None;
+        }
+        publishes = publishes.saturating_add(1);
+    }
+    Some(publishes)
+}
+
+// The same rule twice.
+fn two_rules(alloc: Global) -> Result<(Rule, Rule), NoMemory> {
+    Ok((reading(alloc)?, reading(alloc)?))
+}
+
+// The rule that alice may read data1.
+fn reading(alloc: Global) -> Result<Rule, NoMemory> {
+    let fields = vec![in alloc;
+        Text::from_str(alloc, "alice")?,
+        Text::from_str(alloc, "data1")?,
+        Text::from_str(alloc, "read")?,
+    ]?;
+    let Ok(rule) = Rule::from_fields(fields) else {
+        return Err(NoMemory);
+    };
+    Ok(rule)
+}
+
+// One call with a great contract a function.
+fn is_called<J: Naming>(alloc: Global, admin: &mut Admin<J>, call: &Call) -> bool {
+    matches!(admin.call(alloc, call), Ok(true))
+}
+
+fn is_published<J: Naming, R: Wait>(rt: &R, alloc: Global, admin: &mut Admin<J>) -> bool {
+    admin.publish(rt, alloc).is_ok()
+}
+RATTLE
+cat > "$program/proofs/pairs/measured/Invariants.antt" <<'ANTT'
+use Rattle.pair_costs.proofs.pairs.measured.Given as goal
+
+-- the pair of the book that was just opened, over the desk's policy
+abbrev pub ghosts-measured_over : goal.ghosts-measured_over
+ghosts-measured_over g a = record { book = a.opened; shapes = a.desk.state.shapes; opening = a.desk.state.log.base; first = a.desk.state.log.tail }
+ANTT
+echo "$(nproc) processors"
+run_program

@@ -1,0 +1,88 @@
+#!/usr/bin/env bash
+# Prints what a question to a role relation costs in a domain of 10 roles, in one of 1,000, whose distances are kept, and in one
+# of 1,100, which is walked; what adding and removing a user's row costs with 10 roles and with 1,000 standing; and what 200,000
+# rows of roles take in 1, 100 and 10,000 domains, in time to load and in memory, beside as many rules without roles. Each is a
+# ratio of one run. Usage: bench/roles.sh [QUESTIONS [EDITS]].
+source "$(dirname "${BASH_SOURCE[0]}")/timing.sh"
+questions="${1:-200000}"
+edits="${2:-20000}"
+build "$root"
+program="$root/crates/casbin_cli/out/casbin_cli"
+
+# The milliseconds of processor time of a command over an input, the least of three runs, and the most memory that it took, in
+# KiB.
+measure() {
+  python3 - "$program" "$@" <<'PYTHON'
+import resource, subprocess, sys
+program, given, *words = sys.argv[1:]
+least = None
+for _ in range(3):
+    before = resource.getrusage(resource.RUSAGE_CHILDREN)
+    with open(given, "rb") as f:
+        run = subprocess.run([program, *words], stdin=f, stdout=subprocess.DEVNULL)
+    if run.returncode:
+        sys.exit(run.returncode)
+    after = resource.getrusage(resource.RUSAGE_CHILDREN)
+    took = after.ru_utime + after.ru_stime - before.ru_utime - before.ru_stime
+    least = took if least is None else min(least, took)
+print(int(least * 1000), after.ru_maxrss)
+PYTHON
+}
+
+# The milliseconds alone, those without input taken out.
+only() {
+  local input="$1" load whole
+  shift
+  read -r load _ <<<"$(measure "$work/empty" "$@")"
+  read -r whole _ <<<"$(measure "$input" "$@")"
+  echo $((whole > load ? whole - load : 1))
+}
+
+# The text of a model whose matcher asks one question and no rule.
+model() {
+  printf '[request_definition]\nr = sub, dom\n[policy_definition]\np = sub, dom\n[role_definition]\ng = _, _, _\n'
+  printf '[policy_effect]\ne = some(where (p.eft == allow))\n[matchers]\nm = %s\n' "$1"
+}
+
+# The rows of so many roles in one domain, each from the tenth on below another, and of a user of each; `user` has the last one.
+tree() {
+  awk -v n="$1" 'BEGIN {
+    for (i = 10; i < n; i++) printf "g, role%d, role%d, here\n", i, int(i / 10)
+    for (i = 0; i < n - 1; i++) printf "g, user%d, role%d, here\n", i, i
+    printf "g, user, role%d, here\n", n - 1 }'
+}
+
+model 'g(r.sub, "role9", r.dom)' >"$work/asked.conf"
+model 'r.sub == "role1"' >"$work/compared.conf"
+awk -v n="$questions" 'BEGIN { for (i = 0; i < n; i++) print "user, here" }' >"$work/input"
+
+first=""
+for roles in 10 1000 1100; do
+  tree "$roles" >"$work/policy.csv"
+  compared="$(only "$work/input" enforce "$work/compared.conf" "$work/policy.csv")"
+  asked="$(only "$work/input" enforce "$work/asked.conf" "$work/policy.csv")"
+  took=$((asked > compared ? asked - compared : 1))
+  first="${first:-$took}"
+  awk -v roles="$roles" -v ms="$took" -v first="$first" -v n="$questions" 'BEGIN {
+    printf "a question among %4d roles %7.0f ns  ratio %.2f\n", roles, ms * 1e6 / n, ms / first }'
+done
+
+awk -v n="$edits" 'BEGIN { for (i = 0; i < n; i++) print "add g, guest, role3, here\npublish\nremove g, guest, role3, here\npublish" }' >"$work/edits"
+first=""
+for roles in 10 1000; do
+  tree "$roles" >"$work/policy.csv"
+  took="$(only "$work/edits" session "$work/asked.conf" "$work/policy.csv")"
+  first="${first:-$took}"
+  awk -v roles="$roles" -v ms="$took" -v first="$first" -v n="$edits" 'BEGIN {
+    printf "a row added and removed among %4d roles, each published %7.1f us  ratio %.2f\n", roles, ms * 1e3 / n, ms / first }'
+done
+
+awk 'BEGIN { for (i = 0; i < 200000; i++) printf "p, user%d, dom%d\n", i, i % 100 }' >"$work/policy.csv"
+read -r plain_ms plain_kib <<<"$(measure "$work/empty" enforce "$work/asked.conf" "$work/policy.csv")"
+echo "200000 rules without roles load in $plain_ms ms and $((plain_kib / 1024)) MiB, ratio 1"
+for domains in 1 100 10000; do
+  awk -v d="$domains" 'BEGIN { for (i = 0; i < 200000; i++) printf "g, user%d, role%d, dom%d\n", i, int(i / d) % 1000, i % d }' >"$work/policy.csv"
+  read -r ms kib <<<"$(measure "$work/empty" enforce "$work/asked.conf" "$work/policy.csv")"
+  awk -v d="$domains" -v ms="$ms" -v kib="$kib" -v pm="$plain_ms" -v pk="$plain_kib" 'BEGIN {
+    printf "200000 rows of roles in %5d domains load in %6d ms and %5d MiB, ratios %.1f and %.1f\n", d, ms, kib / 1024, ms / pm, kib / pk }'
+done
