@@ -7,13 +7,7 @@
 source "$(dirname "${BASH_SOURCE[0]}")/timing.sh"
 most="${1:-20000}"
 
-# The text of a model with this matcher.
-model() {
-  printf '[request_definition]\nr = sub, obj, act\n[policy_definition]\np = sub, obj, act\n'
-  printf '[policy_effect]\ne = some(where (p.eft == allow))\n[matchers]\nm = %s\n' "$1"
-}
-
-model 'r.sub == p.sub && r.obj == p.obj && r.act == p.act' >"$work/equal.conf"
+model "$equalities" >"$work/equal.conf"
 model 'keyMatch2(r.obj, p.obj) && regexMatch(r.act, p.act)' >"$work/calls.conf"
 build "$root"
 

@@ -15,13 +15,7 @@ git init -q "$work/walk"
 build "$root"
 build "$work/walk"
 
-# The text of a model with this matcher.
-model() {
-  printf '[request_definition]\nr = sub, obj, act\n[policy_definition]\np = sub, obj, act\n'
-  printf '[policy_effect]\ne = some(where (p.eft == allow))\n[matchers]\nm = %s\n' "$1"
-}
-
-model 'r.sub == p.sub && r.obj == p.obj && r.act == p.act' >"$work/equal.conf"
+model "$equalities" >"$work/equal.conf"
 model 'keyMatch2(r.obj, p.obj)' >"$work/keys.conf"
 awk -v n="$rules" 'BEGIN { for (i = 1; i <= n; i++) printf "p, user, /data, act%05d\n", i }' >"$work/equal.csv"
 awk -v n="$rules" 'BEGIN { for (i = 1; i <= n; i++) printf "p, user, /data/%05d/:id, read\n", i }' >"$work/keys.csv"

@@ -9,16 +9,7 @@ source "$(dirname "${BASH_SOURCE[0]}")/timing.sh"
 bytes="${1:-4194304}"
 other="${2:-}"
 
-cat >"$work/model.conf" <<'MODEL'
-[request_definition]
-r = sub, obj, act
-[policy_definition]
-p = sub, obj, act
-[policy_effect]
-e = some(where (p.eft == allow))
-[matchers]
-m = r.sub == p.sub && r.obj == p.obj && r.act == p.act
-MODEL
+model "$equalities" >"$work/model.conf"
 build "$root"
 [ -z "$other" ] || build "$other"
 

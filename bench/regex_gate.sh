@@ -3,18 +3,8 @@
 # of 200 bytes, for a text of 4,096 bytes, and for ten patterns in turn over a text of 20 bytes; each with the finder that builds
 # the pattern at each call, and with the one that keeps it. At most 20 is wanted of the last ratio. Builds a program over
 # copies of the crates, in a folder of its own: the first time takes some minutes.
-set -euo pipefail
-crates="$(cd "$(dirname "${BASH_SOURCE[0]}")/../crates" && pwd)"
-work="$(mktemp -d)"
-trap 'rm -rf "$work"' EXIT
-for name in outside regex_gate regex_keep; do
-  mkdir -p "$work/crates/$name"
-  cp -r "$crates/$name/src" "$crates/$name/proofs" "$crates/$name/specs" "$work/crates/$name"
-  grep "^$name:" "$crates/../crates.txt" >> "$work/crates.txt"
-done
-echo 'regex_cost: outside regex_gate regex_keep' >> "$work/crates.txt"
-program="$work/crates/regex_cost"
-mkdir -p "$program/src"
+source "$(dirname "${BASH_SOURCE[0]}")/program.sh"
+make_program regex_cost outside regex_gate regex_keep
 mkdir -p "$program/proofs/count"
 cat > "$program/proofs/count/Answers.antt" <<'ANTT'
 use denote.Param.Send.{sendable}
@@ -160,8 +150,6 @@ fn set_last(bytes: &mut [u8], byte: u8) {
     }
 }
 RATTLE
-cd "$work"
-git init -q .
 cd "$program"
 log="$(rt run -- build small 1 2>&1)" || { echo "$log"; exit 1; }
 

@@ -5,6 +5,7 @@
 source "$(dirname "${BASH_SOURCE[0]}")/timing.sh"
 source "$(dirname "${BASH_SOURCE[0]}")/program.sh"
 requests="${1:-400000}"
+runs=15
 build "$root"
 make_program plain_lines itoa
 cat > "$program/src/main.rt" <<'RATTLE'
@@ -62,25 +63,9 @@ run_program || true
 plain="$program/out/plain_lines"
 [ -x "$plain" ] || { echo "the loop was not built" >&2; exit 1; }
 
-printf '[request_definition]\nr = sub, obj, act\n[policy_definition]\np = sub, obj, act\n' >"$work/model.conf"
-printf '[policy_effect]\ne = some(where (p.eft == allow))\n[matchers]\n' >>"$work/model.conf"
-printf 'm = r.sub == p.sub && r.obj == p.obj && r.act == p.act\n' >>"$work/model.conf"
+model "$equalities" >"$work/model.conf"
 awk 'BEGIN { for (i = 1; i <= 10; i++) printf "p, user%05d, data%05d, read\n", i, i }' >"$work/policy.csv"
 awk -v q="$requests" 'BEGIN { for (i = 0; i < q; i++) printf "user%05d, data%05d, read\n", i % 10 + 1, i % 10 + 1 }' >"$work/input"
-
-# The milliseconds of processor time of a command over an input: the least of five runs.
-took() {
-  local input="$1" least="" times user system now
-  shift
-  for _ in 1 2 3 4 5; do
-    TIMEFORMAT='%U %S'
-    times="$({ time "$@" <"$input" >"$work/answers"; } 2>&1)"
-    read -r user system <<<"$times"
-    now="$(awk -v u="$user" -v s="$system" 'BEGIN { printf "%d", (u + s) * 1000 }')"
-    [ -n "$least" ] && [ "$least" -le "$now" ] || least="$now"
-  done
-  echo "$least"
-}
 
 enforce=("$root/crates/casbin_cli/out/casbin_cli" enforce "$work/model.conf" "$work/policy.csv")
 load="$(took "$work/empty" "${enforce[@]}")"

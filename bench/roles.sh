@@ -38,12 +38,6 @@ only() {
   echo $((whole > load ? whole - load : 1))
 }
 
-# The text of a model whose matcher asks one question and no rule.
-model() {
-  printf '[request_definition]\nr = sub, dom\n[policy_definition]\np = sub, dom\n[role_definition]\ng = _, _, _\n'
-  printf '[policy_effect]\ne = some(where (p.eft == allow))\n[matchers]\nm = %s\n' "$1"
-}
-
 # The rows of so many roles in one domain, each from the tenth on below another, and of a user of each; `user` has the last one.
 tree() {
   awk -v n="$1" 'BEGIN {
@@ -52,8 +46,10 @@ tree() {
     printf "g, user, role%d, here\n", n - 1 }'
 }
 
-model 'g(r.sub, "role9", r.dom)' >"$work/asked.conf"
-model 'r.sub == "role1"' >"$work/compared.conf"
+# Models whose matchers ask one question and no rule.
+relation=$'[role_definition]\ng = _, _, _\n'
+model 'g(r.sub, "role9", r.dom)' 'sub, dom' "$relation" >"$work/asked.conf"
+model 'r.sub == "role1"' 'sub, dom' "$relation" >"$work/compared.conf"
 awk -v n="$questions" 'BEGIN { for (i = 0; i < n; i++) print "user, here" }' >"$work/input"
 
 first=""

@@ -11,6 +11,8 @@ cat > "$program/src/main.rt" <<'RATTLE'
 //! Prints what questions and edits of a whole policy cost, as ratios of times of one run.
 #![tactic(auto)]
 
+ghost use Rattle.std.specs.Prelude.{◌<◌};
+
 mod desks;
 mod edits;
 mod questions;
@@ -20,17 +22,31 @@ use desks::{Rows, made_state};
 use edits::{added, moved};
 use questions::asked;
 
+const FEW: u32 = 1_000;
+
+// What is measured: whether names are linked by two links, adding a row and removing it, and a call of Add with its publish.
+#[derive(Clone, Copy)]
+enum Work {
+    Asking(Rows),
+    Moving,
+    Adding(Rows),
+}
+
 fn main(rt: HostRuntime) -> Result<()> {
-    asking(&rt, Rows::Links, "one domain")?;
-    asking(&rt, Rows::LinksInDomains, "1000 domains")?;
-    let few = moved(&rt, 1_000)?;
-    let many = moved(&rt, 100_000)?;
-    println!(&rt;
-        "a row of g added and removed, over 1000 rows {few} ns, over 100000 rows {many} ns, ratio {} in a hundred",
-        many.saturating_mul(100) / few.max(1)
+    let asking = Work::Asking(Rows::Links);
+    compare(&rt, asking, "linked by two links in one domain", 100_000)?;
+    let asking = Work::Asking(Rows::LinksInDomains);
+    compare(&rt, asking, "linked by two links in 1000 domains", 100_000)?;
+    compare(&rt, Work::Moving, "a row of g added and removed", 100_000)?;
+    let adding = Work::Adding(Rows::Rules);
+    compare(&rt, adding, "a rule of p added and published", 190_000)?;
+    let adding = Work::Adding(Rows::LinksInDomains);
+    compare(
+        &rt,
+        adding,
+        "a rule of g with domains added and published",
+        190_000,
     )?;
-    adding(&rt, Rows::Rules, "p")?;
-    adding(&rt, Rows::LinksInDomains, "g with domains")?;
     let (reading, making) = made_state(&rt)?;
     println!(&rt;
         "the state of 200000 rules of p made in {making} us, read in {reading} us, ratio {} in a hundred",
@@ -39,26 +55,31 @@ fn main(rt: HostRuntime) -> Result<()> {
     Ok(())
 }
 
-// Names that are linked by two links.
-fn asking(rt: &HostRuntime, rows: Rows, place: &str) -> Result<()> {
-    let few = asked(rt, rows, 1_000)?;
-    let many = asked(rt, rows, 100_000)?;
+// Over few rows, and over many.
+fn compare(rt: &HostRuntime, work: Work, what: &str, many: u32) -> Result<()>
+    requires { 1 < many }
+{
+    let rows = match work {
+        Work::Asking(_) | Work::Moving => "rows",
+        Work::Adding(_) => "rules",
+    };
+    let least = cost(rt, work, FEW)?;
+    let most = cost(rt, work, many)?;
     println!(rt;
-        "linked by two links in {place}, over 1000 rows {few} ns, over 100000 rows {many} ns, ratio {} in a hundred",
-        many.saturating_mul(100) / few.max(1)
+        "{what}, over {FEW} {rows} {least} ns, over {many} {rows} {most} ns, ratio {} in a hundred",
+        most.saturating_mul(100) / least.max(1)
     )?;
     Ok(())
 }
 
-// 10,000 calls of Add, each published.
-fn adding(rt: &HostRuntime, rows: Rows, table: &str) -> Result<()> {
-    let few = added(rt, rows, 1_000)?;
-    let many = added(rt, rows, 190_000)?;
-    println!(rt;
-        "a rule of {table} added and published, over 1000 rules {few} ns, over 190000 rules {many} ns, ratio {} in a hundred",
-        many.saturating_mul(100) / few.max(1)
-    )?;
-    Ok(())
+fn cost(rt: &HostRuntime, work: Work, count: u32) -> Result<u128>
+    requires { 1 < count }
+{
+    match work {
+        Work::Asking(rows) => asked(rt, rows, count),
+        Work::Moving => moved(rt, count),
+        Work::Adding(rows) => added(rt, rows, count),
+    }
 }
 RATTLE
 cat > "$program/src/desks.rt" <<'RATTLE'

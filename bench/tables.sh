@@ -4,19 +4,9 @@
 # calls of Add and of Update on p, and on g with domains, over 1,000 rules and over 190,000; and a batch that removes half of
 # 200,000 rules, beside reading them. Builds a program over copies of the crates, in a folder of its own: the first time takes
 # some minutes.
-set -euo pipefail
-crates="$(cd "$(dirname "${BASH_SOURCE[0]}")/../crates" && pwd)"
-work="$(mktemp -d)"
-trap 'rm -rf "$work"' EXIT
-for name in outside text_parts perm_base policy_table policy_csv edit_calls; do
-  mkdir -p "$work/crates/$name"
-  cp -r "$crates/$name/src" "$crates/$name/proofs" "$work/crates/$name"
-  if [ -d "$crates/$name/specs" ]; then cp -r "$crates/$name/specs" "$work/crates/$name"; fi
-  grep "^$name:" "$crates/../crates.txt" >> "$work/crates.txt"
-done
-echo 'table_costs: anyhow edit_calls perm_base policy_csv policy_table' >> "$work/crates.txt"
-program="$work/crates/table_costs"
-mkdir -p "$program/src" "$program/proofs/measured/measured_calls"
+source "$(dirname "${BASH_SOURCE[0]}")/program.sh"
+make_program table_costs edit_calls perm_base policy_csv policy_table
+mkdir -p "$program/proofs/measured/measured_calls"
 cat > "$program/src/main.rt" <<'RATTLE'
 //! Prints what it costs to read a policy and to edit its tables, as ratios of times of one run.
 #![tactic(auto)]
@@ -322,7 +312,4 @@ use Rattle.table_costs.proofs.measured.measured_calls.Given as goal
 abbrev pub invariant-loop-at : goal.invariant-loop-at
 invariant-loop-at l = AreSound l.shapes l.tables.policy
 ANTT
-cd "$work"
-git init -q .
-cd "$program"
-rt run 2>&1 | grep -E 'ratio|: error|no proof'
+run_program

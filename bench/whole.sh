@@ -1,68 +1,61 @@
 #!/usr/bin/env bash
 # Prints how many requests a processor second `enforce` answers over 10, 1,000 and 10,000 rules, for a model of three
 # equalities, one with roles, of which there are a tenth as many as rules, and one with roles in domains, of which there are as
-# many as rules, the time to load model, policy and program taken out, each as a ratio to the smallest policy; what a session
-# of 100,000 edits, each published, takes beside reading its script; and what reading 200,000 rules takes beside cutting their
-# bytes into fields. Usage: bench/whole.sh [REQUESTS]
+# many as rules, the time to load model, policy and program taken out, each as a ratio to the smallest policy: once where ten
+# subjects of the policy are asked for by turns, so that only what is done grows, and once where all are, so that what is
+# touched lies in farther caches too; what a session of 100,000 edits, each published, takes beside reading its script; and
+# what reading 200,000 rules takes beside cutting their bytes into fields. Usage: bench/whole.sh [REQUESTS]
 source "$(dirname "${BASH_SOURCE[0]}")/timing.sh"
-most="${1:-200000}"
+most="${1:-400000}"
+runs=7
 build "$root"
 program="$root/crates/casbin_cli/out/casbin_cli"
 
-# The milliseconds of processor time of a command over an input: the least of three runs.
-took() {
-  local input="$1" least="" times user system now
-  shift
-  for _ in 1 2 3; do
-    TIMEFORMAT='%U %S'
-    times="$({ time "$program" "$@" <"$input" >"$work/answers"; } 2>&1)"
-    read -r user system <<<"$times"
-    now="$(awk -v u="$user" -v s="$system" 'BEGIN { printf "%d", (u + s) * 1000 }')"
-    [ -n "$least" ] && [ "$least" -le "$now" ] || least="$now"
-  done
-  echo "$least"
-}
+model "$equalities" >"$work/basic.conf"
+model 'g(r.sub, p.sub) && r.obj == p.obj && r.act == p.act' '' $'[role_definition]\ng = _, _\n' >"$work/roles.conf"
+model 'g(r.sub, p.sub, r.dom) && r.dom == p.dom && r.obj == p.obj && r.act == p.act' \
+  'sub, dom, obj, act' $'[role_definition]\ng = _, _, _\n' >"$work/domains.conf"
 
-# The text of a model: columns, relations, matcher.
-model() {
-  printf '[request_definition]\nr = %s\n[policy_definition]\np = %s\n%s[policy_effect]\n' "$1" "$1" "$2"
-  printf 'e = some(where (p.eft == allow))\n[matchers]\nm = %s\n' "$3"
-}
-
-model 'sub, obj, act' '' 'r.sub == p.sub && r.obj == p.obj && r.act == p.act' >"$work/basic.conf"
-model 'sub, obj, act' $'[role_definition]\ng = _, _\n' 'g(r.sub, p.sub) && r.obj == p.obj && r.act == p.act' >"$work/roles.conf"
-model 'sub, dom, obj, act' $'[role_definition]\ng = _, _, _\n' \
-  'g(r.sub, p.sub, r.dom) && r.dom == p.dom && r.obj == p.obj && r.act == p.act' >"$work/domains.conf"
-
-# The policy of so many rules, and requests that the last rule allows or none by turns.
-workload() {
+# The policy of so many rules.
+policy() {
   awk -v kind="$1" -v n="$2" 'BEGIN {
     for (i = 1; i <= n; i++) {
       if (kind == "basic") printf "p, user%05d, data%05d, read\n", i, i
       if (kind == "roles") printf "p, role%05d, data%05d, read\ng, user%05d, role%05d\n", i % (n / 10), i, i, i % (n / 10)
       if (kind == "domains") printf "p, role%05d, dom%05d, data%05d, read\ng, user%05d, role%05d, dom%05d\n", i, i, i, i, i, i
     } }' >"$work/policy.csv"
-  awk -v kind="$1" -v n="$2" -v q="$3" 'BEGIN {
+}
+
+# Requests that the last rule allows or none by turns; those that none allows ask for so many subjects, evenly spread.
+requests() {
+  awk -v kind="$1" -v n="$2" -v subjects="$3" -v q="$most" 'BEGIN {
     for (i = 0; i < q; i++) {
       act = i % 2 ? "write" : "read"
-      at = i % 2 ? (i * 7919) % n + 1 : n
+      at = i % 2 ? ((int(i / 2) * 7919) % subjects + 1) * (n / subjects) : n
       if (kind == "domains") printf "user%05d, dom%05d, data%05d, %s\n", at, at, at, act
       else printf "user%05d, data%05d, %s\n", at, at, act
     } }' >"$work/input"
 }
 
+# The nanoseconds of a request by a model over so many rules, of which so many subjects are asked for.
+each() {
+  local whole
+  requests "$1" "$2" "$3"
+  whole="$(took "$work/input" "$program" enforce "$work/$1.conf" "$work/policy.csv")"
+  check_answers "$most" "$2"
+  echo "$(((whole - load) * 1000000 / most))"
+}
+
 for kind in basic roles domains; do
-  first=""
   for rules in 10 1000 10000; do
-    requests="$most"
-    workload "$kind" "$rules" "$requests"
-    load="$(took "$work/empty" enforce "$work/$kind.conf" "$work/policy.csv")"
-    whole="$(took "$work/input" enforce "$work/$kind.conf" "$work/policy.csv")"
-    check_answers "$requests" "$rules"
-    [ -n "$first" ] || first="$(awk -v ms="$((whole - load))" -v q="$requests" 'BEGIN { print ms / q }')"
-    awk -v kind="$kind" -v n="$rules" -v q="$requests" -v ms="$((whole - load))" -v load="$load" -v first="$first" 'BEGIN {
-      each = ms / q
-      printf "%-8s %6d rules  %10.0f requests/s  a request as a ratio to 10 rules %.1f  loaded in %d ms\n", kind, n, (each > 0 ? 1000 / each : 0), (first > 0 ? each / first : 0), load
+    policy "$kind" "$rules"
+    load="$(took "$work/empty" "$program" enforce "$work/$kind.conf" "$work/policy.csv")"
+    few="$(each "$kind" "$rules" 10)"
+    all="$(each "$kind" "$rules" "$rules")"
+    [ "$rules" -gt 10 ] || least="$few"
+    awk -v kind="$kind" -v n="$rules" -v few="$few" -v all="$all" -v load="$load" -v least="$least" 'BEGIN {
+      least = least > 0 ? least : 1
+      printf "%-8s %6d rules  a request %d ns, as a ratio to 10 rules %.2f; with all subjects asked for %d ns, %.2f; loaded in %d ms\n", kind, n, few, few / least, all, all / least, load
     }'
   done
 done
@@ -70,12 +63,12 @@ done
 : >"$work/policy.csv"
 awk 'BEGIN { for (i = 1; i <= 100000; i++) printf "add p, user%05d, data%05d, read\npublish\n", i, i }' >"$work/edits"
 awk 'BEGIN { for (i = 1; i <= 100000; i++) printf "sync\nsync\n" }' >"$work/items"
-edits="$(took "$work/edits" session "$work/basic.conf" "$work/policy.csv")"
-items="$(took "$work/items" session "$work/basic.conf" "$work/policy.csv")"
+edits="$(took "$work/edits" "$program" session "$work/basic.conf" "$work/policy.csv")"
+items="$(took "$work/items" "$program" session "$work/basic.conf" "$work/policy.csv")"
 echo "100000 edits, each published: $edits ms, as many items that do nothing: $items ms, ratio $((edits / (items > 0 ? items : 1)))"
 
 awk 'BEGIN { for (i = 1; i <= 200000; i++) printf "p, user%06d, data%06d, read\n", i, i }' >"$work/policy.csv"
-load="$(took "$work/empty" enforce "$work/basic.conf" "$work/policy.csv")"
+load="$(took "$work/empty" "$program" enforce "$work/basic.conf" "$work/policy.csv")"
 TIMEFORMAT='%U'
 cut="$({ time awk -F', ' '{ n += NF } END { exit n == 0 }' "$work/policy.csv"; } 2>&1 | awk '{ printf "%d", $1 * 1000 }')"
 echo "200000 rules loaded in $load ms, cut into fields by awk in $cut ms, ratio $((load / (cut > 0 ? cut : 1)))"

@@ -10,9 +10,9 @@ use Rattle.run_status.specs.declared.status.Status.TheVariants as statuses
 use Rattle.run_status.specs.declared.stop.Stop.{Stop}
 use Rattle.run_status.specs.declared.stop.Stop.TheVariants.{CannotRead, CannotWrite, NoMemory}
 use Rattle.session_meaning.proofs.CallerLemmas.{plain_stays}
-use Rattle.casbin_run.specs.Answered.{IsAnswered, TookAll}
+use Rattle.casbin_run.specs.Answered.{IsAnswered}
 use Rattle.casbin_run.specs.Causes.{Cause, EndsBy, Fault}
-use Rattle.casbin_run.specs.Ends.{Ends, HasStopped, IsDone}
+use Rattle.casbin_run.specs.Ends.{Ends, HasStopped}
 use Rattle.casbin_run.specs.Finders.{IsBad, RoseTogether}
 use Rattle.casbin_run.specs.Given.{Given, IsInOrder}
 use Rattle.casbin_run.specs.Jobs.{shapes_with}

@@ -1,23 +1,24 @@
 -- How the stops of the parts of a run are stops of the run.
-use Rattle.std.proofs.Common.{◌≡◌, ℕ, List, inl, inr, ⊎_elim, refl, sym, subst, true, false}
-use Rattle.std.specs.Prelude.{Option, Some, None}
-use Rattle.model_conf.specs.ModelText.{ModelParts}
+use Rattle.std.proofs.Common.{◌≡◌, ◌≤◌, List, inl, inr, ⊎_elim, refl, sym, ap, subst, arith}
+use Rattle.std.specs.Prelude.{Some, None, Err}
 use Rattle.perm_base.specs.declared.shapes.Shapes.{Shapes}
-use Rattle.policy_table.specs.Tables as table
+use Rattle.regex_gate.specs.Refusals.{Refusals}
 use Rattle.run_status.specs.declared.part.Part.TheVariants.{Model, Policy, Input}
 use Rattle.run_status.specs.declared.stop.Stop.{Stop}
 use Rattle.run_status.specs.declared.stop.Stop.TheVariants.{Words, NoModel, NoRelation, NoPolicy, NoScript, CannotRead, CannotWrite, TooLong, NoMemory}
 use Rattle.session_meaning.specs.Plain.{IsPlain}
-use Rattle.casbin_run.specs.Answered.{Answers, IsAnswered, TookAll, TookSome}
+use Rattle.casbin_run.specs.Answered.{Answers, TookAll, TookSome}
 use Rattle.casbin_run.specs.Causes.{EndsBy}
-use Rattle.casbin_run.specs.Finders.{IsBad, RoseTogether}
+use Rattle.casbin_run.specs.Finders.{AreUsed, IsBad, RoseTogether}
 use Rattle.casbin_run.specs.Given.{Given}
 use Rattle.casbin_run.specs.Helps.Loading.{IsLoaded, LoadStops}
+use Rattle.casbin_run.specs.Helps.Running.{ComesTo}
 use Rattle.casbin_run.specs.Helps.Working.{DidAll, DidSome, WorkStops, Worked, ground}
-use Rattle.casbin_run.specs.Jobs.{job_asked, shapes_with}
-use Rattle.casbin_run.specs.Worlds.{InputRose, OutRose, ShelfRose, World}
+use Rattle.casbin_run.specs.Jobs.{job_asked}
+use Rattle.casbin_run.specs.Worlds.{InputRose, OutRose, ShelfRose, Taken, World}
 use Rattle.casbin_run.specs.declared.files.Loaded.{Loaded}
 use Rattle.casbin_run.specs.declared.job.Job.{Job}
+use Rattle.casbin_run.proofs.FinderLemmas.{finders_same}
 
 pub words_end : (g : Given) (before now : World) → job_asked g.words ≡ None → EndsBy g before now Words
 unfolding EndsBy
@@ -65,3 +66,18 @@ module _ (g : Given) (before now : World) (job : Job) (asked : job_asked g.words
     work_ends CannotWrite stops = inr (took_some stops.0, stops.1)
     work_ends NoMemory stops = inr ((job, asked, tt), ⊎_elim (λ same. inl same) (λ some. inr (took_some some)) stops)
     work_ends _ stops = absurd stops
+
+-- a stop before the task: the input was not read, nothing went to `out`, and no finder was asked
+pub nothing_done : (g : Given) (before now : World) (stop : Stop) → EndsBy g before now stop → before.shelf ≤ now.shelf → now.input ≡ before.input → now.out ≡ before.out → now.finders ≡ before.finders → ComesTo g before now g.input (Err stop)
+nothing_done g before now stop ends counted same-input same-out same-finders = record {
+  done = tt;
+  stopped = ends;
+  quiet = λ quiet. ap (λ (out : Taken). out.bytes) same-out;
+  read_to_end = tt;
+  unread = λ none. refl;
+  untouched = λ none. same-input;
+  shelf_counted = counted;
+  input_counted = omega (arith, same-input);
+  out_counted = omega (arith, ap (λ (out : Taken). out.faults) same-out);
+  finders = subst (λ (finders : List Refusals). AreUsed before.finders finders) (sym same-finders) (finders_same before.finders);
+}

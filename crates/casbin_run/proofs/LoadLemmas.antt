@@ -1,6 +1,6 @@
 -- Why files were not loaded.
-use Rattle.std.proofs.Common.{◌≡◌, ℕ, ◌≤◌, List, inl, inr, ⊎_elim, refl, sym, subst, ◌∙◌}
-use Rattle.std.specs.Prelude.{Option, Some, None}
+use Rattle.std.proofs.Common.{◌≡◌, ℕ, ◌≤◌, inl, inr, ⊎_elim, subst}
+use Rattle.std.specs.Prelude.{Option}
 use Rattle.outside.specs.Faults.{Rose}
 use Rattle.outside.specs.Files.{Files}
 use Rattle.outside.proofs.CallerLemmas.{rose_later}
@@ -11,7 +11,7 @@ use Rattle.policy_table.specs.Tables as table
 use Rattle.run_status.specs.declared.part.Part.TheVariants.{Model, Policy}
 use Rattle.run_status.specs.declared.stop.Stop.{Stop}
 use Rattle.run_status.specs.declared.stop.Stop.TheVariants.{NoModel, NoRelation, NoPolicy, CannotRead, TooLong, NoMemory}
-use Rattle.casbin_run.specs.Given.{AreFiles, FileIs, Fits, ModelIs}
+use Rattle.casbin_run.specs.Given.{FileIs, Fits, ModelIs}
 use Rattle.casbin_run.specs.Helps.Loading.{LoadStops, ModelStops, PolicyStops, ShapesStop}
 use Rattle.casbin_run.specs.Jobs.{shapes_with}
 use Rattle.casbin_run.specs.declared.job.Job.{Job}

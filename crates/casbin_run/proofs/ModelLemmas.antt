@@ -1,7 +1,7 @@
 -- Every text is a model or has a first fault.
-use Rattle.std.proofs.Common.{◌≡◌, ℕ, suc, ◌<◌, ◌≤◌, Bool, true, false, leb, List, [], ◌∷◌, length, inl, inr, refl, ap, ◌∙◌, sym, arith, leb-true, leb-false}
-use Rattle.std.specs.Prelude.{◌⊎◌, All, AllPairs, IsTrue, IsUtf8, Option, Some, None, bytes_eq, codes}
-use Rattle.std.specs.List.{AllByRecursion, list_any}
+use Rattle.std.proofs.Common.{◌≡◌, ℕ, suc, ◌<◌, ◌≤◌, Bool, true, false, leb, List, [], ◌∷◌, length, inl, inr, refl, arith, leb-true, leb-false}
+use Rattle.std.specs.Prelude.{◌⊎◌, All, IsTrue, IsUtf8, Option, Some, None, bytes_eq, codes}
+use Rattle.std.specs.List.{AllByRecursion}
 use Rattle.std.proofs.lemmas.List.Elements.{All-from_recursion, recursion_from_All}
 use Rattle.std.proofs.lemmas.List.Kept.{AllPairs-cons}
 use Rattle.std.proofs.lemmas.Slice.Eq.{bytes_eq-Decides}
@@ -14,14 +14,13 @@ use Rattle.model_conf.proofs.FaultLemmas.{missing_e, missing_m, missing_p, missi
 use Rattle.model_conf.proofs.TotalLemmas.{AreStatements-some}
 use Rattle.model_conf.specs.Columns.{AreColumns, AreDistinct, AreNames, columns_in}
 use Rattle.model_conf.specs.Effects.{model_effect}
-use Rattle.model_conf.specs.Faults.{IsEntryFault, IsModelFault, at_line, behind_lines, first_missing, fault_of, matcher, missing, not_utf8, policy_columns, request_columns, role_shape, too_long, undeclared, unknown_effect}
+use Rattle.model_conf.specs.Faults.{IsEntryFault, IsModelFault, at_line, behind_lines, fault_of, matcher, missing, not_utf8, policy_columns, request_columns, role_shape, too_long, undeclared, unknown_effect}
 use Rattle.model_conf.specs.ModelText.{HasColumns, HasEffect, HasValues, IsModel, IsText, ModelParts, SayModel, Values, most_bytes, parts_of}
 use Rattle.model_conf.specs.Relations.{first_bad_shape, relations_of, value_of}
 use Rattle.model_conf.specs.Sections.{Entry, entries_of, first_fault}
 use Rattle.model_conf.specs.Statements.{Statement}
 use Rattle.model_conf.specs.Uses.{Use, first_undeclared, uses}
 use Rattle.model_conf.specs.declared.fault.ModelFault.{ModelFault}
-use Rattle.model_conf.specs.declared.key.Key.{Key}
 use Rattle.text_parts.specs.Names.{is_identifier}
 use Rattle.text_parts.specs.Numbered.{numbered, text_lines}
 

@@ -1,6 +1,6 @@
 -- What is given has one end: what is read comes to one state at each part, and the states to one end.
-use Rattle.std.proofs.Common.{◌≡◌, ℕ, ◌<◌, ◌≤◌, Bool, true, false, List, [], length, refl, sym, ap, subst, ◌∙◌, arith}
-use Rattle.std.specs.Prelude.{IsSome, IsUtf8, Option, Some, None, Contains}
+use Rattle.std.proofs.Common.{◌≡◌, ℕ, ◌<◌, ◌≤◌, Bool, true, List, [], length, refl, sym, ap, subst, ◌∙◌, arith}
+use Rattle.std.specs.Prelude.{IsSome, Option, Some, None, Contains}
 use Rattle.answer_lines.specs.declared.answer.Line.{Line}
 use Rattle.outside.specs.Files.{Files}
 use Rattle.model_conf.specs.Faults.{IsModelFault}

@@ -1,5 +1,5 @@
 -- How far the requests of an input are answered and their lines printed.
-use Rattle.std.proofs.Common.{◌≡◌, ℕ, ◌+◌, ◌≤◌, Bool, true, false, List, [], ◌∷◌, ◌++◌, append_assoc, append-nil, refl, sym, ap, subst, ◌∙◌, arith}
+use Rattle.std.proofs.Common.{◌≡◌, ℕ, ◌+◌, ◌≤◌, Bool, List, [], ◌∷◌, ◌++◌, append_assoc, append-nil, refl, sym, ap, subst, ◌∙◌, arith}
 use Rattle.std.specs.Prelude.{Option, None, IsUtf8, String, min, string_bytes}
 use Rattle.std.specs.declared.alloc.Global.{Global}
 use Rattle.answer_lines.specs.LineText.{line_text}
@@ -9,9 +9,7 @@ use Rattle.live_round.specs.Refused.{RoseBy, refused_searches}
 use Rattle.model_conf.specs.ModelText.{ModelParts}
 use Rattle.outside.specs.Faults.{Rose}
 use Rattle.outside.specs.Told.{with_back, TookFront}
-use Rattle.policy_desk.specs.Desks.{Work}
 use Rattle.policy_state.specs.States.{State, tables}
-use Rattle.policy_table.specs.Tables.{Policy}
 use Rattle.regex_gate.specs.Refusals.{IsRefused, IsUsed, Refusals}
 use Rattle.regex_gate.proofs.CallerLemmas.{refused_still, used_then}
 use Rattle.run_status.specs.declared.stop.Stop.TheVariants.{CannotWrite, NoMemory}

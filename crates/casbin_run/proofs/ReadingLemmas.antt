@@ -15,7 +15,7 @@ use Rattle.policy_csv.specs.declared.fault.PolicyFault.{PolicyFault}
 use Rattle.policy_csv.specs.declared.fault.PolicyFault.TheVariants as policy
 use Rattle.run_status.specs.Parts.{limit_of}
 use Rattle.run_status.specs.Stops.{model_stop_of, policy_stop_of, script_stop_of, shape_stop_of}
-use Rattle.run_status.specs.declared.part.Part.TheVariants.{Model, Policy, Input}
+use Rattle.run_status.specs.declared.part.Part.TheVariants.{Model, Policy}
 use Rattle.script_read.specs.Script.{IsScriptFault}
 use Rattle.script_read.specs.declared.fault.ScriptFault.{ScriptFault}
 use Rattle.script_read.specs.declared.fault.ScriptFault.TheVariants as script

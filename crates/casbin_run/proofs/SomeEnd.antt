@@ -1,7 +1,7 @@
 -- What is given, where it is told, is in order or causes a stop.
-use Rattle.std.proofs.Common.{◌≡◌, ℕ, ◌<◌, ◌≤◌, Bool, true, false, leb, List, [], length, inl, inr, refl, arith, leb-true, leb-false}
+use Rattle.std.proofs.Common.{◌≡◌, ℕ, ◌<◌, ◌≤◌, Bool, true, false, leb, List, [], length, inl, inr, refl, leb-true, leb-false}
 use Rattle.std.specs.Prelude.{◌⊎◌, IsSome, IsUtf8, Option, Some, None}
-use Rattle.model_conf.specs.ModelText.{IsModel, ModelParts}
+use Rattle.model_conf.specs.ModelText.{ModelParts}
 use Rattle.outside.specs.Files.{Files}
 use Rattle.perm_base.specs.declared.shapes.Shapes.{Shapes}
 use Rattle.policy_csv.specs.Faults.{IsPolicyFault}

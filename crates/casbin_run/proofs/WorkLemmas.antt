@@ -1,6 +1,7 @@
 -- What a task comes to.
-use Rattle.std.proofs.Common.{◌≡◌, ℕ, ◌<◌, ◌≤◌, List, [], inl, inr, ⊎_elim, refl, sym, ap, subst, ◌∙◌, Bool, true, false, arith}
-use Rattle.std.specs.Prelude.{Option, IfSome, length}
+use Rattle.std.proofs.Common.{◌≡◌, ℕ, ◌<◌, ◌≤◌, List, [], inl, inr, ⊎_elim, refl, sym, ap, subst, ◌∙◌, Bool, true, arith}
+use Rattle.std.specs.Prelude.{Option, None, Result, Err, IfErr, IfSome, OnOk, length}
+use Rattle.std.proofs.lemmas.Result.{IfErr-weaker, on_ok_weaker}
 use Rattle.answer_lines.specs.declared.answer.Line.{Line}
 use Rattle.enforce_core.proofs.CallerLemmas.{suits_columns}
 use Rattle.enforce_core.specs.Programs.{Suits}
@@ -11,7 +12,7 @@ use Rattle.outside.specs.Faults.{Rose}
 use Rattle.outside.specs.Told.{TookFront, with_back}
 use Rattle.perm_base.specs.declared.shapes.Shapes.{Shapes}
 use Rattle.policy_table.specs.Tables as table
-use Rattle.regex_gate.specs.Refusals.{IsRefused, Refusals}
+use Rattle.regex_gate.specs.Refusals.{IsRefused, IsUsed, Refusals}
 use Rattle.run_status.specs.declared.part.Part.TheVariants.{Input}
 use Rattle.run_status.specs.declared.stop.Stop.{Stop}
 use Rattle.run_status.specs.declared.stop.Stop.TheVariants.{NoScript, CannotRead, CannotWrite, TooLong, NoMemory}
@@ -21,9 +22,11 @@ use Rattle.session_meaning.specs.Plain.{IsPlain}
 use Rattle.session_meaning.proofs.CallerLemmas.{plain_none, plain_stays}
 use Rattle.casbin_run.specs.Given.{InputIs, SaysItems}
 use Rattle.casbin_run.specs.Helps.Loading.{BytesStop, InputStops}
-use Rattle.casbin_run.specs.Helps.Working.{DidAll, DidSome, Ground, IsQuiet, LinesOf, PrintedAll, PrintedSome, Rises, ShowStops, TextStops, WorkStops, Worked, task_text}
+use Rattle.casbin_run.specs.Helps.Working.{AnswerStops, AreAnswered, DidAll, DidSome, Ground, IsQuiet, LinesOf, PrintedAll, PrintedSome, Rises, ShowStops, TextStops, WorkStops, Worked, task_text}
 use Rattle.casbin_run.specs.Jobs.{reads_input}
-use Rattle.casbin_run.specs.Texts.{text_of_lines}
+use Rattle.casbin_run.specs.Texts.{text_of, text_of_lines}
+use Rattle.casbin_run.specs.Worlds.{Taken}
+use Rattle.casbin_run.specs.declared.files.Loaded.{Loaded}
 use Rattle.casbin_run.specs.declared.job.Task.{Task}
 use Rattle.casbin_run.specs.declared.job.Task.TheVariants.{Enforce, Serve, Check, Format}
 
@@ -49,63 +52,76 @@ input_is input text fact (bytes, told, within, same) is = (bytes, told, within, 
 
 -- ---- lines
 
--- lines over equal models, shapes and policies
-plain_at : (model other : ModelParts) (shapes others : Shapes) (policy second : table.Policy) (IsBad : List ℕ → Type 0) (items : List Said) (lines : List Line) → other ≡ model → others ≡ shapes → second ≡ policy → IsPlain other others second IsBad items lines → IsPlain model shapes policy IsBad items lines
-plain_at model other shapes others policy second IsBad items lines same-model same-shapes same-policy plain =
-    subst (λ (m : ModelParts). IsPlain m shapes policy IsBad items lines) same-model
-    (subst (λ (s : Shapes). IsPlain other s policy IsBad items lines) same-shapes (subst (λ (p : table.Policy). IsPlain other others p IsBad items lines) same-policy plain))
+-- what holds over equal models, shapes and policies
+over_equal : (Holds : ModelParts → Shapes → table.Policy → Type 0) (model other : ModelParts) (shapes others : Shapes) (policy second : table.Policy) → other ≡ model → others ≡ shapes → second ≡ policy → Holds other others second → Holds model shapes policy
+over_equal Holds model other shapes others policy second same-model same-shapes same-policy holds =
+    subst (λ (m : ModelParts). Holds m shapes policy) same-model
+    (subst (λ (s : Shapes). Holds other s policy) same-shapes (subst (λ (p : table.Policy). Holds other others p) same-policy holds))
 
--- what a task of requests is done on
-abbrev pub asking : Bool → ModelParts → Shapes → table.Policy → Option (List ℕ) → Ground
-asking json model shapes policy input = record { task = Enforce json; model = model; shapes = shapes; policy = policy; input = input }
+module _ (IsSaid : List Said → Type 0) (model : ModelParts) (shapes : Shapes) (policy : table.Policy) (before now : Refusals) where
+  -- lines of items that are said, and how far they were pushed
+  module _ (items : List Said) (lines : List Line) (says : IsSaid items) (plain : IsPlain model shapes policy (IsRefused before now) items lines) (counted : Rises before now (refused_searches lines)) (out out_now : Option (List ℕ)) where
+    abbrev lines_said : LinesOf IsSaid model shapes policy (IsRefused before now) (Rises before now)
+    lines_said = record { items = items; lines = lines; says = says; plain = plain; counted = counted }
 
--- and a task of a script
-abbrev pub serving : Bool → ModelParts → Shapes → table.Policy → Option (List ℕ) → Ground
-serving json model shapes policy input = record { task = Serve json; model = model; shapes = shapes; policy = policy; input = input }
+    pub said_all : out_now ≡ with_back out (text_of_lines lines) → PrintedAll IsSaid model shapes policy before now out out_now
+    said_all took = record { printed = lines_said; took = took }
 
-module _ (json : Bool) (input : Option (List ℕ)) (model other : ModelParts) (shapes others : Shapes) (policy second : table.Policy) (before now : Refusals) (out out_now : Option (List ℕ))
-    (same-model : other ≡ model) (same-shapes : others ≡ shapes) (same-policy : second ≡ policy) where
-  -- ---- requests
+    pub said_some : (out_rose : Type 0) (stop : Stop) → TextStops out out_now (text_of_lines lines) out_rose stop → PrintedSome IsSaid model shapes policy before now out out_now out_rose stop
+    said_some out_rose stop stops = record { printed = lines_said; stops = stops }
 
-  module _ (text : List ℕ) (told : InputIs input (λ bytes. bytes ≡ text)) where
-    abbrev asked_lines : LinesOf (IsRequests json text) other others second (IsRefused before now) (Rises before now) → Worked (asking json model shapes policy input) (IsRefused before now) (Rises before now)
-    asked_lines of = record {
-      items = of.items;
-      lines = of.lines;
-      says = input_is input text (λ bytes. IsRequests json bytes of.items) told of.says;
-      plain = plain_at model other shapes others policy second (IsRefused before now) of.items of.lines same-model same-shapes same-policy of.plain;
-      counted = of.counted;
-    }
+  -- answers over what was loaded, where this is its model, its shapes and its policy
+  pub answers_over : (loaded : Loaded) (out out_now : Taken) (result : Result (Unit {0}) Stop) → model ≡ loaded.model → shapes ≡ loaded.shapes → policy ≡ loaded.tables.policy
+      → OnOk result (PrintedAll IsSaid model shapes policy before now out.bytes out_now.bytes) → IfErr result (PrintedSome IsSaid model shapes policy before now out.bytes out_now.bytes (Rose out.faults out_now.faults))
+      → out.faults ≤ out_now.faults → IsUsed before now None → AreAnswered IsSaid loaded before now out out_now result
+  answers_over loaded out out_now result same-model same-shapes same-policy all some counted used = record {
+    printed = on_ok_weaker result (over_equal (λ (m : ModelParts) (s : Shapes) (p : table.Policy). PrintedAll IsSaid m s p before now out.bytes out_now.bytes) loaded.model model loaded.shapes shapes loaded.tables.policy policy same-model same-shapes same-policy) all;
+    stopped = IfErr-weaker result _ _ (λ stop stops. inr (over_equal (λ (m : ModelParts) (s : Shapes) (p : table.Policy). PrintedSome IsSaid m s p before now out.bytes out_now.bytes (Rose out.faults out_now.faults) stop) loaded.model model loaded.shapes shapes loaded.tables.policy policy same-model same-shapes same-policy stops)) some;
+    counted = counted;
+    used = used;
+  }
 
-    pub asked_all : PrintedAll (IsRequests json text) other others second before now out out_now → DidAll (asking json model shapes policy input) (IsRefused before now) (Rises before now) out out_now
-    asked_all all = record { worked = asked_lines all.printed; took = all.took }
+-- memory ran out before any answer was pushed
+pub out_of_memory : (IsSaid : List Said → Type 0) (loaded : Loaded) (before now : Refusals) (out : Taken) → IsUsed before now None → AreAnswered IsSaid loaded before now out out (Err NoMemory)
+out_of_memory IsSaid loaded before now out used = record { printed = tt; stopped = inl (refl, refl); counted = omega arith; used = used }
 
-    pub asked_stops : (input_rose out_rose : Type 0) (stop : Stop) → PrintedSome (IsRequests json text) other others second before now out out_now out_rose stop
-        → WorkStops (asking json model shapes policy input) (IsRefused before now) (Rises before now) out out_now input_rose out_rose stop
-    asked_stops input_rose out_rose CannotWrite some = (record { worked = asked_lines some.printed; took = some.stops.0 }, some.stops.1)
-    asked_stops input_rose out_rose NoMemory some = inr (record { worked = asked_lines some.printed; took = some.stops })
-    asked_stops input_rose out_rose _ some = absurd some.stops
+-- ---- tasks that read the input
 
-  -- ---- scripts
+-- the text of such a task is its lines
+lines_alone : (on : Ground) (lines : List Line) → reads_input on.task ≡ true → text_of_lines lines ≡ task_text on lines
+lines_alone on lines reads = by on.task reads
+  where
+    by : (task : Task) → reads_input task ≡ true → text_of_lines lines ≡ text_of task on.model on.policy lines
+    by (Enforce json) reads = refl
+    by (Serve json) reads = refl
+    by Check reads = absurd cc
+    by Format reads = absurd cc
 
-  module _ (items : List Said) (lines : List Line) (says : SaysItems (Serve json) input items) (plain : IsPlain other others second (IsRefused before now) items lines) (counted : Rises before now (refused_searches lines)) where
-    abbrev served_lines : Worked (serving json model shapes policy input) (IsRefused before now) (Rises before now)
-    served_lines = record {
-      items = items;
-      lines = lines;
-      says = says;
-      plain = plain_at model other shapes others policy second (IsRefused before now) items lines same-model same-shapes same-policy plain;
-      counted = counted;
-    }
+-- requests that a text says, or items that a script says, are what its task reads
+pub asked_says : (json : Bool) (input : Option (List ℕ)) (text : List ℕ) → InputIs input (λ bytes. bytes ≡ text) → (items : List Said) → IsRequests json text items → SaysItems (Enforce json) input items
+asked_says json input text told items says = input_is input text (λ bytes. IsRequests json bytes items) told says
 
-    pub served_all : out_now ≡ with_back out (text_of_lines lines) → DidAll (serving json model shapes policy input) (IsRefused before now) (Rises before now) out out_now
-    served_all took = record { worked = served_lines; took = took }
+pub served_says : (json : Bool) (input : Option (List ℕ)) (script : List Said) → SaysItems (Serve json) input script → (items : List Said) → items ≡ script → SaysItems (Serve json) input items
+served_says json input script says items same = subst (λ (s : List Said). SaysItems (Serve json) input s) (sym same) says
 
-    pub served_stops : (input_rose out_rose : Type 0) (stop : Stop) → TextStops out out_now (text_of_lines lines) out_rose stop
-        → WorkStops (serving json model shapes policy input) (IsRefused before now) (Rises before now) out out_now input_rose out_rose stop
-    served_stops input_rose out_rose CannotWrite stops = (record { worked = served_lines; took = stops.0 }, stops.1)
-    served_stops input_rose out_rose NoMemory stops = inr (record { worked = served_lines; took = stops })
-    served_stops input_rose out_rose _ stops = absurd stops
+module _ (on : Ground) (reads : reads_input on.task ≡ true) (IsSaid : List Said → Type 0) (says : (items : List Said) → IsSaid items → SaysItems on.task on.input items) (before now : Refusals) (out out_now : Option (List ℕ)) where
+  abbrev worked : LinesOf IsSaid on.model on.shapes on.policy (IsRefused before now) (Rises before now) → Worked on (IsRefused before now) (Rises before now)
+  worked of = record { items = of.items; lines = of.lines; says = says of.items of.says; plain = of.plain; counted = of.counted }
+
+  pub answered_all : PrintedAll IsSaid on.model on.shapes on.policy before now out out_now → DidAll on (IsRefused before now) (Rises before now) out out_now
+  answered_all all = record { worked = worked all.printed; took = all.took ∙ ap (with_back out) (lines_alone on all.printed.lines reads) }
+
+  answered_some : (of : LinesOf IsSaid on.model on.shapes on.policy (IsRefused before now) (Rises before now)) → TookFront out out_now (text_of_lines of.lines) → DidSome on (IsRefused before now) (Rises before now) out out_now
+  answered_some of took = record { worked = worked of; took = subst (TookFront out out_now) (lines_alone on of.lines reads) took }
+
+  some_stops : (input_rose out_rose : Type 0) (stop : Stop) → PrintedSome IsSaid on.model on.shapes on.policy before now out out_now out_rose stop → WorkStops on (IsRefused before now) (Rises before now) out out_now input_rose out_rose stop
+  some_stops input_rose out_rose CannotWrite some = (answered_some some.printed some.stops.0, some.stops.1)
+  some_stops input_rose out_rose NoMemory some = inr (answered_some some.printed some.stops)
+  some_stops input_rose out_rose _ some = absurd some.stops
+
+  pub answered_stops : (input_rose out_rose : Type 0) (stop : Stop) → AnswerStops IsSaid on.model on.shapes on.policy before now out out_now out_rose stop → WorkStops on (IsRefused before now) (Rises before now) out out_now input_rose out_rose stop
+  answered_stops input_rose out_rose stop stops =
+      ⊎_elim (λ early. subst (λ (s : Stop). WorkStops on (IsRefused before now) (Rises before now) out out_now input_rose out_rose s) (sym early.0) (inl early.1)) (λ some. some_stops input_rose out_rose stop some) stops
 
 -- ---- stops that are not quiet
 
@@ -113,6 +129,14 @@ pub text_not_quiet : {A : Type 0} (out out_now : Option (List ℕ)) (text : List
 text_not_quiet out out_now text out_rose CannotWrite stops quiet = absurd cc
 text_not_quiet out out_now text out_rose NoMemory stops quiet = absurd cc
 text_not_quiet out out_now text out_rose _ stops quiet = absurd stops
+
+-- want of memory is not quiet
+memory_not_quiet : {A : Type 0} → IsQuiet NoMemory → A
+memory_not_quiet quiet = absurd cc
+
+pub answer_not_quiet : {A : Type 0} (IsSaid : List Said → Type 0) (model : ModelParts) (shapes : Shapes) (policy : table.Policy) (before now : Refusals) (out out_now : Option (List ℕ)) (out_rose : Type 0) (stop : Stop) → AnswerStops IsSaid model shapes policy before now out out_now out_rose stop → IsQuiet stop → A
+answer_not_quiet IsSaid model shapes policy before now out out_now out_rose stop stops quiet =
+    ⊎_elim (λ early. memory_not_quiet (subst IsQuiet early.0 quiet)) (λ some. text_not_quiet out out_now (text_of_lines some.printed.lines) out_rose stop some.stops quiet) stops
 
 pub show_quiet : (out out_now : Option (List ℕ)) (text : List ℕ) (out_rose : Type 0) (stop : Stop) → ShowStops out out_now text out_rose stop → IsQuiet stop → out_now ≡ out
 show_quiet out out_now text out_rose CannotWrite stops quiet = absurd cc
@@ -163,10 +187,6 @@ module _ (on : Ground) (IsBad IsWorse : List ℕ → Type 0) (Risen Raised : ℕ
   stops_more out out_now input_rose out_rose CannotWrite stops = (some_more out out_now stops.0, stops.1)
   stops_more out out_now input_rose out_rose NoMemory stops = ⊎_elim (λ same. inl same) (λ some. inr (some_more out out_now some)) stops
   stops_more out out_now input_rose out_rose _ stops = absurd stops
-
--- want of memory is not quiet
-pub memory_not_quiet : {A : Type 0} → IsQuiet NoMemory → A
-memory_not_quiet quiet = absurd cc
 
 -- ---- making a policy's state
 

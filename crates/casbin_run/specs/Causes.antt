@@ -1,5 +1,5 @@
 -- Why a run stops.
-use Rattle.std.specs.Prelude.{◌≡◌, ◌⊎◌, ℕ, ◌<◌, true, List, Option, Some, None, IfSome, IsUtf8, length, ⊤}
+use Rattle.std.specs.Prelude.{◌≡◌, ◌⊎◌, ℕ, ◌<◌, true, List, Some, None, IfSome, IsUtf8, length, ⊤}
 use Rattle.outside.specs.Files.{Lacks, OfFile}
 use Rattle.model_conf.specs.Faults.{IsModelFault}
 use Rattle.model_conf.specs.ModelText.{ModelParts}

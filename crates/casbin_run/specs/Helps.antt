@@ -2,3 +2,4 @@
 pub mod Loading
 pub mod Working
 pub mod Gathering
+pub mod Running

@@ -1,26 +1,25 @@
-ghost use Rattle.std.specs.Prelude.{◌≡◌, ◌≤◌, ◌+◌, [], None, IfErr, IfOk, IfSome, OnOk, min, true};
+ghost use Rattle.std.specs.Prelude.{◌≡◌, ◌≤◌, ◌+◌, None, IfErr, IfOk, OnOk, min, true};
 ghost use Rattle.outside.specs.Faults.{Rose};
 ghost use Rattle.policy_state.specs.States.{tables};
-ghost use Rattle.regex_gate.specs.Refusals.{IsRefused, IsUsed};
+ghost use Rattle.regex_gate.specs.Refusals.{IsUsed};
 ghost use Rattle.script_read.specs.Named.{is_named};
 ghost use Rattle.script_read.specs.Reads.{Says};
 ghost use Rattle.script_read.specs.Said.{asks, reading};
 ghost use Rattle.script_read.specs.Script.{IsRequests};
 ghost use Rattle.version_log.specs.Log.{versions};
 ghost use Rattle.enforce_core.specs.Programs.{Suits};
-ghost use Rattle.casbin_run.specs.Helps.Working.{AnswersLine, DidAll, IsQuiet, IsReady, PrintedAll, PrintedSome};
-ghost use Rattle.casbin_run.specs.Helps.Working.{Rises, WorkStops, ground};
-ghost use Rattle.casbin_run.specs.declared.job.Task.TheVariants as tasks;
+ghost use Rattle.casbin_run.specs.Helps.Working.{AnswersLine, AreAnswered, IsReady, PrintedAll, PrintedSome};
+ghost use Rattle.casbin_run.specs.Worlds.{taken};
 
 use crate::files::Loaded;
 use crate::gather::push_full;
-use crate::input::read_text;
-use enforce_core::{Program, Scratch, make_program};
+use crate::opening::open_loaded;
+use enforce_core::{Program, Scratch};
 use live_round::push_request;
 use matcher_meaning::{case_verdict_is_there, pattern_comes_by_refusal_alone};
-use perm_base::{NoMemory, Sink, Source, push_all};
+use perm_base::{NoMemory, Sink, push_all};
 use perm_value::RequestFault;
-use policy_state::{PolicyState, make_state, states_stand_for_their_history};
+use policy_state::PolicyState;
 use regex_gate::{Finder, uses_add_up};
 use run_status::Stop;
 use script_read::{Asked, next_request, read_request, texts_are_read_in_one_way};
@@ -34,45 +33,28 @@ pub(crate) struct Court<'a> {
     pub json: bool,
 }
 
-/// Reads the input, and answers each request of it by a line.
-pub(crate) fn enforce<S: Source, K: Sink, P: Finder>(
+/// Answers each request of a text by a line.
+pub(crate) fn enforce<K: Sink, P: Finder>(
     alloc: Global,
     loaded: Loaded,
     json: bool,
-    input: &mut S,
+    input: &str,
     out: &mut K,
     finder: &mut P,
 ) -> Result<(), Stop>
     requires { IsReady loaded }
-    ensures done { OnOk result (DidAll (ground (tasks.Enforce json) loaded (S.left input.old))
-        (IsRefused (P.refusals finder.old) (P.refusals finder.new))
-        (Rises (P.refusals finder.old) (P.refusals finder.new))
-        (K.taken out.old) (K.taken out.new)) }
-    ensures ended { OnOk result (IfSome (S.left input.new) (λ rest. rest ≡ [])) }
-    ensures stopped { IfErr result (WorkStops
-        (ground (tasks.Enforce json) loaded (S.left input.old))
-        (IsRefused (P.refusals finder.old) (P.refusals finder.new))
-        (Rises (P.refusals finder.old) (P.refusals finder.new))
-        (K.taken out.old) (K.taken out.new)
-        (Rose (S.faults input.old) (S.faults input.new))
-        (Rose (K.faults out.old) (K.faults out.new))) }
-    ensures quiet { IfErr result (λ stop. IsQuiet stop → K.taken out.new ≡ K.taken out.old) }
-    ensures idle { IfErr result (λ stop. IsQuiet stop → finder.new ≡ finder.old) }
-    ensures input_counted { S.faults input.old ≤ S.faults input.new }
-    ensures out_counted { K.faults out.old ≤ K.faults out.new }
-    ensures used { IsUsed (P.refusals finder.old) (P.refusals finder.new) None }
+    ensures { AreAnswered (IsRequests json input.now) loaded
+        (P.refusals finder.old) (P.refusals finder.new)
+        (taken (K.taken out.old) (K.faults out.old)) (taken (K.taken out.new) (K.faults out.new))
+        result }
 {
-    uses_add_up();
-    states_stand_for_their_history();
-    let text = read_text(alloc, input, json)?;
-    let program = make_program(alloc, loaded.model)?;
-    let state = make_state(alloc, loaded.shapes, program.index_column(), loaded.tables)?;
+    let opened = open_loaded(alloc, loaded)?;
     let court = Court {
-        program: &program,
-        state: &state,
+        program: &opened.program,
+        state: &opened.state,
         json,
     };
-    print_answers(alloc, out, &court, text.as_str(), finder)
+    print_answers(alloc, out, &court, input, finder)
 }
 
 // Prints a line for each request of a text, numbered from 1.

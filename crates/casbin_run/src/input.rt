@@ -1,5 +1,6 @@
-ghost use Rattle.std.specs.Prelude.{◌≡◌, ◌≤◌, [], IfOk, IfErr, IfSome, OnOk, map, string_bytes};
+ghost use Rattle.std.specs.Prelude.{◌≡◌, ◌≤◌, [], All, IfOk, IfErr, IfSome, OnOk, map, string_bytes, true};
 ghost use Rattle.outside.specs.Faults.{Rose};
+ghost use Rattle.script_read.specs.Named.{is_named};
 ghost use Rattle.script_read.specs.Said.{seen};
 ghost use Rattle.casbin_run.specs.Causes.{HasFault};
 ghost use Rattle.casbin_run.specs.Given.{InputIs, SaysItems};
@@ -8,7 +9,7 @@ ghost use Rattle.casbin_run.specs.declared.job.Task.TheVariants.{Enforce, Serve}
 
 use perm_base::{ReadStop, Source, read_all};
 use run_status::{Part, Stop};
-use script_read::{Script, ScriptFault, read_script};
+use script_read::{Script, ScriptFault, items_are_named, read_script};
 use std::alloc::Global;
 
 /// Reads an input of requests to its end. With `json` they are JSON.
@@ -35,11 +36,14 @@ pub(crate) fn read_items<S: Source>(
 ) -> Result<Script, Stop>
     ensures read { IfOk result (λ script. SaysItems (Serve json) (S.left input.old)
         (map seen script)) }
+    ensures have_names { IfOk result (λ script.
+        All (λ item. is_named item ≡ true) (map seen script)) }
     ensures ended { OnOk result (IfSome (S.left input.new) (λ rest. rest ≡ [])) }
     ensures stopped { IfErr result (InputStops (Serve json) (S.left input.old)
         (Rose (S.faults input.old) (S.faults input.new))) }
     ensures counted { S.faults input.old ≤ S.faults input.new }
 {
+    items_are_named();
     let bytes = read_bytes(alloc, input)?;
     Ok(read_script(alloc, &bytes, json)?)
 }

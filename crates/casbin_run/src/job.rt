@@ -1,5 +1,6 @@
 ghost use Rattle.std.specs.Prelude.{◌≡◌, ◌<◌, ◌≤◌, IfSome};
 ghost use Rattle.command_words.specs.Items.{texts};
+ghost use Rattle.casbin_run.specs.Helps.Running.{job_on};
 ghost use Rattle.casbin_run.specs.Jobs.{job_asked, job_of, limit_in};
 
 use command_words::{Command, Files, Options, read_words};
@@ -43,11 +44,7 @@ fn job_of(command: Command<'_>) -> Option<Job<'_>>
             files,
             options,
             json,
-        } => Some(Job {
-            files,
-            options: Some(options),
-            task: Task::Enforce { json },
-        }),
+        } => Some(job_on(files, Some(options), Task::Enforce { json })),
         Command::Session {
             files,
             options,
@@ -55,25 +52,24 @@ fn job_of(command: Command<'_>) -> Option<Job<'_>>
             workers,
         } => {
             if workers == 0 {
-                Some(Job {
-                    files,
-                    options: Some(options),
-                    task: Task::Serve { json },
-                })
+                Some(job_on(files, Some(options), Task::Serve { json }))
             } else {
                 None
             }
         }
-        Command::Check(files) => Some(Job {
-            files,
-            options: None,
-            task: Task::Check,
-        }),
-        Command::Format(files) => Some(Job {
-            files,
-            options: None,
-            task: Task::Format,
-        }),
+        Command::Check(files) => Some(job_on(files, None, Task::Check)),
+        Command::Format(files) => Some(job_on(files, None, Task::Format)),
         Command::Demo { .. } => None,
+    }
+}
+
+// A task on these files.
+fn job_on<'a>(files: Files<'a>, options: Option<Options>, task: Task) -> Job<'a>
+    ensures { result ≡ job_on files.entry options task }
+{
+    Job {
+        files,
+        options,
+        task,
     }
 }

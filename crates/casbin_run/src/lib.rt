@@ -7,6 +7,7 @@ mod gather;
 mod input;
 mod job;
 mod law;
+mod opening;
 mod run;
 mod session;
 mod showing;

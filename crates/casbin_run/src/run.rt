@@ -2,17 +2,17 @@ ghost use Rattle.std.specs.Prelude.{◌≡◌, ◌≤◌, [], None, IfErr, IfSom
 ghost use Rattle.command_words.specs.Items.{texts};
 ghost use Rattle.outside.specs.Faults.{Rose};
 ghost use Rattle.regex_gate.specs.Refusals.{IsRefused, IsUsed};
-ghost use Rattle.casbin_run.specs.Answered.{TookAll};
-ghost use Rattle.casbin_run.specs.Causes.{EndsBy};
 ghost use Rattle.casbin_run.specs.Ends.{Ends, may_write};
-ghost use Rattle.casbin_run.specs.Finders.{AreUsed, IsBad, RoseTogether};
+ghost use Rattle.casbin_run.specs.Finders.{AreUsed};
 ghost use Rattle.casbin_run.specs.Given.{given};
+ghost use Rattle.casbin_run.specs.Helps.Running.{ComesTo};
 ghost use Rattle.casbin_run.specs.Helps.Working.{DidAll, IsQuiet, IsReady, Rises, WorkStops, ground};
 ghost use Rattle.casbin_run.specs.Jobs.{ask_for_input, reads_input};
 ghost use Rattle.casbin_run.specs.Worlds.{taken, world};
 
 use crate::enforce::enforce;
 use crate::files::{Loaded, load};
+use crate::input::{read_items, read_text};
 use crate::job::{Task, read_job};
 use crate::session::serve;
 use crate::showing::{check, format};
@@ -81,7 +81,7 @@ pub fn run_casbin<F: Shelf, S: Source, K: Sink, E: Sink, P: Finder>(
     }
 }
 
-// Does what the words ask for, or stops at the first cause.
+// Does what the words ask for with the first finder, or stops at the first cause.
 fn answer<F: Shelf, S: Source, K: Sink, P: Finder>(
     alloc: Global,
     words: &[String],
@@ -90,32 +90,14 @@ fn answer<F: Shelf, S: Source, K: Sink, P: Finder>(
     out: &mut K,
     finders: &mut Vec<P>,
 ) -> Result<(), Stop>
-    requires nine { length finders.old.items ≡ 9 }
-    ensures done { OnOk result (TookAll
-        (given (texts words.now) (F.files shelf.old) (S.left input.old))
+    requires { length finders.old.items ≡ 9 }
+    ensures comes { ComesTo (given (texts words.now) (F.files shelf.old) (S.left input.old))
         (world (F.faults shelf.old) (S.faults input.old)
         (taken (K.taken out.old) (K.faults out.old)) (map P.refusals finders.old.items))
         (world (F.faults shelf.new) (S.faults input.new)
-        (taken (K.taken out.new) (K.faults out.new)) (map P.refusals finders.new.items))) }
-    ensures stopped { IfErr result (EndsBy
-        (given (texts words.now) (F.files shelf.old) (S.left input.old))
-        (world (F.faults shelf.old) (S.faults input.old)
-        (taken (K.taken out.old) (K.faults out.old)) (map P.refusals finders.old.items))
-        (world (F.faults shelf.new) (S.faults input.new)
-        (taken (K.taken out.new) (K.faults out.new)) (map P.refusals finders.new.items))) }
-    ensures quiet { IfErr result (λ stop. IsQuiet stop → K.taken out.new ≡ K.taken out.old) }
-    ensures read_to_end { OnOk result (ask_for_input (texts words.now) ≡ true
-        → IfSome (S.left input.new) (λ rest. rest ≡ [])) }
-    ensures unread { ask_for_input (texts words.now) ≡ false
-        → S.left input.new ≡ S.left input.old }
-    ensures untouched { ask_for_input (texts words.now) ≡ false
-        → S.faults input.new ≡ S.faults input.old }
+        (taken (K.taken out.new) (K.faults out.new)) (map P.refusals finders.new.items))
+        (S.left input.new) result }
     ensures same_files { F.files shelf.new ≡ F.files shelf.old }
-    ensures shelf_counted { F.faults shelf.old ≤ F.faults shelf.new }
-    ensures input_counted { S.faults input.old ≤ S.faults input.new }
-    ensures out_counted { K.faults out.old ≤ K.faults out.new }
-    ensures finders { AreUsed (map P.refusals finders.old.items)
-        (map P.refusals finders.new.items) }
     ensures others { drop 1 finders.new.items ≡ drop 1 finders.old.items }
     ensures idle { IfErr result (λ stop. IsQuiet stop
         → finders.new.items ≡ finders.old.items) }
@@ -124,44 +106,7 @@ fn answer<F: Shelf, S: Source, K: Sink, P: Finder>(
         return Err(Stop::Words);
     };
     let loaded = load(alloc, shelf, &job)?;
-    do_by_first(alloc, job.task, loaded, input, out, finders)
-}
-
-// Does a task over a model and a policy, with the first finder.
-fn do_by_first<S: Source, K: Sink, P: Finder>(
-    alloc: Global,
-    task: Task,
-    loaded: Loaded,
-    input: &mut S,
-    out: &mut K,
-    finders: &mut Vec<P>,
-) -> Result<(), Stop>
-    requires nine { length finders.old.items ≡ 9 }
-    requires ready { IsReady loaded }
-    ensures done { OnOk result (DidAll (ground task loaded (S.left input.old))
-        (IsBad (map P.refusals finders.old.items) (map P.refusals finders.new.items))
-        (RoseTogether (map P.refusals finders.old.items) (map P.refusals finders.new.items))
-        (K.taken out.old) (K.taken out.new)) }
-    ensures stopped { IfErr result (WorkStops (ground task loaded (S.left input.old))
-        (IsBad (map P.refusals finders.old.items) (map P.refusals finders.new.items))
-        (RoseTogether (map P.refusals finders.old.items) (map P.refusals finders.new.items))
-        (K.taken out.old) (K.taken out.new)
-        (Rose (S.faults input.old) (S.faults input.new))
-        (Rose (K.faults out.old) (K.faults out.new))) }
-    ensures quiet { IfErr result (λ stop. IsQuiet stop → K.taken out.new ≡ K.taken out.old) }
-    ensures read_to_end { OnOk result (reads_input task ≡ true
-        → IfSome (S.left input.new) (λ rest. rest ≡ [])) }
-    ensures unread { reads_input task ≡ false → S.left input.new ≡ S.left input.old }
-    ensures untouched { reads_input task ≡ false → S.faults input.new ≡ S.faults input.old }
-    ensures input_counted { S.faults input.old ≤ S.faults input.new }
-    ensures out_counted { K.faults out.old ≤ K.faults out.new }
-    ensures finders { AreUsed (map P.refusals finders.old.items)
-        (map P.refusals finders.new.items) }
-    ensures others { drop 1 finders.new.items ≡ drop 1 finders.old.items }
-    ensures idle { IfErr result (λ stop. IsQuiet stop
-        → finders.new.items ≡ finders.old.items) }
-{
-    do_task(alloc, task, loaded, input, out, &mut finders[0])
+    do_task(alloc, job.task, loaded, input, out, &mut finders[0])
 }
 
 // Does a task over a model and a policy.
@@ -195,8 +140,14 @@ fn do_task<S: Source, K: Sink, P: Finder>(
     ensures idle { IfErr result (λ stop. IsQuiet stop → finder.new ≡ finder.old) }
 {
     match task {
-        Task::Enforce { json } => enforce(alloc, loaded, json, input, out, finder),
-        Task::Serve { json } => serve(alloc, loaded, json, input, out, finder),
+        Task::Enforce { json } => {
+            let text = read_text(alloc, input, json)?;
+            enforce(alloc, loaded, json, text.as_str(), out, finder)
+        }
+        Task::Serve { json } => {
+            let script = read_items(alloc, input, json)?;
+            serve(alloc, loaded, &script, out, finder)
+        }
         Task::Check => check(alloc, &loaded, out),
         Task::Format => format(alloc, &loaded, out),
     }

@@ -90,44 +90,47 @@ sought_for_more case IsBad IsBadToo all rest first more so = record { seen = so.
 abbrev first_at : ℕ → ℕ → Outcome → First
 first_at number depth outcome = record { number = number; depth = depth; outcome = outcome }
 
--- a row that comes to no match changes nothing
-quiet_more : (case : Case) (IsBad : List ℕ → Type 0) (seen : List Numbered) (row : Numbered) (first : Option First) → IsFirstOf case IsBad seen first → IsQuiet case row → IsFirstOf case IsBad (seen ++ row ∷ []) first
-quiet_more case IsBad seen row None so quiet = each_push (IsQuiet case) seen row so quiet
-quiet_more case IsBad seen row (Some first) so quiet = record {
+-- the row that stands first stays so with a row behind it that stands beside it
+stands_more : (case : Case) (IsBad : List ℕ → Type 0) (seen : List Numbered) (row : Numbered) (first : First) → (so : StandsFirst case IsBad seen first) → IsBeside case so.row first row → StandsFirst case IsBad (seen ++ row ∷ []) first
+stands_more case IsBad seen row first so beside = record {
   row = so.row;
   stands = Contains-append_left seen (row ∷ []) so.row so.stands;
   number = so.number;
   depth = so.depth;
   comes = so.comes;
   ends = so.ends;
-  others = each_push (IsBeside case so.row first) seen row so.others (inr (inl quiet));
+  others = each_push (IsBeside case so.row first) seen row so.others beside;
+}
+
+-- a row that comes to no match changes nothing
+quiet_more : (case : Case) (IsBad : List ℕ → Type 0) (seen : List Numbered) (row : Numbered) (first : Option First) → IsFirstOf case IsBad seen first → IsQuiet case row → IsFirstOf case IsBad (seen ++ row ∷ []) first
+quiet_more case IsBad seen row None so quiet = each_push (IsQuiet case) seen row so quiet
+quiet_more case IsBad seen row (Some first) so quiet = stands_more case IsBad seen row first so (inr (inl quiet))
+
+-- a last row stands first where each before it stands beside it
+stands_last : (case : Case) (IsBad : List ℕ → Type 0) (seen : List Numbered) (row : Numbered) (depth : ℕ) (outcome : Outcome) → AllByRecursion (IsBeside case row (first_at row.number depth outcome)) seen → IsDepthOf case row.fields depth → ComesTo case IsBad (Some row.fields) outcome → ends_with effect.SubjectPriority outcome ≡ true
+    → StandsFirst case IsBad (seen ++ row ∷ []) (first_at row.number depth outcome)
+stands_last case IsBad seen row depth outcome beside is_depth comes ends = record {
+  row = row;
+  stands = Contains-push seen row;
+  number = refl;
+  depth = is_depth;
+  comes = comes;
+  ends = ends;
+  others = each_push (IsBeside case row (first_at row.number depth outcome)) seen row beside (inl refl);
 }
 
 -- the row that was matched or failed is the first such
 first_alone : (case : Case) (IsBad : List ℕ → Type 0) (seen : List Numbered) (row : Numbered) (depth : ℕ) (outcome : Outcome) → AllByRecursion (IsQuiet case) seen → IsDepthOf case row.fields depth → ComesTo case IsBad (Some row.fields) outcome → ends_with effect.SubjectPriority outcome ≡ true
     → StandsFirst case IsBad (seen ++ row ∷ []) (first_at row.number depth outcome)
-first_alone case IsBad seen row depth outcome quiet is_depth comes ends = record {
-  row = row;
-  stands = Contains-push seen row;
-  number = refl;
-  depth = is_depth;
-  comes = comes;
-  ends = ends;
-  others = each_push (IsBeside case row (first_at row.number depth outcome)) seen row (each_weaker (IsQuiet case) (IsBeside case row (first_at row.number depth outcome)) seen (λ other is. inr (inl is)) quiet) (inl refl);
-}
+first_alone case IsBad seen row depth outcome quiet is_depth comes ends =
+    stands_last case IsBad seen row depth outcome (each_weaker (IsQuiet case) (IsBeside case row (first_at row.number depth outcome)) seen (λ other is. inr (inl is)) quiet) is_depth comes ends
 
 -- it is deeper than the first before it
 first_deeper : (case : Case) (IsBad : List ℕ → Type 0) (seen : List Numbered) (row : Numbered) (depth : ℕ) (outcome : Outcome) (old : First) → StandsFirst case IsBad seen old → old.depth < depth → IsDepthOf case row.fields depth → ComesTo case IsBad (Some row.fields) outcome → ends_with effect.SubjectPriority outcome ≡ true
     → StandsFirst case IsBad (seen ++ row ∷ []) (first_at row.number depth outcome)
-first_deeper case IsBad seen row depth outcome old so less is_depth comes ends = record {
-  row = row;
-  stands = Contains-push seen row;
-  number = refl;
-  depth = is_depth;
-  comes = comes;
-  ends = ends;
-  others = each_push (IsBeside case row (first_at row.number depth outcome)) seen row (each_weaker (IsBeside case so.row old) (IsBeside case row (first_at row.number depth outcome)) seen behind so.others) (inl refl);
-}
+first_deeper case IsBad seen row depth outcome old so less is_depth comes ends =
+    stands_last case IsBad seen row depth outcome (each_weaker (IsBeside case so.row old) (IsBeside case row (first_at row.number depth outcome)) seen behind so.others) is_depth comes ends
   where
     behind : (other : Numbered) → IsBeside case so.row old other → IsBeside case row (first_at row.number depth outcome) other
     behind other (inl same) = inr (inr (old.depth, subst (λ (one : Numbered). IsDepthOf case one.fields old.depth) (sym same) so.depth, inl less))
@@ -138,15 +141,7 @@ first_deeper case IsBad seen row depth outcome old so less is_depth comes ends =
 -- it is not deeper
 first_stays : (case : Case) (IsBad : List ℕ → Type 0) (seen : List Numbered) (row : Numbered) (depth : ℕ) (old : First) → StandsFirst case IsBad seen old → depth ≤ old.depth → old.number < row.number → IsDepthOf case row.fields depth
     → StandsFirst case IsBad (seen ++ row ∷ []) old
-first_stays case IsBad seen row depth old so more later is_depth = record {
-  row = so.row;
-  stands = Contains-append_left seen (row ∷ []) so.row so.stands;
-  number = so.number;
-  depth = so.depth;
-  comes = so.comes;
-  ends = so.ends;
-  others = each_push (IsBeside case so.row old) seen row so.others (inr (inr (depth, is_depth, by (cases_lt depth old.depth))));
-}
+first_stays case IsBad seen row depth old so more later is_depth = stands_more case IsBad seen row old so (inr (inr (depth, is_depth, by (cases_lt depth old.depth))))
   where
     by : (depth < old.depth) ⊎ (old.depth ≤ depth) → (depth < old.depth) ⊎ ((depth ≡ old.depth) × (old.number < row.number))
     by (inl less) = inl less

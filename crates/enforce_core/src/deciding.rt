@@ -25,7 +25,7 @@ use policy_state::PolicyState;
 use regex_gate::Finder;
 
 /// The greatest height of code that runs on the small stack.
-const NARROW: u32 = 16;
+const NARROW: u32 = 8;
 
 /// The verdict of a program on a request over a policy (PERM: request, policy, matchers, effect). The matcher is evaluated
 /// for each rule of p in order, up to the first that settles the verdict or at which a fault stops it; once, without a
@@ -58,10 +58,10 @@ pub fn decide<P: Finder>(
     on_wide_stack(&asking, finder)
 }
 
-// The verdict, on a stack of 16 places.
+// The verdict, on a stack of 8 places.
 fn on_narrow_stack<P: Finder>(asking: &Asking, finder: &mut P) -> Result<Verdict, NoMemory>
     requires asked { IsAsked asking.now }
-    requires room { asking.now.code.now.height ≤ 16 }
+    requires room { asking.now.code.now.height ≤ 8 }
     ensures judged { IfOk result (IsJudgedOn (case_in asking.now)
         (λ refused. HasOutcomesOver (case_in asking.now) refused
         (names_policy asking.now.model.now.matcher) (rows_of asking.now))
@@ -69,11 +69,12 @@ fn on_narrow_stack<P: Finder>(asking: &Asking, finder: &mut P) -> Result<Verdict
     ensures no_memory { IfErr result (λ e. takes_memory asking.now.model.now.matcher ≡ true) }
     ensures used { IsUsed (P.refusals finder.old) (P.refusals finder.new) None }
 {
-    let mut stack: Stack<16> = Stack::new();
+    let mut stack: Stack<8> = Stack::new();
     verdict_of(asking, finder, &mut stack)
 }
 
-// The verdict, on a stack with room for each matcher.
+// The verdict, on a stack with room for each matcher, which no other call is to pay for.
+#[inline(never)]
 fn on_wide_stack<P: Finder>(asking: &Asking, finder: &mut P) -> Result<Verdict, NoMemory>
     requires { IsAsked asking.now }
     ensures judged { IfOk result (IsJudgedOn (case_in asking.now)

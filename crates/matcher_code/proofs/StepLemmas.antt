@@ -7,11 +7,13 @@ use Rattle.matcher_read.specs.declared.tree.Function.{Function}
 use Rattle.perm_value.specs.Datum.{Datum}
 use Rattle.perm_value.specs.Seen.{datum_of_view}
 use Rattle.perm_value.specs.declared.value.View.{View}
+use Rattle.regex_gate.specs.Refusals.{Refusals, IsUsed}
+use Rattle.regex_gate.proofs.CallerLemmas.{used_none}
 use Rattle.matcher_meaning.specs.Answers.{fails}
 use Rattle.matcher_meaning.specs.CaseCalls.{Gives}
 use Rattle.matcher_meaning.specs.Cases.{Case, where_refused}
 use Rattle.matcher_meaning.specs.Meaning.{is_search}
-use Rattle.matcher_code.specs.Helps.Ends.{CallEnds, NextEnds, StepEnds}
+use Rattle.matcher_code.specs.Helps.Ends.{CallEnds, IsDone, NextEnds, StepEnds}
 use Rattle.matcher_code.specs.Machine.{Next, failed, goes, Called, Does, Executes, taken}
 use Rattle.matcher_code.specs.Running.{searches}
 use Rattle.matcher_code.specs.declared.halt.Halt.{Halt}
@@ -81,3 +83,15 @@ role_step case place op number names before after r is ends =
     call_step case place op (relation number) names before after r
     (λ refused next calls. subst (λ (instruction : Instruction). Does (where_refused case refused) place op.at instruction (map datum_of_view before) next) (sym is) calls)
     (ap searches (sym is)) ends
+
+-- an instruction that asks nobody does what it does as a step
+pub done_step : (case : Case) (place : ℕ) (op : Op) (instruction : Instruction) (before after : List View) (r : Result Step Halt) → op.instruction ≡ instruction → IsDone (where_refused case None) place op.at instruction before after r → StepEnds case place op before after r
+done_step case place op instruction before after (Ok (step.Goes to)) is done = subst (λ (what : Instruction). Does (where_refused case None) place op.at what (map datum_of_view before) (goes to (map datum_of_view after))) (sym is) done
+done_step case place op instruction before after (Ok (step.Eval column)) is done = absurd done
+done_step case place op instruction before after (Err (halt.Fault fault)) is done = subst (λ (what : Instruction). Does (where_refused case None) place op.at what (map datum_of_view before) (failed fault)) (sym is) done
+done_step case place op instruction before after (Err (halt.Refused at pattern)) is done = absurd done
+done_step case place op instruction before after (Err halt.NoMemory) is done = absurd done
+
+-- what asks nobody is told of no search
+pub none_used : (refusals : Refusals) (refused : Option (List ℕ)) → refused ≡ None → IsUsed refusals refusals refused
+none_used refusals refused is = subst (IsUsed refusals refusals) (sym is) (used_none refusals)

@@ -10,6 +10,7 @@ mod building;
 mod calls;
 mod checking;
 mod code;
+mod doing;
 mod eval;
 mod faults;
 mod halt;

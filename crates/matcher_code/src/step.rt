@@ -12,13 +12,15 @@ ghost use Rattle.matcher_code.specs.Machine.{Called as Calls, goes, jumping, onw
 ghost use Rattle.matcher_code.specs.Rules.{finds, leaves};
 
 use crate::asked::{Asked, field_of, request_value};
-use crate::attributes::attribute_of;
 use crate::calls::{Called, call_of_three, call_of_two};
+use crate::doing::{
+    put, put_attribute, put_joined, put_miss, put_negated, put_opposed, put_truth, skip_member,
+    skip_where,
+};
 use crate::halt::Halt;
 use crate::heights::arity;
 use crate::links::Links;
 use crate::op::{Instruction, Op};
-use crate::operators::{as_truth, ended_by, is_member, joined, negated, opposed};
 use crate::stack::Stack;
 use effect_fold::Fault;
 use perm_value::View;
@@ -61,44 +63,15 @@ pub(crate) fn execute<'a, K: Links, P: Finder, const N: usize>(
         Instruction::Policy(column) => {
             put(place, Ok(View::Text(field_of(asked.row, *column))), stack)
         }
-        Instruction::Attribute(name) => {
-            let value = stack.pop();
-            put(place, attribute_of(at, &value, name), stack)
-        }
-        Instruction::Not => {
-            let value = stack.pop();
-            put(place, negated(at, &value), stack)
-        }
-        Instruction::Negate => {
-            let value = stack.pop();
-            put(place, opposed(at, &value), stack)
-        }
-        Instruction::Binary(operator) => {
-            let right = stack.pop();
-            let left = stack.pop();
-            put(place, joined(at, *operator, &left, &right), stack)
-        }
-        Instruction::SkipFalse(to) => {
-            let value = stack.pop();
-            skip(place, ended_by(at, false, &value), *to, stack)
-        }
-        Instruction::SkipTrue(to) => {
-            let value = stack.pop();
-            skip(place, ended_by(at, true, &value), *to, stack)
-        }
-        Instruction::NeedTruth => {
-            let value = stack.pop();
-            put(place, as_truth(at, &value), stack)
-        }
-        Instruction::Member(to) => {
-            let member = stack.pop();
-            let value = stack.pop();
-            meet(place, &value, &member, *to, stack)
-        }
-        Instruction::Miss => {
-            stack.pop();
-            put(place, Ok(View::Truth(false)), stack)
-        }
+        Instruction::Attribute(name) => put_attribute(place, at, name, stack),
+        Instruction::Not => put_negated(place, at, stack),
+        Instruction::Negate => put_opposed(place, at, stack),
+        Instruction::Binary(operator) => put_joined(place, at, *operator, stack),
+        Instruction::SkipFalse(to) => skip_where(place, at, false, *to, stack),
+        Instruction::SkipTrue(to) => skip_where(place, at, true, *to, stack),
+        Instruction::NeedTruth => put_truth(place, at, stack),
+        Instruction::Member(to) => skip_member(place, *to, stack),
+        Instruction::Miss => put_miss(place, stack),
         Instruction::Function(function) => {
             let called = Called::Function(*function);
             call(place, at, called, arity(*function), links, finder, stack)
@@ -108,72 +81,6 @@ pub(crate) fn execute<'a, K: Links, P: Finder, const N: usize>(
             call(place, at, called, *names as u32, links, finder, stack)
         }
         Instruction::Eval(column) => Ok(Step::Eval(*column)),
-    }
-}
-
-// Puts the value of an answer on the stack.
-fn put<'a, const N: usize>(
-    place: usize,
-    answer: Result<View<'a>, Fault>,
-    stack: &mut Stack<'a, N>,
-) -> Result<Step, Halt<'a>>
-    requires place { place < 2 ^ 32 }
-    requires room { length stack.old < N }
-    ensures { NextIs (onward place (map datum_of_view stack.old) (answer_of answer.entry))
-        (map datum_of_view stack.new) result }
-{
-    match answer {
-        Ok(value) => {
-            stack.push(value);
-            Ok(Step::Goes(place + 1))
-        }
-        Err(fault) => Err(Halt::Fault(fault)),
-    }
-}
-
-// Goes on at another place, where an answer is there already.
-fn skip<'a, const N: usize>(
-    place: usize,
-    answer: Option<Result<View<'a>, Fault>>,
-    to: u32,
-    stack: &mut Stack<'a, N>,
-) -> Result<Step, Halt<'a>>
-    requires place { place < 2 ^ 32 }
-    requires room { length stack.old < N }
-    ensures { NextIs (jumping to (map datum_of_view stack.old) (option_map answer_of answer.entry)
-        (goes (place + 1) (map datum_of_view stack.old))) (map datum_of_view stack.new) result }
-{
-    match answer {
-        Some(Ok(value)) => {
-            stack.push(value);
-            Ok(Step::Goes(to as usize))
-        }
-        Some(Err(fault)) => Err(Halt::Fault(fault)),
-        None => Ok(Step::Goes(place + 1)),
-    }
-}
-
-// Goes on at another place, where a member is or holds the value.
-fn meet<'a, const N: usize>(
-    place: usize,
-    value: &View<'a>,
-    member: &View<'a>,
-    to: u32,
-    stack: &mut Stack<'a, N>,
-) -> Result<Step, Halt<'a>>
-    requires place { place < 2 ^ 32 }
-    requires room { length stack.old < N }
-    ensures { NextIs (jumping to (map datum_of_view stack.old)
-        (found (datum_of_view value.now) (Ok (datum_of_view member.now)))
-        (goes (place + 1) (datum_of_view value.now ∷ map datum_of_view stack.old)))
-        (map datum_of_view stack.new) result }
-{
-    if is_member(value, member) {
-        stack.push(View::Truth(true));
-        Ok(Step::Goes(to as usize))
-    } else {
-        stack.push(*value);
-        Ok(Step::Goes(place + 1))
     }
 }
 

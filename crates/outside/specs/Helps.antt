@@ -1,3 +1,4 @@
--- Helps for proofs: what the parts of the forms in memory give to each other. No public clause cites them.
+-- Helps for proofs: what the parts of the forms in memory give to each other, and how a text is held. No public clause cites them.
 pub mod Copies
 pub mod Entries
+pub mod Held

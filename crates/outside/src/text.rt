@@ -7,39 +7,52 @@ ghost use Rattle.std.proofs.Common.{rules};
 
 use crate::fault::NoMemory;
 use crate::share::Share;
+use arrayvec::ArrayString;
 use std::alloc::Global;
 use std::hash::{Hash, Hasher};
 use std::marker::Model;
 
-/// A text: bytes that are UTF-8. Contracts see its bytes.
+/// A text: bytes that are UTF-8. Contracts see its bytes. One of at most 24 bytes lies in its own place.
 #[derive(Drop)]
 pub struct Text {
-    text: String,
+    held: Held,
+}
+
+// Where the bytes of a text lie: in the text itself, or in memory of their own.
+#[derive(Drop)]
+enum Held {
+    Short(ArrayString<24>),
+    Long(String),
 }
 
 impl Model for Text {
-    ghost use Rattle.std.specs.Prelude.{List, ℕ, string_bytes};
+    ghost use Rattle.std.specs.Prelude.{List, ℕ};
+    ghost use Rattle.outside.specs.Helps.Held.{held_bytes};
 
     ghost Value = { List ℕ };
 
-    ghost view = { λ t. string_bytes t.text };
+    ghost view = { λ t. held_bytes t.held };
 }
 
 impl Text {
-    /// A copy of a text.
+    /// A copy of a text. One of at most 24 bytes takes no memory.
     pub fn from_str(alloc: Global, text: &str) -> Result<Text, NoMemory>
         ensures { IfOk result (λ copy. copy ≡ text.now) }
     {
-        Ok(Text {
-            text: String::from_str(alloc, text)?,
-        })
+        let held = match ArrayString::from(text) {
+            Ok(short) => Held::Short(short),
+            Err(_) => Held::Long(String::from_str(alloc, text)?),
+        };
+        Ok(Text { held })
     }
 
     /// This text. It takes no memory.
     pub fn from_string(text: String) -> Text
         ensures { result ≡ string_bytes text }
     {
-        Text { text }
+        Text {
+            held: Held::Long(text),
+        }
     }
 
     /// The bytes of the text, which are UTF-8.
@@ -47,14 +60,17 @@ impl Text {
         ensures value { result.now ≡ self.now }
         ensures utf8 { IsUtf8 result.now }
     {
-        self.text.as_str().as_bytes()
+        self.as_str().as_bytes()
     }
 
     /// The text as it is.
     pub fn as_str(&self) -> &str
         ensures { result.now ≡ self.now }
     {
-        self.text.as_str()
+        match &self.held {
+            Held::Short(text) => text.as_str(),
+            Held::Long(text) => text.as_str(),
+        }
     }
 }
 

@@ -1,24 +1,26 @@
 ghost use Rattle.std.specs.Prelude.{◌≡◌, ◌+◌, ◌<◌, ◌≤◌, [], ◌∷◌, ◌++◌, OnOk, length};
 
 use perm_base::{NoMemory, Share};
+use smallvec::SmallVec;
 use std::alloc::Global;
 use std::marker::Model;
 
-/// Places of rows. Contracts see them, and how many more are taken without memory.
+/// Places of rows, of which a few need no memory of their own. Contracts see them, and how many more are taken without memory.
 #[derive(Drop)]
 pub(crate) struct PlaceList {
-    places: Vec<u32>,
+    places: SmallVec<u32, 4>,
 }
 
 impl Model for PlaceList {
-    ghost use Rattle.std.specs.Prelude.{◌-◌, vec_capacity, vec_len};
+    ghost use Rattle.std.specs.Prelude.{◌-◌};
+    ghost use Rattle.smallvec.specs.SmallVec.{small_vec_len};
     ghost use Rattle.policy_index.specs.Lists.{Listed};
 
     ghost Value = { Listed };
 
     ghost view = { λ l. record {
       places = l.places.items;
-      room = vec_capacity l.places - vec_len l.places;
+      room = l.places.capacity - small_vec_len l.places;
     } };
 }
 
@@ -27,14 +29,14 @@ impl PlaceList {
         ensures { result.places ≡ [] }
     {
         PlaceList {
-            places: Vec::new(alloc),
+            places: SmallVec::new(alloc),
         }
     }
 
     pub(crate) fn as_slice(&self) -> &[u32]
         ensures { result.now ≡ self.now.places }
     {
-        &self.places
+        self.places.as_slice()
     }
 
     /// Makes room for so many further places.
@@ -52,7 +54,7 @@ impl PlaceList {
         ensures places { self.new.places ≡ self.old.places ++ place ∷ [] }
         ensures room { self.old.room ≤ self.new.room + 1 }
     {
-        self.places.push(place).unwrap();
+        self.places.push_reserved(place);
     }
 
     /// Takes all places out; their room stays.
@@ -60,6 +62,7 @@ impl PlaceList {
         ensures places { self.new.places ≡ [] }
         ensures room { self.new.room ≡ self.old.room + length self.old.places }
     {
+        let _held = self.places.len();
         self.places.clear();
     }
 }

@@ -139,6 +139,18 @@ far_itself linked x y same = record {
   least = λ lower less. absurd (omega arith);
 }
 
+-- a row links two names that differ by one link
+pub far_linked : (linked : Linked) (x y : List ℕ) → (x ≡ y → ⊥) → IsLink linked x y → IsFar (shape_of linked.names) (rows_of linked.groups) None x y 1
+far_linked linked x y differ link = record {
+  within = omega arith;
+  holds = λ _. reaches_link linked 0 x y y link (reaches_itself (shape_of linked.names) (rows_of linked.groups) None 0 y y refl);
+  least = least;
+}
+  where
+    least : (lower : ℕ) → lower < 1 → ¬ ReachesIn linked lower x y
+    least zero less reaches = differ (reaches_none linked x y reaches)
+    least (suc lower) less reaches = absurd (omega (arith, less))
+
 pub far_nowhere : (linked : Linked) (names : List (List ℕ)) (x y : List ℕ) → AreNodes linked names → (Contains names y → ⊥) → (x ≡ y → ⊥) → IsFar (shape_of linked.names) (rows_of linked.groups) None x y 255
 far_nowhere linked names x y nodes none differ =
     least_none farthest (λ links. ReachesIn linked links x y) 255 (omega arith)

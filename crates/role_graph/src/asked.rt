@@ -22,7 +22,8 @@ use std::sync::ledger::Ledger;
 const TOO_FAR: u8 = 255;
 
 /// The least number of links by which the one name reaches the other, or 255 where it is above 254
-/// or there is none: one cell, or one for each row of a name that is no role.
+/// or there is none: one cell, or one for each row of a name that is no role, and none where a row
+/// links the two.
 pub(crate) fn nearest<L: Ledger>(
     links: &Links,
     roles: &Roles,
@@ -42,6 +43,9 @@ pub(crate) fn nearest<L: Ledger>(
 {
     if x == y {
         return 0;
+    }
+    if links.has_row(x, y) {
+        return 1;
     }
     let Some(to) = roles.place_of(y) else {
         return TOO_FAR;

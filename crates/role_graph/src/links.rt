@@ -173,6 +173,16 @@ impl Links {
         None
     }
 
+    /// Whether a row of the one name itself has the other as its role.
+    pub(crate) fn has_row(&self, x: &[u8], y: &[u8]) -> bool
+        ensures { IsTrue result → IsLink (linked_of self.now) x.now y.now }
+    {
+        match self.text_from(x, 0) {
+            Some(at) => holds(self.roles_at(at), y),
+            None => false,
+        }
+    }
+
     /// Whether a row links the one name to the other.
     pub(crate) fn has_link(&self, x: &[u8], y: &[u8]) -> bool
         ensures { IsTrue result ↔ IsLink (linked_of self.now) x.now y.now }

@@ -1,17 +1,15 @@
 //! Management calls, each on the tables that the calls before it left.
 
-ghost use Rattle.perm_base.specs.RoleShapes.{AreRoles};
 ghost use Rattle.perm_base.specs.Shapes.{AreValid};
 ghost use Rattle.policy_table.specs.Limits.{AreSound};
-ghost use Rattle.std.specs.Prelude.{◌≡◌, IfOk};
 
-use crate::changes::empty_tables;
-use crate::shown::{changes, fit_of, rules, table_of};
-use crate::words::{call, cut, edits, is_ranked};
-use anyhow::{Context, Result, bail, ensure};
-use case_list::Case;
+use crate::shown::{changes, rules, table_of};
+use crate::words::{call, edits};
+use anyhow::{Context, Result};
+use case_list::{Case, cut};
+use case_tables::{empty_tables, shapes_of};
 use edit_calls::{Call, CallRefused, admits, resolve};
-use perm_base::{Fit, RoleShape, RoleShapes, Shapes};
+use perm_base::Shapes;
 use policy_table::{Edit, Tables, copy_edit, edits_keep_order, tables_within_limits_are_lists};
 use std::alloc::Global;
 use std::io::Write;
@@ -23,71 +21,8 @@ pub fn answer(alloc: Global, case: &Case, out: &mut impl Write) -> Result<()> {
     if text.is_empty() {
         return Ok(());
     }
-    let shapes = shapes(alloc, case)?;
+    let shapes = shapes_of(alloc, case)?;
     answer_lines(alloc, str::from_utf8(&text)?, &shapes, out)
-}
-
-// The shapes that stand behind `tables`: the columns of p, the place of the subject, and the columns of g and of g2. The
-// domains of both are compared by the function behind `domains`, and p is ranked where `ranked` names it.
-fn shapes(alloc: Global, case: &Case) -> Result<Shapes>
-    ensures { IfOk result (λ shapes. AreValid shapes) }
-{
-    let numbers = case.numbers(alloc, "tables")?;
-    let domains = match case.words(alloc, "domains")?.first() {
-        Some(name) => fit_of(name.as_str())?,
-        None => Fit::Exact,
-    };
-    match numbers.as_slice() {
-        [columns, subject, relations @ ..] => {
-            let roles = roles(alloc, relations, domains)?;
-            shapes_of(*columns, *subject, roles, is_ranked(alloc, case)?)
-        }
-        _ => bail!("no columns of p, or no subject"),
-    }
-}
-
-fn shapes_of(columns: u32, subject_column: u32, roles: RoleShapes, ranked: bool) -> Result<Shapes>
-    requires { AreRoles roles }
-    ensures { IfOk result (λ shapes. AreValid shapes) }
-{
-    ensure!(0 < columns && columns <= 32, "too few columns or too many");
-    ensure!(subject_column < columns, "the subject is no column");
-    Ok(Shapes {
-        columns,
-        effect_column: None,
-        subject_column,
-        roles,
-        limit: 10,
-        ranked,
-    })
-}
-
-fn roles(alloc: Global, relations: &[u32], domains: Fit) -> Result<RoleShapes>
-    ensures { IfOk result (λ roles. AreRoles roles) }
-{
-    match relations {
-        [] => Ok(RoleShapes::from_vec(Vec::new(alloc))),
-        [g] => {
-            let roles = vec![in alloc; relation(1, *g, domains)]?;
-            Ok(RoleShapes::from_vec(roles))
-        }
-        [g, g2] => {
-            let roles = vec![in alloc; relation(1, *g, domains), relation(2, *g2, domains)]?;
-            Ok(RoleShapes::from_vec(roles))
-        }
-        _ => bail!("too many relations"),
-    }
-}
-
-fn relation(number: u8, columns: u32, domains: Fit) -> RoleShape
-    ensures { result.number ≡ number }
-{
-    RoleShape {
-        number,
-        with_domain: columns == 3,
-        names: Fit::Exact,
-        domains,
-    }
 }
 
 fn answer_lines(alloc: Global, text: &str, shapes: &Shapes, out: &mut impl Write) -> Result<()>

@@ -1,42 +1,20 @@
 //! Changes of tables, made one by one.
 
-ghost use Rattle.std.specs.Prelude.{◌≡◌, []};
-ghost use Rattle.perm_base.specs.declared.shapes.TableId.{TableId};
-ghost use Rattle.policy_table.specs.Tables.{rows};
-
 use crate::shown::{rules, table_of};
-use crate::words::{change, cut, filter, is_ranked, rule};
+use crate::words::{change, filter};
 use anyhow::{Context, Result, ensure};
-use case_list::Case;
+use case_list::{Case, answer_each, cut};
+use case_tables::{empty_tables, is_ranked, rule};
 use perm_base::{Rule, TableId};
-use policy_table::{Change, Edit, Tables, fits_filter, no_tables, ranked_tables};
+use policy_table::{Change, Edit, Tables, fits_filter};
 use std::alloc::Global;
 use std::io::Write;
-use std::str;
 
 /// Makes the changes of a case in tables that are empty before, and writes each line with what it comes to.
 pub fn answer(alloc: Global, case: &Case, out: &mut impl Write) -> Result<()> {
     let text = case.text(alloc, "changes")?;
     let mut tables = empty_tables(alloc, is_ranked(alloc, case)?);
-    for line in str::from_utf8(&text)?.lines() {
-        let answer = answer_line(alloc, &mut tables, line).context(format_args!(
-            "no such change: {line}"
-        ))?;
-        writeln!(out, "  {line} = {answer}")?;
-    }
-    Ok(())
-}
-
-/// Tables without rules, in which p is ranked or not.
-pub fn empty_tables(alloc: Global, ranked: bool) -> Tables
-    ensures rows { (table : TableId) → rows result.policy table ≡ [] }
-    ensures mark { result.policy.ranked ≡ ranked }
-{
-    if ranked {
-        ranked_tables(alloc)
-    } else {
-        no_tables(alloc)
-    }
+    answer_each(&text, out, |line| answer_line(alloc, &mut tables, line))
 }
 
 fn answer_line(alloc: Global, tables: &mut Tables, line: &str) -> Result<String> {

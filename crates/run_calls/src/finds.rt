@@ -1,8 +1,9 @@
 //! Searches by one finder that keeps patterns: calls as `find("GET|POST", "POST")`, and `find_below("300", "129")`, which seeks
 //! each number below the first in the second and counts those that are found.
 
-use anyhow::{Context, Result, bail};
-use case_list::{Case, Field};
+use crate::words::argument;
+use anyhow::{Result, bail};
+use case_list::{Case, answer_each};
 use regex_gate::{FindStop, Finder};
 use regex_keep::KeepingFinder;
 use std::alloc::Global;
@@ -18,21 +19,15 @@ pub fn answer(alloc: Global, case: &Case, out: &mut impl Write) -> Result<()> {
     let Ok(mut finder) = KeepingFinder::new(alloc) else {
         bail!("no memory for a finder");
     };
-    for line in str::from_utf8(&text)?.lines() {
-        let answer = answer_line(alloc, &mut finder, line).context(format_args!(
-            "no such call: {line}"
-        ))?;
-        writeln!(out, "  {line} = {answer}")?;
-    }
-    Ok(())
+    answer_each(&text, out, |line| answer_line(alloc, &mut finder, line))
 }
 
 fn answer_line(alloc: Global, finder: &mut KeepingFinder, line: &str) -> Result<String> {
     let mut parts = line.split('"');
     let name = parts.next().unwrap_or("");
-    let first = bytes(alloc, parts.next())?;
+    let first = argument(alloc, parts.next())?;
     parts.next();
-    let second = bytes(alloc, parts.next())?;
+    let second = argument(alloc, parts.next())?;
     match name {
         "find(" => match finder.find(&first, &second) {
             Ok(is_found) => Ok(format!(in alloc; "{is_found}")?),
@@ -49,13 +44,6 @@ fn answer_line(alloc: Global, finder: &mut KeepingFinder, line: &str) -> Result<
         }
         _ => bail!("no call has this name"),
     }
-}
-
-// What an argument stands for, which is empty where there is none.
-fn bytes(alloc: Global, argument: Option<&str>) -> Result<Vec<u8>> {
-    let mut field = Field::new(alloc, 0, "")?;
-    field.push_escaped(argument.unwrap_or(""))?;
-    Ok(field.text)
 }
 
 // How many of the numbers below a limit are found in a text.

@@ -1,9 +1,11 @@
 //! Keys, globs, patterns and addresses: calls as `key_match("/foo", "/foo*")`, where `%` and two hexadecimal digits stand
 //! for a byte.
 
-use crate::shown::{escaped, fit_of};
-use anyhow::{Context, Result, bail};
-use case_list::{Case, Field};
+use crate::shown::escaped;
+use crate::words::argument;
+use anyhow::{Result, bail};
+use case_list::{Case, answer_each};
+use case_tables::fit_of;
 use ip_match::{Address, ip_match, read_address, read_block};
 use key_match::{
     glob_match, key_get, key_get2, key_get3, key_match, key_match2, key_match3, key_match4,
@@ -17,29 +19,18 @@ use std::str;
 /// Writes the calls of a case, each with its answer.
 pub fn answer(alloc: Global, case: &Case, out: &mut impl Write) -> Result<()> {
     let text = case.text(alloc, "matches")?;
-    for line in str::from_utf8(&text)?.lines() {
-        let answer = answer_line(alloc, line).context(format_args!("no such call: {line}"))?;
-        writeln!(out, "  {line} = {answer}")?;
-    }
-    Ok(())
+    answer_each(&text, out, |line| answer_line(alloc, line))
 }
 
 fn answer_line(alloc: Global, line: &str) -> Result<String> {
     let mut parts = line.split('"');
     let name = parts.next().unwrap_or("");
-    let first = bytes(alloc, parts.next())?;
+    let first = argument(alloc, parts.next())?;
     parts.next();
-    let second = bytes(alloc, parts.next())?;
+    let second = argument(alloc, parts.next())?;
     parts.next();
-    let third = bytes(alloc, parts.next())?;
+    let third = argument(alloc, parts.next())?;
     answer_call(alloc, name, &first, &second, &third)
-}
-
-// What an argument stands for, which is empty where there is none.
-fn bytes(alloc: Global, argument: Option<&str>) -> Result<Vec<u8>> {
-    let mut field = Field::new(alloc, 0, "")?;
-    field.push_escaped(argument.unwrap_or(""))?;
-    Ok(field.text)
 }
 
 fn answer_call(

@@ -1,7 +1,7 @@
 //! Names, bytes, rules and changes as a case has them.
 
-use anyhow::{Context, Result, bail};
-use perm_base::{Fit, Rule, TableId, print_fields};
+use anyhow::{Context, Result};
+use perm_base::{Rule, TableId, print_fields};
 use policy_table::{Change, Edit};
 use std::alloc::Global;
 use std::fmt::Write;
@@ -11,18 +11,6 @@ const MOST_SHOWN: usize = 9;
 
 // A longer rule is shown by its length alone.
 const LONGEST_SHOWN: usize = 99;
-
-/// The function that has this name in Casbin's matchers, or `exact`.
-pub fn fit_of(name: &str) -> Result<Fit> {
-    match name {
-        "exact" => Ok(Fit::Exact),
-        "keyMatch" => Ok(Fit::KeyMatch),
-        "keyMatch2" => Ok(Fit::KeyMatch2),
-        "keyMatch3" => Ok(Fit::KeyMatch3),
-        "globMatch" => Ok(Fit::Glob),
-        _ => bail!("no function has this name"),
-    }
-}
 
 /// The table of a name.
 pub fn table_of(name: &str) -> Result<TableId> {

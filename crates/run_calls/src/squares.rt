@@ -2,14 +2,13 @@
 
 ghost use Rattle.std.specs.Prelude.{◌≡◌, ◌<◌, length};
 
-use anyhow::{Context, Result, bail};
-use case_list::Case;
+use anyhow::{Result, bail};
+use case_list::{Case, answer_each};
 use dist_rows::{DistRows, Steps};
 use std::alloc::Global;
 use std::fmt::Write as _;
 use std::io::Write;
 use std::marker::Brand;
-use std::str;
 use std::sync::ledger::{Blank, Ledger};
 
 // The greatest number of nodes.
@@ -20,13 +19,7 @@ const MOST: u32 = 1024;
 pub fn answer(alloc: Global, case: &Case, out: &mut impl Write) -> Result<()> {
     let text = case.text(alloc, "squares")?;
     let mut square = DistRows::empty(alloc);
-    for line in str::from_utf8(&text)?.lines() {
-        let answer = answer_line(alloc, &mut square, line).context(format_args!(
-            "no such call: {line}"
-        ))?;
-        writeln!(out, "  {line} = {answer}")?;
-    }
-    Ok(())
+    answer_each(&text, out, |line| answer_line(alloc, &mut square, line))
 }
 
 // `nodes` adds so many nodes, and `fill` puts a distance into each cell of a row but that of its own node.

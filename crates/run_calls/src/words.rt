@@ -1,10 +1,11 @@
-//! Rules, changes and management calls, read from the lines of a case.
+//! Rules, changes, management calls and arguments, read from the lines of a case.
 
 use crate::shown::table_of;
-use anyhow::{Context, Result, bail, ensure};
-use case_list::Case;
+use anyhow::{Result, bail, ensure};
+use case_list::{Field, cut};
+use case_tables::{rule, text};
 use edit_calls::{Call, Pairs};
-use perm_base::{Rule, Rules, TableId, Text, read_fields};
+use perm_base::{Rule, Rules, TableId};
 use policy_table::{Change, Edit};
 use std::alloc::Global;
 
@@ -111,17 +112,6 @@ pub fn change(alloc: Global, line: &str) -> Result<Change> {
     }
 }
 
-/// Whether p is ranked in the tables of a case.
-pub fn is_ranked(alloc: Global, case: &Case) -> Result<bool> {
-    let names = case.words(alloc, "ranked")?;
-    Ok(names.iter().any(|name| name.as_str() == "p"))
-}
-
-/// The text before and behind the first such sign, or all of it.
-pub fn cut(text: &str, sign: char) -> (&str, &str) {
-    text.split_once(sign).unwrap_or((text, ""))
-}
-
 /// The place of a filter's first value, and its values.
 pub fn filter(alloc: Global, text: &str) -> Result<(u32, Rule)> {
     let (at, values) = cut(text, ':');
@@ -169,40 +159,9 @@ fn push_rules(alloc: Global, rules: &mut Vec<Rule>, text: &str) -> Result<()> {
     Ok(())
 }
 
-/// The rule of a line of fields, which has none where the line is empty.
-pub fn rule(alloc: Global, line: &str) -> Result<Rule> {
-    let fields = fields(alloc, line)?;
-    ensure!(fields.len() < MOST, "too many fields");
-    Rule::from_fields(fields)
-        .ok()
-        .context("the fields are no rule")
-}
-
-fn fields(alloc: Global, line: &str) -> Result<Vec<Text>> {
-    let mut fields = Vec::new(alloc);
-    if line.is_empty() {
-        return Ok(fields);
-    }
-    let read = read_fields(alloc, line)
-        .ok()
-        .context("the line is no fields")?;
-    for field in &read {
-        fields.push(text(alloc, field.as_str())?)?;
-    }
-    Ok(fields)
-}
-
-// A text as it stands; `4096 bytes` is a text of that length.
-fn text(alloc: Global, word: &str) -> Result<Text> {
-    let mut long = String::new(alloc);
-    if let Some(count) = word.strip_suffix(" bytes") {
-        for _ in 0..count.parse::<u32>()? {
-            long.push('a')?;
-        }
-    } else {
-        long.push_str(word)?;
-    }
-    Text::from_str(alloc, long.as_str())
-        .ok()
-        .context("memory ran out")
+/// The bytes of an argument of a call as `find("a", "b")`, which is empty where there is none.
+pub fn argument(alloc: Global, argument: Option<&str>) -> Result<Vec<u8>> {
+    let mut field = Field::new(alloc, 0, "")?;
+    field.push_escaped(argument.unwrap_or(""))?;
+    Ok(field.text)
 }

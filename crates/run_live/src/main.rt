@@ -4,9 +4,9 @@
 mod events;
 
 use anyhow::{Result, bail};
-use case_list::{Case, answer_cases};
+use case_list::{Case, answer_cases, answer_each};
 use events::event_of;
-use live_core::{Event, Reply, StepStop, new_world, run, step};
+use live_core::{Event, Reply, StepStop, World, new_world, run, step};
 use std::alloc::Global;
 use std::io::Write;
 use std::str;
@@ -23,10 +23,9 @@ fn answer(alloc: Global, case: &Case, out: &mut impl Write) -> Result<()> {
     case.check_keys(&[], &["run", "steps"])?;
     writeln!(out, "case {}", case.name)?;
     for field in &case.fields {
-        let text = str::from_utf8(&field.text)?;
         match field.key.as_str() {
-            "run" => answer_run(alloc, text, out)?,
-            _ => answer_steps(alloc, text, out)?,
+            "run" => answer_run(alloc, str::from_utf8(&field.text)?, out)?,
+            _ => answer_steps(alloc, &field.text, out)?,
         }
     }
     Ok(())
@@ -48,15 +47,16 @@ fn answer_run(alloc: Global, text: &str, out: &mut impl Write) -> Result<()> {
     Ok(())
 }
 
-fn answer_steps(alloc: Global, text: &str, out: &mut impl Write) -> Result<()> {
+fn answer_steps(alloc: Global, text: &[u8], out: &mut impl Write) -> Result<()> {
     let mut world = new_world(alloc);
-    for line in text.lines() {
-        match step(&mut world, event_of(alloc, line)?) {
-            Ok(reply) => writeln!(out, "  {line} = {}", shown(alloc, reply)?)?,
-            Err(stop) => writeln!(out, "  {line} = {}", refusal(stop)?)?,
-        }
+    answer_each(text, out, |line| answer_step(alloc, &mut world, line))
+}
+
+fn answer_step(alloc: Global, world: &mut World, line: &str) -> Result<String> {
+    match step(world, event_of(alloc, line)?) {
+        Ok(reply) => shown(alloc, reply),
+        Err(stop) => Ok(String::from_str(alloc, refusal(stop)?)?),
     }
-    Ok(())
 }
 
 fn shown(alloc: Global, reply: Reply) -> Result<String> {

@@ -6,7 +6,6 @@ mod orders;
 mod roles;
 mod scripts;
 mod shapes;
-mod words;
 
 use anyhow::Result;
 use case_list::{Case, answer_cases};

@@ -1,8 +1,9 @@
 //! Questions that are compared with the plain program, while the rows of a relation are taken away in every order.
 
 use crate::roles::{RELATION, changed, links, section_of};
-use crate::words::{cut, fields, rule};
 use anyhow::{Context, Result, ensure};
+use case_list::cut;
+use case_tables::{fields, rule};
 use edit_calls::Call;
 use perm_base::{Rule, Rules, TableId, Text};
 use policy_desk::Desk;

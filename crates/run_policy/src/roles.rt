@@ -4,9 +4,9 @@ ghost use Rattle.std.specs.Prelude.{◌≡◌, ◌<◌, is_some};
 
 use crate::orders::every_order;
 use crate::shapes::desk_of;
-use crate::words::{cut, fields, rule};
 use anyhow::{Context, Result, bail, ensure};
-use case_list::Case;
+use case_list::{Case, answer_each, cut};
+use case_tables::{fields, rule};
 use edit_calls::Call;
 use perm_base::{Rule, Rules, TableId, Text, print_fields};
 use policy_desk::Desk;
@@ -15,7 +15,6 @@ use role_domain::{RoleSection, Steps};
 use std::alloc::Global;
 use std::io::Write;
 use std::marker::Brand;
-use std::str;
 use std::sync::ledger::{Blank, Ledger};
 
 /// The relation that is asked.
@@ -28,13 +27,7 @@ pub fn answer(alloc: Global, case: &Case, out: &mut impl Write) -> Result<()> {
         return Ok(());
     }
     let mut desk = desk_of(alloc, case)?;
-    for line in str::from_utf8(&text)?.lines() {
-        let answer = answer_line(alloc, &mut desk, line).context(format_args!(
-            "no such line: {line}"
-        ))?;
-        writeln!(out, "  {line} = {answer}")?;
-    }
-    Ok(())
+    answer_each(&text, out, |line| answer_line(alloc, &mut desk, line))
 }
 
 // `add` and `remove` with a row and `chain` with a number of links change the relation; `every order` and all else ask.

@@ -103,16 +103,18 @@ fn answer_query(alloc: Global, state: &PolicyState, query: Item) -> Result<Answe
             let names = state.users_of(alloc, relation, name.bytes(), bytes_of(&domain))?;
             Ok(Answer::Users { version, names })
         }
-        Item::History(number) => {
-            let edit = copy_edit(alloc, state.history(number)?)?;
-            Ok(Answer::Recorded {
-                version,
-                number,
-                edit,
-            })
-        }
+        Item::History(number) => recorded(alloc, state, number),
         _ => Err(QueryRefused::NoMemory),
     }
+}
+
+fn recorded(alloc: Global, state: &PolicyState, number: u32) -> Result<Answer, QueryRefused> {
+    let edit = copy_edit(alloc, state.history(number)?)?;
+    Ok(Answer::Recorded {
+        version: state.version(),
+        number,
+        edit,
+    })
 }
 
 fn bytes_of(text: &Option<Text>) -> Option<&[u8]> {

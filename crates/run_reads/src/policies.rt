@@ -4,7 +4,7 @@ ghost use Rattle.perm_base.specs.Shapes.{AreValid};
 use crate::shapes::{are_named_once, fits};
 use crate::texts::push_fault;
 use anyhow::{Context, Result, bail, ensure};
-use case_list::Field;
+use case_list::{Field, cut};
 use model_conf::{read_model, shapes_of};
 use perm_base::Shapes;
 use policy_csv::{print_policy, read_policy};
@@ -52,7 +52,7 @@ fn shapes_for(alloc: Global, model: &[u8], words: &str) -> Result<Shapes>
     let model = read_model(alloc, model)
         .ok()
         .context("the text is no model")?;
-    let (domains, _) = words.split_once(' ').unwrap_or((words, ""));
+    let (domains, _) = cut(words, ' ');
     let domains = fits(alloc, domains)?;
     ensure!(are_named_once(&domains), "a relation is named twice");
     let Ok(shapes) = shapes_of(alloc, &model, &[], &domains, 10) else {

@@ -1,4 +1,4 @@
-use crate::texts::{push_fault, push_quoted};
+use crate::texts::{push_comma, push_fault, push_quoted};
 use anyhow::{Context, Result, ensure};
 use perm_base::{Text, read_fields};
 use perm_value::{Request, RequestFault, Value, View, request_of_fields, request_of_json};
@@ -130,12 +130,8 @@ fn push_value(answer: &mut String, value: &Value) -> Result<()> {
 #[cycle(values)]
 pub(crate) fn push_values(answer: &mut String, values: &Vec<Value>) -> Result<()> {
     answer.push_str("[")?;
-    let mut is_first = true;
-    for value in values {
-        if !is_first {
-            answer.push_str(", ")?;
-        }
-        is_first = false;
+    for (at, value) in values.iter().enumerate() {
+        push_comma(answer, at)?;
         push_value(answer, value)?;
     }
     answer.push_str("]")?;
@@ -145,12 +141,8 @@ pub(crate) fn push_values(answer: &mut String, values: &Vec<Value>) -> Result<()
 #[cycle(values)]
 fn push_members(answer: &mut String, members: &BTreeMap<String, Value>) -> Result<()> {
     answer.push_str("{")?;
-    let mut is_first = true;
-    for (name, value) in members.iter() {
-        if !is_first {
-            answer.push_str(", ")?;
-        }
-        is_first = false;
+    for (at, (name, value)) in members.iter().enumerate() {
+        push_comma(answer, at)?;
         push_quoted(answer, name.as_str().as_bytes())?;
         answer.push_str(": ")?;
         push_value(answer, value)?;

@@ -59,51 +59,36 @@ fn push_item(answer: &mut String, item: Item) -> Result<()> {
             relation,
             name,
             domain,
-        } => {
-            write!(answer, "roles {relation} ")?;
-            push_name(answer, &name, domain)
-        }
+        } => push_question(answer, "roles", relation, &name, domain),
         Item::Users {
             relation,
             name,
             domain,
-        } => {
-            write!(answer, "users {relation} ")?;
-            push_name(answer, &name, domain)
-        }
+        } => push_question(answer, "users", relation, &name, domain),
         Item::Keep(count) => Ok(write!(answer, "keep {count}")?),
         Item::History(number) => Ok(write!(answer, "history {number}")?),
     }
 }
 
 fn push_call(answer: &mut String, call: &Call) -> Result<()> {
+    answer.push_str(word_of(call))?;
     match call {
-        Call::Add { table, rule } => {
-            write!(answer, "add {table:?}")?;
+        Call::Add { table, rule } | Call::Remove { table, rule } => {
+            write!(answer, " {table:?}")?;
             push_rule(answer, rule)
         }
-        Call::Remove { table, rule } => {
-            write!(answer, "remove {table:?}")?;
-            push_rule(answer, rule)
-        }
-        Call::AddAll { table, rules } => {
-            write!(answer, "add-all {table:?}")?;
-            push_rules(answer, rules.as_slice())
-        }
-        Call::AddEx { table, rules } => {
-            write!(answer, "add-ex {table:?}")?;
-            push_rules(answer, rules.as_slice())
-        }
-        Call::RemoveAll { table, rules } => {
-            write!(answer, "remove-all {table:?}")?;
+        Call::AddAll { table, rules }
+        | Call::AddEx { table, rules }
+        | Call::RemoveAll { table, rules } => {
+            write!(answer, " {table:?}")?;
             push_rules(answer, rules.as_slice())
         }
         Call::Update { table, pairs } => {
-            write!(answer, "update {table:?}")?;
+            write!(answer, " {table:?}")?;
             push_pairs(answer, pairs)
         }
         Call::RemoveFiltered { table, at, values } => {
-            write!(answer, "remove-filtered {table:?} {at}")?;
+            write!(answer, " {table:?} {at}")?;
             push_rule(answer, values)
         }
         Call::UpdateFiltered {
@@ -112,24 +97,42 @@ fn push_call(answer: &mut String, call: &Call) -> Result<()> {
             values,
             rules,
         } => {
-            write!(answer, "update-filtered {table:?} {at}")?;
+            write!(answer, " {table:?} {at}")?;
             push_rule(answer, values)?;
             answer.push_str(":")?;
             push_rules(answer, rules.as_slice())
         }
-        Call::DeleteUser { name } => {
-            answer.push_str("delete-user ")?;
-            push_quoted(answer, name.bytes())
-        }
-        Call::DeleteRole { name } => {
-            answer.push_str("delete-role ")?;
+        Call::DeleteUser { name } | Call::DeleteRole { name } => {
+            answer.push_str(" ")?;
             push_quoted(answer, name.bytes())
         }
     }
 }
 
-// A name, and its domain where one is given.
-fn push_name(answer: &mut String, name: &Text, domain: Option<Text>) -> Result<()> {
+fn word_of(call: &Call) -> &'static str {
+    match call {
+        Call::Add { .. } => "add",
+        Call::Remove { .. } => "remove",
+        Call::AddAll { .. } => "add-all",
+        Call::AddEx { .. } => "add-ex",
+        Call::RemoveAll { .. } => "remove-all",
+        Call::Update { .. } => "update",
+        Call::RemoveFiltered { .. } => "remove-filtered",
+        Call::UpdateFiltered { .. } => "update-filtered",
+        Call::DeleteUser { .. } => "delete-user",
+        Call::DeleteRole { .. } => "delete-role",
+    }
+}
+
+// A name in a relation, and its domain where one is given.
+fn push_question(
+    answer: &mut String,
+    word: &str,
+    relation: u8,
+    name: &Text,
+    domain: Option<Text>,
+) -> Result<()> {
+    write!(answer, "{word} {relation} ")?;
     push_quoted(answer, name.bytes())?;
     if let Some(domain) = domain {
         answer.push_str(" in ")?;

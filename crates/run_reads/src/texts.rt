@@ -27,15 +27,19 @@ pub(crate) fn push_printed(text: &mut String, rule: &Rule) -> Result<()> {
 /// Adds the texts, each in quotes.
 pub(crate) fn push_list(text: &mut String, texts: &[Text]) -> Result<()> {
     text.push_str("[")?;
-    let mut is_first = true;
-    for item in texts {
-        if !is_first {
-            text.push_str(", ")?;
-        }
-        is_first = false;
+    for (at, item) in texts.iter().enumerate() {
+        push_comma(text, at)?;
         push_quoted(text, item.bytes())?;
     }
     text.push_str("]")?;
+    Ok(())
+}
+
+/// Adds what stands in front of the item at this place of a list.
+pub(crate) fn push_comma(text: &mut String, at: usize) -> Result<()> {
+    if at > 0 {
+        text.push_str(", ")?;
+    }
     Ok(())
 }
 

@@ -1,4 +1,4 @@
-use crate::texts::push_all;
+use crate::texts::{push_all, push_comma};
 use anyhow::Result;
 use matcher_read::{Function, Operator, Tree};
 use perm_base::Text;
@@ -29,23 +29,11 @@ pub(crate) fn push_tree(text: &mut String, tree: &Tree, places: bool) -> Result<
             push_trees(text, members, places)?;
             text.push_str(")")?;
         }
-        Tree::Call {
-            function,
-            arguments,
-            ..
-        } => {
-            text.push_str(function_text(*function))?;
+        Tree::Call { arguments, .. } | Tree::Role { arguments, .. } => {
+            push_word(text, tree)?;
             push_trees(text, arguments, places)?;
         }
-        Tree::Role {
-            relation,
-            arguments,
-            ..
-        } => {
-            write!(text, "role{relation}")?;
-            push_trees(text, arguments, places)?;
-        }
-        _ => push_operand(text, tree)?,
+        _ => push_word(text, tree)?,
     }
     if places {
         write!(text, ":{}", tree.place())?;
@@ -64,20 +52,16 @@ fn push_signed(text: &mut String, sign: &str, operand: &Tree, places: bool) -> R
 #[cycle(print)]
 fn push_trees(text: &mut String, trees: &Vec<Tree>, places: bool) -> Result<()> {
     text.push_str("(")?;
-    let mut is_first = true;
-    for tree in trees {
-        if !is_first {
-            text.push_str(", ")?;
-        }
-        is_first = false;
+    for (at, tree) in trees.iter().enumerate() {
+        push_comma(text, at)?;
         push_tree(text, tree, places)?;
     }
     text.push_str(")")?;
     Ok(())
 }
 
-// A literal, a name, or the column of `eval`.
-fn push_operand(text: &mut String, tree: &Tree) -> Result<()> {
+// A literal, a name, the column of `eval`, or what stands before the arguments of a node.
+fn push_word(text: &mut String, tree: &Tree) -> Result<()> {
     match tree {
         Tree::Text { text: literal, .. } => push_all(text, &["'", literal.as_str(), "'"]),
         Tree::Whole { number, .. } => Ok(write!(text, "{number}")?),
@@ -88,6 +72,8 @@ fn push_operand(text: &mut String, tree: &Tree) -> Result<()> {
             push_all(text, &["r.", column.as_str()])?;
             push_path(text, path)
         }
+        Tree::Call { function, .. } => Ok(text.push_str(function_text(*function))?),
+        Tree::Role { relation, .. } => Ok(write!(text, "role{relation}")?),
         _ => Ok(()),
     }
 }

@@ -1,6 +1,6 @@
 ghost use Rattle.std.specs.Prelude.{◌≡◌, ◌++◌, decimal};
 ghost use Rattle.model_conf.specs.Faults.{key_text};
-ghost use Rattle.run_status.specs.Messages.{at_place, in_matcher, in_model, in_policy, in_script, limit_message, line_cause, matcher_message, message_of, model_message, policy_message, quote_message, relation_name, script_message};
+ghost use Rattle.run_status.specs.Messages.{at_place, limit_message, line_cause, matcher_message, message_of, model_message, policy_message, quote_message, relation_name, script_message};
 ghost use Rattle.run_status.specs.Helps.Pieces.{piece_text, text_of};
 
 use crate::part::Part;
@@ -10,6 +10,15 @@ use model_conf::{Key, ModelFault};
 use perm_base::TableId;
 use policy_csv::PolicyFault;
 use script_read::{LineCause, ScriptFault};
+
+// Where a fault is, in front of its place.
+const IN_MODEL: &str = "model: line ";
+
+const IN_MATCHER: &str = "model: matcher at ";
+
+const IN_POLICY: &str = "policy: line ";
+
+const IN_SCRIPT: &str = "script: line ";
 
 /// A text, and a number behind it or none.
 #[derive(Clone, Copy)]
@@ -50,17 +59,17 @@ fn model_message(fault: ModelFault) -> Message
     match fault {
         ModelFault::TooLong => limit_message(Part::Model),
         ModelFault::NotUtf8 => whole("model: not UTF-8"),
-        ModelFault::Line { line } => in_model(line, "not a line of a model"),
-        ModelFault::UnknownSection { line } => in_model(line, "unknown section"),
-        ModelFault::UnknownKey { line } => in_model(line, "unknown key"),
-        ModelFault::RepeatedKey { line } => in_model(line, "repeated key"),
+        ModelFault::Line { line } => at_place(IN_MODEL, line, "not a line of a model"),
+        ModelFault::UnknownSection { line } => at_place(IN_MODEL, line, "unknown section"),
+        ModelFault::UnknownKey { line } => at_place(IN_MODEL, line, "unknown key"),
+        ModelFault::RepeatedKey { line } => at_place(IN_MODEL, line, "repeated key"),
         ModelFault::Missing { key } => named("model: missing ", key_text(key)),
         ModelFault::Columns { key } => named("model: columns of ", key_text(key)),
         ModelFault::RoleShape { relation } => named("model: shape of ", relation_name(relation)),
         ModelFault::UnknownEffect => whole("model: unknown effect"),
         ModelFault::Matcher(fault) => matcher_message(fault),
-        ModelFault::UnknownColumn { at } => in_matcher(at, "unknown column"),
-        ModelFault::RoleUse { at } => in_matcher(at, "role use"),
+        ModelFault::UnknownColumn { at } => at_place(IN_MATCHER, at, "unknown column"),
+        ModelFault::RoleUse { at } => at_place(IN_MATCHER, at, "role use"),
         ModelFault::NoMemory => whole("no memory"),
     }
 }
@@ -91,12 +100,12 @@ fn matcher_message(fault: MatcherFault) -> Message
 {
     match fault {
         MatcherFault::TooLong => whole("model: matcher too long"),
-        MatcherFault::Unexpected { at } => in_matcher(at, "unexpected"),
-        MatcherFault::OpenText { at } => in_matcher(at, "open text"),
-        MatcherFault::NumberTooWide { at } => in_matcher(at, "number too wide"),
-        MatcherFault::UnknownFunction { at } => in_matcher(at, "unknown function"),
-        MatcherFault::WrongArguments { at } => in_matcher(at, "wrong arguments"),
-        MatcherFault::TooDeep { at } => in_matcher(at, "too deep"),
+        MatcherFault::Unexpected { at } => at_place(IN_MATCHER, at, "unexpected"),
+        MatcherFault::OpenText { at } => at_place(IN_MATCHER, at, "open text"),
+        MatcherFault::NumberTooWide { at } => at_place(IN_MATCHER, at, "number too wide"),
+        MatcherFault::UnknownFunction { at } => at_place(IN_MATCHER, at, "unknown function"),
+        MatcherFault::WrongArguments { at } => at_place(IN_MATCHER, at, "wrong arguments"),
+        MatcherFault::TooDeep { at } => at_place(IN_MATCHER, at, "too deep"),
         MatcherFault::TooManyNodes => whole("model: matcher too large"),
         MatcherFault::NoMemory => whole("no memory"),
     }
@@ -109,10 +118,10 @@ fn policy_message(fault: PolicyFault) -> Message
     match fault {
         PolicyFault::NotUtf8 => whole("policy: not UTF-8"),
         PolicyFault::Quote { line, column } => quote_message(line, column),
-        PolicyFault::UnknownTable { line } => in_policy(line, "unknown table"),
-        PolicyFault::Columns { line } => in_policy(line, "columns"),
-        PolicyFault::FieldTooLong { line } => in_policy(line, "field too long"),
-        PolicyFault::Full { line, .. } => in_policy(line, "full"),
+        PolicyFault::UnknownTable { line } => at_place(IN_POLICY, line, "unknown table"),
+        PolicyFault::Columns { line } => at_place(IN_POLICY, line, "columns"),
+        PolicyFault::FieldTooLong { line } => at_place(IN_POLICY, line, "field too long"),
+        PolicyFault::Full { line, .. } => at_place(IN_POLICY, line, "full"),
         PolicyFault::NoMemory => whole("no memory"),
     }
 }
@@ -123,8 +132,8 @@ fn script_message(fault: ScriptFault) -> Message
 {
     match fault {
         ScriptFault::NotUtf8 => whole("script: not UTF-8"),
-        ScriptFault::Line { line, cause } => in_script(line, line_cause(cause)),
-        ScriptFault::OpenBatch { line } => in_script(line, "open batch"),
+        ScriptFault::Line { line, cause } => at_place(IN_SCRIPT, line, line_cause(cause)),
+        ScriptFault::OpenBatch { line } => at_place(IN_SCRIPT, line, "open batch"),
         ScriptFault::NoMemory => whole("no memory"),
     }
 }
@@ -161,30 +170,6 @@ fn limit_message(part: Part) -> Message
         second: plain(part.name()),
         third: numbered(", limit ", part.limit()),
     }
-}
-
-fn in_model(line: u32, what: &'static str) -> Message
-    ensures { text_of result ≡ in_model line what.now }
-{
-    at_place("model: line ", line, what)
-}
-
-fn in_matcher(at: u32, what: &'static str) -> Message
-    ensures { text_of result ≡ in_matcher at what.now }
-{
-    at_place("model: matcher at ", at, what)
-}
-
-fn in_policy(line: u32, what: &'static str) -> Message
-    ensures { text_of result ≡ in_policy line what.now }
-{
-    at_place("policy: line ", line, what)
-}
-
-fn in_script(line: u32, what: &'static str) -> Message
-    ensures { text_of result ≡ in_script line what.now }
-{
-    at_place("script: line ", line, what)
 }
 
 // What is wrong at a place that is counted from 1.

@@ -1,5 +1,5 @@
 ghost use Rattle.std.specs.Prelude.{◌≡◌};
-ghost use Rattle.run_status.specs.Statuses.{model_status, policy_status, script_status, status_of};
+ghost use Rattle.run_status.specs.Statuses.{model_status, status_of};
 
 use crate::part::Part;
 use crate::status::Status;
@@ -43,8 +43,11 @@ impl Stop {
             Stop::Words => Status::Words,
             Stop::NoModel(fault) => model_status(fault),
             Stop::NoRelation { .. } => Status::Model,
-            Stop::NoPolicy(fault) => policy_status(fault),
-            Stop::NoScript(fault) => script_status(fault),
+            Stop::NoPolicy(PolicyFault::NoMemory) | Stop::NoScript(ScriptFault::NoMemory) => {
+                Status::NoMemory
+            }
+            Stop::NoPolicy(_) => Status::Policy,
+            Stop::NoScript(_) => Status::Script,
             Stop::CannotRead(_) => Status::ReadFault,
             Stop::CannotWrite => Status::WriteFault,
             Stop::TooLong(_) => Status::TooLong,
@@ -60,24 +63,6 @@ fn model_status(fault: ModelFault) -> Status
         ModelFault::TooLong => Status::TooLong,
         ModelFault::Matcher(MatcherFault::NoMemory) | ModelFault::NoMemory => Status::NoMemory,
         _ => Status::Model,
-    }
-}
-
-fn policy_status(fault: PolicyFault) -> Status
-    ensures { result ≡ policy_status fault }
-{
-    match fault {
-        PolicyFault::NoMemory => Status::NoMemory,
-        _ => Status::Policy,
-    }
-}
-
-fn script_status(fault: ScriptFault) -> Status
-    ensures { result ≡ script_status fault }
-{
-    match fault {
-        ScriptFault::NoMemory => Status::NoMemory,
-        _ => Status::Script,
     }
 }
 

@@ -30,10 +30,9 @@ pub(crate) fn filter_of(mut fields: Vec<Text>) -> Result<(TableId, u32, Rule), L
     if fields.len() < 3 {
         return Err(LineCause::Fields);
     }
-    let name = fields.remove(0);
-    let place = fields.remove(0);
-    let table = table_of(&name)?;
-    let at = numeral(&place)?;
+    let table = table_of(&fields[0])?;
+    let at = numeral(&fields[1])?;
+    fields.drain(..2);
     Ok((table, at, rule_from(fields)))
 }
 

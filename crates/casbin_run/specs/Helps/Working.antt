@@ -1,5 +1,5 @@
 -- What a task comes to over what was read of its files, with one finder or with all.
-use Rattle.std.specs.Prelude.{◌≡◌, ◌⊎◌, ℕ, ◌<◌, Bool, false, true, List, Option, IfSome, String, length}
+use Rattle.std.specs.Prelude.{◌≡◌, ◌⊎◌, ℕ, ◌<◌, ◌≤◌, Bool, false, true, List, Option, None, Result, IfErr, IfSome, OnOk, String, length}
 use Rattle.std.specs.declared.alloc.Global.{Global}
 use Rattle.answer_lines.specs.LineText.{Appends, line_text}
 use Rattle.answer_lines.specs.declared.answer.Answer.{Answer}
@@ -12,10 +12,10 @@ use Rattle.outside.specs.Faults.{Rose}
 use Rattle.outside.specs.Told.{TookFront, with_back}
 use Rattle.perm_base.specs.Shapes.{AreValid}
 use Rattle.perm_base.specs.declared.shapes.Shapes.{Shapes}
-use Rattle.policy_state.specs.States.{State}
+use Rattle.policy_state.specs.States.{State, tables}
 use Rattle.policy_table.specs.Limits.{AreSound}
 use Rattle.policy_table.specs.Tables as table
-use Rattle.regex_gate.specs.Refusals.{IsRefused, Refusals}
+use Rattle.regex_gate.specs.Refusals.{IsRefused, IsUsed, Refusals}
 use Rattle.run_status.specs.Parts.{limit_of}
 use Rattle.run_status.specs.Statuses.{status_of}
 use Rattle.run_status.specs.declared.part.Part.TheVariants.{Input}
@@ -24,18 +24,28 @@ use Rattle.run_status.specs.declared.stop.Stop.TheVariants.{NoScript, CannotRead
 use Rattle.script_read.specs.Reads.{Says}
 use Rattle.script_read.specs.Said.{Reading, Said}
 use Rattle.session_meaning.specs.Plain.{IsPlain}
+use Rattle.version_log.specs.Log.{versions}
 use Rattle.casbin_run.specs.declared.files.Loaded.{Loaded}
 use Rattle.casbin_run.specs.declared.job.Task.{Task}
 use Rattle.casbin_run.specs.Causes.{HasFault, OfInput}
 use Rattle.casbin_run.specs.Ends.{may_write}
 use Rattle.casbin_run.specs.Given.{InputIs, SaysItems}
 use Rattle.casbin_run.specs.Texts.{text_of, text_of_lines}
+use Rattle.casbin_run.specs.Worlds.{Taken}
 
 -- what was loaded can be worked with
 pub record IsReady (loaded : Loaded) : Type 0 where
   pub valid : AreValid loaded.shapes
   pub sound : AreSound loaded.shapes loaded.tables.policy
   pub suits : Suits loaded.model loaded.shapes
+
+-- the program is the model's, and the state is the policy's, with no edit yet
+pub record IsOpened (loaded : Loaded) (program : ModelParts) (state : State) : Type 0 where
+  pub program_is : program ≡ loaded.model
+  pub shapes_are : state.shapes ≡ loaded.shapes
+  pub policy_is : tables state ≡ loaded.tables.policy
+  pub suits : Suits program state.shapes
+  pub opening : versions state.log ≡ 0
 
 -- what a task is done on
 pub record Ground : Type 0 where
@@ -104,6 +114,17 @@ pub record PrintedAll (IsSaid : List Said → Type 0) (model : ModelParts) (shap
 pub record PrintedSome (IsSaid : List Said → Type 0) (model : ModelParts) (shapes : Shapes) (policy : table.Policy) (before now : Refusals) (out out_now : Option (List ℕ)) (out_rose : Type 0) (stop : Stop) : Type 0 where
   pub printed : LinesOf IsSaid model shapes policy (IsRefused before now) (Rises before now)
   pub stops : TextStops out out_now (text_of_lines printed.lines) out_rose stop
+
+-- why the answers to items were not printed to their end: memory ran out before any was pushed, or a front of their lines was taken
+abbrev pub AnswerStops : (IsSaid : List Said → Type 0) → ModelParts → Shapes → table.Policy → (before now : Refusals) → (out out_now : Option (List ℕ)) → (out_rose : Type 0) → Stop → Type 0
+AnswerStops IsSaid model shapes policy before now out out_now out_rose stop = ((stop ≡ NoMemory) × (out_now ≡ out)) ⊎ PrintedSome IsSaid model shapes policy before now out out_now out_rose stop
+
+-- what answering the items that are said comes to, over what was loaded
+pub record AreAnswered (IsSaid : List Said → Type 0) (loaded : Loaded) (before now : Refusals) (out out_now : Taken) (result : Result (Unit {0}) Stop) : Type 0 where
+  pub printed : OnOk result (PrintedAll IsSaid loaded.model loaded.shapes loaded.tables.policy before now out.bytes out_now.bytes)
+  pub stopped : IfErr result (AnswerStops IsSaid loaded.model loaded.shapes loaded.tables.policy before now out.bytes out_now.bytes (Rose out.faults out_now.faults))
+  pub counted : out.faults ≤ out_now.faults
+  pub used : IsUsed before now None
 
 -- a line of requests is answered by a line
 pub record AnswersLine (model : ModelParts) (state : State) (json : Bool) (before now : Refusals) (line : List ℕ) (number : ℕ) (old new : String Global) : Type 0 where

@@ -1,5 +1,5 @@
 -- What steps of a run end in: an answer, the fault of a search that was refused, or want of memory.
-use Rattle.std.specs.Prelude.{◌≡◌, ◌⊎◌, ⊤, ℕ, Bool, List, map, option_copied, Option, Some, None, Result, Ok, Err, IsTrue}
+use Rattle.std.specs.Prelude.{◌≡◌, ◌⊎◌, ⊤, ℕ, Bool, false, true, List, map, option_copied, Option, Some, None, Result, Ok, Err, IsTrue}
 use Rattle.effect_fold.specs.declared.fault.Cause.TheVariants.{Pattern}
 use Rattle.effect_fold.specs.declared.fault.Fault.{Fault}
 use Rattle.matcher_read.specs.Expression.{Callee, function, relation}
@@ -13,7 +13,7 @@ use Rattle.matcher_meaning.specs.Answers.{Answer, fails}
 use Rattle.matcher_meaning.specs.CaseCalls.{Gives}
 use Rattle.matcher_meaning.specs.Cases.{Case, where_refused}
 use Rattle.matcher_meaning.specs.Meaning.{is_search}
-use Rattle.matcher_code.specs.Machine.{Next, failed, goes, Executes}
+use Rattle.matcher_code.specs.Machine.{Next, failed, goes, Does, Executes}
 use Rattle.matcher_code.specs.declared.calls.Called.{Called}
 use Rattle.matcher_code.specs.declared.calls.Called.TheVariants as called
 use Rattle.matcher_code.specs.declared.halt.Halt.{Halt}
@@ -69,6 +69,19 @@ NextIs next after (Ok (step.Eval column)) = ⊥
 NextIs next after (Err (halt.Fault fault)) = next ≡ failed fault
 NextIs next after (Err (halt.Refused at pattern)) = ⊥
 NextIs next after (Err halt.NoMemory) = ⊥
+
+-- an instruction that asks nobody leads there from one stack, with another behind it
+abbrev pub IsDone : Case → ℕ → ℕ → Instruction → List View → List View → Result Step Halt → Type 0
+IsDone case place at instruction before after (Ok (step.Goes to)) = Does case place at instruction (map datum_of_view before) (goes to (map datum_of_view after))
+IsDone case place at instruction before after (Ok (step.Eval column)) = ⊥
+IsDone case place at instruction before after (Err (halt.Fault fault)) = Does case place at instruction (map datum_of_view before) (failed fault)
+IsDone case place at instruction before after (Err (halt.Refused where_it pattern)) = ⊥
+IsDone case place at instruction before after (Err halt.NoMemory) = ⊥
+
+-- the instruction that goes on at another place where the top value is this truth
+abbrev pub skipping : Bool → ℕ → Instruction
+skipping false to = i.SkipFalse to
+skipping true to = i.SkipTrue to
 
 -- what a step leads to, by what is said of that where a search is refused or none
 abbrev pub NextEnds : (Option (ℕ × List ℕ) → Next → Type 0) → List Datum → Bool → Result Step Halt → Type 0

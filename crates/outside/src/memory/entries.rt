@@ -53,10 +53,12 @@ impl Entries {
         ensures ok { OnOk result (Puts name bytes.items (file_of self.old) (file_of self.new)) }
         ensures err { OnErr result (self.new ≡ self.old) }
     {
-        match place_of(&self.entries, name.as_str()) {
-            Some(at) => self.entries[at].bytes = bytes,
-            None => self.entries.push(Entry { name, bytes })?,
-        }
+        let Some(at) = place_of(&self.entries, name.as_str()) else {
+            self.entries.push(Entry { name, bytes })?;
+            return Ok(());
+        };
+        drop(name);
+        self.entries[at].bytes = bytes;
         Ok(())
     }
 }

@@ -1,4 +1,4 @@
-use Rattle.std.proofs.Common.{◌≡◌, None, Some, Ok, Err, arith}
+use Rattle.std.proofs.Common.{None, Some, Ok, Err, arith}
 use Rattle.std.proofs.lemmas.Result.{err_from_is_err_and}
 use Rattle.casbin_run.proofs.ReadingLemmas.{none_absent, shapes_stop, suits_with}
 use Rattle.casbin_run.proofs.files.policy_shapes.Goals as goal

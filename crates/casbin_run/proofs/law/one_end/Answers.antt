@@ -1,60 +1,34 @@
 use Rattle.std.proofs.Common.{false, inl, inr, ⊎_elim}
-use Rattle.std.specs.Prelude.{IsUtf8}
 use Rattle.casbin_run.proofs.ModelLemmas.{HasMatchers, some_model}
 use Rattle.casbin_run.proofs.SomeEnd.{SaysSome, some_end}
 use Rattle.casbin_run.proofs.OneEnd.{SaysOnce, no_cause, one_cause, one_text}
 use Rattle.casbin_run.proofs.law.one_end.Goals as goal
+use Rattle.casbin_run.proofs.law.one_end.Goals.{After-lines_are_one}
+
+-- what the laws of the crates below say of texts
+once : After-lines_are_one → SaysOnce
+once c = record {
+  model = c.text_says_one_model.ensures;
+  model_fault = c.text_has_one_model_fault.ensures;
+  model_either = c.faulty_text_is_no_model.ensures;
+  policy = c.text_says_one_policy.ensures;
+  policy_fault = c.text_has_one_policy_fault.ensures;
+  policy_either = c.faulty_text_is_no_policy.ensures;
+  script = c.text_says_one_script.ensures;
+  script_fault = c.text_has_one_script_fault.ensures;
+  script_either = c.faulty_text_is_no_script.ensures;
+  requests = c.input_says_one_list_of_requests.ensures;
+  lines = c.lines_are_one.ensures.none_bad;
+}
 
 pub returns-clause-one_cause : goal.returns-clause-one_cause
-returns-clause-one_cause c =
-    let once : SaysOnce = record {
-      model = c.text_says_one_model.ensures;
-      model_fault = c.text_has_one_model_fault.ensures;
-      model_either = c.faulty_text_is_no_model.ensures;
-      policy = c.text_says_one_policy.ensures;
-      policy_fault = c.text_has_one_policy_fault.ensures;
-      policy_either = c.faulty_text_is_no_policy.ensures;
-      script = c.text_says_one_script.ensures;
-      script_fault = c.text_has_one_script_fault.ensures;
-      script_either = c.faulty_text_is_no_script.ensures;
-      requests = c.input_says_one_list_of_requests.ensures;
-      lines = c.lines_are_one.ensures.none_bad;
-    } in
-    one_cause once
+returns-clause-one_cause c = one_cause (once (goal.at.returns-clause-one_cause c).After-lines_are_one)
 
 pub returns-clause-no_cause : goal.returns-clause-no_cause
-returns-clause-no_cause c =
-    let once : SaysOnce = record {
-      model = c.text_says_one_model.ensures;
-      model_fault = c.text_has_one_model_fault.ensures;
-      model_either = c.faulty_text_is_no_model.ensures;
-      policy = c.text_says_one_policy.ensures;
-      policy_fault = c.text_has_one_policy_fault.ensures;
-      policy_either = c.faulty_text_is_no_policy.ensures;
-      script = c.text_says_one_script.ensures;
-      script_fault = c.text_has_one_script_fault.ensures;
-      script_either = c.faulty_text_is_no_script.ensures;
-      requests = c.input_says_one_list_of_requests.ensures;
-      lines = c.lines_are_one.ensures.none_bad;
-    } in
-    no_cause once
+returns-clause-no_cause c = no_cause (once (goal.at.returns-clause-no_cause c).After-lines_are_one)
 
 pub returns-clause-one_text : goal.returns-clause-one_text
-returns-clause-one_text c =
-    let once : SaysOnce = record {
-      model = c.text_says_one_model.ensures;
-      model_fault = c.text_has_one_model_fault.ensures;
-      model_either = c.faulty_text_is_no_model.ensures;
-      policy = c.text_says_one_policy.ensures;
-      policy_fault = c.text_has_one_policy_fault.ensures;
-      policy_either = c.faulty_text_is_no_policy.ensures;
-      script = c.text_says_one_script.ensures;
-      script_fault = c.text_has_one_script_fault.ensures;
-      script_either = c.faulty_text_is_no_script.ensures;
-      requests = c.input_says_one_list_of_requests.ensures;
-      lines = c.lines_are_one.ensures.none_bad;
-    } in
-    one_text once
+returns-clause-one_text c = one_text (once (goal.at.returns-clause-one_text c).After-lines_are_one)
 
 pub returns-clause-there : goal.returns-clause-there
 returns-clause-there c =

@@ -1,9 +1,43 @@
-use Rattle.std.proofs.Common.{refl}
+use Rattle.std.proofs.Common.{◌≡◌, List, Err, refl, rules}
+use Rattle.std.specs.Prelude.{map}
 use Rattle.std.proofs.lemmas.Result.{IfErr-weaker, on_ok_weaker}
+use Rattle.script_read.specs.Said.{Said, seen}
+use Rattle.script_read.specs.Script.{IsRequests}
 use Rattle.casbin_run.specs.Helps.Working.{ground}
-use Rattle.casbin_run.specs.declared.job.Task.TheVariants.{Check, Format}
-use Rattle.casbin_run.proofs.WorkLemmas.{shown_all, shown_stops}
+use Rattle.casbin_run.specs.declared.job.Task.TheVariants.{Enforce, Serve, Check, Format}
+use Rattle.casbin_run.proofs.WorkLemmas.{answered_all, answered_stops, asked_says, input_stops, served_says, shown_all, shown_stops}
 use Rattle.casbin_run.proofs.run.do_task.Goals as goal
+
+pub returns-in_err-text-in-Enforce-clause-stopped : goal.returns-in_err-text-in-Enforce-clause-stopped
+returns-in_err-text-in-Enforce-clause-stopped g c =
+    let stop : c.from_residual.result ≡ Err c.in_err-text-in-Enforce.field-0.0 = search rules in
+    rw (c.in-Enforce.is, stop) (input_stops (ground (Enforce c.in-Enforce.json) c.args.loaded (g.S.Source.left c.args.input.now)) _ _ _ _ _ c.in_err-text-in-Enforce.field-0.0 refl c.in_err-text-in-Enforce.ensures.stopped)
+
+pub returns-in_ok-text-in-Enforce-clause-done : goal.returns-in_ok-text-in-Enforce-clause-done
+returns-in_ok-text-in-Enforce-clause-done g c =
+    let json = c.in-Enforce.json in
+    let left = g.S.Source.left c.args.input.now in
+    rw c.in-Enforce.is (on_ok_weaker c.enforce.result (answered_all (ground (Enforce json) c.args.loaded left) refl (IsRequests json c.as_str.result.now) (asked_says json left c.as_str.result.now (rw c.as_str.ensures.value c.in_ok-text-in-Enforce.ensures.read)) _ _ _ _) c.enforce.ensures.printed)
+
+pub returns-in_ok-text-in-Enforce-clause-stopped : goal.returns-in_ok-text-in-Enforce-clause-stopped
+returns-in_ok-text-in-Enforce-clause-stopped g c =
+    let json = c.in-Enforce.json in
+    let left = g.S.Source.left c.args.input.now in
+    rw c.in-Enforce.is (IfErr-weaker c.enforce.result _ _ (answered_stops (ground (Enforce json) c.args.loaded left) refl (IsRequests json c.as_str.result.now) (asked_says json left c.as_str.result.now (rw c.as_str.ensures.value c.in_ok-text-in-Enforce.ensures.read)) _ _ _ _ _ _) c.enforce.ensures.stopped)
+
+pub returns-in_ok-script-in-Serve-clause-done : goal.returns-in_ok-script-in-Serve-clause-done
+returns-in_ok-script-in-Serve-clause-done g c =
+    let json = c.in-Serve.json in
+    let left = g.S.Source.left c.args.input.now in
+    let script = map seen c.in_ok-script-in-Serve.script in
+    rw c.in-Serve.is (on_ok_weaker c.serve.result (answered_all (ground (Serve json) c.args.loaded left) refl (λ (items : List Said). items ≡ script) (served_says json left script c.in_ok-script-in-Serve.ensures.read) _ _ _ _) c.serve.ensures.printed)
+
+pub returns-in_ok-script-in-Serve-clause-stopped : goal.returns-in_ok-script-in-Serve-clause-stopped
+returns-in_ok-script-in-Serve-clause-stopped g c =
+    let json = c.in-Serve.json in
+    let left = g.S.Source.left c.args.input.now in
+    let script = map seen c.in_ok-script-in-Serve.script in
+    rw c.in-Serve.is (IfErr-weaker c.serve.result _ _ (answered_stops (ground (Serve json) c.args.loaded left) refl (λ (items : List Said). items ≡ script) (served_says json left script c.in_ok-script-in-Serve.ensures.read) _ _ _ _ _ _) c.serve.ensures.stopped)
 
 pub returns-in-Check-clause-done : goal.returns-in-Check-clause-done
 returns-in-Check-clause-done g c = rw c.in-Check.is (on_ok_weaker c.check.result (shown_all (ground Check c.args.loaded (g.S.Source.left c.args.input.now)) (g.P.Finder.refusals c.args.finder.now) refl _ _) c.check.ensures.shown)

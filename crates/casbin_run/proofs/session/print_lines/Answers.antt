@@ -1,7 +1,6 @@
-use Rattle.std.proofs.Common.{arith}
 use Rattle.std.proofs.lemmas.Result.{err_from_is_err_and}
 use Rattle.casbin_run.proofs.GatheredLemmas.{next_left}
-use Rattle.casbin_run.proofs.PrintLemmas.{lines_all, lines_more, lines_moved, lines_none, lines_quiet, lines_stopped}
+use Rattle.casbin_run.proofs.PrintLemmas.{lines_more, lines_moved, lines_none, lines_quiet, lines_stopped}
 use Rattle.casbin_run.proofs.session.print_lines.Goals as goal
 
 pub loop-line-init : goal.loop-line-init

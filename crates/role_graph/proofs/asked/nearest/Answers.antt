@@ -5,12 +5,16 @@ use Rattle.role_meaning.proofs.CallerLemmas.{they_agree, they_differ}
 use Rattle.role_graph.specs.Helps.Distances.{ReachesByGroup}
 use Rattle.role_graph.specs.Helps.Kept.{linked_of}
 use Rattle.role_graph.specs.Helps.Roles.{nodes_of}
-use Rattle.role_graph.proofs.Nearest.{far_by_rows, far_itself, far_nowhere}
+use Rattle.role_graph.proofs.Nearest.{far_by_rows, far_itself, far_linked, far_nowhere}
 use Rattle.role_graph.proofs.asked.nearest.Goals as goal
 
 pub returns-then-eq-clause-far : goal.returns-then-eq-clause-far
 returns-then-eq-clause-far g c =
     far_itself (linked_of c.args.links.now) c.args.x.now c.args.y.now (they_agree c.args.x.now c.args.y.now c.eq.result c.eq.ensures c.if-eq.true)
+
+pub returns-then-has_row-clause-far : goal.returns-then-has_row-clause-far
+returns-then-has_row-clause-far g c =
+    far_linked (linked_of c.args.links.now) c.args.x.now c.args.y.now (they_differ c.args.x.now c.args.y.now c.eq.result c.eq.ensures c.if-eq.false) (c.has_row.ensures c.if-has_row.true)
 
 pub returns-in_default-clause-far : goal.returns-in_default-clause-far
 returns-in_default-clause-far g c =

@@ -2,38 +2,7 @@ use Rattle.std.proofs.Common.{refl}
 use Rattle.std.specs.Fmt.{digits}
 use Rattle.run_status.proofs.law.lines_in_full.Goals as goal
 
-pub returns-clause-too_long : goal.returns-clause-too_long
+-- each line computes, once its numbers are digits
+pub returns : goal.returns
 unfolding digits
-returns-clause-too_long c = refl
-
-pub returns-clause-column : goal.returns-clause-column
-unfolding digits
-returns-clause-column c = refl
-
-pub returns-clause-matcher : goal.returns-clause-matcher
-unfolding digits
-returns-clause-matcher c = refl
-
-pub returns-clause-quote : goal.returns-clause-quote
-unfolding digits
-returns-clause-quote c = refl
-
-pub returns-clause-table : goal.returns-clause-table
-unfolding digits
-returns-clause-table c = refl
-
-pub returns-clause-batch : goal.returns-clause-batch
-unfolding digits
-returns-clause-batch c = refl
-
-pub returns-clause-cause : goal.returns-clause-cause
-unfolding digits
-returns-clause-cause c = refl
-
-pub returns-clause-call : goal.returns-clause-call
-unfolding digits
-returns-clause-call c = refl
-
-pub returns-clause-end : goal.returns-clause-end
-unfolding digits
-returns-clause-end c = refl
+returns c = record { words = refl; unreadable = refl; too_long = refl; missing = refl; shape = refl; effect = refl; column = refl; matcher = refl; call = refl; end = refl; option = refl; quote = refl; table = refl; batch = refl; cause = refl }

@@ -1,0 +1,26 @@
+ghost use Rattle.std.specs.Prelude.{IfOk};
+ghost use Rattle.casbin_run.specs.Helps.Working.{IsOpened, IsReady};
+
+use crate::files::Loaded;
+use enforce_core::{Program, make_program};
+use perm_base::NoMemory;
+use policy_state::{PolicyState, make_state, states_stand_for_their_history};
+use std::alloc::Global;
+
+/// What items are answered by: a program, and the state of a policy that suits it.
+#[derive(Drop)]
+pub(crate) struct Opened {
+    pub program: Program,
+    pub state: PolicyState,
+}
+
+/// Makes the program of a model, and the state of a policy as its file has it.
+pub(crate) fn open_loaded(alloc: Global, loaded: Loaded) -> Result<Opened, NoMemory>
+    requires { IsReady loaded }
+    ensures { IfOk result (λ opened. IsOpened loaded opened.program opened.state) }
+{
+    states_stand_for_their_history();
+    let program = make_program(alloc, loaded.model)?;
+    let state = make_state(alloc, loaded.shapes, program.index_column(), loaded.tables)?;
+    Ok(Opened { program, state })
+}
