@@ -1,11 +1,11 @@
 #!/usr/bin/env bash
-# Compares the examples with their copies among the cases of crates/run_cases, which the gate runs: each model, policy and
+# Compares the examples with their copies among the cases of crates/cases_runs, which the gate runs: each model, policy and
 # list of requests with the text below its name in `stdin`, and the answers with the lines of its case in `stdout`.
 # Usage: checks/examples.sh
 set -u
 cd "$(dirname "${BASH_SOURCE[0]}")/.." || exit 1
-cases=crates/run_cases/stdin
-answers=crates/run_cases/stdout
+cases=crates/cases_runs/stdin
+answers=crates/cases_runs/stdout
 differing=0
 
 # The text below a field of this name, without the two blanks before each line.
@@ -33,10 +33,10 @@ for file in examples/*/*; do
     copy="$(text_below "$file"; echo .)"
   fi
   if [ "$copy" = . ]; then
-    echo "$file has no copy in crates/run_cases" >&2
+    echo "$file has no copy in crates/cases_runs" >&2
     differing=1
   elif ! diff "$file" <(printf %s "${copy%.}") >&2; then
-    echo "$file differs from its copy in crates/run_cases" >&2
+    echo "$file differs from its copy in crates/cases_runs" >&2
     differing=1
   fi
   compared=$((compared + 1))

@@ -18,7 +18,7 @@ for ((n = first; n <= last; n++)); do
     echo "allocation $n is not needed: all before it were refused in turn"
     exit 0
   fi
-  if [ "$status" -ne 9 ] || [ "${wanted#"$answer"}" = "$wanted" ] && [ -n "$answer" ]; then
+  if [ "$status" -ne 9 ] || { [ -n "$answer" ] && [ "${wanted#"$answer"}" = "$wanted" ]; }; then
     echo "allocation $n refused: status $status, answer '$answer'"
     tail -5 "$log"
     exit 1

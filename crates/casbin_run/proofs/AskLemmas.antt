@@ -1,15 +1,12 @@
 -- What lines of requests ask, and lines for the requests that are left.
-use Rattle.std.proofs.Common.{◌≡◌, ℕ, ◌+◌, Bool, true, false, cond, List, [], ◌∷◌, ◌++◌, append_assoc, append-nil, length, inl, refl, sym, ap, subst, ◌∙◌}
-use Rattle.std.specs.Prelude.{◌==◌, MatchBool, None, Ok, Err, Option, bytes_eq, if◌then◌else◌, map}
-use Rattle.std.proofs.lemmas.List.Sums.{sum_by-append}
+use Rattle.std.proofs.Common.{◌≡◌, ℕ, Bool, true, false, List, [], ◌∷◌, ◌++◌, append_assoc, append-nil, length, inl, refl, sym, ap, subst, ◌∙◌}
+use Rattle.std.specs.Prelude.{◌==◌, Contains, MatchBool, None, Ok, Err, Option, bytes_eq, if◌then◌else◌, map}
 use Rattle.std.proofs.lemmas.Slice.Eq.{bytes_eq-Decides}
-use Rattle.answer_lines.specs.LineText.{line_text}
 use Rattle.answer_lines.specs.declared.answer.Answer.{Answer}
 use Rattle.answer_lines.specs.declared.answer.Answer.TheVariants as answer
 use Rattle.answer_lines.specs.declared.answer.Line.{Line}
 use Rattle.effect_fold.specs.declared.verdict.Verdict.{Verdict}
-use Rattle.live_round.specs.Refused.{is_refused_search, refused_searches}
-use Rattle.matcher_meaning.specs.Perm.{Refusal, is_refusal}
+use Rattle.matcher_meaning.specs.Perm.{Refusal}
 use Rattle.matcher_meaning.specs.Verdicts.{IsVerdict}
 use Rattle.model_conf.specs.ModelText.{ModelParts}
 use Rattle.perm_base.specs.declared.shapes.Shapes.{Shapes}
@@ -17,11 +14,10 @@ use Rattle.perm_value.specs.Datum.{Datum}
 use Rattle.policy_table.specs.Tables.{Policy}
 use Rattle.script_read.specs.Reads.{Reader, Says}
 use Rattle.script_read.specs.Said.{Reading, Said, asks}
-use Rattle.session_meaning.specs.Plain.{IsPlain, number_behind}
-use Rattle.session_meaning.specs.Replies.{IsDecided, IsReply, rule_of}
+use Rattle.session_meaning.specs.Plain.{IsLine, IsPlain, all_refused, number_behind}
+use Rattle.session_meaning.specs.Replies.{IsDecided, IsReply, is_decided, rule_of}
 use Rattle.session_meaning.specs.Versions.{out, published}
-use Rattle.session_meaning.proofs.CallerLemmas.{plain_more}
-use Rattle.casbin_run.specs.Texts.{text_of_lines}
+use Rattle.session_meaning.proofs.CallerLemmas.{all_more, plain_more}
 
 -- ---- what lines ask
 
@@ -55,61 +51,70 @@ pub asked_more : {json : Bool} (reader : Reader json) (lines more : List (List �
 asked_more reader [] more = refl
 asked_more reader (line ∷ lines) more = ap (λ (items : List Said). asks (reader.request line) ∷ items) (asked_more reader lines more)
 
--- ---- how many of them are refused searches
-
-pub refused_more : (lines more : List Line) → refused_searches (lines ++ more) ≡ refused_searches lines + refused_searches more
-refused_more lines more = sum_by-append (λ (line : Line). cond (is_refused_search line.answer) 1 0) lines more
-
-none_more : (first : Line) (more : List Line) → is_refused_search first.answer ≡ false → refused_searches more ≡ 0 → refused_searches (first ∷ more) ≡ 0
-none_more first more here rest = refused_more (first ∷ []) more ∙ rw (here, rest) refl
-
--- the texts of lines and more
-pub text_more : (lines more : List Line) → text_of_lines (lines ++ more) ≡ text_of_lines lines ++ text_of_lines more
-text_more [] more = refl
-text_more (line ∷ lines) more = ap (λ (text : List ℕ). line_text line ++ text) (text_more lines more) ∙ sym (append_assoc (line_text line) (text_of_lines lines) (text_of_lines more))
-
-pub text_one : (line : Line) → text_of_lines (line ∷ []) ≡ line_text line
-text_one line = append-nil (line_text line)
-
 -- ---- the lines that are left
 
--- each request has a verdict without a refused search
-pub record HasVerdicts : Type 0 where
-  pub verdict : (model : ModelParts) (shapes : Shapes) (policy : Policy) (request : List Datum) (refused : Option Refusal) → (v : Verdict) × IsVerdict model shapes policy request refused v
-  pub calm : (model : ModelParts) (shapes : Shapes) (policy : Policy) (request : List Datum) (v : Verdict) → IsVerdict model shapes policy request None v → is_refusal v ≡ false
+-- each request has a verdict
+abbrev pub HasVerdicts : Type 0
+HasVerdicts = (model : ModelParts) (shapes : Shapes) (policy : Policy) (request : List Datum) (refused : Option Refusal) → (v : Verdict) × IsVerdict model shapes policy request refused v
 
--- a reply that is no refused search
-calm_reply : HasVerdicts → (model : ModelParts) (shapes : Shapes) (opening : Policy) (IsBad : List ℕ → Type 0) (before : List Said) (reading : Reading) → (reply : Answer) × IsReply model shapes opening IsBad before (asks reading) reply × (is_refused_search reply ≡ false)
-calm_reply law model shapes opening IsBad before (Ok values) = by (length values == length model.request)
-  where
-    by : (fits : Bool) → (reply : Answer) × MatchBool fits (IsDecided model shapes opening IsBad before values reply) (reply ≡ answer.Arity (length values) (length model.request)) × (is_refused_search reply ≡ false)
-    by true =
-        let v = law.verdict model shapes (published shapes opening before) values None in
-        (answer.Decided (out shapes opening before) v.0 (rule_of (published shapes opening before) v.0), record { verdict = v.0; judged = inl v.1; told = refl }, law.calm model shapes (published shapes opening before) values v.0 v.1)
-    by false = (answer.Arity (length values) (length model.request), refl, refl)
-calm_reply law model shapes opening IsBad before (Err fault) = (answer.Request fault, refl, refl)
+module _ (law : HasVerdicts) (model : ModelParts) (shapes : Shapes) (opening : Policy) where
+  -- a reply, whatever was refused
+  some_reply : (refused : List (List ℕ)) (before : List Said) (reading : Reading) → (reply : Answer) × IsReply model shapes opening refused before (asks reading) reply
+  some_reply refused before (Ok values) = by (length values == length model.request)
+    where
+      by : (fits : Bool) → (reply : Answer) × MatchBool fits (IsDecided model shapes refused (out shapes opening before) (published shapes opening before) values reply) (reply ≡ answer.Arity (length values) (length model.request))
+      by true =
+          let v = law model shapes (published shapes opening before) values None in
+          (answer.Decided (out shapes opening before) v.0 (rule_of (published shapes opening before) v.0), record { verdict = v.0; judged = inl v.1; told = refl })
+      by false = (answer.Arity (length values) (length model.request), refl)
+  some_reply refused before (Err fault) = (answer.Request fault, refl)
 
--- further lines, none of which is a refused search
-pub record MoreLines (model : ModelParts) (shapes : Shapes) (opening : Policy) (IsBad : List ℕ → Type 0) (items : List Said) (lines : List Line) : Type 0 where
-  pub more : List Line
-  pub plain : IsPlain model shapes opening IsBad items (lines ++ more)
-  pub calm : refused_searches more ≡ 0
+  some_line : (refused : List (List ℕ)) (before : List Said) (reading : Reading) → (is_decided model (asks reading) ≡ false → refused ≡ []) → (line : Line) × IsLine model shapes opening before (asks reading) refused line
+  some_line refused before reading unasked =
+      let reply = some_reply refused before reading in
+      (record { number = number_behind (length before); answer = reply.0 }, record { number = refl; answer = reply.1; unasked = unasked })
 
-pub more_lines : HasVerdicts → (model : ModelParts) (shapes : Shapes) (opening : Policy) (IsBad : List ℕ → Type 0) {json : Bool} (reader : Reader json) (left : List (List ℕ)) (items : List Said) (lines : List Line)
-    → IsPlain model shapes opening IsBad items lines → MoreLines model shapes opening IsBad (items ++ asked reader left) lines
-more_lines law model shapes opening IsBad reader [] items lines plain = record {
-  more = [];
-  plain = subst (λ (l : List Line). IsPlain model shapes opening IsBad (items ++ []) l) (sym (append-nil lines)) (subst (λ (i : List Said). IsPlain model shapes opening IsBad i lines) (sym (append-nil items)) plain);
-  calm = refl;
-}
-more_lines law model shapes opening IsBad reader (line ∷ left) items lines plain =
-    let reply = calm_reply law model shapes opening IsBad items (reader.request line) in
-    let first : Line = record { number = number_behind (length items); answer = reply.0 } in
-    let one : IsPlain model shapes opening IsBad (items ++ asks (reader.request line) ∷ []) (lines ++ first ∷ []) = plain_more model shapes opening IsBad items lines (asks (reader.request line)) first plain (record { number = refl; answer = reply.1 }) in
-    let rest = more_lines law model shapes opening IsBad reader left (items ++ asks (reader.request line) ∷ []) (lines ++ first ∷ []) one in
-    let whole : (items ++ asks (reader.request line) ∷ []) ++ asked reader left ≡ items ++ asked reader (line ∷ left) = append_assoc items (asks (reader.request line) ∷ []) (asked reader left) in
-    record {
-      more = first ∷ rest.more;
-      plain = subst (λ (l : List Line). IsPlain model shapes opening IsBad (items ++ asked reader (line ∷ left)) l) (append_assoc lines (first ∷ []) rest.more) (subst (λ (i : List Said). IsPlain model shapes opening IsBad i ((lines ++ first ∷ []) ++ rest.more)) whole rest.plain);
-      calm = none_more first rest.more reply.2 rest.calm;
-    }
+  -- lines of all items, of which these are the first, where nothing is refused for the others
+  pub record MoreLines (items : List Said) (refused : List (List (List ℕ))) (lines : List Line) : Type 0 where
+    pub more : List Line
+    pub all : List (List (List ℕ))
+    pub plain : IsPlain model shapes opening items all (lines ++ more)
+    pub same : all_refused all ≡ all_refused refused
+
+  -- a line more behind lines, and others behind it
+  line_first : (items : List Said) (refused : List (List (List ℕ))) (lines : List Line) (line : Line) (others : List (List (List ℕ))) → MoreLines items others (lines ++ line ∷ []) → all_refused others ≡ all_refused refused → MoreLines items refused lines
+  line_first items refused lines line others rest same = record {
+    more = line ∷ rest.more;
+    all = rest.all;
+    plain = subst (λ (l : List Line). IsPlain model shapes opening items rest.all l) (append_assoc lines (line ∷ []) rest.more) rest.plain;
+    same = rest.same ∙ same;
+  }
+
+  pub more_lines : {json : Bool} (reader : Reader json) (left : List (List ℕ)) (items : List Said) (refused : List (List (List ℕ))) (lines : List Line) → IsPlain model shapes opening items refused lines → MoreLines (items ++ asked reader left) refused lines
+  more_lines reader [] items refused lines plain = record {
+    more = [];
+    all = refused;
+    plain = subst (λ (l : List Line). IsPlain model shapes opening (items ++ []) refused l) (sym (append-nil lines)) (subst (λ (i : List Said). IsPlain model shapes opening i refused lines) (sym (append-nil items)) plain);
+    same = refl;
+  }
+  more_lines reader (line ∷ left) items refused lines plain =
+      let item = asks (reader.request line) in
+      let one = some_line [] items (reader.request line) (λ calm. refl) in
+      let next = plain_more model shapes opening items refused lines item [] one.0 plain one.1 in
+      let rest = more_lines reader left (items ++ item ∷ []) (refused ++ [] ∷ []) (lines ++ one.0 ∷ []) next in
+      let whole : (items ++ item ∷ []) ++ asked reader left ≡ items ++ asked reader (line ∷ left) = append_assoc items (item ∷ []) (asked reader left) in
+      line_first (items ++ asked reader (line ∷ left)) refused lines one.0 (refused ++ [] ∷ [])
+      (subst (λ (i : List Said). MoreLines i (refused ++ [] ∷ []) (lines ++ one.0 ∷ [])) whole rest)
+      (all_more refused [] ∙ append-nil (all_refused refused))
+
+  -- the same where these patterns were refused for the next request
+  pub stopped_lines : {json : Bool} (reader : Reader json) (line : List ℕ) (left : List (List ℕ)) (items : List Said) (refused : List (List (List ℕ))) (patterns : List (List ℕ)) (lines : List Line)
+      → (is_decided model (asks (reader.request line)) ≡ false → patterns ≡ []) → IsPlain model shapes opening items refused lines → MoreLines (items ++ asked reader (line ∷ left)) (refused ++ patterns ∷ []) lines
+  stopped_lines reader line left items refused patterns lines unasked plain =
+      let item = asks (reader.request line) in
+      let one = some_line patterns items (reader.request line) unasked in
+      let next = plain_more model shapes opening items refused lines item patterns one.0 plain one.1 in
+      let rest = more_lines reader left (items ++ item ∷ []) (refused ++ patterns ∷ []) (lines ++ one.0 ∷ []) next in
+      let whole : (items ++ item ∷ []) ++ asked reader left ≡ items ++ asked reader (line ∷ left) = append_assoc items (item ∷ []) (asked reader left) in
+      line_first (items ++ asked reader (line ∷ left)) (refused ++ patterns ∷ []) lines one.0 (refused ++ patterns ∷ [])
+      (subst (λ (i : List Said). MoreLines i (refused ++ patterns ∷ []) (lines ++ one.0 ∷ [])) whole rest) refl

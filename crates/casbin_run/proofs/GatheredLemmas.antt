@@ -1,48 +1,61 @@
--- A text that is gathered and pushed piece by piece.
-use Rattle.std.proofs.Common.{◌≡◌, ℕ, suc, ◌+◌, ◌<◌, ◌≤◌, List, [], ◌∷◌, ◌++◌, drop, drop-cons, get_or, length, refl, sym, ap, ◌∙◌, append_assoc, append-nil, arith}
+-- Lines that are gathered as a text, and pushed together.
+use Rattle.std.proofs.Common.{◌≡◌, ℕ, suc, ◌+◌, ◌<◌, ◌≤◌, List, [], ◌∷◌, ◌++◌, drop, drop-cons, get_or, length, take, refl, sym, ap, ◌∙◌, ⊎_elim, append_assoc, append-nil, arith}
 use Rattle.std.specs.Prelude.{Option}
+use Rattle.std.proofs.Math.Seq.{take-append_seam}
+use Rattle.answer_lines.specs.LineText.{line_text}
+use Rattle.answer_lines.specs.declared.answer.Line.{Line}
 use Rattle.outside.specs.Told.{with_back, TookFront}
 use Rattle.outside.proofs.CallerLemmas.{with_back-append, with_back-nothing}
-use Rattle.casbin_run.specs.Helps.Gathering.{IsGathered, Moves}
+use Rattle.casbin_run.specs.Helps.Gathering.{AreGathered, Moves}
+use Rattle.casbin_run.specs.Texts.{text_of_lines}
 
-pub gathered_none : (before : Option (List ℕ)) (gathered : List ℕ) (faults : ℕ) → gathered ≡ [] → IsGathered before before gathered [] faults faults
-gathered_none before gathered faults none = record { pushed = []; took = with_back-nothing before; parts = rw none refl; counted = omega arith }
+-- the texts of lines and more
+pub text_more : (lines more : List Line) → text_of_lines (lines ++ more) ≡ text_of_lines lines ++ text_of_lines more
+text_more [] more = refl
+text_more (line ∷ lines) more = ap (λ (text : List ℕ). line_text line ++ text) (text_more lines more) ∙ sym (append_assoc (line_text line) (text_of_lines lines) (text_of_lines more))
 
-pub gathered_more : (before now : Option (List ℕ)) (gathered so_far line more : List ℕ) (a b : ℕ) → IsGathered before now gathered so_far a b → more ≡ gathered ++ line → IsGathered before now more (so_far ++ line) a b
-gathered_more before now gathered so_far line more a b so more-is = record {
+text_one : (line : Line) → text_of_lines (line ∷ []) ≡ line_text line
+text_one line = append-nil (line_text line)
+
+pub gathered_none : (before : Option (List ℕ)) (gathered : List ℕ) (faults : ℕ) → gathered ≡ [] → AreGathered before before gathered [] faults faults
+gathered_none before gathered faults none = record { pushed = []; waiting = []; parts = refl; took = with_back-nothing before; text = none; counted = omega arith }
+
+-- one line more
+pub gathered_more : (before now : Option (List ℕ)) (gathered more : List ℕ) (lines : List Line) (line : Line) (a b : ℕ) → AreGathered before now gathered lines a b → more ≡ gathered ++ line_text line → AreGathered before now more (lines ++ line ∷ []) a b
+gathered_more before now gathered more lines line a b so more-is = record {
   pushed = so.pushed;
+  waiting = so.waiting ++ line ∷ [];
+  parts = ap (λ (l : List Line). l ++ line ∷ []) so.parts ∙ append_assoc so.pushed so.waiting (line ∷ []);
   took = so.took;
-  parts = rw (more-is, ← so.parts) (sym (append_assoc so.pushed gathered line));
+  text = more-is ∙ ap (λ (t : List ℕ). t ++ line_text line) so.text ∙ ap (λ (t : List ℕ). text_of_lines so.waiting ++ t) (sym (text_one line)) ∙ sym (text_more so.waiting (line ∷ []));
   counted = so.counted;
 }
 
--- nothing was pushed, or all of it
-pub moves_none : (before : Option (List ℕ)) (text : List ℕ) → Moves before before text text
-moves_none before text = record { pushed = []; took = with_back-nothing before; parts = refl }
+-- all that was gathered is pushed
+pub all_pushed : (before mid now : Option (List ℕ)) (gathered : List ℕ) (lines : List Line) (a b : ℕ) → AreGathered before mid gathered lines a b → now ≡ with_back mid gathered → now ≡ with_back before (text_of_lines lines)
+all_pushed before mid now gathered lines a b so took =
+    let whole : text_of_lines lines ≡ text_of_lines so.pushed ++ gathered = ap text_of_lines so.parts ∙ text_more so.pushed so.waiting ∙ ap (λ (t : List ℕ). text_of_lines so.pushed ++ t) (sym so.text) in
+    rw (took, so.took, whole) (with_back-append before (text_of_lines so.pushed) gathered)
 
-pub moves_all : (before now : Option (List ℕ)) (old new : List ℕ) → now ≡ with_back before old → new ≡ [] → Moves before now old new
-moves_all before now old new took none = record { pushed = old; took = took; parts = rw none (sym (append-nil old)) }
+pub gathered_moved : (before mid now : Option (List ℕ)) (gathered left : List ℕ) (lines : List Line) (a b c : ℕ) → AreGathered before mid gathered lines a b → Moves mid now gathered left → b ≤ c → AreGathered before now left lines a c
+gathered_moved before mid now gathered left lines a b c so moved counted = ⊎_elim
+    (λ all. record { pushed = lines; waiting = []; parts = sym (append-nil lines); took = all_pushed before mid now gathered lines a b so all.0; text = all.1; counted = omega (arith, so.counted, counted) })
+    (λ none. record { pushed = so.pushed; waiting = so.waiting; parts = so.parts; took = none.0 ∙ so.took; text = none.1 ∙ so.text; counted = omega (arith, so.counted, counted) }) moved
 
-pub gathered_moved : (before mid now : Option (List ℕ)) (gathered left so_far : List ℕ) (a b c : ℕ) → IsGathered before mid gathered so_far a b → Moves mid now gathered left → b ≤ c → IsGathered before now left so_far a c
-gathered_moved before mid now gathered left so_far a b c so moved counted = record {
-  pushed = so.pushed ++ moved.pushed;
-  took = rw (moved.took, so.took) (with_back-append before so.pushed moved.pushed);
-  parts = rw (← so.parts, moved.parts) (append_assoc so.pushed moved.pushed left);
-  counted = omega (arith, so.counted, counted);
-}
+-- ---- the ends, also before more lines
 
-pub all_pushed : (before mid now : Option (List ℕ)) (gathered so_far : List ℕ) (a b : ℕ) → IsGathered before mid gathered so_far a b → now ≡ with_back mid gathered → now ≡ with_back before so_far
-all_pushed before mid now gathered so_far a b so took = rw (took, so.took, ← so.parts) (with_back-append before so.pushed gathered)
+pub stopped_first : (before now : Option (List ℕ)) (gathered : List ℕ) (lines more : List Line) (a b : ℕ) → AreGathered before now gathered lines a b → (count : ℕ) × (now ≡ with_back before (text_of_lines (take count (lines ++ more))))
+stopped_first before now gathered lines more a b so =
+    let whole : lines ++ more ≡ so.pushed ++ (so.waiting ++ more) = ap (λ (l : List Line). l ++ more) so.parts ∙ append_assoc so.pushed so.waiting more in
+    let first : take (length so.pushed) (lines ++ more) ≡ so.pushed = ap (take (length so.pushed)) whole ∙ take-append_seam so.pushed (so.waiting ++ more) in
+    (length so.pushed, so.took ∙ ap (λ (l : List Line). with_back before (text_of_lines l)) (sym first))
 
-pub stopped_quiet : (before now : Option (List ℕ)) (gathered so_far more : List ℕ) (a b : ℕ) → IsGathered before now gathered so_far a b → TookFront before now (so_far ++ more)
-stopped_quiet before now gathered so_far more a b so = record { front = so.pushed; rest = gathered ++ more; parts = rw (← so.parts) (append_assoc so.pushed gathered more); took = so.took }
-
-pub stopped_front : (before mid now : Option (List ℕ)) (gathered so_far more : List ℕ) (a b : ℕ) → IsGathered before mid gathered so_far a b → TookFront mid now gathered → TookFront before now (so_far ++ more)
-stopped_front before mid now gathered so_far more a b so front = record {
-  front = so.pushed ++ front.front;
-  rest = front.rest ++ more;
-  parts = rw (← so.parts, front.parts) (simp append_assoc);
-  took = rw (front.took, so.took) (with_back-append before so.pushed front.front);
+pub stopped_front : (before mid now : Option (List ℕ)) (gathered : List ℕ) (lines more : List Line) (a b : ℕ) → AreGathered before mid gathered lines a b → TookFront mid now gathered → TookFront before now (text_of_lines (lines ++ more))
+stopped_front before mid now gathered lines more a b so front = record {
+  front = text_of_lines so.pushed ++ front.front;
+  rest = front.rest ++ text_of_lines more;
+  parts = text_more lines more ∙ ap (λ (t : List ℕ). t ++ text_of_lines more) (ap text_of_lines so.parts ∙ text_more so.pushed so.waiting ∙ ap (λ (t : List ℕ). text_of_lines so.pushed ++ t) (sym so.text ∙ front.parts)) ∙ simp append_assoc;
+  took = rw (front.took, so.took) (with_back-append before (text_of_lines so.pushed) front.front);
 }
 
 -- the next of what is left of a list

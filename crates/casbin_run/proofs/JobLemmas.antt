@@ -9,7 +9,7 @@ use Rattle.perm_base.specs.declared.shapes.Fit.{Fit}
 use Rattle.command_words.specs.Commands.{command_from, command_of, count_of, enforcing, files_of, fits_at, kind_named, limit_in as limit_told, options_in, options_with, serving, showing, value_or, workers_in}
 use Rattle.command_words.specs.FileNames.{FileNames}
 use Rattle.command_words.specs.Items.{flag, is_dashes, is_same, items, operands, value_of}
-use Rattle.command_words.specs.Values.{is_numeral, is_within, number_of}
+use Rattle.command_words.specs.Values.{is_numeral, is_within, number_between}
 use Rattle.command_words.specs.declared.command.Command.{Command}
 use Rattle.command_words.specs.declared.command.Command.TheVariants as command
 use Rattle.command_words.specs.declared.command.Options.{Options}
@@ -41,7 +41,7 @@ abbrev JobHas : Option Job → Type 0
 JobHas None = Unit {0}
 JobHas (Some job) = IsLimit (limit_in job.options)
 
-number_has : (text : List ℕ) → NumberHas (number_of 3 1 250 text)
+number_has : (text : List ℕ) → NumberHas (number_between 3 1 250 text)
 number_has text = by (is_numeral 3 text && is_within 1 250 (digits_value 10 text)) refl
   where
     by : (test : Bool) → (is_numeral 3 text && is_within 1 250 (digits_value 10 text)) ≡ test → NumberHas (if test then Some (digits_value 10 text) else None)
@@ -51,7 +51,7 @@ number_has text = by (is_numeral 3 text && is_within 1 250 (digits_value 10 text
         let both = and_parts (nat_le 1 (digits_value 10 text)) (nat_le (digits_value 10 text) 250) within in
         (leb-true 1 (digits_value 10 text) both.0, leb-true (digits_value 10 text) 250 both.1)
 
-told_has : (value : Option (List ℕ)) → NumberHas (value_or 10 (number_of 3 1 250) value)
+told_has : (value : Option (List ℕ)) → NumberHas (value_or 10 (number_between 3 1 250) value)
 told_has None = (omega arith, omega arith)
 told_has (Some value) = number_has value
 

@@ -9,5 +9,7 @@ pub mod EndLemmas
 pub mod ReadingLemmas
 pub mod OneEnd
 pub mod CompleteLemmas
+pub mod ShownLemmas
+pub mod AskedLemmas
 pub mod ModelLemmas
 pub mod SomeEnd

@@ -1,6 +1,6 @@
 -- What is given has one end: what is read comes to one state at each part, and the states to one end.
 use Rattle.std.proofs.Common.{◌≡◌, ℕ, ◌<◌, ◌≤◌, Bool, true, List, [], length, refl, sym, ap, subst, ◌∙◌, arith}
-use Rattle.std.specs.Prelude.{IsSome, Option, Some, None, Contains}
+use Rattle.std.specs.Prelude.{IsSome, Option, Some, None}
 use Rattle.answer_lines.specs.declared.answer.Line.{Line}
 use Rattle.outside.specs.Files.{Files}
 use Rattle.model_conf.specs.Faults.{IsModelFault}
@@ -18,11 +18,12 @@ use Rattle.run_status.specs.declared.stop.Stop.TheVariants.{Words, NoModel, NoRe
 use Rattle.script_read.specs.Said.{Said}
 use Rattle.script_read.specs.Script.{IsRequests, IsScript, IsScriptFault}
 use Rattle.script_read.specs.declared.fault.ScriptFault.{ScriptFault}
-use Rattle.session_meaning.specs.Plain.{IsPlain}
-use Rattle.casbin_run.specs.Answered.{IsAnswered}
-use Rattle.casbin_run.specs.Causes.{Cause, HasFault}
+use Rattle.session_meaning.specs.Plain.{IsPlain, all_refused}
+use Rattle.casbin_run.specs.Answered.{IsCalmlyAnswered}
+use Rattle.casbin_run.specs.Causes.{Cause, HasFault, StopsAt}
 use Rattle.casbin_run.specs.Given.{AreFiles, FileIs, Fits, Given, IsInOrder, ModelIs, SaysItems}
 use Rattle.casbin_run.specs.Jobs.{absent_in, job_asked, reads_input, shapes_with}
+use Rattle.casbin_run.specs.Reached.{IsReached, Reached, at_words, at_model, at_options, at_policy, at_task}
 use Rattle.casbin_run.specs.Texts.{text_of}
 use Rattle.casbin_run.specs.declared.job.Job.{Job}
 use Rattle.casbin_run.specs.declared.job.Task.{Task}
@@ -152,7 +153,8 @@ pub record SaysOnce : Type 0 where
   pub script_fault : (json : Bool) (bytes : List ℕ) (first second : ScriptFault) → IsScriptFault json bytes first → IsScriptFault json bytes second → first ≡ second
   pub script_either : (json : Bool) (bytes : List ℕ) (fault : ScriptFault) (items : List Said) → IsScriptFault json bytes fault → ¬ (IsScript json bytes items)
   pub requests : (json : Bool) (bytes : List ℕ) (first second : List Said) → IsRequests json bytes first → IsRequests json bytes second → first ≡ second
-  pub lines : (model : ModelParts) (shapes : Shapes) (opening : table.Policy) (items : List Said) (first second : List Line) → IsPlain model shapes opening (Contains []) items first → IsPlain model shapes opening (Contains []) items second → first ≡ second
+  pub lines : (model : ModelParts) (shapes : Shapes) (opening : table.Policy) (items : List Said) (refused others : List (List (List ℕ))) (first second : List Line) → IsPlain model shapes opening items refused first → IsPlain model shapes opening items others second
+      → all_refused refused ≡ [] → all_refused others ≡ [] → first ≡ second
 
 module _ (once : SaysOnce) where
   model_is_one : IsOne IsModel IsModelFault
@@ -233,18 +235,25 @@ good_input (Serve json) input items (bytes, same, within, says) = (good items, (
 good_input Check input items says = refl
 good_input Format input items says = refl
 
+cause_at : (words : List (List ℕ)) (files : Files) (input : List ℕ) (stop : Stop) (reached : Reached) → IsReached (told words files input) reached → StopsAt (told words files input) reached stop → EndsIn words files (Some input) (Some stop)
+cause_at words files input Words at_words is none = (None, none, refl)
+cause_at words files input (CannotRead Model) (at_model job) asked lacks = (Some job, asked, (absent, lacks, refl))
+cause_at words files input (TooLong Model) (at_model job) asked wide = (Some job, asked, (long, wide, refl))
+cause_at words files input (NoModel fault) (at_model job) asked is = (Some job, asked, (bad fault, is, refl))
+cause_at words files input (NoRelation relation) (at_options job model) (asked, is) lacks = (Some job, asked, (good model, is, (Some relation, lacks, refl)))
+cause_at words files input (CannotRead Policy) (at_policy job model) (asked, fits) lacks = options_behind words files input job model (Some (CannotRead Policy)) asked fits (absent, lacks, refl)
+cause_at words files input (TooLong Policy) (at_policy job model) (asked, fits) wide = options_behind words files input job model (Some (TooLong Policy)) asked fits (long, wide, refl)
+cause_at words files input (NoPolicy fault) (at_policy job model) (asked, fits) is = options_behind words files input job model (Some (NoPolicy fault)) asked fits (bad fault, is, refl)
+cause_at words files input (TooLong Input) (at_task job model policy) (asked, are) (reads, wide) = policy_behind words files input job model policy (Some (TooLong Input)) asked are (long_input job.task input reads wide)
+cause_at words files input (NoScript fault) (at_task job model policy) (asked, are) (reads, (bytes, same, within, is)) = policy_behind words files input job model policy (Some (NoScript fault)) asked are (bad_input job.task input bytes fault reads same within is)
+cause_at words files input _ at_words is stops = absurd stops
+cause_at words files input _ (at_model job) is stops = absurd stops
+cause_at words files input _ (at_options job model) is stops = absurd stops
+cause_at words files input _ (at_policy job model) is stops = absurd stops
+cause_at words files input _ (at_task job model policy) is stops = absurd stops
+
 cause_ends : (words : List (List ℕ)) (files : Files) (input : List ℕ) (stop : Stop) → Cause (told words files input) stop → EndsIn words files (Some input) (Some stop)
-cause_ends words files input Words cause = (None, cause, refl)
-cause_ends words files input (CannotRead Model) (job, asked, lacks) = (Some job, asked, (absent, lacks, refl))
-cause_ends words files input (TooLong Model) (job, asked, wide) = (Some job, asked, (long, wide, refl))
-cause_ends words files input (NoModel fault) (job, asked, is) = (Some job, asked, (bad fault, is, refl))
-cause_ends words files input (NoRelation relation) (job, asked, (model, is, lacks)) = (Some job, asked, (good model, is, (Some relation, lacks, refl)))
-cause_ends words files input (CannotRead Policy) (job, asked, (model, fits, lacks)) = options_behind words files input job model (Some (CannotRead Policy)) asked fits (absent, lacks, refl)
-cause_ends words files input (TooLong Policy) (job, asked, (model, fits, wide)) = options_behind words files input job model (Some (TooLong Policy)) asked fits (long, wide, refl)
-cause_ends words files input (NoPolicy fault) (job, asked, (model, fits, is)) = options_behind words files input job model (Some (NoPolicy fault)) asked fits (bad fault, is, refl)
-cause_ends words files input (TooLong Input) (job, asked, (model, policy, are, (reads, wide))) = policy_behind words files input job model policy (Some (TooLong Input)) asked are (long_input job.task input reads wide)
-cause_ends words files input (NoScript fault) (job, asked, (model, policy, are, (reads, (bytes, same, within, is)))) = policy_behind words files input job model policy (Some (NoScript fault)) asked are (bad_input job.task input bytes fault reads same within is)
-cause_ends words files input _ cause = absurd cause
+cause_ends words files input stop (reached, is, stops) = cause_at words files input stop reached is stops
 
 in_order_ends : (words : List (List ℕ)) (files : Files) (input : List ℕ) → IsInOrder (told words files input) → EndsIn words files (Some input) None
 in_order_ends words files input is = policy_behind words files input is.job is.model is.policy None is.asked is.are_files (good_input is.job.task input is.items is.says)
@@ -293,10 +302,12 @@ module _ (once : SaysOnce) (files : Files) (input : List ℕ) where
   record Reads (job : Job) (model : ModelParts) (policy : table.Policy) (items : List Said) (lines : List Line) : Type 0 where
     are_files : AreFiles (Some files) job model policy
     says : SaysItems job.task (Some input) items
-    plain : IsPlain model (shapes_with job.options model) policy (Contains []) items lines
+    refused : List (List (List ℕ))
+    plain : IsPlain model (shapes_with job.options model) policy items refused lines
+    none : all_refused refused ≡ []
 
   lines_same : (job : Job) (model : ModelParts) (policy : table.Policy) (items : List Said) (lines others : List Line) → Reads job model policy items lines → Reads job model policy items others → lines ≡ others
-  lines_same job model policy items lines others p q = once.lines model (shapes_with job.options model) policy items lines others p.plain q.plain
+  lines_same job model policy items lines others p q = once.lines model (shapes_with job.options model) policy items p.refused q.refused lines others p.plain q.plain p.none q.none
 
   texts_same : (job : Job) (model : ModelParts) (policy : table.Policy) (items : List Said) (lines : List Line) (other : ModelParts) (second : table.Policy) (said : List Said) (others : List Line) → Reads job model policy items lines → Reads job other second said others
       → text_of job.task model policy lines ≡ text_of job.task other second others
@@ -310,23 +321,23 @@ module _ (once : SaysOnce) (files : Files) (input : List ℕ) where
       ap (text_of job.task model policy) (lines_same job model policy items lines others p at_items)
       ∙ sym (ap (λ (m : ModelParts). text_of job.task m second others) same_model ∙ ap (λ (t : table.Policy). text_of job.task model t others) same_policy)
 
-  told_one_text : (words : List (List ℕ)) (first second : List ℕ) → IsAnswered (told words files input) (Contains []) first → IsAnswered (told words files input) (Contains []) second → first ≡ second
+  told_one_text : (words : List (List ℕ)) (first second : List ℕ) → IsCalmlyAnswered (told words files input) first → IsCalmlyAnswered (told words files input) second → first ≡ second
   told_one_text words first second p q =
-      let x = p.in_order in
-      let y = q.in_order in
+      let x = p.answered.in_order in
+      let y = q.answered.in_order in
       let job : y.job ≡ x.job = same_job (sym y.asked ∙ x.asked) in
-      let reads : Reads y.job y.model y.policy y.items q.lines = record { are_files = y.are_files; says = y.says; plain = q.plain } in
-      let same = texts_same x.job x.model x.policy x.items p.lines y.model y.policy y.items q.lines (record { are_files = x.are_files; says = x.says; plain = p.plain }) (subst (λ (j : Job). Reads j y.model y.policy y.items q.lines) job reads) in
-      p.spelled ∙ same ∙ sym (ap (λ (j : Job). text_of j.task y.model y.policy q.lines) job) ∙ sym q.spelled
+      let reads : Reads y.job y.model y.policy y.items q.answered.lines = record { are_files = y.are_files; says = y.says; refused = q.refused; plain = q.answered.plain; none = q.none } in
+      let same = texts_same x.job x.model x.policy x.items p.answered.lines y.model y.policy y.items q.answered.lines (record { are_files = x.are_files; says = x.says; refused = p.refused; plain = p.answered.plain; none = p.none }) (subst (λ (j : Job). Reads j y.model y.policy y.items q.answered.lines) job reads) in
+      p.answered.spelled ∙ same ∙ sym (ap (λ (j : Job). text_of j.task y.model y.policy q.answered.lines) job) ∙ sym q.answered.spelled
     where
       same_job : {job other : Job} → Some job ≡ Some other → job ≡ other
       same_job e = cc
 
-pub one_text : SaysOnce → (g : Given) (first second : List ℕ) → IsSome g.files → IsSome g.input → IsAnswered g (Contains []) first → IsAnswered g (Contains []) second → first ≡ second
+pub one_text : SaysOnce → (g : Given) (first second : List ℕ) → IsSome g.files → IsSome g.input → IsCalmlyAnswered g first → IsCalmlyAnswered g second → first ≡ second
 one_text once g first second told-files told-input p q = by g.files g.input told-files told-input p q
   where
-    by : (files : Option Files) (input : Option (List ℕ)) → IsSome files → IsSome input → IsAnswered (record { words = g.words; files = files; input = input }) (Contains []) first
-        → IsAnswered (record { words = g.words; files = files; input = input }) (Contains []) second → first ≡ second
+    by : (files : Option Files) (input : Option (List ℕ)) → IsSome files → IsSome input → IsCalmlyAnswered (record { words = g.words; files = files; input = input }) first
+        → IsCalmlyAnswered (record { words = g.words; files = files; input = input }) second → first ≡ second
     by None input some read p q = absurd cc
     by (Some files) None some read p q = absurd cc
     by (Some files) (Some input) some read p q = told_one_text once files input g.words first second p q

@@ -1,30 +1,29 @@
 -- How far the requests of an input are answered and their lines printed.
-use Rattle.std.proofs.Common.{◌≡◌, ℕ, ◌+◌, ◌≤◌, Bool, List, [], ◌∷◌, ◌++◌, append_assoc, append-nil, refl, sym, ap, subst, ◌∙◌, arith}
-use Rattle.std.specs.Prelude.{Option, None, IsUtf8, String, min, string_bytes}
+use Rattle.std.proofs.Common.{◌≡◌, ℕ, ◌+◌, ◌≤◌, Bool, List, [], ◌∷◌, ◌++◌, append_assoc, append-nil, take, refl, sym, ap, subst, ◌∙◌, arith}
+use Rattle.std.specs.Prelude.{Option, IsUtf8, String, min, string_bytes}
 use Rattle.std.specs.declared.alloc.Global.{Global}
 use Rattle.answer_lines.specs.LineText.{line_text}
 use Rattle.answer_lines.specs.declared.answer.Line.{Line}
-use Rattle.live_round.proofs.CallerLemmas.{IsUnderWay, alone, alone_before, judged_stays, request_step, under_way_more, under_way_none}
-use Rattle.live_round.specs.Refused.{RoseBy, refused_searches}
+use Rattle.live_round.proofs.CallerLemmas.{IsUnderWay, alone, alone_before, logged_more, request_step, under_way_more, under_way_none, way_used}
+use Rattle.live_round.specs.Requests.{Refuses}
 use Rattle.model_conf.specs.ModelText.{ModelParts}
 use Rattle.outside.specs.Faults.{Rose}
 use Rattle.outside.specs.Told.{with_back, TookFront}
 use Rattle.policy_state.specs.States.{State, tables}
-use Rattle.regex_gate.specs.Refusals.{IsRefused, IsUsed, Refusals}
-use Rattle.regex_gate.proofs.CallerLemmas.{refused_still, used_then}
+use Rattle.regex_gate.specs.Refusals.{IsUsed, Refusals, after_refusals}
 use Rattle.run_status.specs.declared.stop.Stop.TheVariants.{CannotWrite, NoMemory}
 use Rattle.script_read.specs.Lines.{requests_of}
 use Rattle.script_read.specs.Reads.{Reader}
 use Rattle.script_read.specs.Said.{Reading, Said, asks}
 use Rattle.script_read.specs.Script.{IsRequests}
-use Rattle.session_meaning.specs.Plain.{IsPlain, most_number}
-use Rattle.session_meaning.proofs.CallerLemmas.{plain_stays}
+use Rattle.session_meaning.specs.Plain.{IsPlain, all_refused, most_number}
 use Rattle.version_log.specs.Log.{versions}
-use Rattle.casbin_run.specs.Helps.Gathering.{IsGathered, Moves}
-use Rattle.casbin_run.specs.Helps.Working.{AnswersLine, LinesOf, PrintedAll, PrintedSome, Rises}
+use Rattle.casbin_run.specs.Finders.{HasRefused}
+use Rattle.casbin_run.specs.Helps.Gathering.{AreGathered, Moves}
+use Rattle.casbin_run.specs.Helps.Working.{AnswersLine, LinesOf, PrintedAll, PrintedSome, StopsLine}
 use Rattle.casbin_run.specs.Texts.{text_of_lines}
-use Rattle.casbin_run.proofs.AskLemmas.{HasVerdicts, OneWay, asked, asked_more, more_lines, one_reading, refused_more, text_more, text_one}
-use Rattle.casbin_run.proofs.GatheredLemmas.{all_pushed, gathered_more, gathered_moved, gathered_none, stopped_front, stopped_quiet}
+use Rattle.casbin_run.proofs.AskLemmas.{HasVerdicts, MoreLines, OneWay, asked, asked_more, more_lines, one_reading, stopped_lines}
+use Rattle.casbin_run.proofs.GatheredLemmas.{all_pushed, gathered_more, gathered_moved, gathered_none, stopped_first, stopped_front}
 
 -- what a run of requests is over: a model, a policy, a reader of requests, and the lines of its input
 pub record Run (json : Bool) : Type 0 where
@@ -58,7 +57,7 @@ pub record IsPrinted {json : Bool} (run : Run json) (left : List (List ℕ)) (nu
   pub lines : List Line
   pub parts : run.all ≡ read ++ left
   pub under : Under run read number lines seen.before seen.now
-  pub told : IsGathered seen.out seen.out_now gathered (text_of_lines lines) seen.faults seen.faults_now
+  pub told : AreGathered seen.out seen.out_now gathered lines seen.faults seen.faults_now
 
 abbrev pub seen_first : Option (List ℕ) → ℕ → Refusals → Seen
 seen_first out faults before = seen_between out out faults faults before before
@@ -77,31 +76,13 @@ printed_none run gathered out faults before none empty = record {
 abbrev pub seen_later : Seen → Refusals → Seen
 seen_later seen later = record seen { now = later }
 
-pub printed_later : {json : Bool} (run : Run json) (left : List (List ℕ)) (number : ℕ) (gathered : List ℕ) (seen : Seen) (later : Refusals) → IsPrinted run left number gathered seen → IsUsed seen.now later None
-    → IsPrinted run left number gathered (seen_later seen later)
-printed_later run left number gathered seen later so used = record {
-  read = so.read;
-  lines = so.lines;
-  parts = so.parts;
-  under = record {
-    plain = plain_stays run.model run.state.shapes (tables run.state) (IsRefused seen.before seen.now) (IsRefused seen.before later)
-        (judged_stays run.model run.state.shapes (IsRefused seen.before seen.now) (IsRefused seen.before later) (λ pattern refused. refused_still seen.before seen.now later pattern refused used)) (asked run.reader so.read) so.lines so.under.plain;
-    behind = so.under.behind;
-    shapes_are = so.under.shapes_are;
-    number_is = so.under.number_is;
-    rose = omega (arith, so.under.rose, used.counted);
-    used = used_then seen.before seen.now later None so.under.used used;
-  };
-  told = so.told;
-}
-
 -- one line more is answered and gathered
 pub printed_more : {json : Bool} (run : Run json) (law : OneWay json) (left rest : List (List ℕ)) (number next : ℕ) (line : List ℕ) (old new : String Global) (seen : Seen) (later : Refusals) → IsPrinted run left number (string_bytes old) seen
-    → left ≡ line ∷ rest → next ≡ min (number + 1) most_number → AnswersLine run.model run.state json seen.now later line next old new → IsUsed seen.now later None → IsPrinted run rest next (string_bytes new) (seen_later seen later)
-printed_more {json} run law left rest number next line old new seen later so begins next-is answers used =
-    let one : Line = record { number = next; answer = answers.reply } in
-    let step = request_step run.model seen.now later (alone run.state) run.state refl answers.reading answers.reply answers.answers answers.counted in
-    let under = under_way_more run.model run.state.shapes (tables run.state) seen.before (asked run.reader so.read) (asks answers.reading) (alone run.state) (alone run.state) number next so.lines answers.reply seen.now later so.under next-is step refl used in
+    → left ≡ line ∷ rest → next ≡ min (number + 1) most_number → AnswersLine run.model run.state json seen.now later line next old new → IsPrinted run rest next (string_bytes new) (seen_later seen later)
+printed_more {json} run law left rest number next line old new seen later so begins next-is answers =
+    let one : Line = record { number = next; answer = answers.told.reply } in
+    let step = request_step run.model seen.now later (alone run.state) run.state refl answers.reading answers.told.reply answers.told.answered in
+    let under = under_way_more run.model run.state.shapes (tables run.state) seen.before (asked run.reader so.read) (asks answers.reading) (alone run.state) (alone run.state) number next so.lines answers.told.reply seen.now later so.under next-is step refl in
     let item : asks answers.reading ≡ asks (run.reader.request line) = ap (λ (reading : Reading). asks reading) (one_reading json law run.reader line answers.reading answers.says) in
     let said : asked run.reader so.read ++ asks answers.reading ∷ [] ≡ asked run.reader (so.read ++ line ∷ []) = ap (λ (i : Said). asked run.reader so.read ++ i ∷ []) item ∙ sym (asked_more run.reader so.read (line ∷ [])) in
     record {
@@ -109,9 +90,18 @@ printed_more {json} run law left rest number next line old new seen later so beg
       lines = so.lines ++ one ∷ [];
       parts = so.parts ∙ ap (λ (l : List (List ℕ)). so.read ++ l) begins ∙ sym (append_assoc so.read (line ∷ []) rest);
       under = subst (λ (items : List Said). IsUnderWay run.model run.state.shapes (tables run.state) items (alone run.state) next (so.lines ++ one ∷ []) seen.before later) said under;
-      told = subst (λ (text : List ℕ). IsGathered seen.out seen.out_now (string_bytes new) text seen.faults seen.faults_now) (sym (text_more so.lines (one ∷ []) ∙ ap (λ (text : List ℕ). text_of_lines so.lines ++ text) (text_one one)))
-          (gathered_more seen.out seen.out_now (string_bytes old) (text_of_lines so.lines) (line_text one) (string_bytes new) seen.faults seen.faults_now so.told answers.appended);
+      told = gathered_more seen.out seen.out_now (string_bytes old) (string_bytes new) so.lines one seen.faults seen.faults_now so.told answers.told.appended;
     }
+
+-- the finder was used so far, and at a line that is not answered
+pub printed_used : {json : Bool} (run : Run json) (left : List (List ℕ)) (number : ℕ) (gathered : List ℕ) (seen : Seen) → IsPrinted run left number gathered seen → IsUsed seen.before seen.now
+printed_used run left number gathered seen so = way_used run.model run.state.shapes (tables run.state) seen.before (asked run.reader so.read) (alone run.state) number so.lines seen.now so.under
+
+pub stopped_used : {json : Bool} (run : Run json) (left : List (List ℕ)) (number : ℕ) (gathered : List ℕ) (seen : Seen) (later : Refusals) (line : List ℕ) → IsPrinted run left number gathered seen → StopsLine run.model json seen.now later line → IsUsed seen.before later
+stopped_used run left number gathered seen later line so stops = record {
+  more = all_refused (so.under.refused ++ stops.asked.refused ∷ []);
+  refused = logged_more seen.before seen.now later so.under.refused stops.asked.refused so.under.logged stops.asked.logged;
+}
 
 -- some of what was gathered was pushed
 abbrev pub seen_pushed : Seen → Option (List ℕ) → ℕ → Seen
@@ -124,7 +114,7 @@ printed_moved run left number gathered still seen now faults so moved counted = 
   lines = so.lines;
   parts = so.parts;
   under = so.under;
-  told = gathered_moved seen.out seen.out_now now gathered still (text_of_lines so.lines) seen.faults seen.faults_now faults so.told moved counted;
+  told = gathered_moved seen.out seen.out_now now gathered still so.lines seen.faults seen.faults_now faults so.told moved counted;
 }
 
 -- ---- the ends
@@ -142,84 +132,86 @@ printed_all run text left number gathered seen now utf8 all so none took =
       printed = record {
         items = asked run.reader run.all;
         lines = so.lines;
+        refused = so.under.refused;
         says = says_all run text utf8 all;
-        plain = subst (λ (l : List (List ℕ)). IsPlain run.model run.state.shapes (tables run.state) (IsRefused seen.before seen.now) (asked run.reader l) so.lines) whole so.under.plain;
-        counted = so.under.rose;
+        plain = subst (λ (l : List (List ℕ)). IsPlain run.model run.state.shapes (tables run.state) (asked run.reader l) so.under.refused so.lines) whole so.under.plain;
+        logged = so.under.logged;
       };
-      took = all_pushed seen.out seen.out_now now gathered (text_of_lines so.lines) seen.faults seen.faults_now so.told took;
+      took = all_pushed seen.out seen.out_now now gathered so.lines seen.faults seen.faults_now so.told took;
     }
 
 -- the lines of all requests, of which the first are these
-whole_lines : {json : Bool} (law : HasVerdicts) (run : Run json) (text : List ℕ) (left : List (List ℕ)) (number : ℕ) (gathered : List ℕ) (seen : Seen) → IsUtf8 text → run.all ≡ requests_of text → (so : IsPrinted run left number gathered seen)
-    → (more : List Line) × (printed : LinesOf (IsRequests json text) run.model run.state.shapes (tables run.state) (IsRefused seen.before seen.now) (Rises seen.before seen.now)) × (text_of_lines printed.lines ≡ text_of_lines so.lines ++ text_of_lines more)
-whole_lines law run text left number gathered seen utf8 all so =
-    let rest = more_lines law run.model run.state.shapes (tables run.state) (IsRefused seen.before seen.now) run.reader left (asked run.reader so.read) so.lines so.under.plain in
-    let whole : asked run.reader so.read ++ asked run.reader left ≡ asked run.reader run.all = sym (asked_more run.reader so.read left) ∙ ap (λ (lines : List (List ℕ)). asked run.reader lines) (sym so.parts) in (
-      rest.more,
+module _ {json : Bool} (law : HasVerdicts) (run : Run json) (text : List ℕ) (left : List (List ℕ)) (number : ℕ) (gathered : List ℕ) (seen : Seen) (utf8 : IsUtf8 text) (all : run.all ≡ requests_of text) (so : IsPrinted run left number gathered seen) where
+  lines_with : (refused : List (List (List ℕ))) (later : Refusals) → later ≡ after_refusals seen.before (all_refused refused) → (rest : MoreLines law run.model run.state.shapes (tables run.state) (asked run.reader so.read ++ asked run.reader left) refused so.lines)
+      → LinesOf (IsRequests json text) run.model run.state.shapes (tables run.state) (HasRefused seen.before later)
+  lines_with refused later logged rest =
+      let whole : asked run.reader so.read ++ asked run.reader left ≡ asked run.reader run.all = sym (asked_more run.reader so.read left) ∙ ap (λ (lines : List (List ℕ)). asked run.reader lines) (sym so.parts) in
       record {
         items = asked run.reader run.all;
         lines = so.lines ++ rest.more;
+        refused = rest.all;
         says = says_all run text utf8 all;
-        plain = subst (λ (items : List Said). IsPlain run.model run.state.shapes (tables run.state) (IsRefused seen.before seen.now) items (so.lines ++ rest.more)) whole rest.plain;
-        counted = still seen.before.count seen.now.count (refused_searches so.lines) (refused_searches (so.lines ++ rest.more)) (refused_more so.lines rest.more ∙ ap (λ (n : ℕ). refused_searches so.lines + n) rest.calm) so.under.rose;
-      },
-      text_more so.lines rest.more,
-    )
-  where
-    still : (before now few many : ℕ) → many ≡ few + 0 → RoseBy few before now → RoseBy many before now
-    still before now few many same risen = omega (arith, same, risen)
+        plain = subst (λ (items : List Said). IsPlain run.model run.state.shapes (tables run.state) items rest.all (so.lines ++ rest.more)) whole rest.plain;
+        logged = logged ∙ ap (after_refusals seen.before) (sym rest.same);
+      }
 
--- memory ran out
-pub printed_memory : {json : Bool} (law : HasVerdicts) (run : Run json) (text : List ℕ) (left : List (List ℕ)) (number : ℕ) (gathered : List ℕ) (seen : Seen) (rose : Type 0) → IsUtf8 text → run.all ≡ requests_of text → IsPrinted run left number gathered seen
-    → PrintedSome (IsRequests json text) run.model run.state.shapes (tables run.state) seen.before seen.now seen.out seen.out_now rose NoMemory
-printed_memory law run text left number gathered seen rose utf8 all so =
-    let whole = whole_lines law run text left number gathered seen utf8 all so in
-    record {
-      printed = whole.1;
-      stops = subst (TookFront seen.out seen.out_now) (sym whole.2) (stopped_quiet seen.out seen.out_now gathered (text_of_lines so.lines) (text_of_lines whole.0) seen.faults seen.faults_now so.told);
-    }
+  -- memory ran out at a line
+  pub printed_memory : (way : OneWay json) (line : List ℕ) (others : List (List ℕ)) (later : Refusals) (rose : Type 0) → left ≡ line ∷ others → StopsLine run.model json seen.now later line
+      → PrintedSome (IsRequests json text) run.model run.state.shapes (tables run.state) seen.before later seen.out seen.out_now rose NoMemory
+  unfolding lines_with
+  printed_memory way line others later rose begins stops =
+      let patterns = stops.asked.refused in
+      let same = one_reading json way run.reader line stops.reading stops.says in
+      let asks_so : Refuses run.model seen.now later (asks (run.reader.request line)) = subst (λ (reading : Reading). Refuses run.model seen.now later (asks reading)) same stops.asked in
+      let more = stopped_lines law run.model run.state.shapes (tables run.state) run.reader line others (asked run.reader so.read) so.under.refused asks_so.refused so.lines asks_so.unasked so.under.plain in
+      let rest = subst (λ (l : List (List ℕ)). MoreLines law run.model run.state.shapes (tables run.state) (asked run.reader so.read ++ asked run.reader l) (so.under.refused ++ asks_so.refused ∷ []) so.lines) (sym begins) more in
+      record {
+        printed = lines_with (so.under.refused ++ asks_so.refused ∷ []) later (logged_more seen.before seen.now later so.under.refused asks_so.refused so.under.logged asks_so.logged) rest;
+        stops = stopped_first seen.out seen.out_now gathered so.lines rest.more seen.faults seen.faults_now so.told;
+      }
 
--- the sink failed
-pub printed_write : {json : Bool} (law : HasVerdicts) (run : Run json) (text : List ℕ) (left : List (List ℕ)) (number : ℕ) (gathered : List ℕ) (seen : Seen) (now : Option (List ℕ)) (faults : ℕ) → IsUtf8 text → run.all ≡ requests_of text → IsPrinted run left number gathered seen
-    → TookFront seen.out_now now gathered → Rose seen.faults_now faults → PrintedSome (IsRequests json text) run.model run.state.shapes (tables run.state) seen.before seen.now seen.out now (Rose seen.faults faults) CannotWrite
-printed_write law run text left number gathered seen now faults utf8 all so front rose =
-    let whole = whole_lines law run text left number gathered seen utf8 all so in
-    let risen : Rose seen.faults faults = omega (arith, so.told.counted, rose) in
-    record {
-      printed = whole.1;
-      stops = (subst (TookFront seen.out now) (sym whole.2) (stopped_front seen.out seen.out_now now gathered (text_of_lines so.lines) (text_of_lines whole.0) seen.faults seen.faults_now so.told front), risen);
-    }
+  -- the sink failed
+  pub printed_write : (now : Option (List ℕ)) (faults : ℕ) → TookFront seen.out_now now gathered → Rose seen.faults_now faults
+      → PrintedSome (IsRequests json text) run.model run.state.shapes (tables run.state) seen.before seen.now seen.out now (Rose seen.faults faults) CannotWrite
+  unfolding lines_with
+  printed_write now faults front rose =
+      let rest = more_lines law run.model run.state.shapes (tables run.state) run.reader left (asked run.reader so.read) so.under.refused so.lines so.under.plain in
+      record {
+        printed = lines_with so.under.refused seen.now so.under.logged rest;
+        stops = (stopped_front seen.out seen.out_now now gathered so.lines rest.more seen.faults seen.faults_now so.told front, omega (arith, so.told.counted, rose));
+      }
 
 -- ---- lines that are there
 
 -- the lines up to those that are left were pushed or are gathered
-pub record AreGathered (before now : Option (List ℕ)) (gathered : List ℕ) (all left : List Line) (faults faults_now : ℕ) : Type 0 where
-  pub so_far : List ℕ
-  pub told : IsGathered before now gathered so_far faults faults_now
-  pub parts : so_far ++ text_of_lines left ≡ text_of_lines all
+pub record IsMidway (before now : Option (List ℕ)) (gathered : List ℕ) (all left : List Line) (faults faults_now : ℕ) : Type 0 where
+  pub so_far : List Line
+  pub told : AreGathered before now gathered so_far faults faults_now
+  pub parts : all ≡ so_far ++ left
 
-pub lines_none : (before : Option (List ℕ)) (gathered : List ℕ) (all : List Line) (faults : ℕ) → gathered ≡ [] → AreGathered before before gathered all all faults faults
+pub lines_none : (before : Option (List ℕ)) (gathered : List ℕ) (all : List Line) (faults : ℕ) → gathered ≡ [] → IsMidway before before gathered all all faults faults
 lines_none before gathered all faults none = record { so_far = []; told = gathered_none before gathered faults none; parts = refl }
 
 -- one more line
-pub lines_more : (before now : Option (List ℕ)) (gathered more : List ℕ) (all left rest : List Line) (line : Line) (a b : ℕ) → AreGathered before now gathered all left a b → left ≡ line ∷ rest → more ≡ gathered ++ line_text line → AreGathered before now more all rest a b
+pub lines_more : (before now : Option (List ℕ)) (gathered more : List ℕ) (all left rest : List Line) (line : Line) (a b : ℕ) → IsMidway before now gathered all left a b → left ≡ line ∷ rest → more ≡ gathered ++ line_text line → IsMidway before now more all rest a b
 lines_more before now gathered more all left rest line a b so begins more-is = record {
-  so_far = so.so_far ++ line_text line;
-  told = gathered_more before now gathered so.so_far (line_text line) more a b so.told more-is;
-  parts = append_assoc so.so_far (line_text line) (text_of_lines rest) ∙ ap (λ (lines : List Line). so.so_far ++ text_of_lines lines) (sym begins) ∙ so.parts;
+  so_far = so.so_far ++ line ∷ [];
+  told = gathered_more before now gathered more so.so_far line a b so.told more-is;
+  parts = so.parts ∙ ap (λ (lines : List Line). so.so_far ++ lines) begins ∙ sym (append_assoc so.so_far (line ∷ []) rest);
 }
 
-pub lines_moved : (before mid now : Option (List ℕ)) (gathered still : List ℕ) (all left : List Line) (a b c : ℕ) → AreGathered before mid gathered all left a b → Moves mid now gathered still → b ≤ c → AreGathered before now still all left a c
+pub lines_moved : (before mid now : Option (List ℕ)) (gathered still : List ℕ) (all left : List Line) (a b c : ℕ) → IsMidway before mid gathered all left a b → Moves mid now gathered still → b ≤ c → IsMidway before now still all left a c
 lines_moved before mid now gathered still all left a b c so moved counted = record { so_far = so.so_far; told = gathered_moved before mid now gathered still so.so_far a b c so.told moved counted; parts = so.parts }
 
-pub lines_all : (before mid now : Option (List ℕ)) (gathered : List ℕ) (all left : List Line) (a b : ℕ) → AreGathered before mid gathered all left a b → left ≡ [] → now ≡ with_back mid gathered → now ≡ with_back before (text_of_lines all)
+pub lines_all : (before mid now : Option (List ℕ)) (gathered : List ℕ) (all left : List Line) (a b : ℕ) → IsMidway before mid gathered all left a b → left ≡ [] → now ≡ with_back mid gathered → now ≡ with_back before (text_of_lines all)
 lines_all before mid now gathered all left a b so none took =
-    let whole : so.so_far ≡ text_of_lines all = sym (append-nil so.so_far) ∙ ap (λ (lines : List Line). so.so_far ++ text_of_lines lines) (sym none) ∙ so.parts in
-    all_pushed before mid now gathered so.so_far a b so.told took ∙ ap (with_back before) whole
+    let whole : so.so_far ≡ all = sym (so.parts ∙ ap (λ (lines : List Line). so.so_far ++ lines) none ∙ append-nil so.so_far) in
+    all_pushed before mid now gathered so.so_far a b so.told took ∙ ap (λ (lines : List Line). with_back before (text_of_lines lines)) whole
 
-pub lines_quiet : (before now : Option (List ℕ)) (gathered : List ℕ) (all left : List Line) (a b : ℕ) → AreGathered before now gathered all left a b → TookFront before now (text_of_lines all)
-lines_quiet before now gathered all left a b so = subst (TookFront before now) so.parts (stopped_quiet before now gathered so.so_far (text_of_lines left) a b so.told)
+pub lines_first : (before now : Option (List ℕ)) (gathered : List ℕ) (all left : List Line) (a b : ℕ) → IsMidway before now gathered all left a b → (count : ℕ) × (now ≡ with_back before (text_of_lines (take count all)))
+lines_first before now gathered all left a b so =
+    subst (λ (lines : List Line). (count : ℕ) × (now ≡ with_back before (text_of_lines (take count lines)))) (sym so.parts) (stopped_first before now gathered so.so_far left a b so.told)
 
-pub lines_stopped : (before mid now : Option (List ℕ)) (gathered : List ℕ) (all left : List Line) (a b c : ℕ) → AreGathered before mid gathered all left a b → TookFront mid now gathered → Rose b c → TookFront before now (text_of_lines all) × Rose a c
+pub lines_stopped : (before mid now : Option (List ℕ)) (gathered : List ℕ) (all left : List Line) (a b c : ℕ) → IsMidway before mid gathered all left a b → TookFront mid now gathered → Rose b c → TookFront before now (text_of_lines all) × Rose a c
 lines_stopped before mid now gathered all left a b c so front rose =
-    (subst (TookFront before now) so.parts (stopped_front before mid now gathered so.so_far (text_of_lines left) a b so.told front), omega (arith, so.told.counted, rose))
+    (subst (λ (lines : List Line). TookFront before now (text_of_lines lines)) (sym so.parts) (stopped_front before mid now gathered so.so_far left a b so.told front), omega (arith, so.told.counted, rose))

@@ -1,5 +1,5 @@
 -- Why a part is not read, from the fault of its reader.
-use Rattle.std.proofs.Common.{◌≡◌, ◌≢◌, ℕ, ◌<◌, ◌≤◌, Bool, List, length, refl, subst, sym}
+use Rattle.std.proofs.Common.{◌≡◌, ◌≢◌, ℕ, ◌<◌, ◌≤◌, Bool, false, List, length, refl, subst, sym}
 use Rattle.std.specs.Prelude.{◌↔◌, Option, Some, None, Result, Ok, Err, IfErr, OnOk, IsErrOf}
 use Rattle.command_words.specs.declared.command.Options.{Options}
 use Rattle.model_conf.specs.Faults.{IsModelFault}
@@ -22,17 +22,17 @@ use Rattle.script_read.specs.declared.fault.ScriptFault.TheVariants as script
 use Rattle.casbin_run.specs.Given.{InputIs}
 use Rattle.casbin_run.specs.Helps.Loading.{InputStops, ModelStops, PolicyStops, ShapesStop}
 use Rattle.casbin_run.specs.Jobs.{absent_in, domains_in, limit_in, names_in, shapes_with}
-use Rattle.enforce_core.specs.Programs.{Suits}
+use Rattle.decision.specs.Programs.{Suits}
 use Rattle.model_conf.specs.Shapes.{AreNamedOnce}
 use Rattle.casbin_run.specs.declared.job.Task.TheVariants.{Serve}
 
-pub model_stops : (files : Option Files) (name : List ℕ) (rose : Type 0) (bytes : List ℕ) (e : ModelFault) → Holds files name bytes → length bytes ≤ limit_of Model → (e ≢ model.NoMemory → IsModelFault bytes e) → ModelStops files name rose (model_stop_of e)
-model_stops files name rose bytes model.NoMemory holds within fault = tt
-model_stops files name rose bytes e holds within fault = (bytes, holds, within, fault (λ is. absurd cc))
+pub model_stops : (files : Option Files) (name : List ℕ) (told : Bool → Type 0) (rose : Type 0) (bytes : List ℕ) (e : ModelFault) → Holds files name bytes → length bytes ≤ limit_of Model → told false → (e ≢ model.NoMemory → IsModelFault bytes e) → ModelStops files name told rose (model_stop_of e)
+model_stops files name told rose bytes model.NoMemory holds within so fault = so
+model_stops files name told rose bytes e holds within so fault = ((bytes, holds, within, fault (λ is. absurd cc)), so)
 
-pub policy_stops : (files : Option Files) (name : List ℕ) (shapes : Shapes) (rose : Type 0) (bytes : List ℕ) (e : PolicyFault) → Holds files name bytes → length bytes ≤ limit_of Policy → (e ≢ policy.NoMemory → IsPolicyFault shapes bytes e) → PolicyStops files name shapes rose (policy_stop_of e)
-policy_stops files name shapes rose bytes policy.NoMemory holds within fault = tt
-policy_stops files name shapes rose bytes e holds within fault = (bytes, holds, within, fault (λ is. absurd cc))
+pub policy_stops : (files : Option Files) (name : List ℕ) (shapes : Shapes) (told : Bool → Type 0) (rose : Type 0) (bytes : List ℕ) (e : PolicyFault) → Holds files name bytes → length bytes ≤ limit_of Policy → told false → (e ≢ policy.NoMemory → IsPolicyFault shapes bytes e) → PolicyStops files name shapes told rose (policy_stop_of e)
+policy_stops files name shapes told rose bytes policy.NoMemory holds within so fault = so
+policy_stops files name shapes told rose bytes e holds within so fault = ((bytes, holds, within, fault (λ is. absurd cc)), so)
 
 pub script_stops : (json : Bool) (input : Option (List ℕ)) (rose : Type 0) (bytes : List ℕ) (e : ScriptFault) → InputIs input (λ told. told ≡ bytes) → (e ≢ script.NoMemory → IsScriptFault json bytes e) → InputStops (Serve json) input rose (script_stop_of e)
 script_stops json input rose bytes script.NoMemory is fault = tt

@@ -19,6 +19,7 @@ use Rattle.script_read.specs.declared.fault.ScriptFault.TheVariants.{NotUtf8}
 use Rattle.casbin_run.specs.Causes.{Cause}
 use Rattle.casbin_run.specs.Given.{AreFiles, Fits, Given, IsInOrder, ModelIs}
 use Rattle.casbin_run.specs.Jobs.{absent_in, job_asked, shapes_with}
+use Rattle.casbin_run.specs.Reached.{at_words, at_model, at_options, at_policy, at_task}
 use Rattle.casbin_run.specs.declared.job.Job.{Job}
 use Rattle.casbin_run.specs.declared.job.Task.{Task}
 use Rattle.casbin_run.specs.declared.job.Task.TheVariants.{Enforce, Serve, Check, Format}
@@ -55,16 +56,16 @@ module _ (law : SaysSome) (words : List (List ℕ)) (files : Files) (input : Lis
       module _ (policy : table.Policy) (are : AreFiles (Some files) job model policy) where
         by_requests : (json : Bool) → job.task ≡ Enforce json → length input ≤ limit_of Input → ((items : List Said) × IsRequests json input items) ⊎ (¬ (IsUtf8 input)) → Ended told
         by_requests json task within (inl said) = inl (record { job = job; model = model; policy = policy; items = said.0; asked = asked; are_files = are; says = rw task (input, refl, within, said.1) })
-        by_requests json task within (inr none) = inr (NoScript NotUtf8, (job, asked, (model, policy, are, (rw task refl, (input, refl, within, rw task (none, refl))))))
+        by_requests json task within (inr none) = inr (NoScript NotUtf8, (at_task job model policy, (asked, are), (rw task refl, (input, refl, within, rw task (none, refl)))))
 
         by_script : (json : Bool) → job.task ≡ Serve json → length input ≤ limit_of Input → ((items : List Said) × IsScript json input items) ⊎ ((f : ScriptFault) × IsScriptFault json input f) → Ended told
         by_script json task within (inl said) = inl (record { job = job; model = model; policy = policy; items = said.0; asked = asked; are_files = are; says = rw task (input, refl, within, said.1) })
-        by_script json task within (inr bad) = inr (NoScript bad.0, (job, asked, (model, policy, are, (rw task refl, (input, refl, within, rw task bad.1)))))
+        by_script json task within (inr bad) = inr (NoScript bad.0, (at_task job model policy, (asked, are), (rw task refl, (input, refl, within, rw task bad.1))))
 
         by_input : (task : Task) → job.task ≡ task → Sized input (limit_of Input) → Ended told
-        by_input (Enforce json) task (inl wide) = inr (TooLong Input, (job, asked, (model, policy, are, (rw task refl, wide))))
+        by_input (Enforce json) task (inl wide) = inr (TooLong Input, (at_task job model policy, (asked, are), (rw task refl, wide)))
         by_input (Enforce json) task (inr within) = by_requests json task within (law.requests json input)
-        by_input (Serve json) task (inl wide) = inr (TooLong Input, (job, asked, (model, policy, are, (rw task refl, wide))))
+        by_input (Serve json) task (inl wide) = inr (TooLong Input, (at_task job model policy, (asked, are), (rw task refl, wide)))
         by_input (Serve json) task (inr within) = by_script json task within (law.script json input)
         by_input Check task size = inl (record { job = job; model = model; policy = policy; items = []; asked = asked; are_files = are; says = rw task refl })
         by_input Format task size = inl (record { job = job; model = model; policy = policy; items = []; asked = asked; are_files = are; says = rw task refl })
@@ -73,34 +74,34 @@ module _ (law : SaysSome) (words : List (List ℕ)) (files : Files) (input : Lis
         by_policy : (bytes : List ℕ) → files job.files.policy ≡ Some bytes → length bytes ≤ limit_of Policy
             → ((policy : table.Policy) × IsPolicy (shapes_with job.options model) bytes policy) ⊎ ((f : PolicyFault) × IsPolicyFault (shapes_with job.options model) bytes f) → Ended told
         by_policy bytes held within (inl is) = by_input is.0 (record { fits = fits; is_policy = (bytes, held, within, is.1) }) job.task refl (sized input (limit_of Input))
-        by_policy bytes held within (inr bad) = inr (NoPolicy bad.0, (job, asked, (model, fits, (bytes, held, within, bad.1))))
+        by_policy bytes held within (inr bad) = inr (NoPolicy bad.0, (at_policy job model, (asked, fits), (bytes, held, within, bad.1)))
 
         by_policy_size : (bytes : List ℕ) → files job.files.policy ≡ Some bytes → Sized bytes (limit_of Policy) → Ended told
-        by_policy_size bytes held (inl wide) = inr (TooLong Policy, (job, asked, (model, fits, (bytes, held, wide))))
+        by_policy_size bytes held (inl wide) = inr (TooLong Policy, (at_policy job model, (asked, fits), (bytes, held, wide)))
         by_policy_size bytes held (inr within) = by_policy bytes held within (law.policy (shapes_with job.options model) bytes)
 
         by_policy_file : (content : Option (List ℕ)) → files job.files.policy ≡ content → Ended told
-        by_policy_file None lacks = inr (CannotRead Policy, (job, asked, (model, fits, lacks)))
+        by_policy_file None lacks = inr (CannotRead Policy, (at_policy job model, (asked, fits), lacks))
         by_policy_file (Some bytes) held = by_policy_size bytes held (sized bytes (limit_of Policy))
 
       by_options : ModelIs (Some files) job model → (absent : Option ℕ) → absent_in job.options model ≡ absent → Ended told
-      by_options is (Some relation) lacks = inr (NoRelation relation, (job, asked, (model, is, lacks)))
+      by_options is (Some relation) lacks = inr (NoRelation relation, (at_options job model, (asked, is), lacks))
       by_options is None none = by_policy_file (record { is_model = is; none_absent = none }) (files job.files.policy) refl
 
     by_model : (bytes : List ℕ) → files job.files.model ≡ Some bytes → length bytes ≤ limit_of Model → SomeModel bytes → Ended told
     by_model bytes held within (inl is) = by_options is.0 (bytes, held, within, is.1) (absent_in job.options is.0) refl
-    by_model bytes held within (inr bad) = inr (NoModel bad.0, (job, asked, (bytes, held, within, bad.1)))
+    by_model bytes held within (inr bad) = inr (NoModel bad.0, (at_model job, asked, (bytes, held, within, bad.1)))
 
     by_size : (bytes : List ℕ) → files job.files.model ≡ Some bytes → Sized bytes (limit_of Model) → Ended told
-    by_size bytes held (inl wide) = inr (TooLong Model, (job, asked, (bytes, held, wide)))
+    by_size bytes held (inl wide) = inr (TooLong Model, (at_model job, asked, (bytes, held, wide)))
     by_size bytes held (inr within) = by_model bytes held within (law.model bytes)
 
     by_file : (content : Option (List ℕ)) → files job.files.model ≡ content → Ended told
-    by_file None lacks = inr (CannotRead Model, (job, asked, lacks))
+    by_file None lacks = inr (CannotRead Model, (at_model job, asked, lacks))
     by_file (Some bytes) held = by_size bytes held (sized bytes (limit_of Model))
 
   told_ended : (asked : Option Job) → job_asked words ≡ asked → Ended told
-  told_ended None none = inr (Words, none)
+  told_ended None none = inr (Words, (at_words, tt, none))
   told_ended (Some job) asked = by_file job asked (files job.files.model) refl
 
 pub some_end : SaysSome → (g : Given) → IsSome g.files → IsSome g.input → Ended g

@@ -1,28 +1,28 @@
 -- What a task comes to.
 use Rattle.std.proofs.Common.{◌≡◌, ℕ, ◌<◌, ◌≤◌, List, [], inl, inr, ⊎_elim, refl, sym, ap, subst, ◌∙◌, Bool, true, arith}
-use Rattle.std.specs.Prelude.{Option, None, Result, Err, IfErr, IfSome, OnOk, length}
+use Rattle.std.specs.Prelude.{Option, Result, Err, IfErr, IfSome, OnOk, length, take}
 use Rattle.std.proofs.lemmas.Result.{IfErr-weaker, on_ok_weaker}
 use Rattle.answer_lines.specs.declared.answer.Line.{Line}
-use Rattle.enforce_core.proofs.CallerLemmas.{suits_columns}
-use Rattle.enforce_core.specs.Programs.{Suits}
-use Rattle.live_round.proofs.CallerLemmas.{judged_stays}
-use Rattle.live_round.specs.Refused.{refused_searches}
+use Rattle.decision.proofs.CallerLemmas.{suits_columns}
+use Rattle.decision.specs.Programs.{Suits}
+use Rattle.live_round.specs.Scripts.{AreScriptLines}
 use Rattle.model_conf.specs.ModelText.{ModelParts}
 use Rattle.outside.specs.Faults.{Rose}
 use Rattle.outside.specs.Told.{TookFront, with_back}
 use Rattle.perm_base.specs.declared.shapes.Shapes.{Shapes}
 use Rattle.policy_table.specs.Tables as table
-use Rattle.regex_gate.specs.Refusals.{IsRefused, IsUsed, Refusals}
+use Rattle.regex_gate.specs.Refusals.{IsUsed, Refusals}
 use Rattle.run_status.specs.declared.part.Part.TheVariants.{Input}
 use Rattle.run_status.specs.declared.stop.Stop.{Stop}
 use Rattle.run_status.specs.declared.stop.Stop.TheVariants.{NoScript, CannotRead, CannotWrite, TooLong, NoMemory}
 use Rattle.script_read.specs.Said.{Said}
 use Rattle.script_read.specs.Script.{IsRequests}
-use Rattle.session_meaning.specs.Plain.{IsPlain}
-use Rattle.session_meaning.proofs.CallerLemmas.{plain_none, plain_stays}
+use Rattle.session_meaning.specs.Plain.{all_refused}
+use Rattle.session_meaning.proofs.CallerLemmas.{plain_none}
+use Rattle.casbin_run.specs.Finders.{HasRefused}
 use Rattle.casbin_run.specs.Given.{InputIs, SaysItems}
 use Rattle.casbin_run.specs.Helps.Loading.{BytesStop, InputStops}
-use Rattle.casbin_run.specs.Helps.Working.{AnswerStops, AreAnswered, DidAll, DidSome, Ground, IsQuiet, LinesOf, PrintedAll, PrintedSome, Rises, ShowStops, TextStops, WorkStops, Worked, task_text}
+use Rattle.casbin_run.specs.Helps.Working.{AnswerStops, AreAnswered, DidAll, DidFirst, DidSome, Ground, IsQuiet, LinesOf, LinesStop, PrintedAll, PrintedSome, ShowStops, WorkStops, Worked, task_text}
 use Rattle.casbin_run.specs.Jobs.{reads_input}
 use Rattle.casbin_run.specs.Texts.{text_of, text_of_lines}
 use Rattle.casbin_run.specs.Worlds.{Taken}
@@ -38,13 +38,13 @@ bytes_stop task input rose (TooLong Input) stops = stops
 bytes_stop task input rose NoMemory stops = tt
 bytes_stop task input rose _ stops = absurd stops
 
-pub input_stops : (on : Ground) (IsBad : List ℕ → Type 0) (Risen : ℕ → Type 0) (out : Option (List ℕ)) (input_rose out_rose : Type 0) (stop : Stop) → reads_input on.task ≡ true → InputStops on.task on.input input_rose stop
-    → WorkStops on IsBad Risen out out input_rose out_rose stop
-input_stops on IsBad Risen out input_rose out_rose (CannotRead Input) reads stops = (reads, stops)
-input_stops on IsBad Risen out input_rose out_rose (TooLong Input) reads stops = (reads, stops)
-input_stops on IsBad Risen out input_rose out_rose (NoScript fault) reads stops = (reads, stops)
-input_stops on IsBad Risen out input_rose out_rose NoMemory reads stops = inl refl
-input_stops on IsBad Risen out input_rose out_rose _ reads stops = absurd stops
+pub input_stops : (on : Ground) (IsLogged : List (List ℕ) → Type 0) (out : Option (List ℕ)) (input_rose out_rose : Type 0) (stop : Stop) → reads_input on.task ≡ true → InputStops on.task on.input input_rose stop
+    → WorkStops on IsLogged out out input_rose out_rose stop
+input_stops on IsLogged out input_rose out_rose (CannotRead Input) reads stops = (reads, stops)
+input_stops on IsLogged out input_rose out_rose (TooLong Input) reads stops = (reads, stops)
+input_stops on IsLogged out input_rose out_rose (NoScript fault) reads stops = (reads, stops)
+input_stops on IsLogged out input_rose out_rose NoMemory reads stops = inl refl
+input_stops on IsLogged out input_rose out_rose _ reads stops = absurd stops
 
 -- the input is this text, of which the fact holds
 pub input_is : (input : Option (List ℕ)) (text : List ℕ) (fact : List ℕ → Type 0) → InputIs input (λ bytes. bytes ≡ text) → fact text → InputIs input fact
@@ -60,20 +60,20 @@ over_equal Holds model other shapes others policy second same-model same-shapes 
 
 module _ (IsSaid : List Said → Type 0) (model : ModelParts) (shapes : Shapes) (policy : table.Policy) (before now : Refusals) where
   -- lines of items that are said, and how far they were pushed
-  module _ (items : List Said) (lines : List Line) (says : IsSaid items) (plain : IsPlain model shapes policy (IsRefused before now) items lines) (counted : Rises before now (refused_searches lines)) (out out_now : Option (List ℕ)) where
-    abbrev lines_said : LinesOf IsSaid model shapes policy (IsRefused before now) (Rises before now)
-    lines_said = record { items = items; lines = lines; says = says; plain = plain; counted = counted }
+  module _ (items : List Said) (lines : List Line) (says : IsSaid items) (are : AreScriptLines model shapes policy before now items lines) (out out_now : Option (List ℕ)) where
+    abbrev lines_said : LinesOf IsSaid model shapes policy (HasRefused before now)
+    lines_said = record { items = items; lines = lines; refused = are.refused; says = says; plain = are.plain; logged = are.logged }
 
     pub said_all : out_now ≡ with_back out (text_of_lines lines) → PrintedAll IsSaid model shapes policy before now out out_now
     said_all took = record { printed = lines_said; took = took }
 
-    pub said_some : (out_rose : Type 0) (stop : Stop) → TextStops out out_now (text_of_lines lines) out_rose stop → PrintedSome IsSaid model shapes policy before now out out_now out_rose stop
+    pub said_some : (out_rose : Type 0) (stop : Stop) → LinesStop out out_now lines out_rose stop → PrintedSome IsSaid model shapes policy before now out out_now out_rose stop
     said_some out_rose stop stops = record { printed = lines_said; stops = stops }
 
   -- answers over what was loaded, where this is its model, its shapes and its policy
   pub answers_over : (loaded : Loaded) (out out_now : Taken) (result : Result (Unit {0}) Stop) → model ≡ loaded.model → shapes ≡ loaded.shapes → policy ≡ loaded.tables.policy
       → OnOk result (PrintedAll IsSaid model shapes policy before now out.bytes out_now.bytes) → IfErr result (PrintedSome IsSaid model shapes policy before now out.bytes out_now.bytes (Rose out.faults out_now.faults))
-      → out.faults ≤ out_now.faults → IsUsed before now None → AreAnswered IsSaid loaded before now out out_now result
+      → out.faults ≤ out_now.faults → IsUsed before now → AreAnswered IsSaid loaded before now out out_now result
   answers_over loaded out out_now result same-model same-shapes same-policy all some counted used = record {
     printed = on_ok_weaker result (over_equal (λ (m : ModelParts) (s : Shapes) (p : table.Policy). PrintedAll IsSaid m s p before now out.bytes out_now.bytes) loaded.model model loaded.shapes shapes loaded.tables.policy policy same-model same-shapes same-policy) all;
     stopped = IfErr-weaker result _ _ (λ stop stops. inr (over_equal (λ (m : ModelParts) (s : Shapes) (p : table.Policy). PrintedSome IsSaid m s p before now out.bytes out_now.bytes (Rose out.faults out_now.faults) stop) loaded.model model loaded.shapes shapes loaded.tables.policy policy same-model same-shapes same-policy stops)) some;
@@ -82,7 +82,7 @@ module _ (IsSaid : List Said → Type 0) (model : ModelParts) (shapes : Shapes) 
   }
 
 -- memory ran out before any answer was pushed
-pub out_of_memory : (IsSaid : List Said → Type 0) (loaded : Loaded) (before now : Refusals) (out : Taken) → IsUsed before now None → AreAnswered IsSaid loaded before now out out (Err NoMemory)
+pub out_of_memory : (IsSaid : List Said → Type 0) (loaded : Loaded) (before now : Refusals) (out : Taken) → IsUsed before now → AreAnswered IsSaid loaded before now out out (Err NoMemory)
 out_of_memory IsSaid loaded before now out used = record { printed = tt; stopped = inl (refl, refl); counted = omega arith; used = used }
 
 -- ---- tasks that read the input
@@ -105,30 +105,27 @@ pub served_says : (json : Bool) (input : Option (List ℕ)) (script : List Said)
 served_says json input script says items same = subst (λ (s : List Said). SaysItems (Serve json) input s) (sym same) says
 
 module _ (on : Ground) (reads : reads_input on.task ≡ true) (IsSaid : List Said → Type 0) (says : (items : List Said) → IsSaid items → SaysItems on.task on.input items) (before now : Refusals) (out out_now : Option (List ℕ)) where
-  abbrev worked : LinesOf IsSaid on.model on.shapes on.policy (IsRefused before now) (Rises before now) → Worked on (IsRefused before now) (Rises before now)
-  worked of = record { items = of.items; lines = of.lines; says = says of.items of.says; plain = of.plain; counted = of.counted }
+  abbrev worked : LinesOf IsSaid on.model on.shapes on.policy (HasRefused before now) → Worked on (HasRefused before now)
+  worked of = record { items = of.items; lines = of.lines; refused = of.refused; says = says of.items of.says; plain = of.plain; logged = of.logged }
 
-  pub answered_all : PrintedAll IsSaid on.model on.shapes on.policy before now out out_now → DidAll on (IsRefused before now) (Rises before now) out out_now
+  pub answered_all : PrintedAll IsSaid on.model on.shapes on.policy before now out out_now → DidAll on (HasRefused before now) out out_now
   answered_all all = record { worked = worked all.printed; took = all.took ∙ ap (with_back out) (lines_alone on all.printed.lines reads) }
 
-  answered_some : (of : LinesOf IsSaid on.model on.shapes on.policy (IsRefused before now) (Rises before now)) → TookFront out out_now (text_of_lines of.lines) → DidSome on (IsRefused before now) (Rises before now) out out_now
-  answered_some of took = record { worked = worked of; took = subst (TookFront out out_now) (lines_alone on of.lines reads) took }
-
-  some_stops : (input_rose out_rose : Type 0) (stop : Stop) → PrintedSome IsSaid on.model on.shapes on.policy before now out out_now out_rose stop → WorkStops on (IsRefused before now) (Rises before now) out out_now input_rose out_rose stop
-  some_stops input_rose out_rose CannotWrite some = (answered_some some.printed some.stops.0, some.stops.1)
-  some_stops input_rose out_rose NoMemory some = inr (answered_some some.printed some.stops)
+  some_stops : (input_rose out_rose : Type 0) (stop : Stop) → PrintedSome IsSaid on.model on.shapes on.policy before now out out_now out_rose stop → WorkStops on (HasRefused before now) out out_now input_rose out_rose stop
+  some_stops input_rose out_rose CannotWrite some = (record { worked = worked some.printed; took = subst (TookFront out out_now) (lines_alone on some.printed.lines reads) some.stops.0 }, some.stops.1)
+  some_stops input_rose out_rose NoMemory some = inr (record { worked = worked some.printed; count = some.stops.0; took = some.stops.1 })
   some_stops input_rose out_rose _ some = absurd some.stops
 
-  pub answered_stops : (input_rose out_rose : Type 0) (stop : Stop) → AnswerStops IsSaid on.model on.shapes on.policy before now out out_now out_rose stop → WorkStops on (IsRefused before now) (Rises before now) out out_now input_rose out_rose stop
+  pub answered_stops : (input_rose out_rose : Type 0) (stop : Stop) → AnswerStops IsSaid on.model on.shapes on.policy before now out out_now out_rose stop → WorkStops on (HasRefused before now) out out_now input_rose out_rose stop
   answered_stops input_rose out_rose stop stops =
-      ⊎_elim (λ early. subst (λ (s : Stop). WorkStops on (IsRefused before now) (Rises before now) out out_now input_rose out_rose s) (sym early.0) (inl early.1)) (λ some. some_stops input_rose out_rose stop some) stops
+      ⊎_elim (λ early. subst (λ (s : Stop). WorkStops on (HasRefused before now) out out_now input_rose out_rose s) (sym early.0) (inl early.1)) (λ some. some_stops input_rose out_rose stop some) stops
 
 -- ---- stops that are not quiet
 
-pub text_not_quiet : {A : Type 0} (out out_now : Option (List ℕ)) (text : List ℕ) (out_rose : Type 0) (stop : Stop) → TextStops out out_now text out_rose stop → IsQuiet stop → A
-text_not_quiet out out_now text out_rose CannotWrite stops quiet = absurd cc
-text_not_quiet out out_now text out_rose NoMemory stops quiet = absurd cc
-text_not_quiet out out_now text out_rose _ stops quiet = absurd stops
+pub lines_not_quiet : {A : Type 0} (out out_now : Option (List ℕ)) (lines : List Line) (out_rose : Type 0) (stop : Stop) → LinesStop out out_now lines out_rose stop → IsQuiet stop → A
+lines_not_quiet out out_now lines out_rose CannotWrite stops quiet = absurd cc
+lines_not_quiet out out_now lines out_rose NoMemory stops quiet = absurd cc
+lines_not_quiet out out_now lines out_rose _ stops quiet = absurd stops
 
 -- want of memory is not quiet
 memory_not_quiet : {A : Type 0} → IsQuiet NoMemory → A
@@ -136,7 +133,7 @@ memory_not_quiet quiet = absurd cc
 
 pub answer_not_quiet : {A : Type 0} (IsSaid : List Said → Type 0) (model : ModelParts) (shapes : Shapes) (policy : table.Policy) (before now : Refusals) (out out_now : Option (List ℕ)) (out_rose : Type 0) (stop : Stop) → AnswerStops IsSaid model shapes policy before now out out_now out_rose stop → IsQuiet stop → A
 answer_not_quiet IsSaid model shapes policy before now out out_now out_rose stop stops quiet =
-    ⊎_elim (λ early. memory_not_quiet (subst IsQuiet early.0 quiet)) (λ some. text_not_quiet out out_now (text_of_lines some.printed.lines) out_rose stop some.stops quiet) stops
+    ⊎_elim (λ early. memory_not_quiet (subst IsQuiet early.0 quiet)) (λ some. lines_not_quiet out out_now some.printed.lines out_rose stop some.stops quiet) stops
 
 pub show_quiet : (out out_now : Option (List ℕ)) (text : List ℕ) (out_rose : Type 0) (stop : Stop) → ShowStops out out_now text out_rose stop → IsQuiet stop → out_now ≡ out
 show_quiet out out_now text out_rose CannotWrite stops quiet = absurd cc
@@ -146,15 +143,15 @@ show_quiet out out_now text out_rose _ stops quiet = absurd stops
 -- ---- tasks that read no input
 
 -- no lines
-no_lines : (on : Ground) (refusals : Refusals) → SaysItems on.task on.input [] → Worked on (IsRefused refusals refusals) (Rises refusals refusals)
-no_lines on refusals says = record { items = []; lines = []; says = says; plain = plain_none on.model on.shapes on.policy (IsRefused refusals refusals); counted = omega arith }
+no_lines : (on : Ground) (refusals : Refusals) → SaysItems on.task on.input [] → Worked on (HasRefused refusals refusals)
+no_lines on refusals says = record { items = []; lines = []; refused = []; says = says; plain = plain_none on.model on.shapes on.policy; logged = refl }
 
 module _ (on : Ground) (refusals : Refusals) (says : SaysItems on.task on.input []) (out out_now : Option (List ℕ)) where
-  pub shown_all : out_now ≡ with_back out (task_text on []) → DidAll on (IsRefused refusals refusals) (Rises refusals refusals) out out_now
+  pub shown_all : out_now ≡ with_back out (task_text on []) → DidAll on (HasRefused refusals refusals) out out_now
   unfolding no_lines
   shown_all took = record { worked = no_lines on refusals says; took = took }
 
-  pub shown_stops : (input_rose out_rose : Type 0) (stop : Stop) → ShowStops out out_now (task_text on []) out_rose stop → WorkStops on (IsRefused refusals refusals) (Rises refusals refusals) out out_now input_rose out_rose stop
+  pub shown_stops : (input_rose out_rose : Type 0) (stop : Stop) → ShowStops out out_now (task_text on []) out_rose stop → WorkStops on (HasRefused refusals refusals) out out_now input_rose out_rose stop
   unfolding no_lines
   shown_stops input_rose out_rose CannotWrite stops = (record { worked = no_lines on refusals says; took = stops.0 }, stops.1)
   shown_stops input_rose out_rose NoMemory stops = inl stops
@@ -162,30 +159,21 @@ module _ (on : Ground) (refusals : Refusals) (says : SaysItems on.task on.input 
 
 -- ---- with more finders
 
-module _ (on : Ground) (IsBad IsWorse : List ℕ → Type 0) (Risen Raised : ℕ → Type 0) (bad : (pattern : List ℕ) → IsBad pattern → IsWorse pattern) (rose : (many : ℕ) → Risen many → Raised many) where
-  worked_more : Worked on IsBad Risen → Worked on IsWorse Raised
-  worked_more of = record {
-    items = of.items;
-    lines = of.lines;
-    says = of.says;
-    plain = plain_stays on.model on.shapes on.policy IsBad IsWorse (judged_stays on.model on.shapes IsBad IsWorse bad) of.items of.lines of.plain;
-    counted = rose (refused_searches of.lines) of.counted;
-  }
+module _ (on : Ground) (IsLogged AreLogged : List (List ℕ) → Type 0) (more : (patterns : List (List ℕ)) → IsLogged patterns → AreLogged patterns) where
+  worked_more : Worked on IsLogged → Worked on AreLogged
+  worked_more of = record { items = of.items; lines = of.lines; refused = of.refused; says = of.says; plain = of.plain; logged = more (all_refused of.refused) of.logged }
 
-  some_more : (out out_now : Option (List ℕ)) → DidSome on IsBad Risen out out_now → DidSome on IsWorse Raised out out_now
-  unfolding worked_more
-  some_more out out_now some = record { worked = worked_more some.worked; took = some.took }
-
-  pub all_more : (out out_now : Option (List ℕ)) → DidAll on IsBad Risen out out_now → DidAll on IsWorse Raised out out_now
+  pub all_more : (out out_now : Option (List ℕ)) → DidAll on IsLogged out out_now → DidAll on AreLogged out out_now
   unfolding worked_more
   all_more out out_now all = record { worked = worked_more all.worked; took = all.took }
 
-  pub stops_more : (out out_now : Option (List ℕ)) (input_rose out_rose : Type 0) (stop : Stop) → WorkStops on IsBad Risen out out_now input_rose out_rose stop → WorkStops on IsWorse Raised out out_now input_rose out_rose stop
+  pub stops_more : (out out_now : Option (List ℕ)) (input_rose out_rose : Type 0) (stop : Stop) → WorkStops on IsLogged out out_now input_rose out_rose stop → WorkStops on AreLogged out out_now input_rose out_rose stop
+  unfolding worked_more
   stops_more out out_now input_rose out_rose (CannotRead Input) stops = stops
   stops_more out out_now input_rose out_rose (TooLong Input) stops = stops
   stops_more out out_now input_rose out_rose (NoScript fault) stops = stops
-  stops_more out out_now input_rose out_rose CannotWrite stops = (some_more out out_now stops.0, stops.1)
-  stops_more out out_now input_rose out_rose NoMemory stops = ⊎_elim (λ same. inl same) (λ some. inr (some_more out out_now some)) stops
+  stops_more out out_now input_rose out_rose CannotWrite stops = (record { worked = worked_more stops.0.worked; took = stops.0.took }, stops.1)
+  stops_more out out_now input_rose out_rose NoMemory stops = ⊎_elim (λ same. inl same) (λ first. inr (record { worked = worked_more first.worked; count = first.count; took = first.took })) stops
   stops_more out out_now input_rose out_rose _ stops = absurd stops
 
 -- ---- making a policy's state

@@ -1,10 +1,8 @@
 -- Why a run stops.
-use Rattle.std.specs.Prelude.{◌≡◌, ◌⊎◌, ℕ, ◌<◌, true, List, Some, None, IfSome, IsUtf8, length, ⊤}
+use Rattle.std.specs.Prelude.{◌≡◌, ◌⊎◌, ◌<◌, Bool, true, false, List, ℕ, Some, None, IfSome, IsUtf8, length}
 use Rattle.outside.specs.Files.{Lacks, OfFile}
 use Rattle.model_conf.specs.Faults.{IsModelFault}
-use Rattle.model_conf.specs.ModelText.{ModelParts}
 use Rattle.policy_csv.specs.Faults.{IsPolicyFault}
-use Rattle.policy_table.specs.Tables as table
 use Rattle.run_status.specs.Parts.{limit_of}
 use Rattle.run_status.specs.declared.part.Part.TheVariants.{Model, Policy, Input}
 use Rattle.run_status.specs.declared.stop.Stop.{Stop}
@@ -12,29 +10,13 @@ use Rattle.run_status.specs.declared.stop.Stop.TheVariants.{Words, NoModel, NoRe
 use Rattle.script_read.specs.Script.{IsScriptFault}
 use Rattle.script_read.specs.declared.fault.ScriptFault.{ScriptFault}
 use Rattle.script_read.specs.declared.fault.ScriptFault.TheVariants.{NotUtf8}
-use Rattle.casbin_run.specs.declared.job.Job.{Job}
 use Rattle.casbin_run.specs.declared.job.Task.{Task}
 use Rattle.casbin_run.specs.declared.job.Task.TheVariants.{Enforce, Serve, Check, Format}
-use Rattle.casbin_run.specs.Answered.{TookSome}
-use Rattle.casbin_run.specs.Given.{AreFiles, FileIs, Fits, Given, InputIs, ModelIs}
+use Rattle.casbin_run.specs.Answered.{TookFirst, TookSome}
+use Rattle.casbin_run.specs.Given.{FileIs, Given, InputIs}
 use Rattle.casbin_run.specs.Jobs.{absent_in, job_asked, reads_input, shapes_with}
+use Rattle.casbin_run.specs.Reached.{HasAsked, IsReached, Reached, at_words, at_model, at_options, at_policy, at_task}
 use Rattle.casbin_run.specs.Worlds.{InputRose, OutRose, ShelfRose, World}
-
--- the words ask for something, of which the fact holds
-abbrev pub WithJob : Given → (Job → Type 0) → Type 0
-WithJob g fact = (job : Job) × (job_asked g.words ≡ Some job) × fact job
-
--- besides, its model is read
-abbrev pub WithModel : Given → (Job → ModelParts → Type 0) → Type 0
-WithModel g fact = WithJob g (λ job. (model : ModelParts) × ModelIs g.files job model × fact job model)
-
--- besides, the options fit the model
-abbrev pub WithOptions : Given → (Job → ModelParts → Type 0) → Type 0
-WithOptions g fact = WithJob g (λ job. (model : ModelParts) × Fits g.files job model × fact job model)
-
--- besides, its policy is read
-abbrev pub WithPolicy : Given → (Job → Type 0) → Type 0
-WithPolicy g fact = WithJob g (λ job. (model : ModelParts) × (policy : table.Policy) × AreFiles g.files job model policy × fact job)
 
 -- the input that a task reads has this fault
 abbrev pub HasFault : Task → List ℕ → ScriptFault → Type 0
@@ -47,29 +29,43 @@ HasFault Format bytes fault = ⊥
 abbrev pub OfInput : Task → Type 0 → Type 0
 OfInput task fact = (reads_input task ≡ true) × fact
 
--- what is given causes this stop: by cases, in the order in which the parts are reached
+-- what is given stops a run that came so far
+abbrev pub StopsAt : Given → Reached → Stop → Type 0
+StopsAt g at_words Words = job_asked g.words ≡ None
+StopsAt g (at_model job) (CannotRead Model) = Lacks g.files job.files.model
+StopsAt g (at_model job) (TooLong Model) = OfFile g.files job.files.model (λ bytes. limit_of Model < length bytes)
+StopsAt g (at_model job) (NoModel fault) = FileIs g.files job.files.model Model (λ bytes. IsModelFault bytes fault)
+StopsAt g (at_options job model) (NoRelation relation) = absent_in job.options model ≡ Some relation
+StopsAt g (at_policy job model) (CannotRead Policy) = Lacks g.files job.files.policy
+StopsAt g (at_policy job model) (TooLong Policy) = OfFile g.files job.files.policy (λ bytes. limit_of Policy < length bytes)
+StopsAt g (at_policy job model) (NoPolicy fault) = FileIs g.files job.files.policy Policy (λ bytes. IsPolicyFault (shapes_with job.options model) bytes fault)
+StopsAt g (at_task job model policy) (TooLong Input) = OfInput job.task (IfSome g.input (λ bytes. limit_of Input < length bytes))
+StopsAt g (at_task job model policy) (NoScript fault) = OfInput job.task (InputIs g.input (λ bytes. HasFault job.task bytes fault))
+StopsAt g _ _ = ⊥
+
+-- the outside stops it: the shelf or the input failed; `out` failed, after it took a front of the text; or memory ran out, before anything was pushed, or after whole lines of the first items were
+abbrev pub FailsAt : Given → World → World → Reached → Stop → Type 0
+FailsAt g before now (at_model job) (CannotRead Model) = ShelfRose before now
+FailsAt g before now (at_policy job model) (CannotRead Policy) = ShelfRose before now
+FailsAt g before now (at_task job model policy) (CannotRead Input) = OfInput job.task (InputRose before now)
+FailsAt g before now (at_task job model policy) CannotWrite = TookSome g before now × OutRose before now
+FailsAt g before now (at_task job model policy) NoMemory = (now.out.bytes ≡ before.out.bytes) ⊎ TookFirst g before now
+FailsAt g before now at_words NoMemory = ⊥
+FailsAt g before now _ NoMemory = now.out.bytes ≡ before.out.bytes
+FailsAt g before now _ _ = ⊥
+
+-- what is given causes this stop
 abbrev pub Cause : Given → Stop → Type 0
-Cause g Words = job_asked g.words ≡ None
-Cause g (CannotRead Model) = WithJob g (λ job. Lacks g.files job.files.model)
-Cause g (TooLong Model) = WithJob g (λ job. OfFile g.files job.files.model (λ bytes. limit_of Model < length bytes))
-Cause g (NoModel fault) = WithJob g (λ job. FileIs g.files job.files.model Model (λ bytes. IsModelFault bytes fault))
-Cause g (NoRelation relation) = WithModel g (λ job model. absent_in job.options model ≡ Some relation)
-Cause g (CannotRead Policy) = WithOptions g (λ job model. Lacks g.files job.files.policy)
-Cause g (TooLong Policy) = WithOptions g (λ job model. OfFile g.files job.files.policy (λ bytes. limit_of Policy < length bytes))
-Cause g (NoPolicy fault) = WithOptions g (λ job model. FileIs g.files job.files.policy Policy (λ bytes. IsPolicyFault (shapes_with job.options model) bytes fault))
-Cause g (TooLong Input) = WithPolicy g (λ job. OfInput job.task (IfSome g.input (λ bytes. limit_of Input < length bytes)))
-Cause g (NoScript fault) = WithPolicy g (λ job. OfInput job.task (InputIs g.input (λ bytes. HasFault job.task bytes fault)))
-Cause g _ = ⊥
+Cause g stop = (reached : Reached) × IsReached g reached × StopsAt g reached stop
 
--- the outside causes it: the shelf or the input failed; `out` failed, after it took a front of the text; or memory ran out, before or while the text was pushed
-abbrev pub Fault : Given → World → World → Stop → Type 0
-Fault g before now (CannotRead Model) = WithJob g (λ job. ShelfRose before now)
-Fault g before now (CannotRead Policy) = WithOptions g (λ job model. ShelfRose before now)
-Fault g before now (CannotRead Input) = WithPolicy g (λ job. OfInput job.task (InputRose before now))
-Fault g before now CannotWrite = TookSome g before now × OutRose before now
-Fault g before now NoMemory = WithJob g (λ job. ⊤) × ((now.out.bytes ≡ before.out.bytes) ⊎ TookSome g before now)
-Fault g before now _ = ⊥
+-- with such a stop by the outside the last fetch failed
+abbrev pub is_of_shelf : Stop → Bool
+is_of_shelf (CannotRead Model) = true
+is_of_shelf (CannotRead Policy) = true
+is_of_shelf _ = false
 
--- either of them
-unfoldable pub EndsBy : Given → World → World → Stop → Type 0
-EndsBy g before now stop = Cause g stop ⊎ Fault g before now stop
+-- one of both, there, and no more was asked of the shelf and the input
+pub record EndsBy (g : Given) (before now : World) (stop : Stop) : Type 0 where
+  pub reached : Reached
+  pub is_reached : IsReached g reached
+  pub why : (StopsAt g reached stop × HasAsked before now reached false) ⊎ (FailsAt g before now reached stop × HasAsked before now reached (is_of_shelf stop))

@@ -4,16 +4,25 @@ use Rattle.run_status.specs.Messages.{line_of}
 use Rattle.run_status.specs.Statuses.{status_of}
 use Rattle.run_status.specs.Told.{IsTold}
 use Rattle.run_status.specs.declared.status.Status.{Status}
-use Rattle.run_status.specs.declared.status.Status.TheVariants.{Done, WriteFault, NoMemory}
+use Rattle.run_status.specs.declared.status.Status.TheVariants.{Done, Words, Model, Policy, WriteFault, NoMemory}
 use Rattle.run_status.specs.declared.stop.Stop.{Stop}
 use Rattle.casbin_run.specs.Answered.{TookAll}
 use Rattle.casbin_run.specs.Causes.{EndsBy}
 use Rattle.casbin_run.specs.Given.{Given}
+use Rattle.casbin_run.specs.Jobs.{shapes_with}
+use Rattle.casbin_run.specs.Shown.{ReadsBack}
+use Rattle.casbin_run.specs.Reached.{FetchedBoth}
 use Rattle.casbin_run.specs.Worlds.{Taken, World}
 
--- the run was done: `out` took the text that answers what is given, and `err` nothing
-pub record IsDone (g : Given) (before now : World) (err err_now : Taken) : Type 0 where
+-- `out` took the text that answers what is given, each file was fetched once, and what was printed of the files reads back
+pub record HasDone (g : Given) (before now : World) : Type 0 where
   pub all : TookAll g before now
+  pub fetched : FetchedBoth g before now
+  pub back : let order = all.answers.answered.in_order in ReadsBack order.job.task order.model (shapes_with order.job.options order.model) order.policy
+
+-- the run was done, and `err` took nothing
+pub record IsDone (g : Given) (before now : World) (err err_now : Taken) : Type 0 where
+  pub done : HasDone g before now
   pub silent : err_now.bytes ≡ err.bytes
 
 -- the run stopped: its status and the line that `err` took are those of a stop that had its cause
@@ -34,3 +43,10 @@ may_write Done = true
 may_write WriteFault = true
 may_write NoMemory = true
 may_write _ = false
+
+-- with such a status the run stopped at its words, at a file's text or at an option
+abbrev pub is_of_files : Status → Bool
+is_of_files Words = true
+is_of_files Model = true
+is_of_files Policy = true
+is_of_files _ = false

@@ -1,27 +1,17 @@
--- What the finders of a run did: their counts of refusals, and the patterns that they keep.
-use Rattle.std.specs.Prelude.{◌≤◌, ◌⊎◌, ℕ, ◌+◌, List, [], ◌∷◌, None, Contains, map, ⊤}
-use Rattle.std.specs.List.{sum}
-use Rattle.outside.specs.Faults.{most_faults}
-use Rattle.regex_gate.specs.Refusals.{Refusals, IsUsed}
+-- What the finders of a run refused. The first of them alone is asked.
+use Rattle.std.specs.Prelude.{◌≡◌, ℕ, List, [], ◌∷◌}
+use Rattle.regex_gate.specs.Refusals.{Refusals, after_refusals}
 
--- how often each of them had refused
-abbrev pub counts : List Refusals → List ℕ
-counts refusals = map (λ (r : Refusals). r.count) refusals
+-- a finder refused these patterns, one after the other
+abbrev pub HasRefused : Refusals → Refusals → List (List ℕ) → Type 0
+HasRefused before now patterns = now ≡ after_refusals before patterns
 
--- one of the counts stands at its end
-abbrev pub IsAtEnd : List ℕ → Type 0
-IsAtEnd counts = (count : ℕ) × Contains counts count × (most_faults ≤ count)
+-- the first finder did, and the others are as they were
+abbrev pub HaveRefused : List Refusals → List Refusals → List (List ℕ) → Type 0
+HaveRefused [] [] patterns = patterns ≡ []
+HaveRefused (before ∷ others) (now ∷ nows) patterns = HasRefused before now patterns × (nows ≡ others)
+HaveRefused _ _ patterns = ⊥
 
--- together the counts rose by so many at least, or one of them stands at its end
-abbrev pub RoseTogether : List Refusals → List Refusals → ℕ → Type 0
-RoseTogether before now many = (sum (counts before) + many ≤ sum (counts now)) ⊎ IsAtEnd (counts now)
-
--- a pattern that counts as refused in a run: some count rose, and one of the finders keeps the pattern
-abbrev pub IsBad : List Refusals → List Refusals → List ℕ → Type 0
-IsBad before now pattern = RoseTogether before now 1 × ((refusals : Refusals) × Contains now refusals × Contains refusals.patterns pattern)
-
--- each finder was used, place by place
+-- the first finder was used, and no other
 abbrev pub AreUsed : List Refusals → List Refusals → Type 0
-AreUsed [] [] = ⊤
-AreUsed (before ∷ befores) (now ∷ nows) = IsUsed before now None × AreUsed befores nows
-AreUsed _ _ = ⊥
+AreUsed before now = (patterns : List (List ℕ)) × HaveRefused before now patterns

@@ -3,7 +3,9 @@ pub mod Given
 pub mod Texts
 pub mod Finders
 pub mod Worlds
+pub mod Reached
 pub mod Answered
+pub mod Shown
 pub mod Causes
 pub mod Ends
 pub mod Helps

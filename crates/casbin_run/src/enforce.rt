@@ -1,4 +1,4 @@
-ghost use Rattle.std.specs.Prelude.{◌≡◌, ◌≤◌, ◌+◌, None, IfErr, IfOk, OnOk, min, true};
+ghost use Rattle.std.specs.Prelude.{◌≡◌, ◌≤◌, ◌+◌, IfErr, IfOk, OnErr, OnOk, min, true};
 ghost use Rattle.outside.specs.Faults.{Rose};
 ghost use Rattle.policy_state.specs.States.{tables};
 ghost use Rattle.regex_gate.specs.Refusals.{IsUsed};
@@ -7,20 +7,20 @@ ghost use Rattle.script_read.specs.Reads.{Says};
 ghost use Rattle.script_read.specs.Said.{asks, reading};
 ghost use Rattle.script_read.specs.Script.{IsRequests};
 ghost use Rattle.version_log.specs.Log.{versions};
-ghost use Rattle.enforce_core.specs.Programs.{Suits};
-ghost use Rattle.casbin_run.specs.Helps.Working.{AnswersLine, AreAnswered, IsReady, PrintedAll, PrintedSome};
+ghost use Rattle.decision.specs.Programs.{Suits};
+ghost use Rattle.casbin_run.specs.Helps.Working.{AnswersLine, AreAnswered, IsReady, PrintedAll, PrintedSome, StopsLine};
 ghost use Rattle.casbin_run.specs.Worlds.{taken};
 
 use crate::files::Loaded;
 use crate::gather::push_full;
 use crate::opening::open_loaded;
-use enforce_core::{Program, Scratch};
+use decision::{Program, Scratch};
 use live_round::push_request;
-use matcher_meaning::{case_verdict_is_there, pattern_comes_by_refusal_alone};
+use matcher_meaning::case_verdict_is_there;
 use perm_base::{NoMemory, Sink, push_all};
 use perm_value::RequestFault;
 use policy_state::PolicyState;
-use regex_gate::{Finder, uses_add_up};
+use regex_gate::Finder;
 use run_status::Stop;
 use script_read::{Asked, next_request, read_request, texts_are_read_in_one_way};
 use std::alloc::Global;
@@ -75,12 +75,10 @@ fn print_answers<K: Sink, P: Finder>(
         (P.refusals finder.old) (P.refusals finder.new) (K.taken out.old) (K.taken out.new)
         (Rose (K.faults out.old) (K.faults out.new))) }
     ensures counted { K.faults out.old ≤ K.faults out.new }
-    ensures used { IsUsed (P.refusals finder.old) (P.refusals finder.new) None }
+    ensures used { IsUsed (P.refusals finder.old) (P.refusals finder.new) }
 {
-    uses_add_up();
     texts_are_read_in_one_way();
     case_verdict_is_there();
-    pattern_comes_by_refusal_alone();
     let mut scratch = Scratch::for_program(alloc, court.program);
     let mut text = String::new(alloc);
     let mut rest = input;
@@ -116,9 +114,10 @@ fn push_answer<P: Finder>(
     ensures answered { OnOk result (AnswersLine court.now.program.now court.now.state.now
         court.now.json (P.refusals finder.old) (P.refusals finder.new) line.now number
         text.old text.new) }
-    ensures used { IsUsed (P.refusals finder.old) (P.refusals finder.new) None }
+    ensures stopped { OnErr result (StopsLine court.now.program.now
+        court.now.json (P.refusals finder.old) (P.refusals finder.new) line.now) }
 {
-    uses_add_up();
+    texts_are_read_in_one_way();
     let asked = ask(alloc, court.json, line)?;
     push_request(
         text,

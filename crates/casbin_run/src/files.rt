@@ -1,8 +1,9 @@
-ghost use Rattle.std.specs.Prelude.{◌≡◌, ◌≤◌, ◌<◌, IfOk, IfErr, length};
+ghost use Rattle.std.specs.Prelude.{◌≡◌, ◌≤◌, ◌<◌, ◌∷◌, [], IfOk, IfErr, OnOk, false, length};
 ghost use Rattle.outside.specs.Faults.{Rose};
 ghost use Rattle.outside.specs.Files.{Holds};
+ghost use Rattle.outside.specs.Log.{Adds, call};
 ghost use Rattle.model_conf.specs.ModelText.{IsModel};
-ghost use Rattle.enforce_core.specs.Programs.{Suits};
+ghost use Rattle.decision.specs.Programs.{Suits};
 ghost use Rattle.perm_base.specs.Shapes.{AreValid};
 ghost use Rattle.policy_csv.specs.Policy.{IsPolicy};
 ghost use Rattle.policy_table.specs.Limits.{AreSound};
@@ -10,7 +11,7 @@ ghost use Rattle.run_status.specs.Parts.{limit_of};
 ghost use Rattle.run_status.specs.declared.part.Part.TheVariants as parts;
 ghost use Rattle.casbin_run.specs.Given.{FileIs};
 ghost use Rattle.casbin_run.specs.Jobs.{absent_in, limit_in, shapes_with};
-ghost use Rattle.casbin_run.specs.Helps.Loading.{FetchStops, IsLoaded, LoadStops, ModelStops, PolicyStops, ShapesStop};
+ghost use Rattle.casbin_run.specs.Helps.Loading.{FetchStops, fetch_stop, IsLoaded, LoadStops, ModelStops, PolicyStops, ShapesStop};
 ghost use Rattle.casbin_run.specs.Helps.Working.{IsReady};
 
 use crate::job::Job;
@@ -38,7 +39,10 @@ pub(crate) fn load<F: Shelf>(alloc: Global, shelf: &mut F, job: &Job<'_>) -> Res
     requires { (0 < limit_in job.now.options) × (limit_in job.now.options ≤ 250) }
     ensures loaded { IfOk result (IsLoaded (F.files shelf.old) job.now) }
     ensures ready { IfOk result (λ loaded. IsReady loaded) }
+    ensures fetched { OnOk result (Adds (F.calls shelf.old) (F.calls shelf.new)
+        (call job.now.files.model false ∷ call job.now.files.policy false ∷ [])) }
     ensures stopped { IfErr result (LoadStops (F.files shelf.old) job.now
+        (Adds (F.calls shelf.old) (F.calls shelf.new))
         (Rose (F.faults shelf.old) (F.faults shelf.new))) }
     ensures same_files { F.files shelf.new ≡ F.files shelf.old }
     ensures counted { F.faults shelf.old ≤ F.faults shelf.new }
@@ -57,7 +61,10 @@ pub(crate) fn load<F: Shelf>(alloc: Global, shelf: &mut F, job: &Job<'_>) -> Res
 fn read_model_file<F: Shelf>(alloc: Global, shelf: &mut F, name: &str) -> Result<Model, Stop>
     ensures read { IfOk result (λ model. FileIs (F.files shelf.old) name.now parts.Model
         (λ bytes. IsModel bytes model)) }
+    ensures fetched { OnOk result (Adds (F.calls shelf.old) (F.calls shelf.new)
+        (call name.now false ∷ [])) }
     ensures stopped { IfErr result (ModelStops (F.files shelf.old) name.now
+        (λ failed. Adds (F.calls shelf.old) (F.calls shelf.new) (call name.now failed ∷ []))
         (Rose (F.faults shelf.old) (F.faults shelf.new))) }
     ensures same_files { F.files shelf.new ≡ F.files shelf.old }
     ensures counted { F.faults shelf.old ≤ F.faults shelf.new }
@@ -98,7 +105,10 @@ fn read_policy_file<F: Shelf>(
     ensures read { IfOk result (λ tables. FileIs (F.files shelf.old) name.now parts.Policy
         (λ bytes. IsPolicy shapes.now bytes tables.policy)) }
     ensures sound { IfOk result (λ tables. AreSound shapes.now tables.policy) }
+    ensures fetched { OnOk result (Adds (F.calls shelf.old) (F.calls shelf.new)
+        (call name.now false ∷ [])) }
     ensures stopped { IfErr result (PolicyStops (F.files shelf.old) name.now shapes.now
+        (λ failed. Adds (F.calls shelf.old) (F.calls shelf.new) (call name.now failed ∷ []))
         (Rose (F.faults shelf.old) (F.faults shelf.new))) }
     ensures same_files { F.files shelf.new ≡ F.files shelf.old }
     ensures counted { F.faults shelf.old ≤ F.faults shelf.new }
@@ -111,15 +121,27 @@ fn read_policy_file<F: Shelf>(
 fn fetch<F: Shelf>(alloc: Global, shelf: &mut F, name: &str, part: Part) -> Result<Vec<u8>, Stop>
     ensures found { IfOk result (λ bytes. Holds (F.files shelf.old) name.now bytes.items) }
     ensures within { IfOk result (λ bytes. length bytes.items ≤ limit_of part) }
+    ensures fetched { OnOk result (Adds (F.calls shelf.old) (F.calls shelf.new)
+        (call name.now false ∷ [])) }
     ensures stopped { IfErr result (FetchStops (F.files shelf.old) name.now part
+        (λ failed. Adds (F.calls shelf.old) (F.calls shelf.new) (call name.now failed ∷ []))
         (Rose (F.faults shelf.old) (F.faults shelf.new))) }
     ensures same_files { F.files shelf.new ≡ F.files shelf.old }
     ensures counted { F.faults shelf.old ≤ F.faults shelf.new }
 {
     match shelf.fetch(alloc, name, part.limit()) {
         Ok(bytes) => Ok(bytes),
-        Err(Fetch::Absent | Fetch::Failed) => Err(Stop::CannotRead(part)),
-        Err(Fetch::TooLong) => Err(Stop::TooLong(part)),
-        Err(Fetch::NoMemory) => Err(Stop::NoMemory),
+        Err(reason) => Err(stop_of(part, reason)),
+    }
+}
+
+// The stop that comes of a file of a part that was not fetched.
+fn stop_of(part: Part, reason: Fetch) -> Stop
+    ensures { result ≡ fetch_stop part reason }
+{
+    match reason {
+        Fetch::Absent | Fetch::Failed => Stop::CannotRead(part),
+        Fetch::TooLong => Stop::TooLong(part),
+        Fetch::NoMemory => Stop::NoMemory,
     }
 }

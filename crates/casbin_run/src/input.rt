@@ -1,4 +1,5 @@
-ghost use Rattle.std.specs.Prelude.{◌≡◌, ◌≤◌, [], All, IfOk, IfErr, IfSome, OnOk, map, string_bytes, true};
+ghost use Rattle.std.specs.Prelude.{◌≡◌, ◌≤◌, [], All, IfOk, IfErr, IfSome, OnOk, is_ok, map, string_bytes, true};
+ghost use Rattle.outside.specs.Ends.{IsEndedOnce, ends_after};
 ghost use Rattle.outside.specs.Faults.{Rose};
 ghost use Rattle.script_read.specs.Named.{is_named};
 ghost use Rattle.script_read.specs.Said.{seen};
@@ -16,7 +17,9 @@ use std::alloc::Global;
 pub(crate) fn read_text<S: Source>(alloc: Global, input: &mut S, json: bool) -> Result<String, Stop>
     ensures read { IfOk result (λ text. InputIs (S.left input.old)
         (λ bytes. bytes ≡ string_bytes text)) }
-    ensures ended { OnOk result (IfSome (S.left input.new) (λ rest. rest ≡ [])) }
+    ensures read_to_end { OnOk result (IfSome (S.left input.new) (λ rest. rest ≡ [])) }
+    ensures ended { OnOk result (S.ends input.new ≡ ends_after (S.ends input.old) true) }
+    ensures no_further { IsEndedOnce (S.ends input.old) (S.ends input.new) }
     ensures stopped { IfErr result (InputStops (Enforce json) (S.left input.old)
         (Rose (S.faults input.old) (S.faults input.new))) }
     ensures counted { S.faults input.old ≤ S.faults input.new }
@@ -38,7 +41,9 @@ pub(crate) fn read_items<S: Source>(
         (map seen script)) }
     ensures have_names { IfOk result (λ script.
         All (λ item. is_named item ≡ true) (map seen script)) }
-    ensures ended { OnOk result (IfSome (S.left input.new) (λ rest. rest ≡ [])) }
+    ensures read_to_end { OnOk result (IfSome (S.left input.new) (λ rest. rest ≡ [])) }
+    ensures ended { OnOk result (S.ends input.new ≡ ends_after (S.ends input.old) true) }
+    ensures no_further { IsEndedOnce (S.ends input.old) (S.ends input.new) }
     ensures stopped { IfErr result (InputStops (Serve json) (S.left input.old)
         (Rose (S.faults input.old) (S.faults input.new))) }
     ensures counted { S.faults input.old ≤ S.faults input.new }
@@ -52,7 +57,8 @@ pub(crate) fn read_items<S: Source>(
 fn read_bytes<S: Source>(alloc: Global, input: &mut S) -> Result<Vec<u8>, Stop>
     ensures read { IfOk result (λ bytes. InputIs (S.left input.old)
         (λ told. told ≡ bytes.items)) }
-    ensures ended { OnOk result (IfSome (S.left input.new) (λ rest. rest ≡ [])) }
+    ensures read_to_end { OnOk result (IfSome (S.left input.new) (λ rest. rest ≡ [])) }
+    ensures ends { S.ends input.new ≡ ends_after (S.ends input.old) (is_ok result) }
     ensures stopped { IfErr result (BytesStop (S.left input.old)
         (Rose (S.faults input.old) (S.faults input.new))) }
     ensures counted { S.faults input.old ≤ S.faults input.new }

@@ -1,14 +1,17 @@
-ghost use Rattle.std.specs.Prelude.{◌≡◌, ◌⊎◌, ℕ, [], Contains, IsSome, List};
+ghost use Rattle.std.specs.Prelude.{◌≡◌, ◌⊎◌, ℕ, IsSome, List, Some, true};
 ghost use Rattle.outside.specs.Told.{with_back};
 ghost use Rattle.run_status.specs.Statuses.{status_of};
 ghost use Rattle.run_status.specs.declared.status.Status as declared;
 ghost use Rattle.run_status.specs.declared.status.Status.TheVariants as statuses;
 ghost use Rattle.run_status.specs.declared.stop.Stop.{Stop};
-ghost use Rattle.casbin_run.specs.Answered.{IsAnswered};
+ghost use Rattle.casbin_run.specs.Answered.{IsCalmlyAnswered};
 ghost use Rattle.casbin_run.specs.Causes.{Cause};
-ghost use Rattle.casbin_run.specs.Ends.{Ends};
-ghost use Rattle.casbin_run.specs.Finders.{RoseTogether};
+ghost use Rattle.casbin_run.specs.Ends.{Ends, is_of_files};
 ghost use Rattle.casbin_run.specs.Given.{Given, IsInOrder};
+ghost use Rattle.casbin_run.specs.Jobs.{job_asked};
+ghost use Rattle.casbin_run.specs.Shown.{WroteModel, WrotePolicy};
+ghost use Rattle.casbin_run.specs.declared.job.Job.{Job};
+ghost use Rattle.casbin_run.specs.declared.job.Task.TheVariants.{Check, Format};
 ghost use Rattle.casbin_run.specs.Worlds.{InputRose, OutRose, ShelfRose, Taken, World};
 
 use matcher_read::every_text_is_a_matcher_or_at_fault;
@@ -25,7 +28,7 @@ use script_read::{
 use session_meaning::lines_are_one;
 
 /// The law that what is given, where it is told, has one end: all is in order, or there is a cause of a stop, and one at most,
-/// and not both; and one text at most answers it where no pattern counts as refused.
+/// and not both; and one text at most answers it where nothing is refused.
 pub fn one_end()
     ensures there { (g : Given) → IsSome g.files → IsSome g.input
         → IsInOrder g ⊎ ((stop : Stop) × Cause g stop) }
@@ -34,8 +37,7 @@ pub fn one_end()
     ensures no_cause { (g : Given) (stop : Stop) → IsSome g.files → IsSome g.input
         → IsInOrder g → ¬ (Cause g stop) }
     ensures one_text { (g : Given) (first second : List ℕ) → IsSome g.files → IsSome g.input
-        → IsAnswered g (Contains []) first → IsAnswered g (Contains []) second
-        → first ≡ second }
+        → IsCalmlyAnswered g first → IsCalmlyAnswered g second → first ≡ second }
 {
     every_text_is_a_matcher_or_at_fault();
     every_text_is_a_policy_or_at_fault();
@@ -55,8 +57,8 @@ pub fn one_end()
 }
 
 /// The law that a run ends as what is given says, where it is told. A cause gives its own status, unless memory ran out or a
-/// file or the input could not be read. Where all is in order and no count rises, the run is done, or memory ran out. Where no
-/// finder's count rises, what is taken is the one text that answers what is given.
+/// file or the input could not be read. Where all is in order and no count rises, the run is done, or memory ran out. Where the
+/// finders refuse nothing, what is taken is the one text that answers what is given.
 pub fn runs_end_as_given()
     ensures exact { (g : Given) (before now : World) (err err_now : Taken)
         (status : declared.Status) (stop : Stop) → IsSome g.files → IsSome g.input
@@ -71,8 +73,29 @@ pub fn runs_end_as_given()
     ensures text { (g : Given) (before now : World) (err err_now : Taken) (text : List ℕ)
         → IsSome g.files → IsSome g.input
         → Ends g before now err err_now statuses.Done
-        → ¬ (RoseTogether before.finders now.finders 1) → IsAnswered g (Contains []) text
+        → now.finders ≡ before.finders → IsCalmlyAnswered g text
         → now.out.bytes ≡ with_back before.out.bytes text }
 {
     one_end();
 }
+
+/// The law that the input comes last: a run that stops at its words, at the text of a file or at an option has asked nothing
+/// of it.
+pub fn input_is_read_last()
+    ensures { (g : Given) (before now : World) (err err_now : Taken) (status : declared.Status)
+        → Ends g before now err err_now status → is_of_files status ≡ true
+        → now.input ≡ before.input }
+{}
+
+/// The law that what a run printed of its files reads back: what `format` wrote says the same policy of the same shapes, and
+/// what `check` wrote begins with a text that says the same model, unless that text is longer than a model may be.
+pub fn shown_files_are_read()
+    ensures policy { (g : Given) (before now : World) (err err_now : Taken) (job : Job)
+        → Ends g before now err err_now statuses.Done
+        → job_asked g.words ≡ Some job → job.task ≡ Format
+        → WrotePolicy g job before.out.bytes now.out.bytes }
+    ensures model { (g : Given) (before now : World) (err err_now : Taken) (job : Job)
+        → Ends g before now err err_now statuses.Done
+        → job_asked g.words ≡ Some job → job.task ≡ Check
+        → WroteModel g job before.out.bytes now.out.bytes }
+{}

@@ -12,6 +12,6 @@ mod run;
 mod session;
 mod showing;
 
-pub use law::{one_end, runs_end_as_given};
+pub use law::{input_is_read_last, one_end, runs_end_as_given, shown_files_are_read};
 pub use run::run_casbin;
 pub use run_status::Status;

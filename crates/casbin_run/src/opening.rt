@@ -2,7 +2,7 @@ ghost use Rattle.std.specs.Prelude.{IfOk};
 ghost use Rattle.casbin_run.specs.Helps.Working.{IsOpened, IsReady};
 
 use crate::files::Loaded;
-use enforce_core::{Program, make_program};
+use decision::{Program, make_program};
 use perm_base::NoMemory;
 use policy_state::{PolicyState, make_state, states_stand_for_their_history};
 use std::alloc::Global;

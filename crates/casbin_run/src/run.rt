@@ -1,14 +1,16 @@
-ghost use Rattle.std.specs.Prelude.{◌≡◌, ◌≤◌, [], None, IfErr, IfSome, OnOk, drop, false, length, map, true};
+ghost use Rattle.std.specs.Prelude.{◌≡◌, ◌≤◌, [], IfErr, IfSome, OnOk, drop, false, length, map, true};
 ghost use Rattle.command_words.specs.Items.{texts};
+ghost use Rattle.outside.specs.Ends.{IsEndedOnce, ends_after};
 ghost use Rattle.outside.specs.Faults.{Rose};
-ghost use Rattle.regex_gate.specs.Refusals.{IsRefused, IsUsed};
+ghost use Rattle.regex_gate.specs.Refusals.{IsUsed};
 ghost use Rattle.casbin_run.specs.Ends.{Ends, may_write};
-ghost use Rattle.casbin_run.specs.Finders.{AreUsed};
+ghost use Rattle.casbin_run.specs.Finders.{AreUsed, HasRefused};
 ghost use Rattle.casbin_run.specs.Given.{given};
 ghost use Rattle.casbin_run.specs.Helps.Running.{ComesTo};
-ghost use Rattle.casbin_run.specs.Helps.Working.{DidAll, IsQuiet, IsReady, Rises, WorkStops, ground};
+ghost use Rattle.casbin_run.specs.Helps.Working.{DidAll, IsQuiet, IsReady, WorkStops, ground};
 ghost use Rattle.casbin_run.specs.Jobs.{ask_for_input, reads_input};
-ghost use Rattle.casbin_run.specs.Worlds.{taken, world};
+ghost use Rattle.casbin_run.specs.Shown.{ReadsBack};
+ghost use Rattle.casbin_run.specs.Worlds.{fetched, pulled, taken, world};
 
 use crate::enforce::enforce;
 use crate::files::{Loaded, load};
@@ -44,23 +46,28 @@ pub fn run_casbin<F: Shelf, S: Source, K: Sink, E: Sink, P: Finder>(
     requires nine { length finders.old.items ≡ 9 }
 
     // How the run ends, by its status: with Done `out` took the text that answers what was given, and with another it had its
-    // cause, and `err` took its line.
+    // cause, and `err` took its line. Each file is fetched once at most, the model's first; where the run stops before its
+    // task, nothing was asked of the input.
     ensures ends { Ends (given (texts words.now) (F.files shelf.old) (S.left input.old))
-        (world (F.faults shelf.old) (S.faults input.old)
+        (world (fetched (F.calls shelf.old) (F.faults shelf.old))
+        (pulled (S.left input.old) (S.ends input.old) (S.faults input.old))
         (taken (K.taken out.old) (K.faults out.old)) (map P.refusals finders.old.items))
-        (world (F.faults shelf.new) (S.faults input.new)
+        (world (fetched (F.calls shelf.new) (F.faults shelf.new))
+        (pulled (S.left input.new) (S.ends input.new) (S.faults input.new))
         (taken (K.taken out.new) (K.faults out.new)) (map P.refusals finders.new.items))
         (taken (E.taken err.old) (E.faults err.old))
         (taken (E.taken err.new) (E.faults err.new)) result }
     ensures quiet { may_write result ≡ false → K.taken out.new ≡ K.taken out.old }
 
-    // The input is read to its end, or not at all.
+    // The input is read to its end and no further, or not at all.
     ensures read_to_end { result ≡ Status.Done → ask_for_input (texts words.now) ≡ true
         → IfSome (S.left input.new) (λ rest. rest ≡ []) }
+    ensures ended { result ≡ Status.Done → ask_for_input (texts words.now) ≡ true
+        → S.ends input.new ≡ ends_after (S.ends input.old) true }
+    ensures no_further { IsEndedOnce (S.ends input.old) (S.ends input.new) }
     ensures unread { ask_for_input (texts words.now) ≡ false
-        → S.left input.new ≡ S.left input.old }
-    ensures untouched { ask_for_input (texts words.now) ≡ false
-        → S.faults input.new ≡ S.faults input.old }
+        → pulled (S.left input.new) (S.ends input.new) (S.faults input.new)
+        ≡ pulled (S.left input.old) (S.ends input.old) (S.faults input.old) }
 
     // What stays: the files, and each count at least.
     ensures same_files { F.files shelf.new ≡ F.files shelf.old }
@@ -92,11 +99,13 @@ fn answer<F: Shelf, S: Source, K: Sink, P: Finder>(
 ) -> Result<(), Stop>
     requires { length finders.old.items ≡ 9 }
     ensures comes { ComesTo (given (texts words.now) (F.files shelf.old) (S.left input.old))
-        (world (F.faults shelf.old) (S.faults input.old)
+        (world (fetched (F.calls shelf.old) (F.faults shelf.old))
+        (pulled (S.left input.old) (S.ends input.old) (S.faults input.old))
         (taken (K.taken out.old) (K.faults out.old)) (map P.refusals finders.old.items))
-        (world (F.faults shelf.new) (S.faults input.new)
+        (world (fetched (F.calls shelf.new) (F.faults shelf.new))
+        (pulled (S.left input.new) (S.ends input.new) (S.faults input.new))
         (taken (K.taken out.new) (K.faults out.new)) (map P.refusals finders.new.items))
-        (S.left input.new) result }
+        result }
     ensures same_files { F.files shelf.new ≡ F.files shelf.old }
     ensures others { drop 1 finders.new.items ≡ drop 1 finders.old.items }
     ensures idle { IfErr result (λ stop. IsQuiet stop
@@ -120,23 +129,27 @@ fn do_task<S: Source, K: Sink, P: Finder>(
 ) -> Result<(), Stop>
     requires { IsReady loaded }
     ensures done { OnOk result (DidAll (ground task loaded (S.left input.old))
-        (IsRefused (P.refusals finder.old) (P.refusals finder.new))
-        (Rises (P.refusals finder.old) (P.refusals finder.new))
+        (HasRefused (P.refusals finder.old) (P.refusals finder.new))
         (K.taken out.old) (K.taken out.new)) }
+    ensures reads_back { OnOk result
+        (ReadsBack task loaded.model loaded.shapes loaded.tables.policy) }
     ensures stopped { IfErr result (WorkStops (ground task loaded (S.left input.old))
-        (IsRefused (P.refusals finder.old) (P.refusals finder.new))
-        (Rises (P.refusals finder.old) (P.refusals finder.new))
+        (HasRefused (P.refusals finder.old) (P.refusals finder.new))
         (K.taken out.old) (K.taken out.new)
         (Rose (S.faults input.old) (S.faults input.new))
         (Rose (K.faults out.old) (K.faults out.new))) }
     ensures quiet { IfErr result (λ stop. IsQuiet stop → K.taken out.new ≡ K.taken out.old) }
     ensures read_to_end { OnOk result (reads_input task ≡ true
         → IfSome (S.left input.new) (λ rest. rest ≡ [])) }
-    ensures unread { reads_input task ≡ false → S.left input.new ≡ S.left input.old }
-    ensures untouched { reads_input task ≡ false → S.faults input.new ≡ S.faults input.old }
+    ensures ended { OnOk result (reads_input task ≡ true
+        → S.ends input.new ≡ ends_after (S.ends input.old) true) }
+    ensures no_further { IsEndedOnce (S.ends input.old) (S.ends input.new) }
+    ensures unread { reads_input task ≡ false
+        → pulled (S.left input.new) (S.ends input.new) (S.faults input.new)
+        ≡ pulled (S.left input.old) (S.ends input.old) (S.faults input.old) }
     ensures input_counted { S.faults input.old ≤ S.faults input.new }
     ensures out_counted { K.faults out.old ≤ K.faults out.new }
-    ensures used { IsUsed (P.refusals finder.old) (P.refusals finder.new) None }
+    ensures used { IsUsed (P.refusals finder.old) (P.refusals finder.new) }
     ensures idle { IfErr result (λ stop. IsQuiet stop → finder.new ≡ finder.old) }
 {
     match task {

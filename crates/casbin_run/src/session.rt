@@ -4,7 +4,7 @@ ghost use Rattle.outside.specs.Faults.{Rose};
 ghost use Rattle.outside.specs.Told.{with_back};
 ghost use Rattle.script_read.specs.Named.{is_named};
 ghost use Rattle.script_read.specs.Said.{seen};
-ghost use Rattle.casbin_run.specs.Helps.Working.{AreAnswered, IsReady, TextStops};
+ghost use Rattle.casbin_run.specs.Helps.Working.{AreAnswered, IsReady, LinesStop};
 ghost use Rattle.casbin_run.specs.Texts.{text_of_lines};
 ghost use Rattle.casbin_run.specs.Worlds.{taken};
 
@@ -46,8 +46,8 @@ fn print_lines<K: Sink>(alloc: Global, out: &mut K, lines: &[Line]) -> Result<()
     requires { All (λ line. is_printable line.answer ≡ true) lines.now }
     ensures printed { OnOk result
         (K.taken out.new ≡ with_back (K.taken out.old) (text_of_lines lines.now)) }
-    ensures stopped { IfErr result (TextStops (K.taken out.old) (K.taken out.new)
-        (text_of_lines lines.now) (Rose (K.faults out.old) (K.faults out.new))) }
+    ensures stopped { IfErr result (LinesStop (K.taken out.old) (K.taken out.new)
+        lines.now (Rose (K.faults out.old) (K.faults out.new))) }
     ensures counted { K.faults out.old ≤ K.faults out.new }
 {
     let mut text = String::new(alloc);

@@ -3,7 +3,9 @@ ghost use Rattle.answer_lines.specs.LineText.{Appends};
 ghost use Rattle.outside.specs.Faults.{Rose};
 ghost use Rattle.outside.specs.Told.{with_back};
 ghost use Rattle.policy_csv.specs.Printed.{printed};
-ghost use Rattle.casbin_run.specs.Helps.Working.{ShowStops};
+ghost use Rattle.casbin_run.specs.Helps.Working.{IsReady, ShowStops};
+ghost use Rattle.casbin_run.specs.Shown.{ReadsBack};
+ghost use Rattle.casbin_run.specs.declared.job.Task.TheVariants.{Check, Format};
 ghost use Rattle.casbin_run.specs.Texts.{check_text, count_line};
 
 use crate::files::Loaded;
@@ -17,6 +19,8 @@ use std::alloc::Global;
 
 /// Prints the model, an empty line, and for each of its tables a line with its name and how many rules it has.
 pub(crate) fn check<K: Sink>(alloc: Global, loaded: &Loaded, out: &mut K) -> Result<(), Stop>
+    ensures reads_back { OnOk result
+        (ReadsBack Check loaded.now.model loaded.now.shapes loaded.now.tables.policy) }
     ensures shown { OnOk result (K.taken out.new ≡ with_back (K.taken out.old)
         (check_text loaded.now.model loaded.now.tables.policy)) }
     ensures stopped { IfErr result (ShowStops (K.taken out.old) (K.taken out.new)
@@ -31,6 +35,9 @@ pub(crate) fn check<K: Sink>(alloc: Global, loaded: &Loaded, out: &mut K) -> Res
 
 /// Prints the policy.
 pub(crate) fn format<K: Sink>(alloc: Global, loaded: &Loaded, out: &mut K) -> Result<(), Stop>
+    requires { IsReady loaded.now }
+    ensures reads_back { OnOk result
+        (ReadsBack Format loaded.now.model loaded.now.shapes loaded.now.tables.policy) }
     ensures shown { OnOk result (K.taken out.new ≡ with_back (K.taken out.old)
         (printed loaded.now.tables.policy)) }
     ensures stopped { IfErr result (ShowStops (K.taken out.old) (K.taken out.new)
@@ -44,8 +51,10 @@ pub(crate) fn format<K: Sink>(alloc: Global, loaded: &Loaded, out: &mut K) -> Re
 
 // The text of a model and of the counts of its tables.
 fn check_text(alloc: Global, loaded: &Loaded) -> Result<String, NoMemory>
-    ensures { IfOk result (λ text.
+    ensures text { IfOk result (λ text.
         string_bytes text ≡ check_text loaded.now.model loaded.now.tables.policy) }
+    ensures reads_back { OnOk result
+        (ReadsBack Check loaded.now.model loaded.now.shapes loaded.now.tables.policy) }
 {
     let mut text = String::new(alloc);
     text.push_str(print_model(alloc, &loaded.model)?.as_str())?;

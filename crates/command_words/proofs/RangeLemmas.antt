@@ -8,7 +8,7 @@ use Rattle.perm_base.specs.declared.shapes.Fit.{Fit}
 use Rattle.command_words.specs.Commands.{command_of, command_with, count_of, enforcing, kind_named, limit_in, options_with, serving, showing, value_or, workers_in}
 use Rattle.command_words.specs.FileNames.{FileNames}
 use Rattle.command_words.specs.Items.{Item, is_dashes, items, operands, value_of}
-use Rattle.command_words.specs.Values.{is_numeral, is_within, number_of}
+use Rattle.command_words.specs.Values.{is_numeral, is_within, number_between}
 use Rattle.command_words.specs.declared.command.Command.{Command}
 use Rattle.command_words.specs.declared.command.Command.TheVariants.{Enforce, Session, Check, Format, Demo}
 use Rattle.command_words.specs.declared.kind.Kind.{Kind}
@@ -22,7 +22,7 @@ HasRanges (Check files) = Unit {0}
 HasRanges (Format files) = Unit {0}
 HasRanges (Demo count workers) = (0 < count) × (count ≤ 100000) × (workers ≤ 8)
 
-number_within : (digits least most : ℕ) (text : List ℕ) (number : ℕ) → number_of digits least most text ≡ Some number → (least ≤ number) × (number ≤ most)
+number_within : (digits least most : ℕ) (text : List ℕ) (number : ℕ) → number_between digits least most text ≡ Some number → (least ≤ number) × (number ≤ most)
 number_within digits least most text number is = by_tests (is_numeral digits text) (is_within least most (digits_value 10 text)) refl is
   where
     by_tests : (numeral within : Bool) → is_within least most (digits_value 10 text) ≡ within → cond (numeral && within) (Some (digits_value 10 text)) None ≡ Some number → (least ≤ number) × (number ≤ most)
@@ -33,7 +33,7 @@ number_within digits least most text number is = by_tests (is_numeral digits tex
     by_tests true false e found = absurd cc
     by_tests false within e found = absurd cc
 
-value_within : (default digits least most : ℕ) (value : Option (List ℕ)) (number : ℕ) → (least ≤ default) × (default ≤ most) → value_or default (number_of digits least most) value ≡ Some number → (least ≤ number) × (number ≤ most)
+value_within : (default digits least most : ℕ) (value : Option (List ℕ)) (number : ℕ) → (least ≤ default) × (default ≤ most) → value_or default (number_between digits least most) value ≡ Some number → (least ≤ number) × (number ≤ most)
 value_within default digits least most None number within is = let same : default ≡ number = cc in omega arith
 value_within default digits least most (Some text) number within is = number_within digits least most text number is
 

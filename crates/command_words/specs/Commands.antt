@@ -5,7 +5,7 @@ use Rattle.std.specs.Option.{option_and_then}
 use Rattle.perm_base.specs.declared.shapes.Fit.{Fit}
 use Rattle.command_words.specs.Items.{Item, operand, flag, option, stray, are_different, is_dashes, is_same, items, operands, value_of}
 use Rattle.command_words.specs.FileNames.{FileNames}
-use Rattle.command_words.specs.Values.{fits_of, number_of}
+use Rattle.command_words.specs.Values.{fits_of, number_between}
 use Rattle.command_words.specs.declared.command.Command.{Command}
 use Rattle.command_words.specs.declared.command.Command.TheVariants as asked
 use Rattle.command_words.specs.declared.command.Options.{Options}
@@ -52,11 +52,11 @@ value_or default says (Some value) = says value
 
 -- `--workers`: 0 to 8, and 0 unless it is told
 abbrev pub workers_in : List Item → Option ℕ
-workers_in items = value_or 0 (number_of 3 0 8) (value_of (codes "workers") items)
+workers_in items = value_or 0 (number_between 3 0 8) (value_of (codes "workers") items)
 
 -- `--limit`: 1 to 250, and 10 unless it is told
 abbrev pub limit_in : List Item → Option ℕ
-limit_in items = value_or 10 (number_of 3 1 250) (value_of (codes "limit") items)
+limit_in items = value_or 10 (number_between 3 1 250) (value_of (codes "limit") items)
 
 -- the list of that name, empty unless it is told
 abbrev pub fits_at : List ℕ → List Item → Option (List (ℕ × Fit))
@@ -78,7 +78,7 @@ files_of _ = None
 
 -- one operand is the size, from 1 to 100,000
 abbrev pub count_of : List (List ℕ) → Option ℕ
-count_of (count ∷ []) = number_of 6 1 100000 count
+count_of (count ∷ []) = number_between 6 1 100000 count
 count_of _ = None
 
 -- the commands, where all that they hold is there

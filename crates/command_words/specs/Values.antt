@@ -20,8 +20,8 @@ abbrev pub is_within : ℕ → ℕ → ℕ → Bool
 is_within least most number = nat_le least number && nat_le number most
 
 -- the number that one to so many digits write, where it lies in the range
-abbrev pub number_of : ℕ → ℕ → ℕ → List ℕ → Option ℕ
-number_of digits least most text = if is_numeral digits text && is_within least most (digits_value 10 text) then Some (digits_value 10 text) else None
+abbrev pub number_between : ℕ → ℕ → ℕ → List ℕ → Option ℕ
+number_between digits least most text = if is_numeral digits text && is_within least most (digits_value 10 text) then Some (digits_value 10 text) else None
 
 -- the role relation that a table is
 abbrev pub relation_of : Option TableId → Option ℕ

@@ -1,12 +1,12 @@
 ghost use Rattle.std.specs.Prelude.{◌≡◌, ◌≤◌, IfSome};
 ghost use Rattle.std.specs.Char.{is_ascii_digit};
 ghost use Rattle.std.specs.List.{list_all};
-ghost use Rattle.command_words.specs.Values.{number_of};
+ghost use Rattle.command_words.specs.Values.{number_between};
 
 /// The number that one to so many decimal digits write, where it lies in a range.
-pub(crate) fn number_of(text: &str, digits: usize, least: u32, most: u32) -> Option<u32>
+pub(crate) fn number_between(text: &str, digits: usize, least: u32, most: u32) -> Option<u32>
     requires { digits ≤ 9 }
-    ensures value { result ≡ number_of digits least most text.now }
+    ensures value { result ≡ number_between digits least most text.now }
     ensures within { IfSome result (λ number. (least ≤ number) × (number ≤ most)) }
 {
     if text.is_empty() || text.len() > digits || !are_digits(text) {

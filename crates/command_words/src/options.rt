@@ -6,7 +6,7 @@ use crate::command::Options;
 use crate::fits::Fits;
 use crate::items::value_of;
 use crate::lists::fits_of;
-use crate::numbers::number_of;
+use crate::numbers::number_between;
 
 const MOST_WORKERS: u32 = 8;
 
@@ -33,7 +33,7 @@ pub(crate) fn workers_in(words: &[String]) -> Option<u8>
     let Some(text) = value_of(words, "workers") else {
         return Some(0);
     };
-    let number = number_of(text, 3, 0, MOST_WORKERS)?;
+    let number = number_between(text, 3, 0, MOST_WORKERS)?;
     Some(number as u8)
 }
 
@@ -44,7 +44,7 @@ fn limit_in(words: &[String]) -> Option<u8>
     let Some(text) = value_of(words, "limit") else {
         return Some(10);
     };
-    let number = number_of(text, 3, 1, MOST_LIMIT)?;
+    let number = number_between(text, 3, 1, MOST_LIMIT)?;
     Some(number as u8)
 }
 

@@ -6,7 +6,7 @@ ghost use Rattle.command_words.specs.Items.{are_different, is_dashes, items, ope
 use crate::command::{Command, Files};
 use crate::items::{Item, first_item, operand, stands};
 use crate::kind::Kind;
-use crate::numbers::number_of;
+use crate::numbers::number_between;
 use crate::options::{options_in, workers_in};
 
 const MOST_COUNT: u32 = 100_000;
@@ -142,7 +142,7 @@ fn count_of(before: &[String], behind: &[String]) -> Option<u32>
     let None = operand(before, behind, 1) else {
         return None;
     };
-    number_of(count, 6, 1, MOST_COUNT)
+    number_between(count, 6, 1, MOST_COUNT)
 }
 
 // The place of the first `--`, or the end.

@@ -4,5 +4,6 @@ mod ApplyLemmas
 mod ShapeLemmas
 mod ResolveLemmas
 mod AdmitLemmas
+mod FrontLemmas
 mod StandingLemmas
 pub mod CallerLemmas

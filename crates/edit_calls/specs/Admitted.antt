@@ -1,5 +1,5 @@
 -- Which changes tables of given shapes admit (this project's profile).
-use Rattle.std.specs.Prelude.{ℕ, Bool, true, false, ◌==◌, ◌&&◌, List, length, is_none}
+use Rattle.std.specs.Prelude.{◌≡◌, ℕ, Bool, true, false, ◌==◌, ◌&&◌, List, [], ◌∷◌, ⊤, length, is_none}
 use Rattle.std.specs.List.{list_all}
 use Rattle.std.specs.Option.{option_map_or}
 use Rattle.perm_base.specs.declared.shapes.Shapes.{Shapes}
@@ -24,3 +24,8 @@ is_fitting shapes (Replace table old new) = may_stand shapes table new
 -- tables after all of them pass no limit
 abbrev pub admits : Shapes → Policy → List Change → Bool
 admits shapes policy changes = list_all (is_fitting shapes) changes && applies changes policy && is_none (passed shapes (edited changes policy))
+
+-- each edit is admitted in the tables after those before it
+abbrev pub AreAdmitted : Shapes → Policy → List (List Change) → Type 0
+AreAdmitted shapes policy [] = ⊤
+AreAdmitted shapes policy (edit ∷ edits) = (admits shapes policy edit ≡ true) × AreAdmitted shapes (edited edit policy) edits

@@ -60,7 +60,9 @@ fn is_fitting(change: &Change, shapes: &Shapes) -> bool
     }
 }
 
-fn may_stand(shapes: &Shapes, table: TableId, rule: &Rule) -> bool
+/// Whether a rule may stand in a table: the shapes have the table, and the rule has its number of columns and no field of
+/// more than 4,096 bytes. It takes no memory.
+pub fn may_stand(shapes: &Shapes, table: TableId, rule: &Rule) -> bool
     ensures { result ≡ may_stand shapes.now table rule.now }
 {
     match columns_of(shapes, table) {

@@ -1,12 +1,12 @@
-ghost use Rattle.std.specs.Prelude.{◌≡◌, List, None, Some, true, length, is_some};
+ghost use Rattle.std.specs.Prelude.{◌≡◌, ◌++◌, List, None, Some, true, length, is_some};
 ghost use Rattle.std.specs.List.{IsDistinct};
 ghost use Rattle.perm_base.specs.declared.shapes.Shapes.{Shapes};
 ghost use Rattle.perm_base.specs.declared.shapes.TableId.TheVariants.{P};
-ghost use Rattle.policy_table.specs.Changes.{applies, edited};
+ghost use Rattle.policy_table.specs.Changes.{applies, edited, replay};
 ghost use Rattle.policy_table.specs.Limits.{AreSound, HaveShapes, passed};
 ghost use Rattle.policy_table.specs.Tables.{Policy, most_tables, place, rows, same};
 ghost use Rattle.policy_table.specs.declared.change.Change.{Change};
-ghost use Rattle.edit_calls.specs.Admitted.{admits};
+ghost use Rattle.edit_calls.specs.Admitted.{AreAdmitted, admits};
 ghost use Rattle.edit_calls.specs.Edits.{edit_by};
 ghost use Rattle.edit_calls.specs.Refusals.{refusal, table_of};
 ghost use Rattle.edit_calls.specs.declared.call.Call.{Call};
@@ -60,4 +60,16 @@ pub fn admitted_edits_keep_sound()
         → AreSound shapes policy
         → admits shapes policy changes ≡ true
         → AreSound shapes (edited changes policy) }
+{}
+
+/// The law that two lists of edits are admitted one behind the other exactly where the first is admitted, and the second in
+/// the tables after it.
+pub fn admitted_edits_compose()
+    ensures parts { (shapes : Shapes) (policy : Policy) (front back : List (List Change))
+        → AreAdmitted shapes policy (front ++ back)
+        → AreAdmitted shapes policy front × AreAdmitted shapes (replay front policy) back }
+    ensures whole { (shapes : Shapes) (policy : Policy) (front back : List (List Change))
+        → AreAdmitted shapes policy front
+        → AreAdmitted shapes (replay front policy) back
+        → AreAdmitted shapes policy (front ++ back) }
 {}

@@ -5,6 +5,7 @@ mod admitted;
 mod call;
 mod changes;
 mod edits;
+mod front;
 mod laws;
 mod listed;
 mod named;
@@ -13,10 +14,12 @@ mod refused;
 mod resolving;
 mod standing;
 
-pub use admitted::admits;
+pub use admitted::{admits, may_stand};
 pub use call::{Call, Pairs};
+pub use front::{admitted_front, make_front};
 pub use laws::{
-    admitted_edits_keep_sound, edits_apply, edits_are_admitted, edits_keep_shapes, edits_keep_sound,
+    admitted_edits_compose, admitted_edits_keep_sound, edits_apply, edits_are_admitted,
+    edits_keep_shapes, edits_keep_sound,
 };
 pub use refused::CallRefused;
 pub use resolving::resolve;

@@ -1,7 +1,9 @@
 -- A fold over outcomes ends in their verdict.
-use Rattle.std.proofs.Common.{◌≡◌, ℕ, Bool, true, false, cond, List, [], ◌∷◌, Option, Some, None, is_some, find, refl, ap, ◌∙◌}
+use Rattle.std.proofs.Common.{◌≡◌, ℕ, Bool, true, false, cond, List, [], ◌∷◌, ◌++◌, Option, Some, None, is_some, find, refl, sym, ap, ◌∙◌}
 use Rattle.effect_fold.specs.Verdict.{Taken, ends, ends_with, allows, is_allow, settled_by, unsettled, allow_by, verdict, verdict_at}
-use Rattle.effect_fold.specs.Steps.{Progress, progress, begun, first_row, behind, open_end, ended}
+use Rattle.effect_fold.specs.Helps.Progress.{Progress, progress, begun, first_row, behind, open_end, ended, taken}
+use Rattle.effect_fold.specs.Folds.{HasTaken, is_settled}
+use Rattle.effect_fold.specs.declared.outcome.Outcome.{Outcome}
 use Rattle.effect_fold.specs.declared.effect.Effect.{Effect}
 use Rattle.effect_fold.specs.declared.effect.Effect.TheVariants as effect
 use Rattle.effect_fold.specs.declared.verdict.Verdict.{Verdict}
@@ -49,7 +51,7 @@ folds e allowed (first ∷ others) = by_end (folds e (cond (is_allow first.1) (f
     by_end later true = ap ended (stays e allowed (settled_by first.0 first.1) others)
     by_end later false = later ∙ later_answer e allowed first others (find (ends e) others)
 
-pub gives_verdict : (e : Effect) (outcomes : List Taken) → ended (behind (begun e) outcomes) ≡ verdict e outcomes
+gives_verdict : (e : Effect) (outcomes : List Taken) → ended (behind (begun e) outcomes) ≡ verdict e outcomes
 unfolding answer row_or
 gives_verdict e outcomes = folds e None outcomes ∙ by_found (find (ends e) outcomes)
   where
@@ -68,7 +70,7 @@ gives_verdict e outcomes = folds e None outcomes ∙ by_found (find (ends e) out
     by_found (Some found) = refl
     by_found None = by_effect e
 
-pub settles_there : (e : Effect) (allowed : Option (Option ℕ)) (outcomes : List Taken) → is_some (behind (progress e allowed None) outcomes).settled ≡ is_some (find (ends e) outcomes)
+settles_there : (e : Effect) (allowed : Option (Option ℕ)) (outcomes : List Taken) → is_some (behind (progress e allowed None) outcomes).settled ≡ is_some (find (ends e) outcomes)
 settles_there e allowed [] = refl
 settles_there e allowed (first ∷ others) = by_end (settles_there e (cond (is_allow first.1) (first_row allowed first.0) allowed) others) (ends_with e first.1)
   where
@@ -79,3 +81,41 @@ settles_there e allowed (first ∷ others) = by_end (settles_there e (cond (is_a
         → is_some (behind (cond b (progress e allowed (Some (settled_by first.0 first.1))) (progress e next None)) others).settled ≡ is_some (cond b (Some first) (find (ends e) others))
     by_end later true = ap (λ (p : Progress). is_some p.settled) (stays e allowed (settled_by first.0 first.1) others)
     by_end later false = later
+
+behind-append : (p : Progress) (a b : List Taken) → behind p (a ++ b) ≡ behind (behind p a) b
+behind-append p [] b = refl
+behind-append p (x ∷ a) b = behind-append (taken p x.0 x.1) a b
+
+-- a fold that took nothing
+pub took_none : (e : Effect) (fold : Progress) → fold ≡ begun e → HasTaken fold e []
+unfolding HasTaken
+took_none e fold is = is
+
+took_next : (e : Effect) (outcomes : List Taken) (fold next : Progress) (row : Option ℕ) (outcome : Outcome) → fold ≡ behind (begun e) outcomes → next ≡ taken fold row outcome
+    → next ≡ behind (begun e) (outcomes ++ (row, outcome) ∷ [])
+took_next e outcomes fold next row outcome is step = step ∙ ap (λ (p : Progress). taken p row outcome) is ∙ sym (behind-append (begun e) outcomes ((row, outcome) ∷ []))
+
+-- one outcome more
+pub took_more : (e : Effect) (outcomes : List Taken) (fold next : Progress) (row : Option ℕ) (outcome : Outcome) → next ≡ taken fold row outcome → HasTaken fold e outcomes → HasTaken next e (outcomes ++ (row, outcome) ∷ [])
+unfolding HasTaken
+took_more e outcomes fold next row outcome step is = took_next e outcomes fold next row outcome is step
+
+-- whether the verdict is settled then
+pub took_settled : (e : Effect) (outcomes : List Taken) (fold next : Progress) (row : Option ℕ) (outcome : Outcome) (told : Bool) → next ≡ taken fold row outcome → told ≡ is_some next.settled → HasTaken fold e outcomes
+    → told ≡ is_settled e (outcomes ++ (row, outcome) ∷ [])
+unfolding HasTaken
+took_settled e outcomes fold next row outcome told step known is =
+    known ∙ ap (λ (p : Progress). is_some p.settled) (took_next e outcomes fold next row outcome is step) ∙ settles_there e None (outcomes ++ (row, outcome) ∷ [])
+
+-- the end
+pub took_end : (e : Effect) (outcomes : List Taken) (fold : Progress) (v : Verdict) → v ≡ ended fold → HasTaken fold e outcomes → v ≡ verdict e outcomes
+unfolding HasTaken
+took_end e outcomes fold v ends is = ends ∙ ap ended is ∙ gives_verdict e outcomes
+
+settled_stays_so : (e : Effect) (allowed : Option (Option ℕ)) (settled : Option Verdict) (row : Option ℕ) (outcome : Outcome) → is_some settled ≡ true → progress e allowed settled ≡ taken (progress e allowed settled) row outcome
+settled_stays_so e allowed (Some v) row outcome some = refl
+settled_stays_so e allowed None row outcome some = absurd cc
+
+-- an outcome behind the settled verdict
+pub settled_taken : (fold : Progress) (row : Option ℕ) (outcome : Outcome) → is_some fold.settled ≡ true → fold ≡ taken fold row outcome
+settled_taken fold row outcome some = settled_stays_so fold.effect fold.allowed fold.settled row outcome some

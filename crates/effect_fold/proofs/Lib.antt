@@ -1,1 +1,2 @@
 mod FoldLemmas
+pub mod CallerLemmas

@@ -1,2 +1,3 @@
 pub mod Verdict
-pub mod Steps
+pub mod Helps
+pub mod Folds

@@ -1,16 +1,16 @@
-ghost use Rattle.std.specs.Prelude.{◌≡◌, ◌++◌, ◌∷◌, [], ℕ, List, Option, Some, None, is_some, find};
-ghost use Rattle.effect_fold.specs.Steps.{begun, behind, ended, open_end, taken};
-ghost use Rattle.effect_fold.specs.Verdict.{Taken, ends, ends_with, is_allow, settled_by, settles, verdict};
+ghost use Rattle.std.specs.Prelude.{◌≡◌, ◌++◌, ◌∷◌, [], List, None, is_some};
+ghost use Rattle.effect_fold.specs.Folds.{HasTaken, is_settled};
+ghost use Rattle.effect_fold.specs.Helps.Progress.{open_end, taken};
+ghost use Rattle.effect_fold.specs.Verdict.{Taken, ends_with, is_allow, settled_by, settles, verdict};
 ghost use Rattle.effect_fold.specs.declared.effect.Effect.{Effect};
-ghost use Rattle.effect_fold.specs.declared.outcome.Outcome.{Outcome};
 
 use crate::effect::Effect;
 use crate::outcome::Outcome;
 use crate::verdict::Verdict;
 use std::marker::Model;
 
-/// A fold over the outcomes of rows, in their order. Contracts see the effect, the row of the first match with allow,
-/// and the verdict once it is settled. It takes no memory.
+/// A fold over the outcomes of rows, in their order. Contracts see the outcomes that it took. It takes no memory, and
+/// keeps the row of the first match with allow, and the verdict once it is settled.
 #[derive(Drop)]
 pub struct Fold {
     effect: Effect,
@@ -19,7 +19,7 @@ pub struct Fold {
 }
 
 impl Model for Fold {
-    ghost use Rattle.effect_fold.specs.Steps.{Progress, progress};
+    ghost use Rattle.effect_fold.specs.Helps.Progress.{Progress, progress};
 
     ghost Value = { Progress };
 
@@ -29,7 +29,7 @@ impl Model for Fold {
 impl Fold {
     /// No outcome is taken yet.
     pub fn new(effect: Effect) -> Fold
-        ensures { result ≡ begun effect }
+        ensures { HasTaken result effect [] }
     {
         Fold {
             effect,
@@ -41,9 +41,32 @@ impl Fold {
     /// Takes the outcome of a row, counted from 1, or of the one evaluation that goes with no row. It answers whether the
     /// verdict is settled now.
     pub fn take(&mut self, row: Option<u32>, outcome: Outcome) -> bool
+        ensures taken { (e : Effect) (outcomes : List Taken) → HasTaken self.old e outcomes
+            → HasTaken self.new e (outcomes ++ (row, outcome) ∷ []) }
+        ensures settled { (e : Effect) (outcomes : List Taken) → HasTaken self.old e outcomes
+            → result ≡ is_settled e (outcomes ++ (row, outcome) ∷ []) }
+    {
+        if self.settled.is_some() {
+            return true;
+        }
+        self.put(row, outcome)
+    }
+
+    /// The verdict of the outcomes that were taken.
+    pub fn end(self) -> Verdict
+        ensures { (e : Effect) (outcomes : List Taken) → HasTaken self e outcomes
+            → result ≡ verdict e outcomes }
+    {
+        match self.settled {
+            Some(verdict) => verdict,
+            None => open_end(self.effect, self.allowed),
+        }
+    }
+
+    // Takes an outcome while the verdict is not settled.
+    fn put(&mut self, row: Option<u32>, outcome: Outcome) -> bool
         requires { self.old.settled ≡ None }
         ensures taken { self.new ≡ taken self.old row outcome }
-        ensures settled { result ≡ ends_with self.old.effect outcome }
         ensures known { result ≡ is_some self.new.settled }
     {
         if ends(self.effect, outcome) {
@@ -55,25 +78,7 @@ impl Fold {
         }
         false
     }
-
-    /// The verdict of the outcomes that were taken.
-    pub fn end(self) -> Verdict
-        ensures { result ≡ ended self }
-    {
-        match self.settled {
-            Some(verdict) => verdict,
-            None => open_end(self.effect, self.allowed),
-        }
-    }
 }
-
-/// The law that a fold over any outcomes ends in their verdict.
-pub fn fold_gives_verdict()
-    ensures verdict { (e : Effect) (outcomes : List Taken)
-        → ended (behind (begun e) outcomes) ≡ verdict e outcomes }
-    ensures settled { (e : Effect) (outcomes : List Taken)
-        → is_some (behind (begun e) outcomes).settled ≡ is_some (find (ends e) outcomes) }
-{}
 
 // The outcome ends the evaluation under the effect.
 fn ends(effect: Effect, outcome: Outcome) -> bool

@@ -10,7 +10,7 @@ mod worked;
 
 pub use effect::Effect;
 pub use fault::{Cause, Fault};
-pub use fold::{Fold, fold_gives_verdict};
+pub use fold::Fold;
 pub use outcome::Outcome;
 pub use verdict::Verdict;
 pub use worked::worked_verdicts;

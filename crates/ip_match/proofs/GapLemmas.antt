@@ -12,9 +12,6 @@ NoGap text = (k : ℕ) → get_or text k 0 ≡ 58 → get_or text (suc k) 0 ≡ 
 pub NoGap-from_spec : (text : List ℕ) → HasNoGap text → NoGap text
 NoGap-from_spec text h k e f = h k e (rw add-one f)
 
-pub spec_from_NoGap : (text : List ℕ) → NoGap text → HasNoGap text
-spec_from_NoGap text h k e f = h k e (rw add-one at f)
-
 pub NoGap-nil : NoGap []
 NoGap-nil k e f = absurd (omega arith)
 

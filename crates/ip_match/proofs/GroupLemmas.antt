@@ -59,9 +59,6 @@ pub record Walked (text rest : List ℕ) (count number : ℕ) : Type 0 where
   pub few : count ≤ 8
   pub small : number < 2 ^ (16 * count)
 
-pub walked_none : (text : List ℕ) → Walked text text 0 0
-walked_none text = record { groups = []; each = tt; parts = refl; count_is = refl; number_is = refl; few = omega arith; small = omega arith }
-
 number_more : (groups : List (List ℕ)) (group : List ℕ) (number : ℕ) → number ≡ number_from_digits 65536 (group_numbers groups) → number * 65536 + digits_value 16 group ≡ number_from_digits 65536 (group_numbers (groups ++ group ∷ []))
 number_more groups group number e =
     rw (e, map_push (digits_value 16) groups group, number_push 65536 (group_numbers groups) (digits_value 16 group)) refl

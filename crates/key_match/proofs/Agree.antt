@@ -226,12 +226,6 @@ CutsAlike-more given more name pieces key from end new h e =
 pub nameless-one : (bytes : ByteSet) → IsNameless (One bytes)
 nameless-one bytes = record { unnamed = λ name. refl; ungiven = λ given. refl }
 
-pub nameless-stretch : IsNameless Stretch
-nameless-stretch = record { unnamed = λ name. refl; ungiven = λ given. refl }
-
-pub nameless-rest : IsNameless Rest
-nameless-rest = record { unnamed = λ name. refl; ungiven = λ given. refl }
-
 pub byte-forward : (given : Given) (bytes : ByteSet) (pieces : List Piece) (key : List ℕ) (from : ℕ) → from ≤ length key → CoversGiven given (One bytes ∷ pieces) (drop from key) → CoversGiven given pieces (drop (from + 1) key)
 byte-forward given bytes pieces key from within h =
     let cut = HasCut-from given (One bytes) pieces key from within h in

@@ -1,12 +1,12 @@
 -- Going back to the latest rest, and in what follows it to the latest stretch, loses nothing.
-use Rattle.std.proofs.Common.{◌≡◌, ℕ, ◌+◌, ◌<◌, ◌≤◌, Bool, true, false, not, ◌&&◌, ◌||◌, List, [], ◌∷◌, length, get_or, drop, refl, ap, sym, ◌∙◌, subst, ⊎_elim, arith, suc, cond, add-one, drop-cons, length-drop}
+use Rattle.std.proofs.Common.{◌≡◌, ℕ, ◌+◌, ◌<◌, Bool, true, false, not, ◌&&◌, ◌||◌, List, [], ◌∷◌, length, get_or, drop, refl, ap, sym, ◌∙◌, subst, ⊎_elim, arith, suc, cond, add-one, drop-cons, length-drop}
 use Rattle.std.proofs.lemmas.Bool.{false≢true, eqb-true}
 use Rattle.std.proofs.lemmas.Bool.Decides.{eqb_tells}
 use Rattle.std.specs.List.{prefix_len}
-use Rattle.std.proofs.lemmas.List.{drop_all, drop-drop}
+use Rattle.std.proofs.lemmas.List.{drop-drop}
 use Rattle.key_match.specs.Pieces.{ByteSet, Only, NotSlash, Class, Piece, One, Segment, Stretch, Rest, has, not_slash}
 use Rattle.key_match.specs.Helps.Fits.{byte_fits, stretch_fits, end_fits, fits, LeadsTo}
-use Rattle.key_match.proofs.Bools.{or_first, or_second, or_cases, and_both, and_first, and_second, and_true, and_false, or_false, or-false_first, or-false_second, same_test, false_by}
+use Rattle.key_match.proofs.Bools.{or_first, or_second, or_cases, and_both, and_first, and_second, and_true, or_false, or-false_first, or-false_second, same_test}
 
 abbrev Test : Type 0
 Test = List ℕ → Bool
@@ -89,9 +89,6 @@ not_slash-other b h = ⊎_elim (λ k. absurd (h k.1)) (λ k. ap not k.0) (eqb_te
 
 -- ---- what leads where
 
-pub LeadsTo-refl : (ps : List Piece) (t : List ℕ) → LeadsTo ps t ps t
-LeadsTo-refl ps t = record { same = refl; in_stretch = λ h. h; anywhere = λ h. h }
-
 pub LeadsTo-trans : (ps qs rs : List Piece) (t u v : List ℕ) → LeadsTo ps t qs u → LeadsTo qs u rs v → LeadsTo ps t rs v
 LeadsTo-trans ps qs rs t u v h k = record {
   same = h.same ∙ k.same;
@@ -129,31 +126,6 @@ LeadsTo-segment ps later next t key k name h e lt passes =
       in_stretch = λ x. stretch-byte not_slash (stretch_fits (fits next)) b rest (KnowsSlash-has NotSlash) passes (g.in_stretch x);
       anywhere = λ x. end-byte not_slash (stretch_fits (fits next)) b rest (g.anywhere x);
     }
-
-pub mismatch-byte : (ps later next : List Piece) (t key : List ℕ) (k : ℕ) (bytes : ByteSet) → LeadsTo ps t later (drop k key) → later ≡ One bytes ∷ next → k < length key → has bytes (get_or key k 0) ≡ false → fits ps t ≡ false
-mismatch-byte ps later next t key k bytes h e lt misses =
-    let b = get_or key k 0 in
-    let g = LeadsTo-alike ps later (One bytes ∷ next) t (drop k key) (b ∷ drop (k + 1) key) h e (open_at key k lt) in
-    g.same ∙ and_false (has bytes b) _ misses
-
-pub mismatch-segment : (ps later next : List Piece) (t key : List ℕ) (k : ℕ) (name : List ℕ) → LeadsTo ps t later (drop k key) → later ≡ Segment name ∷ next → k < length key → not_slash (get_or key k 0) ≡ false → fits ps t ≡ false
-mismatch-segment ps later next t key k name h e lt misses =
-    let b = get_or key k 0 in
-    let g = LeadsTo-alike ps later (Segment name ∷ next) t (drop k key) (b ∷ drop (k + 1) key) h e (open_at key k lt) in
-    g.same ∙ and_false (not_slash b) _ misses
-
-pub ended-byte : (ps later next : List Piece) (t key : List ℕ) (k : ℕ) (bytes : ByteSet) → LeadsTo ps t later (drop k key) → later ≡ One bytes ∷ next → length key ≤ k → end_fits (fits ps) t ≡ false
-ended-byte ps later next t key k bytes h e le =
-    let g = LeadsTo-alike ps later (One bytes ∷ next) t (drop k key) [] h e (drop_all k key le) in
-    false_by (end_fits (fits ps) t) false g.anywhere refl
-
-pub ended-segment : (ps later next : List Piece) (t key : List ℕ) (k : ℕ) (name : List ℕ) → LeadsTo ps t later (drop k key) → later ≡ Segment name ∷ next → length key ≤ k → end_fits (fits ps) t ≡ false
-ended-segment ps later next t key k name h e le =
-    let g = LeadsTo-alike ps later (Segment name ∷ next) t (drop k key) [] h e (drop_all k key le) in
-    false_by (end_fits (fits ps) t) false g.anywhere refl
-
-pub both_ended : (ps later : List Piece) (t key : List ℕ) (k : ℕ) → LeadsTo ps t later (drop k key) → later ≡ [] → length key ≤ k → fits ps t ≡ true
-both_ended ps later t key k h e le = (LeadsTo-alike ps later [] t (drop k key) [] h e (drop_all k key le)).same
 
 pub pattern_ended : (ps later : List Piece) (t key : List ℕ) (k : ℕ) → LeadsTo ps t later (drop k key) → later ≡ [] → k < length key → fits ps t ≡ false
 pattern_ended ps later t key k h e lt =

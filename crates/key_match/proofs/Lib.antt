@@ -12,4 +12,7 @@ pub mod Tried
 pub mod Decided
 pub mod Divided
 pub mod Named
+pub mod SignLemmas
+pub mod SyntaxLemmas
+pub mod FrontLemmas
 pub mod CallerLemmas

@@ -4,7 +4,7 @@ use Rattle.std.specs.List.{concat, list_all, prefix_len}
 use Rattle.std.proofs.lemmas.Bool.{false≢true, cases_lt}
 use Rattle.std.proofs.lemmas.List.{drop-drop, take_all, take-append-le, take-append-drop, length-take-le}
 use Rattle.std.proofs.Math.Seq.{drop-append_seam}
-use Rattle.key_match.specs.Pieces.{ByteSet, Piece, One, Segment, Stretch, Rest, has, not_slash, is_one, StandsFor, Divides}
+use Rattle.key_match.specs.Pieces.{ByteSet, Piece, One, Segment, Stretch, has, not_slash, is_one, StandsFor, Divides}
 use Rattle.key_match.specs.Divisions.{Order, GoesBefore, IsFirstDivision}
 use Rattle.key_match.specs.Helps.Fits.{fits}
 use Rattle.key_match.specs.Helps.Parts.{part_between, HasPart, AreEnds, NoneLater, NoneEarlier, IsChosen}
@@ -101,15 +101,6 @@ AreEnds-stretch key from most e within =
           let less : end - from ≤ prefix_len not_slash t = plain_take t (end - from) (omega (arith, length-drop {A = ℕ})) stands in
           (low, omega arith);
     }
-
-pub AreEnds-rest : (key : List ℕ) (from : ℕ) → from ≤ length key → AreEnds Rest key from (record { least = from; most = length key })
-AreEnds-rest key from within = record {
-  from_least = omega arith;
-  ordered = within;
-  within = omega arith;
-  all = λ end low high. tt;
-  only = λ end low high stands. (low, high);
-}
 
 -- ---- the chosen end
 

@@ -15,7 +15,7 @@ not-false : (b : Bool) → not b ≡ false → b ≡ true
 not-false true h = refl
 not-false false h = absurd (false≢true (sym h))
 
-reading-skip : (first : Reader) (n before : ℕ) (xs : List ℕ) → reading first n before xs ≡ reading first 0 (last_byte before xs n) (drop n xs)
+pub reading-skip : (first : Reader) (n before : ℕ) (xs : List ℕ) → reading first n before xs ≡ reading first 0 (last_byte before xs n) (drop n xs)
 unfolding reading
 reading-skip first zero before xs = refl
 reading-skip first (suc n) before [] = refl
@@ -62,13 +62,17 @@ reading-open first start at pattern h =
     ∙ ap (λ b. reading first 0 b (drop found.further after)) there
     ∙ ap (reading first 0 (last_byte start pattern (at + 1 + found.further))) left)
 
+-- the first piece at a place, and the others behind it
+pub pieces_at-open : (dialect : Dialect) (pattern : List ℕ) (at : ℕ) → at < length pattern
+    → pieces_at dialect pattern at ≡ (first_at (reader_of dialect) pattern at).piece ∷ pieces_at dialect pattern (at + 1 + (first_at (reader_of dialect) pattern at).further)
+unfolding pieces_at
+pieces_at-open dialect pattern at h = reading-open (reader_of dialect) (if is_lone_star pattern then 47 else 0) at pattern h
+
 -- the token read at a place is the first of the pieces there
 pub IsReadAt-first : (dialect : Dialect) (pattern : List ℕ) (at : ℕ) (found : Reading) → at < length pattern → IsFirst (first_at (reader_of dialect) pattern at) at found → found.next ≤ length pattern → IsReadAt dialect pattern at found
-unfolding pieces_at
 IsReadAt-first dialect pattern at found h first within = record {
   pieces =
-      let start = if is_lone_star pattern then 47 else 0 in
-      reading-open (reader_of dialect) start at pattern h
+      pieces_at-open dialect pattern at h
       ∙ ap (λ piece. piece ∷ pieces_at dialect pattern (at + 1 + (first_at (reader_of dialect) pattern at).further)) (sym first.piece)
       ∙ ap (λ next. piece_of found.token ∷ pieces_at dialect pattern next) (sym first.next);
   after = let e = first.next in omega arith;

@@ -13,9 +13,6 @@ pub record AreTried (given : Given) (piece : Piece) (pieces : List Piece) (key :
   pub high : end ≤ ends.most
   pub none : (other : ℕ) → ends.least ≤ other → other < end → ¬ CutsAlike given piece pieces key from other
 
-pub AreTried-none : (given : Given) (piece : Piece) (pieces : List Piece) (key : List ℕ) (from : ℕ) (ends : Ends) → ends.least ≤ ends.most → AreTried given piece pieces key from ends ends.least
-AreTried-none given piece pieces key from ends ordered = record { low = omega arith; high = ordered; none = λ other a b. absurd (omega arith) }
-
 pub AreTried-more : (given : Given) (piece : Piece) (pieces : List Piece) (key : List ℕ) (from end : ℕ) (ends : Ends) → AreTried given piece pieces key from ends end → (end ≡ ends.most → ⊥) → ¬ CutsAlike given piece pieces key from end → AreTried given piece pieces key from ends (end + 1)
 AreTried-more given piece pieces key from end ends tried before_last fails = record {
   low = let h = tried.low in omega arith;

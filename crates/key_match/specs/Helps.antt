@@ -3,3 +3,4 @@ pub mod Tokens
 pub mod Fits
 pub mod Parts
 pub mod Given
+pub mod Fronts

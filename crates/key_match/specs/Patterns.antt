@@ -1,5 +1,5 @@
--- The pieces of a pattern, read from the left (Casbin, functions in matchers: keyMatch2 to keyMatch5,
--- keyGet2, keyGet3).
+-- The pieces that a pattern reads as by its signs (`Signs`), taken byte by byte; that it reads as these, and as no others, is a law
+-- (Casbin, functions in matchers: keyMatch2 to keyMatch5, keyGet2, keyGet3, globMatch).
 use Rattle.std.specs.Prelude.{ℕ, zero, suc, ◌+◌, Bool, true, false, not, ◌&&◌, ◌||◌, List, [], ◌∷◌, length, drop, ◌==◌, if◌then◌else◌}
 use Rattle.std.specs.List.{take_while}
 use Rattle.key_match.specs.Pieces.{not_slash, Range, Piece, Only, NotSlash, Class, One, Segment, Stretch, Rest}

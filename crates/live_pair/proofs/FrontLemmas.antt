@@ -1,5 +1,5 @@
 -- Beginnings of one list.
-use Rattle.std.proofs.Common.{◌≡◌, ◌⊎◌, inl, inr, ℕ, ◌+◌, ◌≤◌, ◌<◌, leb, drop, Bool, true, false, MatchBool, List, [], ◌∷◌, ◌++◌, length, refl, ap, sym, ◌∙◌, arith, append_assoc}
+use Rattle.std.proofs.Common.{◌≡◌, ◌⊎◌, inl, inr, ℕ, ◌+◌, ◌≤◌, ◌<◌, leb, drop, take, Bool, true, false, MatchBool, List, [], ◌∷◌, ◌++◌, length, refl, ap, sym, ◌∙◌, arith, append_assoc}
 use Rattle.std.proofs.lemmas.List.{append-nil}
 use Rattle.std.proofs.lemmas.Bool.Decides.{nat_tests}
 use mathlib.Core.List.{IsPrefix}
@@ -53,6 +53,15 @@ by_length xs ys zs p q a b m n = by_test xs ys zs p q a b m n (leb a b) refl
 pub match_more : (t : Bool) (P Q R S : Type 0) → (P → R) → (Q → S) → MatchBool t P Q → MatchBool t R S
 match_more true P Q R S f g h = f h
 match_more false P Q R S f g h = g h
+
+-- a beginning is the first so many of the whole
+pub first_all : {A : Type 0} (xs ys : List A) → IsPrefix xs ys → xs ≡ take (length xs) ys
+first_all [] ys p = refl
+first_all (x ∷ xs) [] p = absurd (cc (p.1))
+first_all (x ∷ xs) (y ∷ ys) p =
+    let rest : xs ≡ take (length xs) ys = first_all xs ys (p.0, cc (p.1)) in
+    let heads : x ≡ y = cc (p.1) in
+    cc (heads, rest)
 
 -- a beginning and the rest
 pub rest_all : {A : Type 0} (xs ys : List A) → IsPrefix xs ys → xs ++ drop (length xs) ys ≡ ys

@@ -1,6 +1,7 @@
 mod FrontLemmas
 mod AddingLemmas
 mod StoryLemmas
+mod ShownLemmas
 mod SideLemmas
 mod LineLemmas
 mod OpeningLemmas

@@ -3,13 +3,13 @@ use Rattle.std.proofs.Common.{◌≡◌, ◌⊎◌, inl, inr, false, ℕ, suc, �
 use Rattle.std.proofs.lemmas.List.{append-nil}
 use Rattle.std.proofs.lemmas.List.Sums.{fold-append}
 use mathlib.Core.List.{IsPrefix}
-use Rattle.live_core.proofs.CallerLemmas.{cut_kept, cut_none, cut_published, versions_both}
-use Rattle.live_core.specs.Events.{cut, is_publish, versions}
-use Rattle.live_core.specs.Fronts.{IsLegal, front}
-use Rattle.live_core.specs.Replies.{reply_of}
-use Rattle.live_core.specs.declared.events.Event.{Event}
-use Rattle.live_core.specs.declared.events.Event.TheVariants.{Edit, Publish, Note, Learn, Enter, Seat}
-use Rattle.live_core.specs.declared.events.Reply.TheVariants.{Published}
+use Rattle.live_meaning.proofs.CallerLemmas.{cut_kept, cut_none, cut_published, versions_both}
+use Rattle.live_meaning.specs.Events.{cut, is_publish, versions}
+use Rattle.live_meaning.specs.Fronts.{IsLegal, front}
+use Rattle.live_meaning.specs.Replies.{reply_of}
+use Rattle.live_meaning.specs.declared.events.Event.{Event}
+use Rattle.live_meaning.specs.declared.events.Event.TheVariants.{Edit, Publish, Note, Learn, Enter, Seat}
+use Rattle.live_meaning.specs.declared.events.Reply.TheVariants.{Published}
 use Rattle.live_pair.proofs.FrontLemmas.{one_less}
 use Rattle.live_pair.proofs.StoryLemmas.{edits_more}
 use Rattle.live_pair.specs.Admins.{AdminSeen}

@@ -6,7 +6,6 @@ use Rattle.edit_calls.specs.Answers.{Answer}
 use Rattle.edit_calls.specs.declared.call.Call.{Call}
 use Rattle.edit_calls.specs.declared.refused.CallRefused.{CallRefused}
 use Rattle.live_pair.proofs.FrontLemmas.{prefix_self, prefix_trans, rest_all}
-use Rattle.live_pair.proofs.SideLemmas.{admitted_rest, version_stands}
 use Rattle.live_pair.proofs.StoryLemmas.{all_edits, edits_more, staged_rest}
 use Rattle.live_pair.specs.Helps.Lines.{IsAdmin}
 use Rattle.live_pair.specs.Helps.Sides.{history}
@@ -15,8 +14,11 @@ use Rattle.live_pair.specs.declared.edits.Event.{Event}
 use Rattle.live_pair.specs.declared.edits.Event.TheVariants.{Staged}
 use Rattle.perm_base.specs.declared.shapes.Shapes.{Shapes}
 use Rattle.policy_desk.specs.Answers.{desk_answer, pending_after}
-use Rattle.policy_desk.specs.Desks.{IsDesk, Work}
-use Rattle.policy_state.specs.Admitted.{AreAdmitted}
+use Rattle.policy_desk.proofs.CallerLemmas.{published_from}
+use Rattle.policy_desk.specs.Desks.{IsDesk, Work, floor_after}
+use Rattle.policy_desk.specs.Transitions.{IsBegun, IsPublished, after_call}
+use Rattle.policy_state.proofs.CallerLemmas.{admitted_rest, version_stands}
+use Rattle.edit_calls.specs.Admitted.{AreAdmitted}
 use Rattle.policy_state.specs.States.{State, StandsFor, tables}
 use Rattle.policy_table.specs.Changes.{replay}
 use Rattle.policy_table.specs.Tables.{Policy}
@@ -59,20 +61,19 @@ pending_grows (Ok (Some edit)) pending = (edit ∷ [], refl)
 pending_grows (Ok None) pending = prefix_self pending
 pending_grows (Err refused) pending = prefix_self pending
 
-begun_after : (answered : Answer) (before after : List (List Change)) (result : Result Bool CallRefused) → IfOk result (λ (_ : Bool). after ≡ pending_after answered before) → OnErr result (after ≡ before) → IsPrefix before after
-begun_after answered before after (Ok changed) made kept = subst (IsPrefix before) (sym made) (pending_grows answered before)
-begun_after answered before after (Err refused) made kept = subst (IsPrefix before) (sym kept) (prefix_self before)
-
-pub admin_called : (shapes : Shapes) (opening : Policy) (first : List (List Change)) (line : List Event) (list : List (List (List Change))) (desk new : Work) (call : Call) (result : Result Bool CallRefused)
-    → IsAdmin shapes opening first line list desk → new.state ≡ desk.state
-    → IfOk result (λ (_ : Bool). new.pending ≡ pending_after (desk_answer desk call) desk.pending) → OnErr result (new.pending ≡ desk.pending)
-    → IsAdmin shapes opening first line list new
-admin_called shapes opening first line list desk new call result is same made kept = record {
-  list_is = is.list_is;
-  begun = prefix_trans (unpublished first line) desk.pending new.pending is.begun (begun_after (desk_answer desk call) desk.pending new.pending result made kept);
-  shapes_are = ap (λ (s : State). s.shapes) same ∙ is.shapes_are;
-  stands = subst (λ (s : State). StandsFor s opening (edits_in list)) (sym same) is.stands;
-}
+pub admin_called : (shapes : Shapes) (opening : Policy) (first : List (List Change)) (line shown : List Event) (list : List (List (List Change))) (desk new : Work) (call : Call) (result : Result Bool CallRefused)
+    → IsAdmin shapes opening first line shown list desk → IfOk result (λ (_ : Bool). new ≡ after_call (desk_answer desk call) desk) → OnErr result (new ≡ desk)
+    → IsAdmin shapes opening first line shown list new
+admin_called shapes opening first line shown list desk new call (Ok changed) is made kept =
+    subst (IsAdmin shapes opening first line shown list) (sym made)
+    (record {
+      list_is = is.list_is;
+      shown_is = is.shown_is;
+      begun = prefix_trans (unpublished first line) desk.pending (pending_after (desk_answer desk call) desk.pending) is.begun (pending_grows (desk_answer desk call) desk.pending);
+      shapes_are = is.shapes_are;
+      stands = is.stands;
+    })
+admin_called shapes opening first line shown list desk new call (Err refused) is made kept = subst (IsAdmin shapes opening first line shown list) (sym kept) is
 
 -- ---- where edits are handed over, behind a look at the history
 
@@ -105,20 +106,46 @@ begun_here first old seen next last es pending is more again =
 
 -- ---- what an administrator keeps behind a publish
 
--- a policy behind edits stands for these too
-abbrev pub Follows : State → State → List (List Change) → Type 0
-Follows state new es = (opening : Policy) (history : List (List Change)) → StandsFor state opening history → StandsFor new opening (history ++ es)
+-- one that is refused
+pub admin_tried : (shapes : Shapes) (opening : Policy) (first : List (List Change)) (old given shown out : List Event) (list : List (List (List Change))) (desk ready : Work)
+    → IsAdmin shapes opening first old shown list desk → IsBegun desk ready → publishes first given ≡ publishes first old → IsPrefix (unpublished first given) ready.pending
+    → publishes first out ≡ publishes first shown → IsAdmin shapes opening first given out list ready
+admin_tried shapes opening first old given shown out list desk ready is tried done begun same = record {
+  list_is = done ∙ is.list_is;
+  shown_is = same ∙ is.shown_is;
+  begun = begun;
+  shapes_are = tried.state.shapes ∙ is.shapes_are;
+  stands = tried.state.stands opening (edits_in list) is.stands;
+}
 
-pub admin_published : (shapes : Shapes) (opening : Policy) (first : List (List Change)) (old given line : List Event) (list front last : List (List (List Change))) (desk ready new : Work)
-    → IsAdmin shapes opening first old list desk → ready.state.shapes ≡ desk.state.shapes → StandsFor ready.state opening (edits_in list)
+-- what is pending is still begun by what was handed over
+pub begun_tried : (first : List (List Change)) (line : List Event) (desk ready : Work) → IsBegun desk ready → IsPrefix (unpublished first line) desk.pending → IsPrefix (unpublished first line) ready.pending
+begun_tried first line desk ready tried begun = subst (IsPrefix (unpublished first line)) (sym (ap (λ (d : Work). d.pending) tried.others)) begun
+
+-- one that lacks its publish shows the publishes that were shown
+pub shown_tried : (first : List (List Change)) (old given shown out : List Event) (list : List (List (List Change))) → publishes first old ≡ list → publishes first shown ≡ list → publishes first given ≡ publishes first old
+    → out ≡ given → publishes first out ≡ publishes first shown
+shown_tried first old given shown out list list_is shown_is done same = ap (λ (l : List Event). publishes first l) same ∙ done ∙ list_is ∙ sym shown_is
+
+-- the list behind one that is made
+pub list_more : (first : List (List Change)) (old given : List Event) (list front last : List (List (List Change))) (desk ready : Work) → IsBegun desk ready → publishes first old ≡ list → publishes first given ≡ publishes first old
+    → unpublished first given ≡ ready.pending → front ≡ publishes first given ++ unpublished first given ∷ [] → last ≡ front → last ≡ list ++ desk.pending ∷ []
+list_more first old given list front last desk ready tried is done rest shown again =
+    again ∙ shown ∙ ap (λ (l : List (List (List Change))). l ++ unpublished first given ∷ []) (done ∙ is)
+    ∙ ap (λ (p : List (List Change)). list ++ p ∷ []) (rest ∙ ap (λ (d : Work). d.pending) tried.others)
+
+pub admin_published : (shapes : Shapes) (opening : Policy) (first : List (List Change)) (old given line shown out : List Event) (list front last : List (List (List Change))) (desk ready new : Work)
+    → IsAdmin shapes opening first old shown list desk → IsBegun desk ready → IsPublished ready.floor ready new
     → publishes first given ≡ publishes first old → unpublished first given ≡ ready.pending → front ≡ publishes first given ++ unpublished first given ∷ []
-    → publishes first line ≡ front → unpublished first line ≡ [] → last ≡ front
-    → new.state.shapes ≡ ready.state.shapes → Follows ready.state new.state ready.pending → new.pending ≡ [] → IsAdmin shapes opening first line last new
-admin_published shapes opening first old given line list front last desk ready new is same stands done rest shown out none again kept made empty =
-    let more : last ≡ list ++ ready.pending ∷ [] = again ∙ shown ∙ ap (λ (l : List (List (List Change))). l ++ unpublished first given ∷ []) (done ∙ is.list_is) ∙ ap (λ (p : List (List Change)). list ++ p ∷ []) rest in
+    → publishes first line ≡ front → unpublished first line ≡ [] → publishes first out ≡ front → last ≡ front → IsAdmin shapes opening first line out last new
+admin_published shapes opening first old given line shown out list front last desk ready new is tried made done rest more told none out_is again =
+    let here : IsPublished (floor_after desk) desk new = published_from desk ready new tried made in
     record {
-      list_is = out ∙ sym again;
-      begun = ([], append-nil (unpublished first line) ∙ none ∙ sym empty);
-      shapes_are = kept ∙ same ∙ is.shapes_are;
-      stands = subst (λ (l : List (List (List Change))). StandsFor new.state opening (edits_in l)) (sym more) (stands_more opening list ready.pending ready.state new.state stands made);
+      list_is = told ∙ sym again;
+      shown_is = out_is ∙ sym again;
+      begun = ([], append-nil (unpublished first line) ∙ none ∙ sym (ap (λ (d : Work). d.pending) here.others));
+      shapes_are = here.state.shapes ∙ is.shapes_are;
+      stands =
+          subst (λ (l : List (List (List Change))). StandsFor new.state opening (edits_in l)) (sym (list_more first old given list front last desk ready tried is.list_is done rest more again))
+          (stands_more opening list desk.pending desk.state new.state is.stands here.state.stands);
     }

@@ -7,23 +7,14 @@ use Rattle.live_pair.specs.Story.{edits_in, publishes, unpublished}
 use Rattle.live_pair.specs.declared.edits.Event.{Event}
 use Rattle.live_pair.specs.declared.edits.Event.TheVariants.{Staged, Publish}
 use Rattle.perm_base.specs.declared.shapes.Shapes.{Shapes}
-use Rattle.policy_state.specs.Admitted.{AreAdmitted}
+use Rattle.policy_state.proofs.CallerLemmas.{admitted_both, admitted_rest, version_stands}
+use Rattle.edit_calls.specs.Admitted.{AreAdmitted}
 use Rattle.policy_state.specs.States.{State, StandsFor, tables}
 use Rattle.policy_table.specs.Changes.{edited, replay}
 use Rattle.policy_table.specs.Tables.{Policy}
 use Rattle.policy_table.specs.declared.change.Change.{Change}
 use Rattle.version_log.proofs.CallerLemmas.{replay_both, tables_after}
 use Rattle.version_log.specs.Log.{Logged, Stands, most_versions, versions}
-
--- ---- edits that are admitted one after the other
-
-pub admitted_rest : (shapes : Shapes) (front back : List (List Change)) (policy : Policy) → AreAdmitted shapes policy (front ++ back) → AreAdmitted shapes (replay front policy) back
-admitted_rest shapes [] back policy all = all
-admitted_rest shapes (edit ∷ front) back policy all = admitted_rest shapes front back (edited edit policy) all.1
-
-admitted_both : (shapes : Shapes) (front back : List (List Change)) (policy : Policy) → AreAdmitted shapes policy front → AreAdmitted shapes (replay front policy) back → AreAdmitted shapes policy (front ++ back)
-admitted_both shapes [] back policy one other = other
-admitted_both shapes (edit ∷ front) back policy one other = (one.0, admitted_both shapes front back (edited edit policy) one.1 other)
 
 -- ---- all edits of a history behind one event more
 
@@ -64,20 +55,6 @@ given_published shapes opening first log next more given =
     }
 
 -- ---- what a policy stands for
-
--- its version is the number of edits
-pub version_stands : (log : Logged) (opening : Policy) (edits : List (List Change)) → Stands log opening edits → versions log ≡ length edits
-version_stands log opening edits stands =
-    let size : length log.tail ≡ length edits - log.start = ap (λ (l : List (List Change)). length l) stands.tail ∙ length-drop log.start edits in
-    omega (arith, size, stands.within)
-
--- a log as it was
-pub stands_same : (log new : Logged) (opening : Policy) (edits : List (List Change)) → new.start ≡ log.start → new.base ≡ log.base → new.tail ≡ log.tail → Stands log opening edits → Stands new opening edits
-stands_same log new opening edits start base tail stands = record {
-  within = omega (arith, stands.within, start);
-  base = base ∙ stands.base ∙ ap (λ (n : ℕ). replay (take n edits) opening) (sym start);
-  tail = tail ∙ stands.tail ∙ ap (λ (n : ℕ). drop n edits) (sym start);
-}
 
 -- a log that starts at 0 stands for its edits
 pub stands_opened : (log : Logged) (opening : Policy) (first : List (List Change)) → log.start ≡ 0 → log.base ≡ opening → log.tail ≡ first → Stands log opening first

@@ -1,9 +1,9 @@
 -- What one event more does to a history.
-use Rattle.std.proofs.Common.{◌≡◌, ℕ, ◌+◌, ◌<◌, List, [], ◌∷◌, ◌++◌, length, fold, refl, ap, sym, subst, ◌∙◌, arith, append_assoc, length-append, Option, Some, None, drop}
+use Rattle.std.proofs.Common.{◌≡◌, ℕ, ◌+◌, ◌<◌, List, [], ◌∷◌, ◌++◌, length, fold, refl, ap, sym, subst, ◌∙◌, arith, append_assoc, length-append, Option, Some, None, drop, take}
 use Rattle.std.proofs.lemmas.List.{append-nil}
 use Rattle.std.proofs.lemmas.List.Sums.{fold-append}
 use mathlib.Core.List.{IsPrefix}
-use Rattle.live_pair.proofs.FrontLemmas.{one_more, prefix_self, prefix_trans, rest_all}
+use Rattle.live_pair.proofs.FrontLemmas.{first_all, one_more, prefix_self, prefix_trans, rest_all}
 use Rattle.live_pair.specs.Helps.Sides.{AreCounted, ending, handed, history}
 use Rattle.live_pair.specs.Story.{Story, edits_in, publishes, story, told, unpublished}
 use Rattle.live_pair.specs.declared.edits.Event.{Event}
@@ -13,9 +13,17 @@ use Rattle.policy_table.specs.declared.change.Change.{Change}
 pub story_more : (first : List (List Change)) (log : List Event) (x : Event) → story first (log ++ x ∷ []) ≡ told (story first log) x
 story_more first log x = fold-append told (record { done = first ∷ []; rest = [] }) log (x ∷ [])
 
+-- the edits of two lists of publishes are those of the one and those of the other
+pub edits_both : (front back : List (List (List Change))) → edits_in (front ++ back) ≡ edits_in front ++ edits_in back
+edits_both [] back = refl
+edits_both (publish ∷ front) back = ap (λ (l : List (List Change)). publish ++ l) (edits_both front back) ∙ sym (append_assoc publish (edits_in front) (edits_in back))
+
 pub edits_more : (l : List (List (List Change))) (p : List (List Change)) → edits_in (l ++ p ∷ []) ≡ edits_in l ++ p
-edits_more [] p = append-nil p
-edits_more (q ∷ l) p = ap (λ (z : List (List Change)). q ++ z) (edits_more l p) ∙ sym (append_assoc q (edits_in l) p)
+edits_more l p = edits_both l (p ∷ []) ∙ ap (λ (z : List (List Change)). edits_in l ++ z) (append-nil p)
+
+-- the edits of a published history are the first so many of a longer one's
+pub edits_begin : (before now : List (List (List Change))) → IsPrefix before now → edits_in before ≡ take (length (edits_in before)) (edits_in now)
+edits_begin before now begun = first_all (edits_in before) (edits_in now) (edits_in begun.0, sym (edits_both before begun.0) ∙ ap edits_in begun.1)
 
 pub handed_both : (front back : List Event) → handed (front ++ back) ≡ handed front ++ handed back
 handed_both [] back = refl

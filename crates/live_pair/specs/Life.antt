@@ -1,7 +1,7 @@
--- The life of a pair in the core of live edits (the crate `live_core`), whose lists of events tell what was done behind the opening.
+-- The life of a pair in the core of live edits (the crate `live_meaning`), whose lists of events tell what was done behind the opening.
 use Rattle.std.specs.Prelude.{◌≡◌, List, [], ◌∷◌, ◌++◌, fold}
-use Rattle.live_core.specs.declared.events.Event.{Event}
-use Rattle.live_core.specs.declared.events.Event.TheVariants.{Edit, Publish}
+use Rattle.live_meaning.specs.declared.events.Event.{Event}
+use Rattle.live_meaning.specs.declared.events.Event.TheVariants.{Edit, Publish}
 use Rattle.live_pair.specs.Admins.{AdminSeen}
 use Rattle.live_pair.specs.Story.{Story}
 use Rattle.policy_table.specs.declared.change.Change.{Change}

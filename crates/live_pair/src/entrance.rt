@@ -1,9 +1,10 @@
 //! The ways into a pair.
-ghost use Rattle.std.specs.Prelude.{◌≡◌, ◌⊎◌, [], IfErr, IfOk, IfSome};
+ghost use Rattle.std.specs.Prelude.{◌≡◌, ◌≤◌, ◌⊎◌, [], IfErr, IfOk, IfSome};
 ghost use mathlib.Core.List.{IsPrefix};
 ghost use Rattle.live_pair.specs.Seats.{raised, version_of};
 ghost use Rattle.live_pair.specs.Story.{edits_in, publishes, unpublished};
 ghost use Rattle.policy_state.specs.States.{StandsFor};
+ghost use Rattle.version_log.specs.Log.{versions};
 
 use crate::front::Front;
 use crate::naming::Naming;
@@ -151,6 +152,8 @@ impl<J: Naming> Inside<J> {
     pub(crate) fn state(&self) -> &PolicyState
         ensures shapes { result.now.shapes ≡ J.shapes }
         ensures stands { StandsFor result.now J.opening (edits_in self.now.front) }
+        ensures start { result.now.log.start ≤ version_of self.now.front }
+        ensures version { versions result.now.log ≡ version_of self.now.front }
     {
         self.reading.get().state()
     }

@@ -19,7 +19,10 @@ pub use admin::{Admin, AdminOver};
 pub use book::Opened;
 pub use entrance::Entrance;
 pub use front::Front;
-pub use laws::{administrators_live, entries_are_legal, publishes_are_counted};
+pub use laws::{
+    administrators_live, entries_are_legal, fronts_begin_each_other, publishes_are_counted,
+};
+pub use line::Shows;
 pub use naming::Naming;
 pub use opening::open_pair;
 pub use places::{ListPlaces, PairPlaces, Places, Refused};

@@ -1,8 +1,10 @@
 //! What was handed over to the copies.
-ghost use Rattle.std.specs.Prelude.{◌≡◌, ◌++◌, ◌∷◌, [], IfNone, IfSome, OnOk};
+ghost use Rattle.std.specs.Prelude.{◌≡◌, ◌++◌, ◌∷◌, [], IfNone, IfSome, List, MatchResult, OnOk, drop, fold};
 ghost use mathlib.Core.List.{IsPrefix};
-ghost use Rattle.live_pair.specs.Helps.Sides.{IsUpTo};
+ghost use Rattle.live_pair.specs.Helps.Sides.{closed};
 ghost use Rattle.live_pair.specs.Story.{edits_in, publishes, unpublished};
+ghost use Rattle.live_pair.specs.declared.edits.Event.{Event};
+ghost use Rattle.live_pair.specs.declared.edits.Event.TheVariants.{Publish};
 ghost use Rattle.policy_state.specs.States.{StandsFor};
 
 use crate::book::Head;
@@ -11,15 +13,29 @@ use crate::front::Front;
 use crate::naming::Naming;
 use crate::side::{Op, Side};
 use crate::told::Told;
+use core::mem::replace_with;
 use crossbeam_utils::rule::Unruled;
 use left_right::writer::Writer;
 use perm_base::NoMemory;
 use policy_desk::Desk;
-use std::alloc::Global;
+use std::alloc::{AllocError, Global};
 use std::marker::Model;
-use std::sync::Arc;
+use std::sync::{Arc, Wait};
 
 pub type SideWriter<J> = Writer<Side<J>, Op<J>, (), Unruled>;
+
+/// Copies of which readers take one.
+pub trait Shows {
+    ghost use Rattle.std.specs.Prelude.{List};
+    ghost use Rattle.live_pair.specs.declared.edits.Event.{Event};
+
+    /// The history of the copy that readers take.
+    ghost shown: { Self → List Event };
+}
+
+impl<J: Naming> Shows for SideWriter<J> {
+    ghost shown = { λ writer. writer.desk.shown.value };
+}
 
 /// The history with the edits that were handed over. Contracts see its events.
 #[derive(Drop)]
@@ -37,6 +53,30 @@ impl<J: Naming> Model for Line<J> {
     ghost Value = { List Event };
 
     ghost view = { λ l. l.told };
+}
+
+// Hands over an operation, which comes back where there is no room for it.
+fn append<J: Naming>(copies: &mut SideWriter<J>, operation: Op<J>) -> Result<(), Op<J>>
+    ensures shown { copies.new.desk.shown.value ≡ copies.old.desk.shown.value }
+    ensures last { OnOk result ((log : List Event)
+        → fold (λ _ operation. operation.told ++ Publish ∷ []) log
+        (drop copies.new.behind copies.new.log.items) ≡ operation.told ++ Publish ∷ []) }
+{
+    copies.append(operation)
+}
+
+/// Shows readers a copy that has each operation that was handed over.
+pub(crate) fn show<J: Naming, R: Wait>(copies: &mut SideWriter<J>, rt: &R) -> Result<(), AllocError>
+    ensures { MatchResult result
+        (λ _. closed copies.new.desk.shown.value
+        ≡ fold (λ _ operation. operation.told ++ Publish ∷ [])
+        (closed copies.old.desk.shown.value)
+        (drop copies.old.behind copies.old.log.items))
+        (λ _. copies.new.desk.shown.value ≡ copies.old.desk.shown.value) }
+{
+    replace_with(copies, rt, |copies: SideWriter<J>, rt: &R| {
+        copies.publish_as::<Unruled, R>(rt)
+    })
 }
 
 impl<J: Naming> Line<J> {
@@ -64,6 +104,10 @@ impl<J: Naming> Line<J> {
         ensures same { publishes J.first self.new ≡ publishes J.first self.old }
         ensures begun { IsPrefix (unpublished J.first self.new) desk.now.pending }
         ensures all { OnOk result (unpublished J.first self.new ≡ desk.now.pending) }
+        ensures shown { copies.new.desk.shown.value ≡ copies.old.desk.shown.value }
+        ensures last { OnOk result ((log : List Event)
+            → fold (λ _ operation. operation.told ++ Publish ∷ []) log
+            (drop copies.new.behind copies.new.log.items) ≡ self.new ++ Publish ∷ []) }
     {
         self.append_parked(copies)?;
         desk.holds();
@@ -74,7 +118,7 @@ impl<J: Naming> Line<J> {
             return Err(NoMemory);
         }
         self.told = told.again();
-        if let Err(operation) = copies.append(Op::new(edits, told, desk.floor())) {
+        if let Err(operation) = append(copies, Op::new(edits, told, desk.floor())) {
             self.parked = Some(operation);
             return Err(NoMemory);
         }
@@ -83,25 +127,31 @@ impl<J: Naming> Line<J> {
 
     // Hands over the operation that is parked, where one is.
     fn append_parked(&mut self, copies: &mut SideWriter<J>) -> Result<(), NoMemory>
-        ensures { self.new ≡ self.old }
+        ensures same { self.new ≡ self.old }
+        ensures shown { copies.new.desk.shown.value ≡ copies.old.desk.shown.value }
     {
         let Some(operation) = self.parked.take() else {
             return Ok(());
         };
-        if let Err(operation) = copies.append(operation) {
+        if let Err(operation) = append(copies, operation) {
             self.parked = Some(operation);
             return Err(NoMemory);
         }
         Ok(())
     }
 
-    /// The published history, if the copies show just the publish that was asked for.
+    /// The published history, if the copies show just the publish that was asked for; they may lack it where something else
+    /// went into the history.
     pub(crate) fn settle(&mut self, copies: &SideWriter<J>) -> Option<Front<J>>
+        requires shown { closed copies.now.desk.shown.value ≡ self.old ++ Publish ∷ [] }
         ensures front { IfSome result (λ front. front
             ≡ publishes J.first self.old ++ unpublished J.first self.old ∷ []) }
         ensures line { IfSome result (λ front. publishes J.first self.new ≡ front) }
         ensures none_left { IfSome result (λ _. unpublished J.first self.new ≡ []) }
+        ensures out { IfSome result (λ front.
+            publishes J.first copies.now.desk.shown.value ≡ front) }
         ensures none { IfNone result (self.new ≡ self.old) }
+        ensures lacks { IfNone result (copies.now.desk.shown.value ≡ self.old) }
     {
         let shown = copies.published().told();
         if !self.told.is_published_in(shown) {

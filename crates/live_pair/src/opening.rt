@@ -39,6 +39,7 @@ pub fn open_pair<J: Naming, R: Wait, H: Places>(
     requires some { 0 < seats }
     requires few { seats ≤ 8 }
     ensures list { IfOk result (λ pair. pair.0.list ≡ J.first ∷ []) }
+    ensures shown { IfOk result (λ pair. pair.0.shown ≡ J.first ∷ []) }
     ensures desk { IfOk result (λ pair. pair.0.desk ≡ desk) }
     ensures seats { IfOk result (λ pair. All (IsNew (J.first ∷ [])) pair.1.items) }
     ensures one { IfOk result (λ pair. 0 < length pair.1.items) }
@@ -104,6 +105,7 @@ fn copies<J: Naming>(
 ) -> Result<SideWriter<J>, NoMemory>
     requires up_to { IsUpTo J.shapes J.opening J.first told.now desk.now.state }
     requires some { 0 < seats }
+    ensures { IfOk result (λ writer. writer.desk.shown.value ≡ told.now) }
 {
     let first = copy_of(alloc, desk, told, head)?;
     let second = copy_of(alloc, desk, told, head)?;

@@ -1,16 +1,16 @@
 //! The value of which there are two copies.
-ghost use Rattle.std.specs.Prelude.{◌≡◌, ◌+◌, ◌≤◌, ◌++◌, [], IfSome, List, OnErr, OnOk, Some, length};
+ghost use Rattle.std.specs.Prelude.{◌≡◌, ◌+◌, ◌≤◌, ◌++◌, ◌∷◌, [], IfSome, List, MatchBool, OnErr, OnOk, Some, length};
 ghost use Rattle.live_pair.specs.Helps.Sides.{IsUpTo, ending};
 ghost use Rattle.live_pair.specs.Story.{edits_in, publishes, unpublished};
-ghost use Rattle.live_pair.specs.declared.edits.Event.TheVariants.{Staged};
-ghost use Rattle.policy_state.specs.Admitted.{AreAdmitted};
+ghost use Rattle.live_pair.specs.declared.edits.Event.TheVariants.{Publish, Staged};
+ghost use Rattle.edit_calls.specs.Admitted.{AreAdmitted};
 ghost use Rattle.policy_state.specs.States.{StandsFor, tables};
 ghost use Rattle.policy_table.specs.Tables.{Policy};
 ghost use Rattle.policy_table.specs.declared.change.Change.{Change};
 ghost use Rattle.version_log.specs.Log.{most_versions, versions};
 
 use crate::book::Head;
-use crate::edits::Edits;
+use crate::edits::{Edits, Event};
 use crate::front::Front;
 use crate::naming::Naming;
 use crate::told::Told;
@@ -53,34 +53,38 @@ impl<J: Naming> Model for Side<J> {
 }
 
 impl<J: Naming> Absorb<Op<J>> for Side<J> {
-    type State = ();
+    // A list of events.
+    type State = [Event; 0];
 
-    ghost state = { λ _. tt };
+    ghost use Rattle.std.specs.Prelude.{◌++◌, ◌∷◌, []};
+    ghost use Rattle.live_pair.specs.Helps.Sides.{closed};
+    ghost use Rattle.live_pair.specs.declared.edits.Event.TheVariants.{Publish};
 
-    ghost applied = { λ s _. s };
+    ghost state = { λ s. closed s };
+
+    ghost applied = { λ _ operation. operation.told ++ Publish ∷ [] };
 
     /// The last operation of all makes the publish, at the moment when nothing can fail any more.
     fn absorb_first(&mut self, operation: &Op<J>, _other: &Side<J>) -> Result<(), AllocError> {
         self.take(operation)?;
-        self.publish();
+        let _published = self.publish();
         Ok(())
     }
 
     /// The publish was made by the other copy.
     fn absorb_second(&mut self, operation: Op<J>, other: &Side<J>) -> Result<(), Op<J>> {
-        match self.take(&operation) {
-            Ok(()) => {
-                self.follow(other);
-                Ok(())
-            }
-            Err(_) => Err(operation),
-        }
+        let Ok(()) = self.take(&operation) else {
+            return Err(operation);
+        };
+        let _published = self.follow(other);
+        Ok(())
     }
 }
 
 impl<J: Naming> Op<J> {
     pub(crate) fn new(edits: Edits, told: Told<J>, start: u32) -> Op<J>
         requires { ending told ≡ Some (Staged edits) }
+        ensures { result.told ≡ told }
     {
         Op { edits, told, start }
     }
@@ -129,11 +133,11 @@ impl<J: Naming> Side<J> {
         Some(Front::new(self.told.again()))
     }
 
-    // Makes the edits, unless it has them.
-    fn take(&mut self, operation: &Op<J>) -> Result<(), AllocError> {
-        if operation.told.begins(&self.told) {
-            return Ok(());
-        }
+    // Makes the edits, which are the next ones.
+    fn take(&mut self, operation: &Op<J>) -> Result<(), AllocError>
+        ensures taken { OnOk result (self.new ≡ operation.now.told) }
+        ensures refused { OnErr result (self.new ≡ self.old) }
+    {
         if !self.told.is_one_short_of(&operation.told) {
             return Err(AllocError);
         }
@@ -146,16 +150,22 @@ impl<J: Naming> Side<J> {
         Ok(())
     }
 
-    // Makes a publish, unless the history went on.
-    fn publish(&mut self) {
-        self.told.publish(&self.head);
+    // Makes a publish, unless the history went on, and says whether it did.
+    fn publish(&mut self) -> bool
+        ensures { MatchBool result (self.new ≡ self.old ++ Publish ∷ []) (self.new ≡ self.old) }
+    {
+        self.told.publish(&self.head)
     }
 
-    // Takes the publish that the other made.
-    fn follow(&mut self, other: &Side<J>) {
-        if self.told.is_published_in(&other.told) {
-            self.told = other.told.again();
+    // Takes the publish that the other made, if it made one there, and says whether it did.
+    fn follow(&mut self, other: &Side<J>) -> bool
+        ensures { MatchBool result (self.new ≡ self.old ++ Publish ∷ []) (self.new ≡ self.old) }
+    {
+        if !self.told.is_published_in(&other.told) {
+            return false;
         }
+        self.told = other.told.again();
+        true
     }
 }
 

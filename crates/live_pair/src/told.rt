@@ -3,7 +3,7 @@ ghost use mathlib.Core.List.{IsPrefix};
 ghost use Rattle.live_pair.specs.Helps.Sides.{AreGiven, history};
 ghost use Rattle.live_pair.specs.Story.{edits_in, publishes, unpublished};
 ghost use Rattle.live_pair.specs.declared.edits.Event.TheVariants.{Publish, Staged};
-ghost use Rattle.policy_state.specs.Admitted.{AreAdmitted};
+ghost use Rattle.edit_calls.specs.Admitted.{AreAdmitted};
 ghost use Rattle.policy_table.specs.Changes.{replay};
 ghost use Rattle.version_log.specs.Log.{most_versions};
 
@@ -107,17 +107,25 @@ impl<J: Naming> Told<J> {
 
     /// Whether the other is this and one event more.
     pub(crate) fn is_one_short_of(&self, other: &Told<J>) -> bool
-        ensures { IsTrue result
-            → IsPrefix self.now other.now × (length other.now ≡ length self.now + 1) }
+        ensures { MatchBool result
+            (IsPrefix self.now other.now × (length other.now ≡ length self.now + 1))
+            (¬ (IsPrefix self.now other.now × (length other.now ≡ length self.now + 1))) }
     {
-        self.begins(other) && other.entries - self.entries == 1
+        if !self.begins(other) {
+            return false;
+        }
+        other.entries - self.entries == 1
     }
 
     /// Whether the other is this and one publish.
     pub(crate) fn is_published_in(&self, other: &Told<J>) -> bool
-        ensures { IsTrue result → other.now ≡ self.now ++ Publish ∷ [] }
+        ensures { MatchBool result (other.now ≡ self.now ++ Publish ∷ [])
+            (¬ (other.now ≡ self.now ++ Publish ∷ [])) }
     {
-        self.is_one_short_of(other) && other.parts > self.parts
+        if !self.is_one_short_of(other) {
+            return false;
+        }
+        other.parts > self.parts
     }
 
     /// Adds edits that are in no publish yet, and says whether it did.

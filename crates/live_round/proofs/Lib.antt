@@ -1,3 +1,4 @@
+mod LogLemmas
 mod RequestLemmas
 mod StepLemmas
 mod QueryLemmas

@@ -1,83 +1,32 @@
 -- A script that is under way: the lines so far, the desk behind them, and what the finder has refused.
-use Rattle.std.proofs.Common.{◌≡◌, ℕ, ◌+◌, ◌<◌, ◌≤◌, min, Bool, true, false, cond, List, [], ◌∷◌, ◌++◌, length, length-append, take, take_all, drop, inl, inr, Option, None, Ok, Err, refl, sym, ap, subst, ◌∙◌, arith}
-use Rattle.std.specs.Prelude.{All, OnErr, Result, get_or, map}
-use Rattle.std.specs.List.{AllByRecursion}
+use Rattle.std.proofs.Common.{◌≡◌, ℕ, ◌+◌, ◌<◌, ◌≤◌, min, true, List, [], ◌∷◌, ◌++◌, length, length-append, take, take_all, drop, None, refl, sym, ap, subst, ◌∙◌, arith}
+use Rattle.std.specs.Prelude.{All, Option, get_or, map}
 use Rattle.std.proofs.lemmas.List.{map-append, map_push, take-append-drop, take_more}
-use Rattle.std.proofs.lemmas.List.Elements.{All-from_recursion, recursion_from_All}
-use Rattle.std.proofs.lemmas.List.Sums.{sum_by-append}
 use Rattle.answer_lines.specs.Told.{is_printable}
 use Rattle.answer_lines.specs.declared.answer.Answer.{Answer}
 use Rattle.answer_lines.specs.declared.answer.Line.{Line}
 use Rattle.model_conf.specs.ModelText.{ModelParts}
-use Rattle.outside.specs.Faults.{Rose}
 use Rattle.perm_base.specs.declared.shapes.Shapes.{Shapes}
 use Rattle.policy_desk.specs.Desks.{IsDesk, Work}
 use Rattle.policy_state.specs.States.{State, tables}
 use Rattle.policy_table.specs.Changes.{replay}
 use Rattle.policy_table.specs.Tables.{Policy}
 use Rattle.policy_table.specs.declared.change.Change.{Change}
-use Rattle.regex_gate.proofs.CallerLemmas.{refused_since, refused_still, used_none, used_then}
-use Rattle.regex_gate.specs.Refusals.{IsRefused, IsUsed, Refusals}
+use Rattle.regex_gate.proofs.CallerLemmas.{used_then}
+use Rattle.regex_gate.specs.Refusals.{IsUsed, Refusals, after_refusals}
 use Rattle.script_read.specs.Named.{is_named}
 use Rattle.script_read.specs.Said.{Said, seen}
-use Rattle.script_read.specs.Said as said
 use Rattle.script_read.specs.declared.item.Item.{Item}
-use Rattle.session_meaning.proofs.CallerLemmas.{StaysJudged, behind_none, plain_more, plain_none, plain_stays, reply_printable, reply_stays}
+use Rattle.session_meaning.proofs.CallerLemmas.{RowsAreMoved, behind_none, plain_more, plain_none, plain_printable}
 use Rattle.session_meaning.specs.Desks.{IsBehind}
-use Rattle.session_meaning.specs.Named.{is_named as is_named_item}
-use Rattle.session_meaning.specs.Plain.{AreLines, IsLine, IsPlain, most_number}
+use Rattle.session_meaning.specs.Plain.{IsLine, IsPlain, all_refused, most_number}
 use Rattle.session_meaning.specs.Replies.{IsReply}
 use Rattle.version_log.specs.Log.{Logged, Stands, tables_of, versions}
 use Rattle.live_round.specs.Desks.{HasEditsOf, StandsAmid, StandsBehind}
-use Rattle.live_round.specs.Refused.{RoseBy, is_refused_search, refused_searches}
+use Rattle.live_round.specs.Requests.{Refuses}
+use Rattle.live_round.specs.Scripts.{AreScriptLines}
 use Rattle.live_round.specs.Steps.{IsStep}
-use Rattle.live_round.proofs.RequestLemmas.{RowsAreMoved, same_told}
-
--- ---- patterns that count as refused
-
--- what is judged stays so where more patterns count as refused
-pub judged_stays : (model : ModelParts) (shapes : Shapes) (IsBad IsWorse : List ℕ → Type 0) → ((pattern : List ℕ) → IsBad pattern → IsWorse pattern) → StaysJudged model shapes IsBad IsWorse
-judged_stays model shapes IsBad IsWorse more policy values v (inl is) = inl is
-judged_stays model shapes IsBad IsWorse more policy values v (inr (refusal, bad, fault, is)) = inr (refusal, more refusal.pattern bad, fault, is)
-
--- how often searches are refused in more lines
-refused_more : (lines : List Line) (line : Line) → refused_searches (lines ++ line ∷ []) ≡ refused_searches lines + cond (is_refused_search line.answer) 1 0
-refused_more lines line = omega (arith, sum_by-append (λ (l : Line). cond (is_refused_search l.answer) 1 0) lines (line ∷ []))
-
-rose_more : (many first then_count last : ℕ) (refused : Bool) → RoseBy many first then_count → then_count ≤ last → (refused ≡ true → Rose then_count last) → RoseBy (many + cond refused 1 0) first last
-rose_more many first then_count last true rose up counted = let once : Rose then_count last = counted refl in omega (arith, rose, once)
-rose_more many first then_count last false rose up counted = omega (arith, rose, up)
-
--- ---- lines that can be printed
-
-same_name : (item : Said) → is_named item ≡ is_named_item item
-same_name (said.asks (Ok values)) = refl
-same_name (said.asks (Err fault)) = same_told fault
-same_name (said.edits call) = refl
-same_name said.publishes = refl
-same_name said.syncs = refl
-same_name (said.has table rule) = refl
-same_name (said.rows table at values) = refl
-same_name (said.roles relation name domain) = refl
-same_name (said.users relation name domain) = refl
-same_name (said.keeps count) = refl
-same_name (said.recalls number) = refl
-
-module _ (moved : RowsAreMoved) (model : ModelParts) (shapes : Shapes) (opening : Policy) (IsBad : List ℕ → Type 0) where
-  lines_printable : (before items : List Said) (lines : List Line) → AreLines model shapes opening IsBad before items lines
-      → AllByRecursion (λ (item : Said). is_named item ≡ true) items → AllByRecursion (λ (line : Line). is_printable line.answer ≡ true) lines
-  lines_printable before [] [] are named = tt
-  lines_printable before [] (line ∷ lines) are named = absurd are
-  lines_printable before (item ∷ items) [] are named = absurd are
-  lines_printable before (item ∷ items) (line ∷ lines) are named =
-      (reply_printable moved model shapes opening IsBad before item line.answer (sym (same_name item) ∙ named.0) are.0.answer, lines_printable (before ++ item ∷ []) items lines are.1 named.1)
-
-  -- the lines of a script whose tables have names can be printed
-  pub plain_printable : (items : List Said) (lines : List Line) → IsPlain model shapes opening IsBad items lines
-      → All (λ (item : Said). is_named item ≡ true) items → All (λ (line : Line). is_printable line.answer ≡ true) lines
-  unfolding IsPlain
-  plain_printable items lines are named = All-from_recursion (λ (line : Line). is_printable line.answer ≡ true) lines
-      (lines_printable [] items lines are (recursion_from_All (λ (item : Said). is_named item ≡ true) items named))
+use Rattle.live_round.proofs.LogLemmas.{asked_used, logged_more}
 
 -- ---- the desk before all items
 
@@ -115,47 +64,55 @@ alone_before state none = record { edits = behind_none state.shapes (tables stat
 
 -- ---- a script under way
 
--- some items are done: these are their lines, the desk stands behind them, and each refused search among them was counted
+-- some items are done: these are their lines, the desk stands behind them, and what was refused for one after the other is all that
+-- the finder refused
 pub record IsUnderWay (model : ModelParts) (shapes : Shapes) (opening : Policy) (done : List Said) (desk : Work) (number : ℕ) (lines : List Line) (before now : Refusals) : Type 0 where
-  pub plain : IsPlain model shapes opening (IsRefused before now) done lines
+  pub refused : List (List (List ℕ))
+  pub plain : IsPlain model shapes opening done refused lines
   pub behind : StandsBehind opening done desk
   pub shapes_are : desk.state.shapes ≡ shapes
   pub number_is : number ≡ min (length done) most_number
-  pub rose : RoseBy (refused_searches lines) before.count now.count
-  pub used : IsUsed before now None
+  pub logged : now ≡ after_refusals before (all_refused refused)
 
 module _ (model : ModelParts) (shapes : Shapes) (opening : Policy) (before : Refusals) where
   pub under_way_none : (desk : Work) → StandsBehind opening [] desk → desk.state.shapes ≡ shapes → (lines : List Line) → lines ≡ [] → IsUnderWay model shapes opening [] desk 0 lines before before
   under_way_none desk behind shapes_are lines none = record {
-    plain = subst (IsPlain model shapes opening (IsRefused before before) []) (sym none) (plain_none model shapes opening (IsRefused before before));
+    refused = [];
+    plain = subst (IsPlain model shapes opening [] []) (sym none) (plain_none model shapes opening);
     behind = behind;
     shapes_are = shapes_are;
     number_is = omega arith;
-    rose = omega (arith, ap refused_searches none);
-    used = used_none before;
+    logged = refl;
   }
 
   -- one item more is answered and done
   pub under_way_more : (done : List Said) (item : Said) (desk new : Work) (number next : ℕ) (lines : List Line) (reply : Answer) (now later : Refusals) → IsUnderWay model shapes opening done desk number lines before now
-      → next ≡ min (number + 1) most_number → IsStep model now later item desk new reply → new.state.shapes ≡ desk.state.shapes → IsUsed now later None
+      → next ≡ min (number + 1) most_number → IsStep model now later item desk new reply → new.state.shapes ≡ desk.state.shapes
       → IsUnderWay model shapes opening (done ++ item ∷ []) new next (lines ++ record { number = next; answer = reply } ∷ []) before later
-  under_way_more done item desk new number next lines reply now later so next-is step same used =
+  under_way_more done item desk new number next lines reply now later so next-is step same =
+      let patterns = step.asked.refused in
       let line : Line = record { number = next; answer = reply } in
-      let still = judged_stays model shapes (IsRefused before now) (IsRefused before later) (λ pattern refused. refused_still before now later pattern refused used) in
-      let since = judged_stays model shapes (IsRefused now later) (IsRefused before later) (λ pattern refused. refused_since before now later pattern so.used refused) in
-      let replied : IsReply model shapes opening (IsRefused now later) done item reply = subst (λ (s : Shapes). IsReply model s opening (IsRefused now later) done item reply) so.shapes_are (step.replied opening done so.behind) in
-      let is_line : IsLine model shapes opening (IsRefused before later) done item line = record {
+      let replied : IsReply model shapes opening patterns done item reply = subst (λ (s : Shapes). IsReply model s opening patterns done item reply) so.shapes_are (step.replied opening done so.behind) in
+      let is_line : IsLine model shapes opening done item patterns line = record {
         number = omega (arith, next-is, so.number_is);
-        answer = reply_stays model shapes opening done (IsRefused now later) (IsRefused before later) since item reply replied;
+        answer = replied;
+        unasked = step.asked.unasked;
       } in
       record {
-        plain = plain_more model shapes opening (IsRefused before later) done lines item line (plain_stays model shapes opening (IsRefused before now) (IsRefused before later) still done lines so.plain) is_line;
+        refused = so.refused ++ patterns ∷ [];
+        plain = plain_more model shapes opening done so.refused lines item patterns line so.plain is_line;
         behind = step.behind opening done so.behind;
         shapes_are = same ∙ so.shapes_are;
         number_is = omega (arith, next-is, so.number_is, length-append done (item ∷ []));
-        rose = subst (λ (many : ℕ). RoseBy many before.count later.count) (sym (refused_more lines line)) (rose_more (refused_searches lines) before.count now.count later.count (is_refused_search reply) so.rose used.counted step.counted);
-        used = used_then before now later None so.used used;
+        logged = logged_more before now later so.refused patterns so.logged step.asked.logged;
       }
+
+  -- the finder was used so far, and when an item was not answered
+  pub way_used : (done : List Said) (desk : Work) (number : ℕ) (lines : List Line) (now : Refusals) → IsUnderWay model shapes opening done desk number lines before now → IsUsed before now
+  way_used done desk number lines now so = record { more = all_refused so.refused; refused = so.logged }
+
+  pub stop_used : (done : List Said) (desk : Work) (number : ℕ) (lines : List Line) (now later : Refusals) (item : Said) → IsUnderWay model shapes opening done desk number lines before now → Refuses model now later item → IsUsed before later
+  stop_used done desk number lines now later item so asked = used_then before now later (way_used done desk number lines now so) (asked_used model now later item asked)
 
 -- ---- the items of a script, up to a place
 
@@ -178,22 +135,24 @@ amid_first opening items desk stands = record { front = []; back = items; parts 
 module _ (model : ModelParts) (shapes : Shapes) (opening : Policy) (before : Refusals) (items : List Item) where
   -- the item at a place is answered and done
   pub under_way_next : (n : ℕ) (item : Item) (desk new : Work) (number next : ℕ) (lines more : List Line) (reply : Answer) (now later : Refusals) → IsUnderWay model shapes opening (map seen (take n items)) desk number lines before now
-      → n < length items → item ≡ get_or items n item → next ≡ min (number + 1) most_number → IsStep model now later (seen item) desk new reply → new.state.shapes ≡ desk.state.shapes → IsUsed now later None
+      → n < length items → item ≡ get_or items n item → next ≡ min (number + 1) most_number → IsStep model now later (seen item) desk new reply → new.state.shapes ≡ desk.state.shapes
       → more ≡ lines ++ record { number = next; answer = reply } ∷ [] → IsUnderWay model shapes opening (map seen (take (n + 1) items)) new next more before later
-  under_way_next n item desk new number next lines more reply now later so within is next-is step same used more-is =
+  under_way_next n item desk new number next lines more reply now later so within is next-is step same more-is =
       subst (λ (done : List Said). IsUnderWay model shapes opening done new next more before later) (sym (one_more items n item within is))
       (subst (λ (l : List Line). IsUnderWay model shapes opening (map seen (take n items) ++ seen item ∷ []) new next l before later) (sym more-is)
-      (under_way_more model shapes opening before (map seen (take n items)) (seen item) desk new number next lines reply now later so next-is step same used))
+      (under_way_more model shapes opening before (map seen (take n items)) (seen item) desk new number next lines reply now later so next-is step same))
 
-  -- the lines of all items can be printed
-  pub all_printable : RowsAreMoved → (script : List Item) → items ≡ script → (n : ℕ) → length items ≤ n → (desk : Work) (number : ℕ) (lines all : List Line) (now : Refusals) → IsUnderWay model shapes opening (map seen (take n items)) desk number lines before now
-      → all ≡ lines → All (λ (item : Said). is_named item ≡ true) (map seen script) → All (λ (line : Line). is_printable line.answer ≡ true) all
-  all_printable moved script same n past desk number lines all now so all-is named =
-      subst (λ (l : List Line). All (λ (line : Line). is_printable line.answer ≡ true) l) (sym all-is)
-      (plain_printable moved model shapes opening (IsRefused before now) (map seen script) lines
-      (subst (λ (done : List Item). IsPlain model shapes opening (IsRefused before now) (map seen done) lines) (take_all n items past ∙ same) so.plain) named)
+  -- all items are done
+  pub all_answered : (script : List Item) → items ≡ script → (n : ℕ) → length items ≤ n → (desk : Work) (number : ℕ) (lines all : List Line) (now : Refusals) → IsUnderWay model shapes opening (map seen (take n items)) desk number lines before now
+      → all ≡ lines → AreScriptLines model shapes opening before now (map seen script) all
+  all_answered script same n past desk number lines all now so all-is = record {
+    refused = so.refused;
+    plain = subst (λ (l : List Line). IsPlain model shapes opening (map seen script) so.refused l) (sym all-is)
+        (subst (λ (done : List Item). IsPlain model shapes opening (map seen done) so.refused lines) (take_all n items past ∙ same) so.plain);
+    logged = so.logged;
+  }
 
--- what holds, holds after an error
-pub on_err_of : {X E P : Type 0} (r : Result X E) → P → OnErr r P
-on_err_of (Ok x) is = tt
-on_err_of (Err e) is = is
+-- their lines can be printed
+pub answered_printable : RowsAreMoved → (model : ModelParts) (shapes : Shapes) (opening : Policy) (before now : Refusals) (items : List Said) (lines : List Line) → AreScriptLines model shapes opening before now items lines
+    → All (λ (item : Said). is_named item ≡ true) items → All (λ (line : Line). is_printable line.answer ≡ true) lines
+answered_printable moved model shapes opening before now items lines are named = plain_printable moved model shapes opening items are.refused lines are.plain named

@@ -1,29 +1,28 @@
 -- Items that change a desk: calls, publishes, and how many edits are to be kept.
-use Rattle.std.proofs.Common.{◌≡◌, ◌≢◌, ℕ, ◌+◌, ◌-◌, max, Bool, false, List, [], ◌∷◌, ◌++◌, length, Option, Some, None, Ok, Err, refl, sym, ap, subst, ◌∙◌}
+use Rattle.std.proofs.Common.{◌≡◌, ◌≢◌, ℕ, ◌+◌, ◌-◌, max, Bool, List, [], ◌∷◌, ◌++◌, length, Option, Some, None, Ok, Err, refl, sym, ap, subst, ◌∙◌}
 use Rattle.std.specs.Option.{option_map_or}
 use Rattle.answer_lines.specs.declared.answer.Answer.{Answer}
 use Rattle.answer_lines.specs.declared.answer.Answer.TheVariants as answer
-use Rattle.edit_calls.specs.Answers.{Answer as CallAnswer, answer as answer_in}
+use Rattle.edit_calls.specs.Answers.{Answer as CallAnswer, answer as answer_in, while_few}
 use Rattle.edit_calls.specs.Told.{IsTold}
 use Rattle.edit_calls.specs.declared.call.Call.{Call}
 use Rattle.edit_calls.specs.declared.refused.CallRefused.{CallRefused}
 use Rattle.edit_calls.specs.declared.refused.CallRefused.TheVariants as call_refused
-use Rattle.policy_desk.specs.Answers.{IsAnswered, desk_answer, pending_after, while_few as desk_while_few}
+use Rattle.policy_desk.specs.Answers.{IsAnswered, desk_answer, pending_after}
 use Rattle.policy_desk.specs.Desks.{IsDesk, Work, edits_of, floor_after}
 use Rattle.policy_state.specs.States.{StandsFor, State}
-use Rattle.policy_table.specs.Changes.{replay}
 use Rattle.policy_table.specs.Tables.{Policy}
 use Rattle.policy_table.specs.declared.change.Change.{Change}
 use Rattle.script_read.specs.Said.{Said, edits, keeps, publishes}
 use Rattle.session_meaning.proofs.CallerLemmas.{behind_call, behind_keep, behind_publish, desk_call, desk_edits}
 use Rattle.session_meaning.specs.Desks.{IsBehind, history}
-use Rattle.session_meaning.specs.Given.{call_answer, given, while_few, with_edit}
+use Rattle.session_meaning.specs.Given.{call_answer, given, with_edit}
 use Rattle.session_meaning.specs.Replies.{call_reply}
-use Rattle.version_log.specs.Log.{tables_of, versions}
+use Rattle.version_log.specs.Log.{most_versions, versions}
 use Rattle.live_round.specs.Desks.{HasEditsOf, StandsBehind}
 use Rattle.live_round.specs.Helps.WithoutSearch.{IsPlainStep}
-use Rattle.live_round.specs.Refused.{is_refused_search}
 use Rattle.live_round.specs.Steps.{IsStopped}
+use Rattle.live_round.proofs.LogLemmas.{none_asked}
 
 -- a desk with this state, these pending edits and this count has the edits that they have
 edits_at : (opening : Policy) (items : List Said) (desk : Work) (state : State) (pending : List (List Change)) (count : Option ℕ) → desk.state ≡ state → desk.pending ≡ pending → desk.kept ≡ count
@@ -49,31 +48,22 @@ told_is answered call_refused.EmptyFilter is known = is
 told_is answered call_refused.FieldTooLong is known = is
 told_is answered (call_refused.Full what) is known = is
 
-same_few : (count : ℕ) (answered : CallAnswer) → desk_while_few count answered ≡ while_few count answered
-same_few count (Ok (Some edit)) = refl
-same_few count (Ok None) = refl
-same_few count (Err refused) = refl
-
 same_pending : (answered : CallAnswer) (pending : List (List Change)) → pending_after answered pending ≡ with_edit pending answered
 same_pending (Ok (Some edit)) pending = refl
 same_pending (Ok None) pending = refl
 same_pending (Err refused) pending = refl
 
-quiet_call : (answered : CallAnswer) → is_refused_search (call_reply answered) ≡ false
-quiet_call (Ok edit) = refl
-quiet_call (Err refused) = refl
-
 -- the desk's answer is that of the script
 answer_behind : (opening : Policy) (items : List Said) (desk : Work) → IsDesk desk → HasEditsOf opening items desk → (call : Call) → desk_answer desk call ≡ call_answer desk.state.shapes opening (given desk.state.shapes opening items) call
 answer_behind opening items desk is has call =
-    ap (λ (drafts : Policy). desk_while_few (edits_of desk) (answer_in desk.state.shapes drafts call)) is.drafts
-    ∙ same_few (edits_of desk) (answer_in desk.state.shapes (replay desk.pending (tables_of desk.state.log)) call)
+    ap (λ (drafts : Policy). while_few most_versions (edits_of desk) (answer_in desk.state.shapes drafts call)) is.drafts
     ∙ desk_call desk.state.shapes opening items desk.state.log desk.pending desk.kept has call
 
 module _ (called : Call) (old new : Work) (is_desk : IsDesk old) (state-is : new.state ≡ old.state) (kept-is : new.kept ≡ old.kept) (floor-is : new.floor ≡ old.floor) where
   -- a call that is answered
   call_step : (answered : CallAnswer) → desk_answer old called ≡ answered → new.pending ≡ pending_after answered old.pending → (reply : Answer) → reply ≡ call_reply answered → IsPlainStep (edits called) old new reply
-  call_step answered answered-is pending-is reply is model before now = record {
+  call_step answered answered-is pending-is reply is model refusals = record {
+    asked = none_asked model refusals (edits called);
     replied = λ opening items stands. is ∙ ap call_reply (sym answered-is ∙ answer_behind opening items old is_desk stands.edits called);
     behind = λ opening items stands. record {
       edits = edits_at opening (items ++ edits called ∷ []) new old.state (with_edit old.pending (call_answer old.state.shapes opening (given old.state.shapes opening items) called)) old.kept state-is
@@ -81,7 +71,6 @@ module _ (called : Call) (old new : Work) (is_desk : IsDesk old) (state-is : new
           (behind_call old.state.shapes opening items old.state.log old.pending old.kept stands.edits called);
       floor = floor_at old new state-is floor-is stands.floor;
     };
-    counted = λ search. let silent : is_refused_search reply ≡ false = ap is_refused_search is ∙ quiet_call answered in absurd cc;
   }
 
   -- one that is done
@@ -104,10 +93,10 @@ module _ (old new : Work) (shapes-is : new.state.shapes ≡ old.state.shapes) (k
   pub publish_step : (version : ℕ) → version ≡ versions new.state.log → versions new.state.log ≡ versions old.state.log + length old.pending
       → ((opening : Policy) (made : List (List Change)) → StandsFor old.state opening made → StandsFor new.state opening (made ++ old.pending))
       → new.state.log.start ≡ new.floor → new.pending ≡ [] → new.floor ≡ floor_after old → IsPlainStep publishes old new (answer.Published version)
-  publish_step version version-is more stands_for start-is none floor-is model before now = record {
+  publish_step version version-is more stands_for start-is none floor-is model refusals = record {
+    asked = none_asked model refusals publishes;
     replied = λ opening items stands. ap answer.Published (version-is ∙ more ∙ desk_edits old.state.shapes opening items old.state.log old.pending old.kept stands.edits);
     behind = λ opening items stands. record { edits = published opening items stands; floor = sym start-is };
-    counted = λ search. absurd cc;
   }
     where
       raised : old.floor ≡ old.state.log.start → new.state.log.start ≡ option_map_or (λ (count : ℕ). max old.state.log.start (versions old.state.log - count)) old.kept old.state.log.start
@@ -133,11 +122,11 @@ module _ (old new : Work) (shapes-is : new.state.shapes ≡ old.state.shapes) (k
 -- ---- how many edits are to be kept
 
 pub keep_step : (old new : Work) (count : ℕ) → new.kept ≡ Some count → new.state ≡ old.state → new.pending ≡ old.pending → new.floor ≡ old.floor → IsPlainStep (keeps count) old new (answer.Kept count)
-keep_step old new count kept-is state-is pending-is floor-is model before now = record {
+keep_step old new count kept-is state-is pending-is floor-is model refusals = record {
+  asked = none_asked model refusals (keeps count);
   replied = λ opening items stands. refl;
   behind = λ opening items stands. record {
     edits = edits_at opening (items ++ keeps count ∷ []) new old.state old.pending (Some count) state-is pending-is kept-is (behind_keep old.state.shapes opening items old.state.log old.pending old.kept stands.edits count);
     floor = floor_at old new state-is floor-is stands.floor;
   };
-  counted = λ search. absurd cc;
 }

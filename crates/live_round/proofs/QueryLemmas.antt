@@ -1,5 +1,5 @@
 -- Queries at a desk.
-use Rattle.std.proofs.Common.{◌≡◌, ◌≢◌, ℕ, Bool, true, false, List, Option, Some, Ok, Err, refl, sym, ap, subst, ◌∙◌}
+use Rattle.std.proofs.Common.{◌≡◌, ◌≢◌, ℕ, Bool, true, List, [], Option, Some, Err, refl, sym, ap, subst, ◌∙◌}
 use Rattle.std.specs.Prelude.{Result}
 use Rattle.answer_lines.specs.declared.answer.Answer.{Answer}
 use Rattle.answer_lines.specs.declared.answer.Answer.TheVariants as answer
@@ -16,15 +16,13 @@ use Rattle.policy_query.specs.declared.refused.QueryRefused.TheVariants as query
 use Rattle.policy_state.specs.States.{State, tables}
 use Rattle.policy_table.specs.Tables.{Fields, Policy}
 use Rattle.policy_table.specs.declared.change.Change.{Change}
-use Rattle.regex_gate.specs.Refusals.{IsRefused, Refusals}
 use Rattle.script_read.specs.Said.{Said, has, recalls, roles, rows, users}
 use Rattle.session_meaning.proofs.CallerLemmas.{desk_not_recalled, desk_recalled, desk_version, only_asks, out_at_desk}
 use Rattle.session_meaning.specs.Replies.{IsReply, query_reply}
 use Rattle.session_meaning.specs.Versions.{out, published}
 use Rattle.version_log.specs.Log.{versions}
 use Rattle.live_round.specs.Helps.WithoutSearch.{IsPlainStep}
-use Rattle.live_round.specs.Refused.{is_refused_search}
-use Rattle.live_round.proofs.StepLemmas.{asked_step}
+use Rattle.live_round.proofs.StepLemmas.{quiet_step}
 
 -- a refusal that is no want of memory is the answer
 pub refused_is : {T : Type 0} (answered : Result T QueryRefused) (refused : QueryRefused) → IsAnswer answered (Err refused) → refused ≢ query.NoMemory → answered ≡ Err refused
@@ -37,26 +35,17 @@ refused_is answered (query.Dropped start) is known = is
 
 -- ---- queries on the tables
 
--- what is told of a version is no refused search
-abbrev IsQuiet : {T : Type 0} → (ℕ → T → Answer) → Type 0
-IsQuiet {T} told = (version : ℕ) (value : T) → is_refused_search (told version value) ≡ false
-
-quiet_reply : {T : Type 0} (told : ℕ → T → Answer) → IsQuiet told → (version : ℕ) (answered : Result T QueryRefused) → is_refused_search (query_reply (told version) answered) ≡ false
-quiet_reply told quiet version (Ok value) = quiet version value
-quiet_reply told quiet version (Err refused) = refl
-
 -- the reply to a query on the tables that are out
 abbrev IsQueryReply : {T : Type 0} → Said → Shapes → (ℕ → T → Answer) → (Policy → Result T QueryRefused) → Type 0
-IsQueryReply item shapes told answer_in = (model : ModelParts) (opening : Policy) (before now : Refusals) (items : List Said) (reply : Answer)
-    → reply ≡ query_reply (told (out shapes opening items)) (answer_in (published shapes opening items)) → IsReply model shapes opening (IsRefused before now) items item reply
+IsQueryReply item shapes told answer_in = (model : ModelParts) (opening : Policy) (items : List Said) (reply : Answer)
+    → reply ≡ query_reply (told (out shapes opening items)) (answer_in (published shapes opening items)) → IsReply model shapes opening [] items item reply
 
-query_step : {T : Type 0} (item : Said) (desk : Work) (told : ℕ → T → Answer) (answer_in : Policy → Result T QueryRefused) → only_asks item ≡ true → IsQuiet told → IsQueryReply item desk.state.shapes told answer_in
+query_step : {T : Type 0} (item : Said) (desk : Work) (told : ℕ → T → Answer) (answer_in : Policy → Result T QueryRefused) → only_asks item ≡ true → IsQueryReply item desk.state.shapes told answer_in
     → (version : ℕ) → version ≡ versions desk.state.log → (answered : Result T QueryRefused) → answer_in (tables desk.state) ≡ answered → (reply : Answer) → reply ≡ query_reply (told version) answered → IsPlainStep item desk desk reply
-query_step {T} item desk told answer_in asks quiet replies version version-is answered answered-is reply is model before now =
-    asked_step model before now item desk reply asks
-    (λ opening items stands. replies model opening before now items reply
+query_step item desk told answer_in asks replies version version-is answered answered-is reply is model refusals =
+    quiet_step model refusals item desk reply asks
+    (λ opening items stands. replies model opening items reply
     (out_at_desk desk.state.shapes opening items desk.state.log desk.pending desk.kept stands.edits (λ (n : ℕ) (policy : Policy). reply ≡ query_reply (told n) (answer_in policy)) whole))
-    (λ search. let silent : is_refused_search reply ≡ false = ap is_refused_search is ∙ quiet_reply told quiet version answered in absurd cc)
   where
     whole : reply ≡ query_reply (told (versions desk.state.log)) (answer_in (tables desk.state))
     whole = is ∙ (λ j. query_reply (told (version-is j)) (sym answered-is j))
@@ -68,13 +57,13 @@ module _ (desk : Work) (state : State) (state-is : state ≡ desk.state) (versio
   pub has_step : (table : TableId) (rule : Fields) (answered : Result Bool QueryRefused) → has_answer state.shapes (tables state) table rule ≡ answered
       → (reply : Answer) → reply ≡ query_reply (answer.Has version) answered → IsPlainStep (has table rule) desk desk reply
   has_step table rule answered answered-is =
-      query_step (has table rule) desk answer.Has (λ (policy : Policy). has_answer desk.state.shapes policy table rule) refl (λ n value. refl) (λ model opening before now items reply is. is) version same_version answered
+      query_step (has table rule) desk answer.Has (λ (policy : Policy). has_answer desk.state.shapes policy table rule) refl (λ model opening items reply is. is) version same_version answered
       (subst (λ (s : State). has_answer s.shapes (tables s) table rule ≡ answered) state-is answered-is)
 
   pub rows_step : (table : TableId) (at : ℕ) (values : Fields) (answered : Result (List Fields) QueryRefused) → rows_answer state.shapes (tables state) table at values ≡ answered
       → (reply : Answer) → reply ≡ query_reply (answer.Rows version table) answered → IsPlainStep (rows table at values) desk desk reply
   rows_step table at values answered answered-is =
-      query_step (rows table at values) desk (λ (n : ℕ). answer.Rows n table) (λ (policy : Policy). rows_answer desk.state.shapes policy table at values) refl (λ n value. refl) (λ model opening before now items reply is. is) version same_version answered
+      query_step (rows table at values) desk (λ (n : ℕ). answer.Rows n table) (λ (policy : Policy). rows_answer desk.state.shapes policy table at values) refl (λ model opening items reply is. is) version same_version answered
       (subst (λ (s : State). rows_answer s.shapes (tables s) table at values ≡ answered) state-is answered-is)
 
   -- queries for names, by texts that are seen as the name and the domain
@@ -82,30 +71,28 @@ module _ (desk : Work) (state : State) (state-is : state ≡ desk.state) (versio
     pub roles_step : roles_answer state.shapes (tables state) relation seen_name seen_domain ≡ answered
         → (reply : Answer) → reply ≡ query_reply (answer.Roles version) answered → IsPlainStep (roles relation name domain) desk desk reply
     roles_step answered-is =
-        query_step (roles relation name domain) desk answer.Roles (λ (policy : Policy). roles_answer desk.state.shapes policy relation name domain) refl (λ n value. refl) (λ model opening before now items reply is. is) version same_version answered
+        query_step (roles relation name domain) desk answer.Roles (λ (policy : Policy). roles_answer desk.state.shapes policy relation name domain) refl (λ model opening items reply is. is) version same_version answered
         (sym (λ j. roles_answer (state-is j).shapes (tables (state-is j)) relation (name-is j) (domain-is j)) ∙ answered-is)
 
     pub users_step : users_answer state.shapes (tables state) relation seen_name seen_domain ≡ answered
         → (reply : Answer) → reply ≡ query_reply (answer.Users version) answered → IsPlainStep (users relation name domain) desk desk reply
     users_step answered-is =
-        query_step (users relation name domain) desk answer.Users (λ (policy : Policy). users_answer desk.state.shapes policy relation name domain) refl (λ n value. refl) (λ model opening before now items reply is. is) version same_version answered
+        query_step (users relation name domain) desk answer.Users (λ (policy : Policy). users_answer desk.state.shapes policy relation name domain) refl (λ model opening items reply is. is) version same_version answered
         (sym (λ j. users_answer (state-is j).shapes (tables (state-is j)) relation (name-is j) (domain-is j)) ∙ answered-is)
 
   -- ---- queries on the log
 
   -- the edit of a number
   pub recorded_step : (number : ℕ) (edit copy : List Change) → IsEdit state.log number edit → copy ≡ edit → IsPlainStep (recalls number) desk desk (answer.Recorded version number copy)
-  recorded_step number edit copy is same model before now =
+  recorded_step number edit copy is same model refusals =
       let here : IsEdit desk.state.log number copy = subst (λ (s : State). IsEdit s.log number copy) state-is (subst (IsEdit state.log number) (sym same) is) in
-      asked_step model before now (recalls number) desk (answer.Recorded version number copy) refl
+      quiet_step model refusals (recalls number) desk (answer.Recorded version number copy) refl
       (λ opening items stands. ap (λ (n : ℕ). answer.Recorded n number copy) (same_version ∙ desk_version desk.state.shapes opening items desk.state.log desk.pending desk.kept stands.edits)
       ∙ sym (ap (query_reply (answer.Recorded (out desk.state.shapes opening items) number)) (desk_recalled desk.state.shapes opening items desk.state.log desk.pending desk.kept stands.edits number copy here)))
-      (λ search. absurd cc)
 
   -- why there is none
   pub not_recorded_step : (number : ℕ) (refused : QueryRefused) → edit_refusal state.log number ≡ Some refused → (reply : Answer) → reply ≡ answer.Query refused → IsPlainStep (recalls number) desk desk reply
-  not_recorded_step number refused is reply reply-is model before now =
+  not_recorded_step number refused is reply reply-is model refusals =
       let here : edit_refusal desk.state.log number ≡ Some refused = subst (λ (s : State). edit_refusal s.log number ≡ Some refused) state-is is in
-      asked_step model before now (recalls number) desk reply refl
+      quiet_step model refusals (recalls number) desk reply refl
       (λ opening items stands. reply-is ∙ sym (ap (query_reply (answer.Recorded (out desk.state.shapes opening items) number)) (desk_not_recalled desk.state.shapes opening items desk.state.log desk.pending desk.kept stands.edits number refused here)))
-      (λ search. let silent : is_refused_search reply ≡ false = ap is_refused_search reply-is in absurd cc)

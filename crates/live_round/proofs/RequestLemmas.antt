@@ -1,38 +1,29 @@
--- Answers to requests that can be printed, and their lines.
-use Rattle.std.proofs.Common.{◌≡◌, ℕ, ◌==◌, Bool, true, false, List, Option, Ok, Err, String, length, map, refl, sym, ap, subst, ◌∙◌}
+-- What a request is answered over a policy, and its line.
+use Rattle.std.proofs.Common.{◌≡◌, ℕ, ◌==◌, Bool, true, false, List, [], Option, Ok, Err, String, length, map, refl, sym, ap, subst, ◌∙◌}
 use Rattle.std.specs.Prelude.{MatchBool}
 use Rattle.std.specs.declared.alloc.Global.{Global}
 use Rattle.std.proofs.lemmas.Bool.{eq-eqb, ne_eqb}
 use Rattle.std.proofs.lemmas.List.{length-map}
 use Rattle.answer_lines.specs.LineText.{Appends, decided_text, line_text}
-use Rattle.answer_lines.specs.Told.{comes_with_rule, is_printable, is_request_told}
+use Rattle.answer_lines.specs.Told.{comes_with_rule, is_printable}
+use Rattle.answer_lines.specs.declared.answer.Answer.{Answer}
 use Rattle.answer_lines.specs.declared.answer.Answer.TheVariants as answer
-use Rattle.effect_fold.specs.declared.effect.Effect.{Effect}
 use Rattle.effect_fold.specs.declared.verdict.Verdict.{Verdict}
-use Rattle.matcher_meaning.specs.Cases.{Case}
-use Rattle.matcher_meaning.specs.Order.{AreInOrder, Numbered, numbered_from}
-use Rattle.matcher_meaning.specs.Perm.{is_refusal}
 use Rattle.matcher_meaning.specs.Verdicts.{IsJudged}
-use Rattle.outside.specs.Faults.{Rose}
 use Rattle.model_conf.specs.ModelText.{ModelParts}
 use Rattle.perm_value.specs.Datum.{Datum}
 use Rattle.perm_value.specs.Seen.{datum}
 use Rattle.perm_value.specs.declared.request.RequestFault.{RequestFault}
-use Rattle.perm_value.specs.declared.request.RequestFault.TheVariants as request_fault
-use Rattle.policy_state.specs.States.{State, tables}
 use Rattle.perm_value.specs.declared.value.Value.{Value}
+use Rattle.policy_state.specs.States.{State, tables}
 use Rattle.policy_table.specs.Tables.{Fields}
-use Rattle.regex_gate.specs.Refusals.{IsRefused, Refusals}
-use Rattle.script_read.specs.Named.{is_request_told as is_told}
-use Rattle.session_meaning.proofs.CallerLemmas.{rule_stands}
-use Rattle.session_meaning.specs.Replies.{rule_of}
+use Rattle.regex_gate.specs.Refusals.{IsRefused, IsUsed, Refusals}
+use Rattle.script_read.specs.Said.{Reading, asks}
+use Rattle.session_meaning.proofs.CallerLemmas.{RowsAreMoved, rule_stands}
+use Rattle.session_meaning.specs.Replies.{IsDecided, rule_of}
 use Rattle.version_log.specs.Log.{versions}
-use Rattle.live_round.specs.Requests.{IsDecided, TellsAnswer}
-use Rattle.std.specs.List.Sorted.{IsPermutation}
-
--- the law that the order in which rows are judged has each once
-abbrev pub RowsAreMoved : Type 0
-RowsAreMoved = (case : Case) (e : Effect) (table : List Fields) (judged : List Numbered) → AreInOrder case e table judged → IsPermutation (numbered_from 1 table) judged
+use Rattle.live_round.specs.Requests.{IsAnsweredBy, Refuses, TellsAnswer}
+use Rattle.live_round.proofs.LogLemmas.{judged_in, none_asked}
 
 -- the verdict comes with its rule
 pub decided_printable : RowsAreMoved → (model : ModelParts) (state : State) (IsBad : List ℕ → Type 0) (values : List Datum) (version : ℕ) (verdict : Verdict) (rule : Option Fields) → IsJudged model state.shapes (tables state) values IsBad verdict
@@ -40,31 +31,28 @@ pub decided_printable : RowsAreMoved → (model : ModelParts) (state : State) (I
 decided_printable moved model state IsBad values version verdict rule judged rule-is =
     ap (comes_with_rule verdict) rule-is ∙ rule_stands (tables state) moved model state.shapes values IsBad verdict judged
 
--- why a line is no request is told alike
-pub same_told : (fault : RequestFault) → is_told fault ≡ is_request_told fault
-same_told request_fault.NoMemory = refl
-same_told (request_fault.Quote column) = refl
-same_told request_fault.TooMany = refl
-same_told request_fault.Syntax = refl
-same_told request_fault.NotAnArray = refl
-same_told (request_fault.TooDeep field) = refl
-same_told (request_fault.NotWhole field) = refl
+-- a request with so many values as the model has columns
+fits : (model : ModelParts) (values : List Value) → length values ≡ length model.request → (length (map datum values) == length model.request) ≡ true
+fits model values equal = eq-eqb (length (map datum values)) (length model.request) (length-map values datum ∙ equal)
 
--- ---- the line of an answer
+-- it is decided, so that the finder may have been asked
+pub asked_decided : (model : ModelParts) (values : List Value) (before now : Refusals) → length values ≡ length model.request → IsUsed before now → Refuses model before now (asks (Ok (map datum values)))
+asked_decided model values before now equal used = record {
+  refused = used.more;
+  logged = used.refused;
+  unasked = λ calm. let both : true ≡ false = sym (fits model values equal) ∙ calm in absurd cc;
+}
 
-module _ (model : ModelParts) (state : State) (before : Refusals) (number : ℕ) (old new : String Global) where
-  -- of why a line is no request
-  pub tells_fault : (fault : RequestFault) → Appends old new (line_text (record { number = number; answer = answer.Request fault })) → TellsAnswer model state before before (Err fault) number old new
-  tells_fault fault appended = record { reply = answer.Request fault; answers = refl; counted = λ told. absurd cc; appended = appended }
+module _ (model : ModelParts) (state : State) where
+  -- why a line is no request
+  pub answers_fault : (refusals : Refusals) (fault : RequestFault) → IsAnsweredBy model state refusals refusals (Err fault) (answer.Request fault)
+  answers_fault refusals fault = record { asked = none_asked model refusals (asks (Err fault)); answers = refl }
 
-  -- of a request with another number of values
-  pub tells_arity : (values : List Value) (got want : ℕ) → (length values ≡ length model.request → ⊥) → got ≡ length values → want ≡ length model.request → Appends old new (line_text (record { number = number; answer = answer.Arity got want }))
-      → TellsAnswer model state before before (Ok (map datum values)) number old new
-  tells_arity values got want others is_got is_want appended = record {
-    reply = answer.Arity got want;
-    answers = subst (λ (b : Bool). MatchBool b (IsDecided model state (IsRefused before before) (map datum values) (answer.Arity got want)) (answer.Arity got want ≡ answer.Arity (length (map datum values)) (length model.request))) (sym unequal) same;
-    counted = λ told. absurd cc;
-    appended = appended;
+  -- a request with another number of values
+  pub answers_arity : (refusals : Refusals) (values : List Value) (got want : ℕ) → (length values ≡ length model.request → ⊥) → got ≡ length values → want ≡ length model.request → IsAnsweredBy model state refusals refusals (Ok (map datum values)) (answer.Arity got want)
+  answers_arity refusals values got want others is_got is_want = record {
+    asked = none_asked model refusals (asks (Ok (map datum values)));
+    answers = subst (λ (b : Bool). MatchBool b (IsDecided model state.shapes [] (versions state.log) (tables state) (map datum values) (answer.Arity got want)) (answer.Arity got want ≡ answer.Arity (length (map datum values)) (length model.request))) (sym unequal) same;
   }
     where
       size : length (map datum values) ≡ length values
@@ -76,18 +64,29 @@ module _ (model : ModelParts) (state : State) (before : Refusals) (number : ℕ)
       same : answer.Arity got want ≡ answer.Arity (length (map datum values)) (length model.request)
       same = ap (λ (n : ℕ). answer.Arity n want) (is_got ∙ sym size) ∙ ap (answer.Arity (length (map datum values))) is_want
 
-  -- of a verdict
-  pub tells_decided : (now : Refusals) (values : List Value) (version : ℕ) (verdict : Verdict) (rule : Option Fields) → length values ≡ length model.request → IsJudged model state.shapes (tables state) (map datum values) (IsRefused before now) verdict
-      → (is_refusal verdict ≡ true → Rose before.count now.count) → version ≡ versions state.log → rule ≡ rule_of (tables state) verdict → Appends old new (decided_text number version verdict rule) → TellsAnswer model state before now (Ok (map datum values)) number old new
-  tells_decided now values version verdict rule equal judged rose is_version is_rule appended = record {
-    reply = answer.Decided version verdict rule;
-    answers = subst (λ (b : Bool). MatchBool b (IsDecided model state (IsRefused before now) (map datum values) (answer.Decided version verdict rule)) (answer.Decided version verdict rule ≡ answer.Arity (length (map datum values)) (length model.request))) (sym taken) decided;
-    counted = rose;
-    appended = appended;
+  -- a verdict
+  pub answers_decided : (before now : Refusals) (values : List Value) (version : ℕ) (verdict : Verdict) (rule : Option Fields) → length values ≡ length model.request → IsUsed before now
+      → IsJudged model state.shapes (tables state) (map datum values) (IsRefused before now) verdict → version ≡ versions state.log → rule ≡ rule_of (tables state) verdict
+      → IsAnsweredBy model state before now (Ok (map datum values)) (answer.Decided version verdict rule)
+  unfolding asked_decided
+  answers_decided before now values version verdict rule equal used judged is_version is_rule = record {
+    asked = asked_decided model values before now equal used;
+    answers = subst (λ (b : Bool). MatchBool b (IsDecided model state.shapes used.more (versions state.log) (tables state) (map datum values) (answer.Decided version verdict rule)) (answer.Decided version verdict rule ≡ answer.Arity (length (map datum values)) (length model.request)))
+        (sym (fits model values equal)) decided;
   }
     where
-      taken : (length (map datum values) == length model.request) ≡ true
-      taken = eq-eqb (length (map datum values)) (length model.request) (length-map values datum ∙ equal)
+      decided : IsDecided model state.shapes used.more (versions state.log) (tables state) (map datum values) (answer.Decided version verdict rule)
+      decided = record {
+        verdict = verdict;
+        judged = judged_in model state.shapes (tables state) (map datum values) before now used.more verdict used.refused judged;
+        told = ap (λ (v : ℕ). answer.Decided v verdict rule) is_version ∙ ap (answer.Decided (versions state.log) verdict) is_rule;
+      }
 
-      decided : IsDecided model state (IsRefused before now) (map datum values) (answer.Decided version verdict rule)
-      decided = record { verdict = verdict; judged = judged; told = ap (λ (v : ℕ). answer.Decided v verdict rule) is_version ∙ ap (answer.Decided (versions state.log) verdict) is_rule }
+  -- the line of an answer
+  pub tells : (before now : Refusals) (reading : Reading) (number : ℕ) (old new : String Global) (reply : Answer) → IsAnsweredBy model state before now reading reply → Appends old new (line_text (record { number = number; answer = reply }))
+      → TellsAnswer model state before now reading number old new
+  tells before now reading number old new reply answered appended = record { reply = reply; answered = answered; appended = appended }
+
+  pub tells_decided : (before now : Refusals) (reading : Reading) (number : ℕ) (old new : String Global) (version : ℕ) (verdict : Verdict) (rule : Option Fields) → IsAnsweredBy model state before now reading (answer.Decided version verdict rule)
+      → Appends old new (decided_text number version verdict rule) → TellsAnswer model state before now reading number old new
+  tells_decided before now reading number old new version verdict rule answered appended = record { reply = answer.Decided version verdict rule; answered = answered; appended = appended }

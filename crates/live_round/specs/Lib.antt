@@ -1,5 +1,5 @@
 pub mod Requests
 pub mod Desks
-pub mod Refused
 pub mod Steps
+pub mod Scripts
 pub mod Helps

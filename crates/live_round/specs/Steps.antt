@@ -1,22 +1,21 @@
 -- One item of a script at a desk.
-use Rattle.std.specs.Prelude.{◌≡◌, List, [], ◌∷◌, ◌++◌, true}
+use Rattle.std.specs.Prelude.{List, [], ◌∷◌, ◌++◌}
 use Rattle.answer_lines.specs.declared.answer.Answer.{Answer}
 use Rattle.model_conf.specs.ModelText.{ModelParts}
-use Rattle.outside.specs.Faults.{Rose}
 use Rattle.policy_desk.specs.Desks.{Work}
 use Rattle.policy_table.specs.Tables.{Policy}
-use Rattle.regex_gate.specs.Refusals.{IsRefused, Refusals}
+use Rattle.regex_gate.specs.Refusals.{Refusals}
 use Rattle.script_read.specs.Said.{Said}
 use Rattle.session_meaning.specs.Replies.{IsReply}
 use Rattle.live_round.specs.Desks.{HasEditsOf, StandsBehind}
-use Rattle.live_round.specs.Refused.{is_refused_search}
+use Rattle.live_round.specs.Requests.{Refuses}
 
--- the item is answered and done: whatever items the desk stood behind, the reply is that of the item behind them, and the desk now
--- stands behind the item too; a refused search was counted
+-- the item is answered and done: whatever items the desk stood behind, the reply is that of the item behind them, where the finder
+-- refused so; and the desk now stands behind the item too
 pub record IsStep (model : ModelParts) (before now : Refusals) (item : Said) (old new : Work) (reply : Answer) : Type 0 where
-  pub replied : (opening : Policy) (items : List Said) → StandsBehind opening items old → IsReply model old.state.shapes opening (IsRefused before now) items item reply
+  pub asked : Refuses model before now item
+  pub replied : (opening : Policy) (items : List Said) → StandsBehind opening items old → IsReply model old.state.shapes opening asked.refused items item reply
   pub behind : (opening : Policy) (items : List Said) → StandsBehind opening items old → StandsBehind opening (items ++ item ∷ []) new
-  pub counted : is_refused_search reply ≡ true → Rose before.count now.count
 
 -- nothing was done: whatever items the desk stood behind, it still has their edits
 abbrev pub IsStopped : Work → Work → Type 0

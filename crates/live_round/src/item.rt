@@ -1,7 +1,7 @@
-ghost use Rattle.std.specs.Prelude.{◌≡◌, IfOk, None, OnErr};
-ghost use Rattle.regex_gate.specs.Refusals.{IsUsed};
+ghost use Rattle.std.specs.Prelude.{◌≡◌, IfOk, OnErr};
 ghost use Rattle.script_read.specs.Said.{asks, reading, seen};
-ghost use Rattle.enforce_core.specs.Programs.{Suits};
+ghost use Rattle.decision.specs.Programs.{Suits};
+ghost use Rattle.live_round.specs.Requests.{Refuses};
 ghost use Rattle.live_round.specs.Steps.{IsStep, IsStopped};
 
 use crate::calling::{answer_call, answer_keep, answer_publish};
@@ -10,10 +10,10 @@ use crate::querying::{
 };
 use crate::request::answer_request;
 use answer_lines::Answer;
-use enforce_core::{Program, Scratch};
+use decision::{Program, Scratch};
 use perm_base::NoMemory;
 use policy_desk::Desk;
-use regex_gate::{Finder, uses_add_up};
+use regex_gate::Finder;
 use script_read::{Asked, Item};
 use std::alloc::Global;
 
@@ -33,9 +33,9 @@ pub fn answer_item<P: Finder>(
         (P.refusals finder.new) (seen item.now) desk.old desk.new) }
     ensures shapes { desk.new.state.shapes ≡ desk.old.state.shapes }
     ensures stopped { OnErr result (IsStopped desk.old desk.new) }
-    ensures used { IsUsed (P.refusals finder.old) (P.refusals finder.new) None }
+    ensures refused { OnErr result (Refuses program.now
+        (P.refusals finder.old) (P.refusals finder.new) (seen item.now)) }
 {
-    uses_add_up();
     match item {
         Item::Ask(asked) => answer_ask(alloc, desk, program, asked, finder, scratch),
         Item::Edit(call) => answer_call(alloc, desk, call),
@@ -70,7 +70,8 @@ fn answer_ask<P: Finder>(
     requires suits { Suits program.now desk.now.state.shapes }
     ensures step { IfOk result (IsStep program.now (P.refusals finder.old)
         (P.refusals finder.new) (asks (reading asked.now)) desk.now desk.now) }
-    ensures used { IsUsed (P.refusals finder.old) (P.refusals finder.new) None }
+    ensures refused { OnErr result (Refuses program.now
+        (P.refusals finder.old) (P.refusals finder.new) (asks (reading asked.now))) }
 {
     answer_request(alloc, desk.state(), program, asked, finder, scratch)
 }

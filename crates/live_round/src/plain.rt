@@ -1,22 +1,21 @@
 ghost use Rattle.std.specs.Prelude.{◌≡◌, All, IfOk, None, OnErr, OnOk, [], map, true};
 ghost use Rattle.answer_lines.specs.Told.{is_printable};
 ghost use Rattle.policy_state.specs.States.{tables};
-ghost use Rattle.regex_gate.specs.Refusals.{IsRefused, IsUsed};
+ghost use Rattle.regex_gate.specs.Refusals.{IsUsed};
 ghost use Rattle.script_read.specs.Named.{is_named};
 ghost use Rattle.script_read.specs.Said.{seen};
-ghost use Rattle.session_meaning.specs.Plain.{IsPlain};
 ghost use Rattle.version_log.specs.Log.{versions};
-ghost use Rattle.enforce_core.specs.Programs.{Suits};
+ghost use Rattle.decision.specs.Programs.{Suits};
 ghost use Rattle.live_round.specs.Desks.{StandsAmid, StandsBehind};
-ghost use Rattle.live_round.specs.Refused.{RoseBy, refused_searches};
+ghost use Rattle.live_round.specs.Scripts.{AreScriptLines};
 
 use crate::item::answer_item;
 use answer_lines::{Line, Lines};
-use enforce_core::{Program, Scratch};
+use decision::{Program, Scratch};
 use matcher_meaning::order_of_rows_is_one;
 use perm_base::NoMemory;
 use policy_desk::Desk;
-use regex_gate::{Finder, uses_add_up};
+use regex_gate::Finder;
 use script_read::Script;
 use std::alloc::Global;
 
@@ -33,8 +32,8 @@ pub fn run_plain<P: Finder>(
     requires opening { versions desk.old.state.log ≡ 0 }
     requires none_pending { desk.old.pending ≡ [] }
     requires keeps_all { desk.old.kept ≡ None }
-    ensures plain { IfOk result (IsPlain program.now desk.old.state.shapes
-        (tables desk.old.state) (IsRefused (P.refusals finder.old) (P.refusals finder.new))
+    ensures plain { IfOk result (AreScriptLines program.now desk.old.state.shapes
+        (tables desk.old.state) (P.refusals finder.old) (P.refusals finder.new)
         (map seen script.now)) }
     ensures printable { IfOk result (λ lines.
         All (λ item. is_named item ≡ true) (map seen script.now)
@@ -44,13 +43,10 @@ pub fn run_plain<P: Finder>(
     ensures stopped { OnErr result
         (StandsAmid (tables desk.old.state) (map seen script.now) desk.new) }
     ensures shapes { desk.new.state.shapes ≡ desk.old.state.shapes }
-    ensures counted { IfOk result (λ lines. RoseBy (refused_searches lines)
-        (P.refusals finder.old).count (P.refusals finder.new).count) }
-    ensures used { IsUsed (P.refusals finder.old) (P.refusals finder.new) None }
+    ensures used { IsUsed (P.refusals finder.old) (P.refusals finder.new) }
 {
     desk.holds();
     order_of_rows_is_one();
-    uses_add_up();
     let mut scratch = Scratch::for_program(alloc, program);
     let mut lines = Vec::with_capacity(alloc, script.len())?;
     let mut number: u32 = 0;

@@ -1,19 +1,18 @@
-ghost use Rattle.std.specs.Prelude.{◌≡◌, None, Ok, OnOk, map, true};
+ghost use Rattle.std.specs.Prelude.{◌≡◌, Ok, OnErr, OnOk, map, true};
 ghost use Rattle.perm_value.specs.Seen.{datum};
-ghost use Rattle.regex_gate.specs.Refusals.{IsUsed};
 ghost use Rattle.script_read.specs.Named.{is_named};
 ghost use Rattle.script_read.specs.Said.{asks, reading};
-ghost use Rattle.enforce_core.specs.Programs.{Suits};
-ghost use Rattle.live_round.specs.Requests.{TellsAnswer};
+ghost use Rattle.decision.specs.Programs.{Suits};
+ghost use Rattle.live_round.specs.Requests.{Refuses, TellsAnswer};
 
 use crate::named::named_rule;
 use answer_lines::{Answer, Line, push_decided, push_line};
-use enforce_core::{Program, Scratch, decide};
+use decision::{Program, Scratch, decide};
 use matcher_meaning::order_of_rows_is_one;
 use perm_base::NoMemory;
 use perm_value::Request;
 use policy_state::PolicyState;
-use regex_gate::{Finder, uses_add_up};
+use regex_gate::Finder;
 use script_read::Asked;
 
 /// Appends the line that tells what a line of requests is answered over a policy: the answer that `answer_request` gives, as
@@ -33,9 +32,9 @@ pub fn push_request<P: Finder>(
     ensures told { OnOk result (TellsAnswer program.now state.now
         (P.refusals finder.old) (P.refusals finder.new) (reading asked.now) number
         text.old text.new) }
-    ensures used { IsUsed (P.refusals finder.old) (P.refusals finder.new) None }
+    ensures stopped { OnErr result (Refuses program.now
+        (P.refusals finder.old) (P.refusals finder.new) (asks (reading asked.now))) }
 {
-    uses_add_up();
     match asked {
         Asked::Request(request) => {
             push_judged(text, number, state, program, request, finder, scratch)
@@ -61,10 +60,10 @@ fn push_judged<P: Finder>(
     ensures told { OnOk result (TellsAnswer program.now state.now
         (P.refusals finder.old) (P.refusals finder.new) (Ok (map datum request.now)) number
         text.old text.new) }
-    ensures used { IsUsed (P.refusals finder.old) (P.refusals finder.new) None }
+    ensures stopped { OnErr result (Refuses program.now
+        (P.refusals finder.old) (P.refusals finder.new) (asks (Ok (map datum request.now)))) }
 {
     order_of_rows_is_one();
-    uses_add_up();
     if let Err(arity) = program.takes(request) {
         let (got, want) = (arity.got, arity.want);
         let answer = Answer::Arity { got, want };

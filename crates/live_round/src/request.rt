@@ -1,22 +1,19 @@
-ghost use Rattle.std.specs.Prelude.{◌≡◌, IfOk, None, Ok, map, true};
+ghost use Rattle.std.specs.Prelude.{◌≡◌, IfOk, Ok, OnErr, map, true};
 ghost use Rattle.answer_lines.specs.Told.{is_printable};
-ghost use Rattle.outside.specs.Faults.{Rose};
 ghost use Rattle.perm_value.specs.Seen.{datum};
-ghost use Rattle.regex_gate.specs.Refusals.{IsRefused, IsUsed};
 ghost use Rattle.script_read.specs.Named.{is_named};
 ghost use Rattle.script_read.specs.Said.{asks, reading};
-ghost use Rattle.enforce_core.specs.Programs.{Suits};
-ghost use Rattle.live_round.specs.Refused.{is_refused_search};
-ghost use Rattle.live_round.specs.Requests.{IsAnswerTo};
+ghost use Rattle.decision.specs.Programs.{Suits};
+ghost use Rattle.live_round.specs.Requests.{IsAnsweredBy, Refuses};
 
 use crate::named::copy_named;
 use answer_lines::Answer;
-use enforce_core::{Program, Scratch, decide};
+use decision::{Program, Scratch, decide};
 use matcher_meaning::order_of_rows_is_one;
 use perm_base::NoMemory;
 use perm_value::Request;
 use policy_state::PolicyState;
-use regex_gate::{Finder, uses_add_up};
+use regex_gate::Finder;
 use script_read::Asked;
 use std::alloc::Global;
 
@@ -32,15 +29,13 @@ pub fn answer_request<P: Finder>(
     scratch: &mut Scratch,
 ) -> Result<Answer, NoMemory>
     requires suits { Suits program.now state.now.shapes }
-    ensures answer { IfOk result (IsAnswerTo program.now state.now
-        (IsRefused (P.refusals finder.old) (P.refusals finder.new)) (reading asked.now)) }
-    ensures counted { IfOk result (λ reply. is_refused_search reply ≡ true
-        → Rose (P.refusals finder.old).count (P.refusals finder.new).count) }
+    ensures answer { IfOk result (IsAnsweredBy program.now state.now
+        (P.refusals finder.old) (P.refusals finder.new) (reading asked.now)) }
     ensures printable { IfOk result (λ reply. is_named (asks (reading asked.now)) ≡ true
         → is_printable reply ≡ true) }
-    ensures used { IsUsed (P.refusals finder.old) (P.refusals finder.new) None }
+    ensures stopped { OnErr result (Refuses program.now
+        (P.refusals finder.old) (P.refusals finder.new) (asks (reading asked.now))) }
 {
-    uses_add_up();
     match asked {
         Asked::Request(request) => judge(alloc, state, program, request, finder, scratch),
         Asked::Refused(fault) => Ok(Answer::Request(*fault)),
@@ -57,16 +52,13 @@ fn judge<P: Finder>(
     scratch: &mut Scratch,
 ) -> Result<Answer, NoMemory>
     requires suits { Suits program.now state.now.shapes }
-    ensures answer { IfOk result (IsAnswerTo program.now state.now
-        (IsRefused (P.refusals finder.old) (P.refusals finder.new))
-        (Ok (map datum request.now))) }
-    ensures counted { IfOk result (λ reply. is_refused_search reply ≡ true
-        → Rose (P.refusals finder.old).count (P.refusals finder.new).count) }
+    ensures answer { IfOk result (IsAnsweredBy program.now state.now
+        (P.refusals finder.old) (P.refusals finder.new) (Ok (map datum request.now))) }
     ensures printable { IfOk result (λ reply. is_printable reply ≡ true) }
-    ensures used { IsUsed (P.refusals finder.old) (P.refusals finder.new) None }
+    ensures stopped { OnErr result (Refuses program.now
+        (P.refusals finder.old) (P.refusals finder.new) (asks (Ok (map datum request.now)))) }
 {
     order_of_rows_is_one();
-    uses_add_up();
     if let Err(arity) = program.takes(request) {
         let (got, want) = (arity.got, arity.want);
         return Ok(Answer::Arity { got, want });

@@ -19,7 +19,7 @@ use Rattle.matcher_meaning.specs.CaseCalls.{Gives}
 use Rattle.matcher_meaning.specs.Cases.{Case, asked_value, row_text}
 use Rattle.matcher_meaning.specs.Comes.{ComesTo, IsAmongBy, ComeToBy, Evaluates}
 use Rattle.matcher_meaning.specs.Meaning.{along}
-use Rattle.matcher_meaning.specs.Operators.{negated, opposed, as_truth, settled, joined, found}
+use Rattle.matcher_meaning.specs.Operators.{negated, opposed, as_truth, settled, joined, ended_among}
 use Rattle.matcher_code.specs.Compiled.{op_at, number_of, attributes, skip, op_or_none, right_begins, joins, names_asked, calls, behind, behind_members, behind_all, compiled, members, arguments}
 use Rattle.matcher_code.specs.Machine.{Next, failed, goes, lacks, onward, jumping, taken, Called, field_at, Executes, top, Onward, Runs}
 use Rattle.matcher_code.specs.declared.op.Op.{Op}
@@ -259,11 +259,11 @@ among_leads case ops to stack r Is Among place rest (Ok d, is, ends) = let on = 
 
 member_leads : (case : Case) (ops : List Op) (at to place : ℕ) (d : Datum) (stack : List Datum) (r : Answer) (Is Among : Answer → Type 0) → slice_get ops place ≡ Some (op_at at (i.Member to))
     → (Ends case ops (place + 1) (d ∷ stack) r → Leads case ops to stack Among r) → Leads case ops place (d ∷ stack) Is r
-    → Leads case ops to stack (λ z. (x : Answer) × Is x × Unless (found d x) (Among z) z) r
+    → Leads case ops to stack (λ z. (x : Answer) × Is x × Unless (ended_among d x) (Among z) z) r
 member_leads case ops at to place d stack r Is Among is rest (Err fault, first, failed_) = (Err fault, (Err fault, first, refl), failed_)
 member_leads case ops at to place d stack r Is Among is rest (Ok e, first, ends) =
-    let on = jumped case ops to (place + 1) stack (d ∷ stack) r Among (found d (Ok e)) rest
-    (moved case ops place (e ∷ d ∷ stack) r (op_at at (i.Member to)) (jumping to stack (found d (Ok e)) (goes (place + 1) (d ∷ stack))) is (λ next leads. leads) ends) in
+    let on = jumped case ops to (place + 1) stack (d ∷ stack) r Among (ended_among d (Ok e)) rest
+    (moved case ops place (e ∷ d ∷ stack) r (op_at at (i.Member to)) (jumping to stack (ended_among d (Ok e)) (goes (place + 1) (d ∷ stack))) is (λ next leads. leads) ends) in
     (on.0, (Ok e, first, on.1), on.2)
 
 -- ---- expressions

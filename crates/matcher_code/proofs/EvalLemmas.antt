@@ -18,8 +18,8 @@ use Rattle.perm_value.specs.Datum as datum
 use Rattle.perm_value.specs.Seen.{datum_of_view}
 use Rattle.perm_value.specs.declared.value.View.{View}
 use Rattle.perm_value.specs.declared.value.View.TheVariants as views
-use Rattle.regex_gate.specs.Refusals.{Refusals, IsRefused, IsUsed}
-use Rattle.regex_gate.proofs.CallerLemmas.{refused_since}
+use Rattle.regex_gate.specs.Refusals.{Refusals, RefusedOnly}
+use Rattle.regex_gate.proofs.CallerLemmas.{only_since}
 use Rattle.matcher_meaning.specs.Answers as answers
 use Rattle.matcher_meaning.specs.Answers.{Answer, fails}
 use Rattle.matcher_meaning.specs.Cases.{Case, row_text, where_refused}
@@ -46,11 +46,12 @@ use Rattle.matcher_code.proofs.RunStops.{can_do, run_goes}
 
 -- a run from a place on that stops is the whole run's stop
 pub stops_whole : (case : Case) (ops : List Op) (place : ℕ) (before after : List View) (why : Halt) (first old now : Refusals) → LeadsOn case ops 0 [] place (map datum_of_view before) → RunEnds case ops place before after (Err why)
-    → IsUsed first old None → IsUsed old now (refused_by {X = Pause} (Err why)) → IsValueOf case ops (IsRefused first now) (Err (stop_of why))
-stops_whole case ops place before after (halt.Fault fault) first old now leads ends since used = inl (comes_whole (where_refused case None) ops (Err fault) (leads.found_is (Err fault) ends))
+    → old ≡ first → RefusedOnly old now (refused_by {X = Pause} (Err why)) → IsValueOf case ops (RefusedOnly first now) (Err (stop_of why))
+stops_whole case ops place before after (halt.Fault fault) first old now leads ends since used =
+    inl (only_since first old now None since used, comes_whole (where_refused case None) ops (Err fault) (leads.found_is (Err fault) ends))
 stops_whole case ops place before after (halt.Refused at pattern) first old now leads ends since used =
-    inr (pattern.now, refused_since first old now pattern.now since used.refusal, refl, comes_whole (where_refused case (Some (at, pattern.now))) ops (fails Pattern at) (leads.refused_is at pattern.now ends))
-stops_whole case ops place before after halt.NoMemory first old now leads ends since used = tt
+    inr (pattern.now, only_since first old now (Some pattern.now) since used, refl, comes_whole (where_refused case (Some (at, pattern.now))) ops (fails Pattern at) (leads.refused_is at pattern.now ends))
+stops_whole case ops place before after halt.NoMemory first old now leads ends since used = only_since first old now None since used
 
 -- one that ends is its value
 pub value_whole : (case : Case) (ops : List Op) (place : ℕ) (before : List View) (v : View) → LeadsOn case ops 0 [] place (map datum_of_view before) → ComesFrom (where_refused case None) ops place (map datum_of_view before) (Ok (datum_of_view v))
@@ -115,17 +116,17 @@ pub eval_rule : (case : Case) (at column : ℕ) (bytes : List ℕ) (rule : Expre
 eval_rule case at column bytes rule r are within is says comes = inr (rule, subst (λ (text : List ℕ). IsRuleText case.model text rule) (is ∙ sym (text_there case column are within)) says, comes)
 
 -- what is said of each answer is said of a stop
-pub stop_says : {X Y : Type 0} (Says Other : Option (ℕ × List ℕ) → Answer → Type 0) (value : X → Datum) (other : Y → Datum) (IsBad : List ℕ → Type 0) (why : Stop) → ((refused : Option (ℕ × List ℕ)) (r : Answer) → Says refused r → Other refused r)
-    → IsAnswer Says value IsBad (Err why) → IsAnswer Other other IsBad (Err why)
-stop_says Says Other value other IsBad (stop.Fault failed_) says (inl is) = inl (says None (Err failed_) is)
-stop_says Says Other value other IsBad (stop.Fault failed_) says (inr (pattern, bad, cause, is)) = inr (pattern, bad, cause, says (Some (failed_.at, pattern)) (Err failed_) is)
-stop_says Says Other value other IsBad stop.NoMemory says is = tt
+pub stop_says : {X Y : Type 0} (Says Other : Option (ℕ × List ℕ) → Answer → Type 0) (value : X → Datum) (other : Y → Datum) (Refused : Option (List ℕ) → Type 0) (why : Stop) → ((refused : Option (ℕ × List ℕ)) (r : Answer) → Says refused r → Other refused r)
+    → IsAnswer Says value Refused (Err why) → IsAnswer Other other Refused (Err why)
+stop_says Says Other value other Refused (stop.Fault failed_) says (inl (none, is)) = inl (none, says None (Err failed_) is)
+stop_says Says Other value other Refused (stop.Fault failed_) says (inr (pattern, refused, cause, is)) = inr (pattern, refused, cause, says (Some (failed_.at, pattern)) (Err failed_) is)
+stop_says Says Other value other Refused stop.NoMemory says none = none
 
 -- what is said of each answer is said of an end
-pub answer_says : {X : Type 0} (Says Other : Option (ℕ × List ℕ) → Answer → Type 0) (value : X → Datum) (IsBad : List ℕ → Type 0) (r : Result X Stop) → ((refused : Option (ℕ × List ℕ)) (answer : Answer) → Says refused answer → Other refused answer)
-    → IsAnswer Says value IsBad r → IsAnswer Other value IsBad r
-answer_says Says Other value IsBad (Ok x) says is = says None (Ok (value x)) is
-answer_says Says Other value IsBad (Err why) says is = stop_says Says Other value value IsBad why says is
+pub answer_says : {X : Type 0} (Says Other : Option (ℕ × List ℕ) → Answer → Type 0) (value : X → Datum) (Refused : Option (List ℕ) → Type 0) (r : Result X Stop) → ((refused : Option (ℕ × List ℕ)) (answer : Answer) → Says refused answer → Other refused answer)
+    → IsAnswer Says value Refused r → IsAnswer Other value Refused r
+answer_says Says Other value Refused (Ok x) says (none, is) = (none, says None (Ok (value x)) is)
+answer_says Says Other value Refused (Err why) says is = stop_says Says Other value value Refused why says is
 
 -- a rule comes to no value but a truth
 pub rule_is_truth : (case : Case) (at : ℕ) (rule : Expression) (v : View) → RuleComesTo case at rule (Ok (datum_of_view v)) → (b : Bool) × (v ≡ views.Truth b)
@@ -183,18 +184,18 @@ eval_goes case code place before standing after pushed at column b is_code is le
 
 -- an `eval` that stops is the whole run's stop
 pub eval_stops : (case : Case) (ops : List Op) (place : ℕ) (before : List Datum) (standing : ℕ) (after : List Datum) (at column : ℕ) (why : Stop) (first old now : Refusals)
-    → LeadsOn case ops 0 [] place before → StandsAt case ops place before standing after at column → IsUsed first old None
-    → IsAnswer (λ refused answer. Evaluates (where_refused case refused) at (get_or case.model.policy column []) answer) (λ b. datum.truth b) (IsRefused old now) (Err why)
-    → IsValueOf case ops (IsRefused first now) (Err why)
-eval_stops case ops place before standing after at column (stop.Fault fault) first old now leads stands since (inl evals) =
-    inl (comes_whole (where_refused case None) ops (Err fault) (leads.found_is (Err fault) (stands.leads.found_is (Err fault) (comes_fault (where_refused case None) ops standing after _ fault stands.there (Err fault, evals, refl)))))
-eval_stops case ops place before standing after at column (stop.Fault fault) first old now leads stands since (inr (pattern, bad, cause, evals)) =
+    → LeadsOn case ops 0 [] place before → StandsAt case ops place before standing after at column → old ≡ first
+    → IsAnswer (λ refused answer. Evaluates (where_refused case refused) at (get_or case.model.policy column []) answer) (λ b. datum.truth b) (RefusedOnly old now) (Err why)
+    → IsValueOf case ops (RefusedOnly first now) (Err why)
+eval_stops case ops place before standing after at column (stop.Fault fault) first old now leads stands since (inl (none, evals)) =
+    inl (only_since first old now None since none, comes_whole (where_refused case None) ops (Err fault) (leads.found_is (Err fault) (stands.leads.found_is (Err fault) (comes_fault (where_refused case None) ops standing after _ fault stands.there (Err fault, evals, refl)))))
+eval_stops case ops place before standing after at column (stop.Fault fault) first old now leads stands since (inr (pattern, refused, cause, evals)) =
     let held = where_refused case (Some (fault.at, pattern)) in
     let same : fault ≡ record { cause = Pattern; at = fault.at } = ap (λ (one : Cause). record fault { cause = one }) cause in
     let comes = subst (λ (one : Fault). ComesFrom held ops standing after (Err one)) same (comes_fault held ops standing after _ fault stands.there (Err fault, evals, refl)) in
     let whole = comes_whole held ops (fails Pattern fault.at) (leads.refused_is fault.at pattern (stands.leads.refused_is fault.at pattern comes)) in
-    inr (pattern, refused_since first old now pattern since bad, cause, subst (λ (one : Fault). CodeComesTo held ops (Err one)) (sym same) whole)
-eval_stops case ops place before standing after at column stop.NoMemory first old now leads stands since is = tt
+    inr (pattern, only_since first old now (Some pattern) since refused, cause, subst (λ (one : Fault). CodeComesTo held ops (Err one)) (sym same) whole)
+eval_stops case ops place before standing after at column stop.NoMemory first old now leads stands since none = only_since first old now None since none
 
 -- an `eval` takes memory
 pub eval_takes : (case : Case) (ops : List Op) (place : ℕ) (before : List Datum) (standing : ℕ) (after : List Datum) (at column : ℕ) → StandsAt case ops place before standing after at column → some_takes_memory ops ≡ true

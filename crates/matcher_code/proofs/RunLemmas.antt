@@ -12,7 +12,7 @@ use Rattle.matcher_meaning.specs.Answers.{Answer, fails}
 use Rattle.matcher_meaning.specs.CaseCalls.{Gives}
 use Rattle.matcher_meaning.specs.Cases.{Case, where_refused}
 use Rattle.matcher_meaning.specs.Comes.{Evaluates}
-use Rattle.matcher_meaning.specs.Operators.{ended_by, found}
+use Rattle.matcher_meaning.specs.Operators.{ended_by, ended_among}
 use Rattle.matcher_meaning.proofs.CallerLemmas.{Keeps, evaluates_keeps, gives_keep}
 use Rattle.matcher_code.specs.Helps.Runs.{ComesFrom, IsAt, LeadsOn}
 use Rattle.matcher_code.specs.Machine.{Next, failed, goes, lacks, onward, ByAnswer, jumping, taken, Called, Does, Executes, top, Onward, Runs, CodeComesTo}
@@ -147,7 +147,7 @@ does_move case place at i.NeedTruth [] to rest is = absurd cc
 does_move case place at i.NeedTruth (d ∷ below) to rest is = inl (one_goes place to d below rest _ is)
 does_move case place at (i.Member other) [] to rest is = absurd cc
 does_move case place at (i.Member other) (e ∷ []) to rest is = absurd cc
-does_move case place at (i.Member other) (e ∷ d ∷ below) to rest is = member_goes place to other e d below rest (found d (Ok e)) is
+does_move case place at (i.Member other) (e ∷ d ∷ below) to rest is = member_goes place to other e d below rest (ended_among d (Ok e)) is
 does_move case place at i.Miss [] to rest is = absurd cc
 does_move case place at i.Miss (d ∷ below) to rest is = inl (one_goes place to d below rest (Ok (datum.truth false)) is)
 does_move case place at (i.Function called) stack to rest is = inl (called_goes case place at (function called) (arity called) stack to rest is)

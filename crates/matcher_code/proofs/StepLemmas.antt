@@ -7,8 +7,7 @@ use Rattle.matcher_read.specs.declared.tree.Function.{Function}
 use Rattle.perm_value.specs.Datum.{Datum}
 use Rattle.perm_value.specs.Seen.{datum_of_view}
 use Rattle.perm_value.specs.declared.value.View.{View}
-use Rattle.regex_gate.specs.Refusals.{Refusals, IsUsed}
-use Rattle.regex_gate.proofs.CallerLemmas.{used_none}
+use Rattle.regex_gate.specs.Refusals.{Refusals, RefusedOnly}
 use Rattle.matcher_meaning.specs.Answers.{fails}
 use Rattle.matcher_meaning.specs.CaseCalls.{Gives}
 use Rattle.matcher_meaning.specs.Cases.{Case, where_refused}
@@ -93,5 +92,5 @@ done_step case place op instruction before after (Err (halt.Refused at pattern))
 done_step case place op instruction before after (Err halt.NoMemory) is done = absurd done
 
 -- what asks nobody is told of no search
-pub none_used : (refusals : Refusals) (refused : Option (List ℕ)) → refused ≡ None → IsUsed refusals refusals refused
-none_used refusals refused is = subst (IsUsed refusals refusals) (sym is) (used_none refusals)
+pub none_used : (refusals : Refusals) (refused : Option (List ℕ)) → refused ≡ None → RefusedOnly refusals refusals refused
+none_used refusals refused is = subst (RefusedOnly refusals refusals) (sym is) refl

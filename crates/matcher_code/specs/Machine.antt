@@ -11,7 +11,7 @@ use Rattle.matcher_meaning.specs.CaseCalls.{Gives}
 use Rattle.matcher_meaning.specs.Cases.{Case}
 use Rattle.matcher_meaning.specs.Comes.{Evaluates}
 use Rattle.matcher_meaning.specs.Meaning.{along}
-use Rattle.matcher_meaning.specs.Operators.{negated, opposed, as_truth, ended_by, joined, found}
+use Rattle.matcher_meaning.specs.Operators.{negated, opposed, as_truth, ended_by, joined, ended_among}
 use Rattle.matcher_code.specs.declared.op.Op.{Op}
 use Rattle.matcher_code.specs.declared.op.Instruction.{Instruction}
 use Rattle.matcher_code.specs.declared.op.Instruction.TheVariants as i
@@ -69,7 +69,7 @@ Does case place at (i.Binary op) (e ∷ d ∷ below) next = next ≡ onward plac
 Does case place at (i.SkipFalse to) (d ∷ below) next = next ≡ jumping to below (ended_by at false d) (goes (place + 1) below)
 Does case place at (i.SkipTrue to) (d ∷ below) next = next ≡ jumping to below (ended_by at true d) (goes (place + 1) below)
 Does case place at i.NeedTruth (d ∷ below) next = next ≡ onward place below (as_truth at d)
-Does case place at (i.Member to) (e ∷ d ∷ below) next = next ≡ jumping to below (found d (Ok e)) (goes (place + 1) (d ∷ below))
+Does case place at (i.Member to) (e ∷ d ∷ below) next = next ≡ jumping to below (ended_among d (Ok e)) (goes (place + 1) (d ∷ below))
 Does case place at i.Miss (d ∷ below) next = next ≡ goes (place + 1) (datum.truth false ∷ below)
 Does case place at (i.Function called) stack next = Called case place at (function called) (taken (arity called) [] stack) next
 Does case place at (i.Role number names) stack next = Called case place at (relation number) (taken names [] stack) next

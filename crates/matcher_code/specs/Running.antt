@@ -28,17 +28,17 @@ abbrev pub IsWantOfMemory : Stop → Type 0
 IsWantOfMemory (stop.Fault failed) = ⊥
 IsWantOfMemory stop.NoMemory = ⊤
 
--- a value of which this is said where nothing is refused; or a fault of which it is, or the fault of a search for a pattern that counts as refused, where that search is refused
-abbrev pub IsAnswer : {X : Type 0} → (Option (ℕ × List ℕ) → Answer → Type 0) → (X → Datum) → (List ℕ → Type 0) → Result X Stop → Type 0
-IsAnswer Says value IsBad (Ok x) = Says None (Ok (value x))
-IsAnswer Says value IsBad (Err (stop.Fault failed)) =
-    Says None (Err failed)
-    ⊎ ((pattern : List ℕ) × IsBad pattern × (failed.cause ≡ Pattern) × Says (Some (failed.at, pattern)) (Err failed))
-IsAnswer Says value IsBad (Err stop.NoMemory) = ⊤
+-- a value or a fault of which this is said where nothing is refused, and the finder refused nothing; or the fault of a search, of which it is said where that search is refused, and the finder refused its pattern alone; where memory ran out, the finder refused nothing
+abbrev pub IsAnswer : {X : Type 0} → (Option (ℕ × List ℕ) → Answer → Type 0) → (X → Datum) → (Option (List ℕ) → Type 0) → Result X Stop → Type 0
+IsAnswer Says value Refused (Ok x) = Refused None × Says None (Ok (value x))
+IsAnswer Says value Refused (Err (stop.Fault failed)) =
+    (Refused None × Says None (Err failed))
+    ⊎ ((pattern : List ℕ) × Refused (Some pattern) × (failed.cause ≡ Pattern) × Says (Some (failed.at, pattern)) (Err failed))
+IsAnswer Says value Refused (Err stop.NoMemory) = Refused None
 
 -- what the code comes to in a case
-abbrev pub IsValueOf : Case → List Op → (List ℕ → Type 0) → Result View Stop → Type 0
-IsValueOf case ops IsBad r = IsAnswer (λ refused answer. CodeComesTo (where_refused case refused) ops answer) datum_of_view IsBad r
+abbrev pub IsValueOf : Case → List Op → (Option (List ℕ) → Type 0) → Result View Stop → Type 0
+IsValueOf case ops Refused r = IsAnswer (λ refused answer. CodeComesTo (where_refused case refused) ops answer) datum_of_view Refused r
 
 -- a call of `regexMatch`
 abbrev pub searches : Instruction → Bool

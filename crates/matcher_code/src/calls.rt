@@ -5,7 +5,7 @@ ghost use Rattle.matcher_meaning.specs.CaseCalls.{Gives};
 ghost use Rattle.matcher_meaning.specs.Cases.{Case};
 ghost use Rattle.matcher_meaning.specs.Meaning.{is_search};
 ghost use Rattle.perm_value.specs.Seen.{datum_of_view};
-ghost use Rattle.regex_gate.specs.Refusals.{IsUsed};
+ghost use Rattle.regex_gate.specs.Refusals.{RefusedOnly};
 ghost use Rattle.matcher_code.specs.Helps.Ends.{CallEnds, EndsIn, answer_of, callee, over_tables, refused_by};
 
 use crate::faults::{fault, kind};
@@ -40,7 +40,8 @@ pub(crate) fn call_of_two<'a, K: Links, P: Finder>(
     ensures value { (case : Case)
         → CallEnds (over_tables case (K.shapes links.now) (K.policy links.now)) at (callee called)
         (datum_of_view first.now ∷ datum_of_view second.now ∷ []) result }
-    ensures used { IsUsed (P.refusals finder.old) (P.refusals finder.new) (refused_by result) }
+    ensures refused { RefusedOnly (P.refusals finder.old) (P.refusals finder.new)
+        (refused_by result) }
 {
     match (*first, *second) {
         (View::Text(first), View::Text(second)) => match called {
@@ -86,7 +87,8 @@ fn of_two<'a, P: Finder>(
 ) -> Result<View<'a>, Halt<'a>>
     ensures value { EndsIn (λ refused r. OfTwo refused at called first.now second.now r)
         datum_of_view (is_search (function called)) result }
-    ensures used { IsUsed (P.refusals finder.old) (P.refusals finder.new) (refused_by result) }
+    ensures refused { RefusedOnly (P.refusals finder.old) (P.refusals finder.new)
+        (refused_by result) }
 {
     match called {
         Function::RegexMatch => search(at, first, second, finder),
@@ -156,7 +158,8 @@ fn search<'a, P: Finder>(
 ) -> Result<View<'a>, Halt<'a>>
     ensures value { EndsIn (λ refused r. r ≡ searched refused at text.now pattern.now)
         datum_of_view true result }
-    ensures used { IsUsed (P.refusals finder.old) (P.refusals finder.new) (refused_by result) }
+    ensures refused { RefusedOnly (P.refusals finder.old) (P.refusals finder.new)
+        (refused_by result) }
 {
     match finder.find(pattern, text) {
         Ok(found) => Ok(View::Truth(found)),

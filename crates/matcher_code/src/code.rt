@@ -51,13 +51,6 @@ impl Code {
         &self.ops
     }
 
-    /// How many columns a request has.
-    pub fn columns(&self) -> u32
-        ensures { result ≡ self.now.columns }
-    {
-        self.columns
-    }
-
     /// How many columns a policy has.
     pub fn policy_columns(&self) -> u32
         ensures { result ≡ self.now.policy_columns }

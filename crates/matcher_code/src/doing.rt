@@ -3,7 +3,7 @@
 ghost use Rattle.std.specs.Prelude.{◌≡◌, ◌+◌, ◌<◌, ◌≤◌, ◌^◌, ◌∷◌, ℕ, length, map, option_map, None, Ok};
 ghost use Rattle.perm_value.specs.Seen.{datum_of_view};
 ghost use Rattle.matcher_meaning.specs.Cases.{Case};
-ghost use Rattle.matcher_meaning.specs.Operators.{found};
+ghost use Rattle.matcher_meaning.specs.Operators.{ended_among};
 ghost use Rattle.matcher_code.specs.Helps.Ends.{IsDone, NextIs, answer_of, refused_by, skipping};
 ghost use Rattle.matcher_code.specs.Machine.{goes, jumping, onward};
 ghost use Rattle.matcher_code.specs.declared.op.Instruction.TheVariants as does;
@@ -73,7 +73,7 @@ fn meet<'a, const N: usize>(
     requires place { place < 2 ^ 32 }
     requires room { length stack.old < N }
     ensures next { NextIs (jumping to (map datum_of_view stack.old)
-        (found (datum_of_view value.now) (Ok (datum_of_view member.now)))
+        (ended_among (datum_of_view value.now) (Ok (datum_of_view member.now)))
         (goes (place + 1) (datum_of_view value.now ∷ map datum_of_view stack.old)))
         (map datum_of_view stack.new) result }
     ensures asks_nobody { refused_by result ≡ None }

@@ -5,7 +5,7 @@ ghost use Rattle.matcher_read.specs.Expression.{expression};
 ghost use Rattle.model_conf.specs.ModelText.{ModelParts};
 ghost use Rattle.perm_value.specs.Datum as datum;
 ghost use Rattle.perm_value.specs.Seen.{datum_of_view};
-ghost use Rattle.regex_gate.specs.Refusals.{IsRefused, IsUsed};
+ghost use Rattle.regex_gate.specs.Refusals.{RefusedOnly};
 ghost use Rattle.matcher_meaning.specs.Cases.{where_refused};
 ghost use Rattle.matcher_meaning.specs.Comes.{Evaluates, RuleComesTo};
 ghost use Rattle.matcher_code.specs.Compiled.{IsRule, has_eval_op};
@@ -43,11 +43,10 @@ pub(crate) fn evaluated<K: Links, P: Finder>(
     finder: &mut P,
 ) -> Result<bool, Stop>
     requires { column < length model.now.policy }
-    ensures value { IsAnswer (λ refused answer. Evaluates (where_refused
+    ensures { IsAnswer (λ refused answer. Evaluates (where_refused
         (case_for model.now asked.entry (K.shapes links.now) (K.policy links.now)) refused)
         at (get_or model.now.policy column []) answer) datum.truth
-        (IsRefused (P.refusals finder.old) (P.refusals finder.new)) result }
-    ensures used { IsUsed (P.refusals finder.old) (P.refusals finder.new) None }
+        (RefusedOnly (P.refusals finder.old) (P.refusals finder.new)) result }
 {
     // The columns of a policy are distinct.
     let _columns = model.policy_columns();
@@ -69,11 +68,10 @@ fn rule_truth<K: Links, P: Finder>(
     finder: &mut P,
 ) -> Result<bool, Stop>
     requires { IsRule model.now (expression rule.now) }
-    ensures value { IsAnswer (λ refused answer. RuleComesTo (where_refused
+    ensures { IsAnswer (λ refused answer. RuleComesTo (where_refused
         (case_for model.now asked.entry (K.shapes links.now) (K.policy links.now)) refused)
         at (expression rule.now) answer) datum.truth
-        (IsRefused (P.refusals finder.old) (P.refusals finder.new)) result }
-    ensures used { IsUsed (P.refusals finder.old) (P.refusals finder.new) None }
+        (RefusedOnly (P.refusals finder.old) (P.refusals finder.new)) result }
 {
     let Ok(code) = build_rule(alloc, model, rule, at) else {
         return Err(Stop::NoMemory);
@@ -107,10 +105,9 @@ fn rule_value<'a, K: Links, P: Finder>(
 ) -> Result<View<'a>, Stop>
     requires height { code.now.height ≤ 1024 }
     requires evals { has_eval_op code.now.ops ≡ false }
-    ensures value { (model : ModelParts) → IsValueOf
+    ensures { (model : ModelParts) → IsValueOf
         (case_for model asked.entry (K.shapes links.now) (K.policy links.now)) code.now.ops
-        (IsRefused (P.refusals finder.old) (P.refusals finder.new)) result }
-    ensures used { IsUsed (P.refusals finder.old) (P.refusals finder.new) None }
+        (RefusedOnly (P.refusals finder.old) (P.refusals finder.new)) result }
 {
     if code.height() <= 16 {
         let mut stack: Stack<'a, 16> = Places::new();
@@ -131,10 +128,9 @@ fn value_over<'a, K: Links, P: Finder, const N: usize>(
     requires room { code.now.height ≤ N }
     requires empty { stack.old ≡ [] }
     requires evals { has_eval_op code.now.ops ≡ false }
-    ensures value { (model : ModelParts) → IsValueOf
+    ensures { (model : ModelParts) → IsValueOf
         (case_for model asked.entry (K.shapes links.now) (K.policy links.now)) code.now.ops
-        (IsRefused (P.refusals finder.old) (P.refusals finder.new)) result }
-    ensures used { IsUsed (P.refusals finder.old) (P.refusals finder.new) None }
+        (RefusedOnly (P.refusals finder.old) (P.refusals finder.new)) result }
 {
     match run_on(code, 0, asked, links, finder, stack) {
         Ok(Pause::Value(value)) => Ok(value),

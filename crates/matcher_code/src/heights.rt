@@ -10,10 +10,7 @@ pub(crate) fn arity(function: Function) -> u32
     ensures arity { result ≡ arity function }
     ensures few { result ≤ 3 }
 {
-    match function {
-        Function::KeyGet2 | Function::KeyGet3 => 3,
-        _ => 2,
-    }
+    function.arguments()
 }
 
 // How many values an instruction has to find on the stack.

@@ -1,6 +1,6 @@
 ghost use Rattle.std.specs.Prelude.{◌≤◌, length};
 ghost use Rattle.model_conf.specs.ModelText.{ModelParts};
-ghost use Rattle.regex_gate.specs.Refusals.{IsUsed};
+ghost use Rattle.regex_gate.specs.Refusals.{RefusedOnly};
 ghost use Rattle.matcher_code.specs.Helps.Ends.{case_for, refused_by};
 ghost use Rattle.matcher_code.specs.Helps.Runs.{IsAt, RunEnds};
 
@@ -27,7 +27,8 @@ pub(crate) fn run_on<'a, K: Links, P: Finder, const N: usize>(
     ensures run { (model : ModelParts)
         → RunEnds (case_for model asked.entry (K.shapes links.now) (K.policy links.now)) code.now.ops
         place stack.old stack.new result }
-    ensures used { IsUsed (P.refusals finder.old) (P.refusals finder.new) (refused_by result) }
+    ensures refused { RefusedOnly (P.refusals finder.old) (P.refusals finder.new)
+        (refused_by result) }
 {
     let ops = code.ops();
     let mut reached = place;

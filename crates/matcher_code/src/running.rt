@@ -1,6 +1,6 @@
-ghost use Rattle.std.specs.Prelude.{◌≡◌, ◌≤◌, IfErr, IsTrue, None, length, map, option_copied};
+ghost use Rattle.std.specs.Prelude.{◌≡◌, ◌≤◌, IfErr, IsTrue, length, map, option_copied};
 ghost use Rattle.perm_value.specs.Seen.{datum};
-ghost use Rattle.regex_gate.specs.Refusals.{IsRefused, IsUsed};
+ghost use Rattle.regex_gate.specs.Refusals.{RefusedOnly};
 ghost use Rattle.matcher_code.specs.Running.{IsValueOf, IsWantOfMemory, case_of, some_takes_memory};
 
 use crate::asked::Asked;
@@ -35,10 +35,9 @@ pub fn run<'a, K: Links, P: Finder, const N: usize>(
     requires policy_columns { code.now.policy_columns ≡ length model.now.policy }
     ensures value { IsValueOf (case_of model.now (map datum request.now) (option_copied row.entry)
         (K.shapes links.now) (K.policy links.now)) code.now.ops
-        (IsRefused (P.refusals finder.old) (P.refusals finder.new)) result }
+        (RefusedOnly (P.refusals finder.old) (P.refusals finder.new)) result }
     ensures no_memory { IfErr result
         (λ stop. IsWantOfMemory stop → IsTrue (some_takes_memory code.now.ops)) }
-    ensures used { IsUsed (P.refusals finder.old) (P.refusals finder.new) None }
 {
     // The instructions keep the rules.
     let _ops = code.ops();

@@ -3,10 +3,10 @@
 ghost use Rattle.std.specs.Prelude.{◌≡◌, ◌⊎◌, ◌+◌, ◌-◌, ◌<◌, ◌≤◌, ◌^◌, ◌∷◌, [], false, true, length, map, option_map, Ok};
 ghost use Rattle.model_conf.specs.ModelText.{ModelParts};
 ghost use Rattle.perm_value.specs.Seen.{datum_of_view};
-ghost use Rattle.regex_gate.specs.Refusals.{IsUsed};
+ghost use Rattle.regex_gate.specs.Refusals.{RefusedOnly};
 ghost use Rattle.matcher_meaning.specs.Cases.{Case, where_refused};
 ghost use Rattle.matcher_meaning.specs.Meaning.{is_search};
-ghost use Rattle.matcher_meaning.specs.Operators.{ended_by, found};
+ghost use Rattle.matcher_meaning.specs.Operators.{ended_by, ended_among};
 ghost use Rattle.matcher_code.specs.Helps.Ends.{IsAskedRightly, NextEnds, NextIs, StepEnds, answer_of, callee, case_for, over_tables, refused_by};
 ghost use Rattle.matcher_code.specs.Machine.{Called as Calls, goes, jumping, onward, taken};
 ghost use Rattle.matcher_code.specs.Rules.{finds, leaves};
@@ -50,7 +50,8 @@ pub(crate) fn execute<'a, K: Links, P: Finder, const N: usize>(
     ensures step { (model : ModelParts)
         → StepEnds (case_for model asked.entry (K.shapes links.now) (K.policy links.now)) place op.now
         stack.old stack.new result }
-    ensures used { IsUsed (P.refusals finder.old) (P.refusals finder.new) (refused_by result) }
+    ensures refused { RefusedOnly (P.refusals finder.old) (P.refusals finder.new)
+        (refused_by result) }
 {
     let at = op.at;
     match &op.instruction {
@@ -102,7 +103,8 @@ fn call<'a, K: Links, P: Finder, const N: usize>(
         (where_refused (over_tables case (K.shapes links.now) (K.policy links.now)) refused)
         place at (callee called) (taken names [] (map datum_of_view stack.old)) next)
         (map datum_of_view stack.new) (is_search (callee called)) result }
-    ensures used { IsUsed (P.refusals finder.old) (P.refusals finder.new) (refused_by result) }
+    ensures refused { RefusedOnly (P.refusals finder.old) (P.refusals finder.new)
+        (refused_by result) }
 {
     if names == 2 {
         call_two(place, at, called, links, finder, stack)
@@ -126,7 +128,8 @@ fn call_two<'a, K: Links, P: Finder, const N: usize>(
         (where_refused (over_tables case (K.shapes links.now) (K.policy links.now)) refused)
         place at (callee called) (taken 2 [] (map datum_of_view stack.old)) next)
         (map datum_of_view stack.new) (is_search (callee called)) result }
-    ensures used { IsUsed (P.refusals finder.old) (P.refusals finder.new) (refused_by result) }
+    ensures refused { RefusedOnly (P.refusals finder.old) (P.refusals finder.new)
+        (refused_by result) }
 {
     let second = stack.pop();
     let first = stack.pop();
@@ -150,7 +153,8 @@ fn call_three<'a, K: Links, P: Finder, const N: usize>(
         (where_refused (over_tables case (K.shapes links.now) (K.policy links.now)) refused)
         place at (callee called) (taken 3 [] (map datum_of_view stack.old)) next)
         (map datum_of_view stack.new) (is_search (callee called)) result }
-    ensures used { IsUsed (P.refusals finder.old) (P.refusals finder.new) (refused_by result) }
+    ensures refused { RefusedOnly (P.refusals finder.old) (P.refusals finder.new)
+        (refused_by result) }
 {
     let third = stack.pop();
     let second = stack.pop();

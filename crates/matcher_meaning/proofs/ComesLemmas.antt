@@ -12,7 +12,7 @@ use Rattle.matcher_meaning.specs.CaseCalls.{Gives}
 use Rattle.matcher_meaning.specs.Cases.{Case, asked_value, row_text}
 use Rattle.matcher_meaning.specs.Comes.{ComesToBy, IsAmongBy, ComeToBy, ReadsNone, all_at, RuleComesTo, Evaluates, ComesTo, TruthIs}
 use Rattle.matcher_meaning.specs.Meaning.{along, truth_at}
-use Rattle.matcher_meaning.specs.Operators.{negated, opposed, as_truth, settled, joined, found}
+use Rattle.matcher_meaning.specs.Operators.{negated, opposed, as_truth, settled, joined, ended_among}
 use Rattle.matcher_meaning.proofs.CallLemmas.{AtMostOne, AtLeastOne, FunctionsAgree, FunctionsDecide}
 use Rattle.matcher_meaning.proofs.CaseCallLemmas.{ReachingIsDecided, gives_one, gives_some}
 use Rattle.matcher_meaning.proofs.StepLemmas.{one_next, unless_one, after_one, first_one, some_next, unless_some, after_some, first_some}
@@ -49,8 +49,8 @@ mutual
   pub is_among_one : FunctionsAgree → (case : Case) (Evals : ℕ → List ℕ → Answer → Type 0) → ((at : ℕ) (column : List ℕ) → AtMostOne (Evals at column)) → (d : Datum) (es : Expressions) → AtMostOne (IsAmongBy case Evals d es)
   is_among_one agree case Evals one d no_more r s p q = p ∙ sym q
   is_among_one agree case Evals one d (one_more e es) r s p q =
-      first_one (ComesToBy case Evals e) (λ r x. Unless (found d x) (IsAmongBy case Evals d es r) r) (comes_to_one agree case Evals one e)
-      (λ x. unless_one (found d x) (IsAmongBy case Evals d es) (is_among_one agree case Evals one d es)) r s p q
+      first_one (ComesToBy case Evals e) (λ r x. Unless (ended_among d x) (IsAmongBy case Evals d es r) r) (comes_to_one agree case Evals one e)
+      (λ x. unless_one (ended_among d x) (IsAmongBy case Evals d es) (is_among_one agree case Evals one d es)) r s p q
 
   pub come_to_one : FunctionsAgree → (case : Case) (Evals : ℕ → List ℕ → Answer → Type 0) → ((at : ℕ) (column : List ℕ) → AtMostOne (Evals at column)) → (es : Expressions) → AtMostOne (ComeToBy case Evals es)
   come_to_one agree case Evals one no_more r s p q = p ∙ sym q
@@ -102,8 +102,8 @@ mutual
   pub is_among_some : FunctionsDecide → ReachingIsDecided → (case : Case) (Evals : ℕ → List ℕ → Answer → Type 0) → ((at : ℕ) (column : List ℕ) → AtLeastOne (Evals at column)) → (d : Datum) (es : Expressions) → AtLeastOne (IsAmongBy case Evals d es)
   is_among_some decide reach case Evals some d no_more = (Ok (datum.truth false), refl)
   is_among_some decide reach case Evals some d (one_more e es) =
-      first_some (ComesToBy case Evals e) (λ r x. Unless (found d x) (IsAmongBy case Evals d es r) r) (comes_to_some decide reach case Evals some e)
-      (λ x. unless_some (found d x) (IsAmongBy case Evals d es) (is_among_some decide reach case Evals some d es))
+      first_some (ComesToBy case Evals e) (λ r x. Unless (ended_among d x) (IsAmongBy case Evals d es r) r) (comes_to_some decide reach case Evals some e)
+      (λ x. unless_some (ended_among d x) (IsAmongBy case Evals d es) (is_among_some decide reach case Evals some d es))
 
   pub come_to_some : FunctionsDecide → ReachingIsDecided → (case : Case) (Evals : ℕ → List ℕ → Answer → Type 0) → ((at : ℕ) (column : List ℕ) → AtLeastOne (Evals at column)) → (es : Expressions) → AtLeastOne (ComeToBy case Evals es)
   come_to_some decide reach case Evals some no_more = (Ok [], refl)

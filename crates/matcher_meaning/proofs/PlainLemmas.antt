@@ -16,7 +16,7 @@ use Rattle.matcher_meaning.specs.CaseCalls.{Gives, GivesForTexts}
 use Rattle.matcher_meaning.specs.Cases.{Case, where_refused}
 use Rattle.matcher_meaning.specs.Comes.{ComesToBy, IsAmongBy, ComeToBy, Evaluates, ComesTo, is_taker, takes_memory}
 use Rattle.matcher_meaning.specs.Meaning.{is_search}
-use Rattle.matcher_meaning.specs.Operators.{negated, opposed, settled, joined, found}
+use Rattle.matcher_meaning.specs.Operators.{negated, opposed, settled, joined, ended_among}
 
 -- whatever is said of a result by the one is said by the other
 abbrev pub Implies : {X : Type 0} → (X → Type 0) → (X → Type 0) → Type 0
@@ -86,7 +86,7 @@ mutual
       let parts = or_parts (some_node test e) (among_some test es) none in (
         x,
         unmoved case refused other Evals Others test are e parts.0 x p,
-        unless_more (found d x) (IsAmongBy (where_refused case refused) Evals d es) (IsAmongBy (where_refused case other) Others d es) (among_unmoved case refused other Evals Others test are d es parts.1) r unless,
+        unless_more (ended_among d x) (IsAmongBy (where_refused case refused) Evals d es) (IsAmongBy (where_refused case other) Others d es) (among_unmoved case refused other Evals Others test are d es parts.1) r unless,
       )
 
   pub all_unmoved : (case : Case) (refused other : Option (ℕ × List ℕ)) (Evals Others : ℕ → List ℕ → Answer → Type 0) (test : Expression → Bool) → AreUnmoved case refused other Evals Others test

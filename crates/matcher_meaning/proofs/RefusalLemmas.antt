@@ -1,5 +1,5 @@
 -- Where a search is refused, a fact holds of a result as it was, or of the fault of that search.
-use Rattle.std.proofs.Common.{if◌then◌else◌, ◌≡◌, ◌⊎◌, inl, inr, ℕ, ◌==◌, ◌&&◌, Bool, true, false, List, Option, Some, None, Result, Ok, Err, refl, sym, ap, unwrap_or}
+use Rattle.std.proofs.Common.{if◌then◌else◌, ◌≡◌, ◌⊎◌, inl, inr, ℕ, ◌==◌, ◌&&◌, Bool, true, false, List, Option, Some, None, Result, Ok, Err, refl, sym, ap}
 use Rattle.std.proofs.lemmas.Bool.{eqb-true}
 use Rattle.std.specs.Str.{bytes_eq}
 use Rattle.effect_fold.specs.declared.fault.Cause.TheVariants.{Pattern}
@@ -7,11 +7,10 @@ use Rattle.effect_fold.specs.declared.fault.Fault.{Fault}
 use Rattle.matcher_read.specs.declared.tree.Function.{Function}
 use Rattle.matcher_read.specs.declared.tree.Function.TheVariants as f
 use Rattle.perm_value.specs.Datum.{Datum}
-use Rattle.perm_value.specs.Datum as datum
-use Rattle.regex_gate.specs.Found.{found as has_match}
+use Rattle.regex_gate.specs.Found.{has_match}
 use Rattle.matcher_meaning.specs.Answers.{Answer, fails, After, Unless}
-use Rattle.matcher_meaning.specs.Calls.{is_refused, OfTwo}
-use Rattle.matcher_meaning.specs.Operators.{found}
+use Rattle.matcher_meaning.specs.Calls.{is_refused, matched, OfTwo}
+use Rattle.matcher_meaning.specs.Operators.{ended_among}
 
 -- what holds of a result where nothing is refused holds where a search is refused, or its fault does
 abbrev pub Keeps : {X : Type 0} → ℕ → (P Q : Result X Fault → Type 0) → Type 0
@@ -65,7 +64,7 @@ test_keeps at place pattern given r other false here e = inl e
 
 pub two_keeps : (at : ℕ) (pattern : List ℕ) (place : ℕ) (called : Function) (s t : List ℕ) → Keeps at (OfTwo None place called s t) (OfTwo (Some (at, pattern)) place called s t)
 two_keeps at pattern place f.RegexMatch s t r e =
-    test_keeps at place pattern t r (Ok (datum.truth (unwrap_or (has_match t s) false))) (is_refused (Some (at, pattern)) place t) (same_place at place (bytes_eq pattern t)) e
+    test_keeps at place pattern t r (matched place (has_match t s)) (is_refused (Some (at, pattern)) place t) (same_place at place (bytes_eq pattern t)) e
 two_keeps at pattern place f.KeyMatch s t r p = inl p
 two_keeps at pattern place f.KeyMatch2 s t r p = inl p
 two_keeps at pattern place f.KeyMatch3 s t r p = inl p
@@ -79,16 +78,16 @@ two_keeps at pattern place f.KeyGet3 s t r p = inl p
 
 -- the same with the premise that a value that was found may not be
 pub found_keeps : (at : ℕ) (P Q : Answer → Type 0) (R S : Answer → Type 0) (d : Datum) → Keeps at P Q → Keeps at R S
-    → Keeps at (λ r. (x : Answer) × P x × Unless (found d x) (R r) r) (λ r. (x : Answer) × Q x × Unless (found d x) (S r) r)
+    → Keeps at (λ r. (x : Answer) × P x × Unless (ended_among d x) (R r) r) (λ r. (x : Answer) × Q x × Unless (ended_among d x) (S r) r)
 found_keeps at P Q R S d keep rest r (x, p, unless) = first (keep x p)
   where
     Kept : Answer → Type 0
-    Kept r = (y : Answer) × Q y × Unless (found d y) (S r) r
+    Kept r = (y : Answer) × Q y × Unless (ended_among d y) (S r) r
 
-    second : Q x → Unless (found d x) (S r) r ⊎ Unless (found d x) (S (fails Pattern at)) (fails Pattern at) → Kept r ⊎ Kept (fails Pattern at)
+    second : Q x → Unless (ended_among d x) (S r) r ⊎ Unless (ended_among d x) (S (fails Pattern at)) (fails Pattern at) → Kept r ⊎ Kept (fails Pattern at)
     second q (inl u) = inl (x, q, u)
     second q (inr u) = inr (x, q, u)
 
     first : Q x ⊎ Q (fails Pattern at) → Kept r ⊎ Kept (fails Pattern at)
-    first (inl q) = second q (unless_keeps at (found d x) R S rest r unless)
+    first (inl q) = second q (unless_keeps at (ended_among d x) R S rest r unless)
     first (inr q) = inr (fails Pattern at, q, refl)

@@ -1,5 +1,5 @@
 -- What functions give for the texts of their arguments (Casbin, functions in matchers). The place is the call's.
-use Rattle.std.specs.Prelude.{◌≡◌, ◌⊎◌, ◌↔◌, ℕ, ◌==◌, ◌&&◌, Bool, false, List, [], ◌∷◌, Option, Some, None, unwrap_or, IsTrue, Ok, if◌then◌else◌}
+use Rattle.std.specs.Prelude.{◌≡◌, ◌⊎◌, ◌↔◌, ℕ, ◌==◌, ◌&&◌, Bool, false, List, [], ◌∷◌, Option, Some, None, IsTrue, Ok, if◌then◌else◌}
 use Rattle.std.specs.List.{before_first}
 use Rattle.std.specs.Str.{bytes_eq}
 use Rattle.effect_fold.specs.declared.fault.Cause.TheVariants.{Kind, BadAddress, BadBlock, Pattern}
@@ -16,7 +16,7 @@ use Rattle.matcher_read.specs.declared.tree.Function.{Function}
 use Rattle.matcher_read.specs.declared.tree.Function.TheVariants as f
 use Rattle.perm_value.specs.Datum.{Datum}
 use Rattle.perm_value.specs.Datum as datum
-use Rattle.regex_gate.specs.Found.{found}
+use Rattle.regex_gate.specs.Found.{has_match}
 use Rattle.matcher_meaning.specs.Answers.{Answer, fails}
 
 -- whether a fact holds
@@ -32,10 +32,15 @@ abbrev pub is_refused : Option (ℕ × List ℕ) → ℕ → List ℕ → Bool
 is_refused None at pattern = false
 is_refused (Some refused) at pattern = refused.0 == at && bytes_eq refused.1 pattern
 
--- whether the pattern is found in the text, or the fault of a search that was refused
+-- whether there is a match, or the fault of a pattern that cannot be read
+abbrev pub matched : ℕ → Option Bool → Answer
+matched at (Some is_found) = Ok (datum.truth is_found)
+matched at None = fails Pattern at
+
+-- whether the pattern has a match in the text; the fault `Pattern` where it cannot be read, whatever is refused, and where the search was refused
 abbrev pub searched : Option (ℕ × List ℕ) → ℕ → (text pattern : List ℕ) → Answer
 searched refused at text pattern =
-    if is_refused refused at pattern then fails Pattern at else Ok (datum.truth (unwrap_or (found pattern text) false))
+    if is_refused refused at pattern then fails Pattern at else matched at (has_match pattern text)
 
 -- whether an address lies in a block; that the first text is no address is told before the second is no block
 abbrev pub IsInBlock : ℕ → (text block : List ℕ) → Answer → Type 0

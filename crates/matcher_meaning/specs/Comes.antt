@@ -4,18 +4,43 @@ use Rattle.effect_fold.specs.declared.fault.Cause.TheVariants.{RuleText}
 use Rattle.effect_fold.specs.declared.fault.Fault.{Fault}
 use Rattle.perm_value.specs.Datum.{Datum}
 use Rattle.perm_value.specs.Datum as datum
-use Rattle.matcher_read.specs.Expression.{Expression, text, whole, truth, request, policy, evaluated, negation, opposite, binary, among, call, Expressions, no_more, one_more, place, some_node, among_some}
+use Rattle.matcher_read.specs.Expression.{Callee, Expression, text, whole, truth, request, policy, evaluated, negation, opposite, binary, among, call, Expressions, no_more, one_more, place, some_node, among_some}
 use Rattle.matcher_read.specs.Kinds.{is_of}
 use Rattle.matcher_read.specs.declared.kinds.NodeKind.TheVariants.{Eval}
+use Rattle.matcher_read.specs.declared.tree.Operator.{Operator}
 use Rattle.model_conf.specs.RuleText.{IsRuleText, IsNoRuleText}
 use Rattle.matcher_meaning.specs.Answers.{Answer, fails, then, After, Unless, with_first}
 use Rattle.matcher_meaning.specs.CaseCalls.{Gives}
 use Rattle.matcher_meaning.specs.Cases.{Case, asked_value, row_text}
 use Rattle.matcher_meaning.specs.Meaning.{along, truth_at, is_search_call}
-use Rattle.matcher_meaning.specs.Operators.{negated, opposed, as_truth, settled, joined, found}
+use Rattle.matcher_meaning.specs.Operators.{negated, opposed, as_truth, settled, joined, ended_among}
+
+-- `!x` and `-x`: what is given for the value that the operand comes to; its fault stays one
+abbrev pub IsOfOne : (Operand : Answer → Type 0) → (Datum → Answer) → Answer → Type 0
+IsOfOne Operand given r = (x : Answer) × Operand x × (r ≡ then x given)
+
+-- `x && y`, `x || y`, comparisons and arithmetic: what the left value gives alone, and then the right side is not evaluated; else what both give
+abbrev pub IsOfTwo : ℕ → Operator → (Left Right : Answer → Type 0) → Answer → Type 0
+IsOfTwo at op Left Right r = (x : Answer) × Left x × After x (λ d. Unless (settled at op d) (IsOfOne Right (joined at op d) r) r) r
+
+-- `x in (a, b)`: what is said of the members for the value that the left side comes to
+abbrev pub IsOfMembers : (Left : Answer → Type 0) → (Among : Datum → Answer → Type 0) → Answer → Type 0
+IsOfMembers Left Among r = (x : Answer) × Left x × After x (λ d. Among d r) r
+
+-- one member, and what is said of the further ones: they are evaluated where this one does not end it
+abbrev pub IsOfMember : Datum → (Member : Answer → Type 0) → (Others : Type 0) → Answer → Type 0
+IsOfMember d Member Others r = (x : Answer) × Member x × Unless (ended_among d x) Others r
+
+-- a call: what it gives for the values that all its arguments come to
+abbrev pub IsOfCall : Case → ℕ → Callee → (Arguments : Result (List Datum) Fault → Type 0) → Answer → Type 0
+IsOfCall case at callee Arguments r = (x : Result (List Datum) Fault) × Arguments x × After x (λ ds. Gives case at callee ds r) r
+
+-- arguments from the left: the first fault, or the value before those of the others
+abbrev pub IsOfArguments : (First : Answer → Type 0) → (Others : Result (List Datum) Fault → Type 0) → Result (List Datum) Fault → Type 0
+IsOfArguments First Others r = (x : Answer) × First x × After x (λ d. (y : Result (List Datum) Fault) × Others y × (r ≡ with_first d y)) r
 
 abbrev mutual
-  -- the expression comes to this answer, where an `eval` at a place, of a column, comes to what is said of it
+  -- the expression comes to this answer, by the form that it has; an `eval` at a place, of a column, comes to what is said of it
   pub ComesToBy : Case → (ℕ → List ℕ → Answer → Type 0) → Expression → Answer → Type 0
   ComesToBy case Evals (text at bytes) r = r ≡ Ok (datum.text bytes)
   ComesToBy case Evals (whole at n) r = r ≡ Ok (datum.whole n)
@@ -23,21 +48,21 @@ abbrev mutual
   ComesToBy case Evals (request at column path) r = r ≡ along at (asked_value case column) path
   ComesToBy case Evals (policy at column) r = r ≡ Ok (datum.text (row_text case column))
   ComesToBy case Evals (evaluated at column) r = Evals at column r
-  ComesToBy case Evals (negation at e) r = (x : Answer) × ComesToBy case Evals e x × (r ≡ then x (negated at))
-  ComesToBy case Evals (opposite at e) r = (x : Answer) × ComesToBy case Evals e x × (r ≡ then x (opposed at))
-  ComesToBy case Evals (binary at op e f) r = (x : Answer) × ComesToBy case Evals e x × After x (λ d. Unless (settled at op d) ((y : Answer) × ComesToBy case Evals f y × (r ≡ then y (joined at op d))) r) r
-  ComesToBy case Evals (among at e es) r = (x : Answer) × ComesToBy case Evals e x × After x (λ d. IsAmongBy case Evals d es r) r
-  ComesToBy case Evals (call at callee es) r = (x : Result (List Datum) Fault) × ComeToBy case Evals es x × After x (λ ds. Gives case at callee ds r) r
+  ComesToBy case Evals (negation at e) r = IsOfOne (λ x. ComesToBy case Evals e x) (negated at) r
+  ComesToBy case Evals (opposite at e) r = IsOfOne (λ x. ComesToBy case Evals e x) (opposed at) r
+  ComesToBy case Evals (binary at op e f) r = IsOfTwo at op (λ x. ComesToBy case Evals e x) (λ y. ComesToBy case Evals f y) r
+  ComesToBy case Evals (among at e es) r = IsOfMembers (λ x. ComesToBy case Evals e x) (λ d s. IsAmongBy case Evals d es s) r
+  ComesToBy case Evals (call at callee es) r = IsOfCall case at callee (λ x. ComeToBy case Evals es x) r
 
   -- whether the value is among these members: true at the first that is or holds it, and no later one is evaluated
   pub IsAmongBy : Case → (ℕ → List ℕ → Answer → Type 0) → Datum → Expressions → Answer → Type 0
   IsAmongBy case Evals d no_more r = r ≡ Ok (datum.truth false)
-  IsAmongBy case Evals d (one_more e es) r = (x : Answer) × ComesToBy case Evals e x × Unless (found d x) (IsAmongBy case Evals d es r) r
+  IsAmongBy case Evals d (one_more e es) r = IsOfMember d (λ x. ComesToBy case Evals e x) (IsAmongBy case Evals d es r) r
 
   -- these expressions come to these values, or to the first fault
   pub ComeToBy : Case → (ℕ → List ℕ → Answer → Type 0) → Expressions → Result (List Datum) Fault → Type 0
   ComeToBy case Evals no_more r = r ≡ Ok []
-  ComeToBy case Evals (one_more e es) r = (x : Answer) × ComesToBy case Evals e x × After x (λ d. (y : Result (List Datum) Fault) × ComeToBy case Evals es y × (r ≡ with_first d y)) r
+  ComeToBy case Evals (one_more e es) r = IsOfArguments (λ x. ComesToBy case Evals e x) (λ y. ComeToBy case Evals es y) r
 
 -- an `eval` in a rule text reads none: a rule text has no `eval`
 abbrev pub ReadsNone : ℕ → List ℕ → Answer → Type 0
@@ -65,7 +90,7 @@ abbrev mutual
 
 -- what a rule comes to that is read at this place: a truth or its fault; another value is of another kind
 abbrev pub RuleComesTo : Case → ℕ → Expression → Answer → Type 0
-RuleComesTo case at rule r = (x : Answer) × ComesToBy case ReadsNone (all_at at rule) x × (r ≡ then x (as_truth at))
+RuleComesTo case at rule r = IsOfOne (λ x. ComesToBy case ReadsNone (all_at at rule) x) (as_truth at) r
 
 -- what an `eval` at this place comes to: the row's field in the column says no rule of the model, or it says one, and this is what the rule comes to
 abbrev pub Evaluates : Case → ℕ → List ℕ → Answer → Type 0

@@ -7,6 +7,7 @@ pub mod Perm
 pub mod Cases
 pub mod CaseCalls
 pub mod Comes
+pub mod Searches
 pub mod Order
 pub mod Verdicts
 pub mod Worked

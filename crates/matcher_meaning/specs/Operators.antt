@@ -75,6 +75,6 @@ is_member d (datum.list es) = datum_eq d (datum.list es) || has_item d es
 is_member d e = datum_eq d e
 
 -- what a member that was evaluated ends `in` with: true, or its fault; None where the next is evaluated
-abbrev pub found : Datum → Answer → Option Answer
-found d (Ok e) = if is_member d e then Some (Ok (datum.truth true)) else None
-found d (Err fault) = Some (Err fault)
+abbrev pub ended_among : Datum → Answer → Option Answer
+ended_among d (Ok e) = if is_member d e then Some (Ok (datum.truth true)) else None
+ended_among d (Err fault) = Some (Err fault)

@@ -1,20 +1,22 @@
 //! Laws of what a matcher and a model come to over tables.
 
-ghost use Rattle.std.specs.Prelude.{◌≡◌, ◌⊎◌, ℕ, Bool, false, List, Option, Some, None};
+ghost use Rattle.std.specs.Prelude.{◌≡◌, ◌⊎◌, ℕ, Bool, false, true, List, Option, Some, None};
 ghost use Rattle.std.specs.Prelude.{Result, Err};
 ghost use Rattle.effect_fold.specs.declared.fault.Cause.TheVariants.{Pattern};
 ghost use Rattle.effect_fold.specs.declared.fault.Fault.{Fault};
 ghost use Rattle.effect_fold.specs.declared.verdict.Verdict.{Verdict};
 ghost use Rattle.perm_base.specs.declared.shapes.Shapes.{Shapes};
 ghost use Rattle.perm_value.specs.Datum.{Datum};
-ghost use Rattle.policy_table.specs.Tables.{Policy};
+ghost use Rattle.policy_table.specs.Tables.{Fields, Policy};
 ghost use Rattle.matcher_read.specs.Expression.{Expression};
 ghost use Rattle.model_conf.specs.ModelText.{ModelParts};
 ghost use Rattle.matcher_meaning.specs.Answers.{Answer, fails};
-ghost use Rattle.matcher_meaning.specs.Cases.{Case, where_refused};
+ghost use Rattle.matcher_meaning.specs.Cases.{Case, at_row, where_refused};
 ghost use Rattle.matcher_meaning.specs.Comes.{ComesTo, TruthIs};
 ghost use Rattle.matcher_meaning.specs.Perm.{Refusal, is_pattern, is_refusal, refusal_fault};
-ghost use Rattle.matcher_meaning.specs.Verdicts.{IsVerdict};
+ghost use Rattle.matcher_meaning.specs.Searches.{Asks};
+ghost use Rattle.matcher_meaning.specs.Verdicts.{IsVerdict, case_of};
+ghost use Rattle.regex_gate.specs.Found.{is_readable};
 
 use ip_match::{address_is_unique, addresses_are_decided, block_is_unique};
 use key_match::{covering_is_decided, named_part_is_one};
@@ -67,16 +69,27 @@ pub fn refusal_keeps_or_fails()
         ⊎ IsVerdict model shapes policy request (Some refusal) (refusal_fault refusal) }
 {}
 
-/// The law that in a case where no search is refused no fault is that of a pattern, nor is such a
-/// verdict.
+/// The law that in a case where no search is refused a fault, or a verdict, is that of a pattern only
+/// where the matcher asks at its place for a pattern that cannot be read.
 pub fn pattern_comes_by_refusal_alone()
     ensures value { (case : Case) (e : Expression) (failed : Fault)
-        → ComesTo (where_refused case None) e (Err failed) → is_pattern failed.cause ≡ false }
+        → ComesTo (where_refused case None) e (Err failed)
+        → is_pattern failed.cause ≡ true
+        → (pattern : List ℕ) × (is_readable pattern ≡ false)
+        × Asks (where_refused case None) e failed.at pattern }
     ensures truth { (case : Case) (e : Expression) (failed : Fault)
-        → TruthIs (where_refused case None) e (Err failed) → is_pattern failed.cause ≡ false }
+        → TruthIs (where_refused case None) e (Err failed)
+        → is_pattern failed.cause ≡ true
+        → (pattern : List ℕ) × (is_readable pattern ≡ false)
+        × Asks (where_refused case None) e failed.at pattern }
     ensures verdict { (model : ModelParts) (shapes : Shapes) (policy : Policy)
         (request : List Datum) (v : Verdict)
-        → IsVerdict model shapes policy request None v → is_refusal v ≡ false }
+        → IsVerdict model shapes policy request None v
+        → is_refusal v ≡ true
+        → (refusal : Refusal) × (v ≡ refusal_fault refusal)
+        × (is_readable refusal.pattern ≡ false)
+        × ((row : Option Fields) × Asks (at_row (case_of model shapes policy request) row)
+        model.matcher refusal.at refusal.pattern) }
 {}
 
 /// The law that a model comes to one verdict at most for a request over its tables, where one

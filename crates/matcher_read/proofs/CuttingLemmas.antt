@@ -6,7 +6,7 @@ use Rattle.std.proofs.lemmas.List.Sums.{prefix_len-drop_all, prefix_len-drop_no,
 use Rattle.std.proofs.Math.Seq.{drop-append_seam}
 use Rattle.text_parts.specs.Blanks.{AreBlanks, behind_blanks, is_blank}
 use Rattle.matcher_read.specs.Tokens.{Placed, placed, IsLongest, IsCut, ended, strayed, one_token}
-use Rattle.matcher_read.specs.Helps.Cutting.{Found, found, token_at, Cut, onto_cut, cut_at_token, cut_full, blanks, cut_within, cut}
+use Rattle.matcher_read.specs.Helps.Cutting.{Found, sized_token, token_at, Cut, onto_cut, cut_at_token, cut_full, blanks, cut_within, cut}
 use Rattle.text_parts.proofs.BlankLemmas.{behind_blanks-drop}
 use Rattle.text_parts.proofs.CallerLemmas.{prefix_len-passing, list_all-prefix}
 use Rattle.matcher_read.proofs.TokenLemmas.{token_at-spelled, token_at-longest, token_at-full, token_at-is, token_at-none, token_at-stray}
@@ -121,11 +121,11 @@ cut_within-one (suc most) (strayed {place = place} blank bytes {text = text} is 
     ap (λ (t : List ℕ). cut_within (suc most) place t) e ∙ cut_within-front most place blank bytes is full ∙ cut_full-at (cut_within most) (place + length blank) bytes None some (token_at-stray bytes begins)
 cut_within-one (suc most) (one_token {place = place} blank spelling behind {text = text} {token = token} is longest rest e) few =
     let front = token_at-is token spelling behind longest in
-    let there = token_at-spelled (spelling ++ behind) (found token (length spelling)) front in
-    let full = token_at-full (spelling ++ behind) (found token (length spelling)) front in
+    let there = token_at-spelled (spelling ++ behind) (sized_token token (length spelling)) front in
+    let full = token_at-full (spelling ++ behind) (sized_token token (length spelling)) front in
     let at : ℕ = place + length blank in
     let short : length behind ≤ most = omega (arith, ap length e, length-append blank (spelling ++ behind), length-append spelling behind, there.some) in
-    ap (λ (t : List ℕ). cut_within (suc most) place t) e ∙ cut_within-front most place blank (spelling ++ behind) is full ∙ cut_full-token (cut_within most) at (spelling ++ behind) (found token (length spelling)) front
+    ap (λ (t : List ℕ). cut_within (suc most) place t) e ∙ cut_within-front most place blank (spelling ++ behind) is full ∙ cut_full-token (cut_within most) at (spelling ++ behind) (sized_token token (length spelling)) front
     ∙ ap (λ (t : List ℕ). onto_cut (placed at token) (cut_within most (at + length spelling) t)) (drop-append_seam spelling behind) ∙ ap (λ (c : Cut). onto_cut (placed at token) c) (cut_within-one most rest short)
 
 pub cut-is : (place : ℕ) (bytes : List ℕ) → IsCut place bytes (cut place bytes).tokens (cut place bytes).stray

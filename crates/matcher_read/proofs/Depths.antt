@@ -8,7 +8,6 @@ use Rattle.matcher_read.specs.declared.tree.Operator.{Operator}
 use Rattle.matcher_read.specs.declared.tree.Operator.TheVariants as op
 use Rattle.matcher_read.specs.Helps.Machine.{Left, Lefts, Kind, parentheses, members, arguments, Frame, State, Control, wants, has, has_members, opens, start, with_operand, goes_within, levels_at, joined_left, sum_of, Rank, term_rank, sum_rank, comparing_rank, and_rank, or_rank, rank, joins, operates, asks, parts, closes, name_operand, is_in, step_wants, step_by, step, levels_of, depth}
 use Rattle.matcher_read.proofs.Opens.{awaited, open_within}
-use Rattle.matcher_read.proofs.Passes.{within_more}
 
 -- ---- the tokens that open a level
 
@@ -187,13 +186,3 @@ within_depth most ts s e = within_depth_from most ts start s (omega arith) e
 -- where no parenthesis has to open next
 pub open_within_here : (most : ℕ) (ts : List Placed) (s : State) → goes_within most start ts ≡ Some s → awaited s.control ≡ 0 → IsOpenWithin most ts
 open_within_here most ts s e none = open_within most ts s e (omega (arith, none, within_depth most ts s e))
-
-awaited_few : (c : Control) → awaited c ≤ 1
-awaited_few wants = omega arith
-awaited_few (has e) = omega arith
-awaited_few (has_members e) = omega arith
-awaited_few (opens kind) = omega arith
-
-pub open_within_one_more : (most : ℕ) (ts : List Placed) (s : State) → goes_within most start ts ≡ Some s → IsOpenWithin (suc most) ts
-open_within_one_more most ts s e =
-    open_within (suc most) ts s (within_more most (suc most) start s ts (omega arith) e) (omega (arith, awaited_few s.control, within_depth most ts s e))

@@ -10,7 +10,7 @@ use Rattle.text_parts.specs.Lines.{has_byte}
 use Rattle.text_parts.specs.Names.{is_letter, is_word}
 use Rattle.matcher_read.specs.Tokens.{is_reserved}
 use Rattle.matcher_read.specs.Tokens as token
-use Rattle.matcher_read.specs.Helps.Cutting.{begins_name, found, goes_on, name_size, is_quote, name_at, number_at, text_at, sign_at, token_at}
+use Rattle.matcher_read.specs.Helps.Cutting.{begins_name, sized_token, goes_on, name_size, is_quote, name_at, number_at, text_at, sign_at, token_at}
 use Rattle.text_parts.proofs.CallerLemmas.{boundary-passing, boundary_behind, word_ascii, word_from_letter}
 use Rattle.matcher_read.proofs.NameLemmas.{name_size-le-length}
 use Rattle.matcher_read.proofs.TokenLemmas.{text_at-closed, text_at-open}
@@ -105,13 +105,13 @@ boundary-one bytes utf8 some ascii =
     subst (λ (n : ℕ). get_or bytes n 0 < 128) (sym first) ascii)
 
 -- a text that is cut at its quote
-pub closed_text : (text bytes rest inside behind : List ℕ) → bytes ≡ text → 0 < length text → rest ≡ drop 1 text → rest ≡ inside ++ get_or bytes 0 0 ∷ behind → has_byte (get_or bytes 0 0) inside ≡ false → found (token.text inside) (length inside + 2) ≡ text_at text
+pub closed_text : (text bytes rest inside behind : List ℕ) → bytes ≡ text → 0 < length text → rest ≡ drop 1 text → rest ≡ inside ++ get_or bytes 0 0 ∷ behind → has_byte (get_or bytes 0 0) inside ≡ false → sized_token (token.text inside) (length inside + 2) ≡ text_at text
 closed_text text [] rest inside behind same some e parts none = absurd (omega (arith, ap length same))
 closed_text text (quote ∷ bytes) rest inside behind same some e parts none =
     let cut : bytes ≡ inside ++ quote ∷ behind = ap (λ (t : List ℕ). drop 1 t) same ∙ sym e ∙ parts in
     sym (text_at-closed quote inside behind none) ∙ ap (λ (t : List ℕ). text_at (quote ∷ t)) (sym cut) ∙ ap text_at same
 
-pub open_text : (text bytes rest : List ℕ) → bytes ≡ text → 0 < length text → rest ≡ drop 1 text → has_byte (get_or bytes 0 0) rest ≡ false → found (token.unclosed rest) (length rest + 1) ≡ text_at text
+pub open_text : (text bytes rest : List ℕ) → bytes ≡ text → 0 < length text → rest ≡ drop 1 text → has_byte (get_or bytes 0 0) rest ≡ false → sized_token (token.unclosed rest) (length rest + 1) ≡ text_at text
 open_text text [] rest same some e none = absurd (omega (arith, ap length same))
 open_text text (quote ∷ bytes) rest same some e none =
     let behind : bytes ≡ rest = ap (λ (t : List ℕ). drop 1 t) same ∙ sym e in

@@ -1,11 +1,11 @@
 -- A text says one matcher at most, and else has one first fault at most.
-use Rattle.std.proofs.Common.{◌≡◌, ℕ, zero, suc, ◌<◌, ◌&&◌, inl, inr, Bool, true, false, cond, List, [], ◌∷◌, length, drop, Option, Some, None, option_map, Ok, Err, refl, ap, sym, ◌∙◌, subst, arith}
+use Rattle.std.proofs.Common.{◌≡◌, ℕ, ◌<◌, ◌&&◌, inl, inr, Bool, true, false, cond, List, [], ◌∷◌, length, Option, Some, None, Ok, Err, refl, ap, sym, ◌∙◌, subst, arith}
 use Rattle.std.proofs.lemmas.Bool.{and_parts}
 use Rattle.matcher_read.specs.Expression.{Expression, nodes}
 use Rattle.matcher_read.specs.Faults.{IsFirst, IsFault, too_long, within}
 use Rattle.matcher_read.specs.Grammar.{Derives, or_rule}
 use Rattle.matcher_read.specs.Matcher.{IsMatcher, is_closed, most_levels, most_nodes}
-use Rattle.matcher_read.specs.Tokens.{Placed, placed, Token, name, called, eval, opening, closing, is_reserved, name_before, token_before, with_calls, is_eval, is_opening, is_closing, column_of, eval_column, eval_at, evals_behind, as_read}
+use Rattle.matcher_read.specs.Tokens.{Placed, placed, Token, name, called, eval, opening, closing, is_reserved, name_before, token_before, with_calls, is_eval, is_opening, is_closing, column_of, eval_column, with_evals, as_read}
 use Rattle.matcher_read.specs.declared.fault.MatcherFault.{MatcherFault}
 use Rattle.matcher_read.proofs.CuttingLemmas.{cut_is_one}
 use Rattle.matcher_read.specs.Helps.Machine.{start, verdict}
@@ -49,43 +49,27 @@ column_closed : (t : Token) (column : List ℕ) → column_of t ≡ Some column 
 column_closed (name parts) column h = refl
 column_closed _ column h = absurd cc
 
-abbrev onto_evals : Placed → List Placed → Option Placed → List Placed
-onto_evals t ts o = elim o [
-  | Some form ↦ form ∷ evals_behind 3 ts
-  | None ↦ t ∷ evals_behind 0 ts
-]
+form_closed : (a b c d : Placed) (ts : List Placed) (column : List ℕ) → eval_column a.token b.token c.token d.token ≡ Some column → are_closed (a ∷ b ∷ c ∷ d ∷ ts) ≡ are_closed ts
+form_closed a b c d ts column e =
+    let test = cond_some (is_eval a.token && (is_opening b.token && is_closing d.token)) (column_of c.token) column e in
+    let first = and_parts (is_eval a.token) (is_opening b.token && is_closing d.token) test.0 in
+    let others = and_parts (is_opening b.token) (is_closing d.token) first.1 in
+    rw (eval_closed a.token first.0, opening_closed b.token others.0, column_closed c.token column test.1, closing_closed d.token others.1) refl
 
-abbrev IsShut : Placed → List Placed → Option Placed → Type 0
-IsShut t ts None = Unit {0}
-IsShut t ts (Some form) = (is_closed form.token ≡ true) × (are_closed (t ∷ ts) ≡ are_closed (drop 3 ts))
-
-form_shut : (t a b c : Placed) (rest : List Placed) → (o : Option (List ℕ)) → eval_column t.token a.token b.token c.token ≡ o
-    → IsShut t (a ∷ b ∷ c ∷ rest) (option_map (λ column. placed t.at (eval a.at column)) o)
-form_shut t a b c rest None e = tt
-form_shut t a b c rest (Some column) e =
-    let test = cond_some (is_eval t.token && (is_opening a.token && is_closing c.token)) (column_of b.token) column e in
-    let first = and_parts (is_eval t.token) (is_opening a.token && is_closing c.token) test.0 in
-    let others = and_parts (is_opening a.token) (is_closing c.token) first.1 in
-    (refl, rw (eval_closed t.token first.0, opening_closed a.token others.0, column_closed b.token column test.1, closing_closed c.token others.1) refl)
-
-shut : (t : Placed) (ts : List Placed) → IsShut t ts (eval_at t ts)
-shut t [] = tt
-shut t (a ∷ []) = tt
-shut t (a ∷ b ∷ []) = tt
-shut t (a ∷ b ∷ c ∷ rest) = form_shut t a b c rest (eval_column t.token a.token b.token c.token) refl
-
-evals_closed : (n : ℕ) (ts : List Placed) → are_closed (evals_behind n ts) ≡ are_closed (drop n ts)
-evals_closed zero [] = refl
-evals_closed (suc n) [] = refl
-evals_closed (suc n) (t ∷ ts) = evals_closed n ts
-evals_closed zero (t ∷ ts) = by_form (evals_closed 3 ts) (evals_closed 0 ts) (eval_at t ts) (shut t ts)
+evals_closed : (ts : List Placed) → are_closed (with_evals ts) ≡ are_closed ts
+evals_closed [] = refl
+evals_closed (a ∷ []) = refl
+evals_closed (a ∷ b ∷ []) = refl
+evals_closed (a ∷ b ∷ c ∷ []) = refl
+evals_closed (a ∷ b ∷ c ∷ d ∷ ts) = by_column (evals_closed ts) (evals_closed (b ∷ c ∷ d ∷ ts)) (eval_column a.token b.token c.token d.token) refl
   where
-    by_form : are_closed (evals_behind 3 ts) ≡ are_closed (drop 3 ts) → are_closed (evals_behind 0 ts) ≡ are_closed ts → (o : Option Placed) → IsShut t ts o → are_closed (onto_evals t ts o) ≡ are_closed (t ∷ ts)
-    by_form three one None h = ap (λ (b : Bool). is_closed t.token && b) one
-    by_form three one (Some form) h = ap (λ (b : Bool). b && are_closed (evals_behind 3 ts)) h.0 ∙ (three ∙ sym h.1)
+    by_column : are_closed (with_evals ts) ≡ are_closed ts → are_closed (with_evals (b ∷ c ∷ d ∷ ts)) ≡ are_closed (b ∷ c ∷ d ∷ ts) → (o : Option (List ℕ)) → eval_column a.token b.token c.token d.token ≡ o
+        → are_closed (elim o [ Some column ↦ placed a.at (eval b.at column) ∷ with_evals ts | None ↦ a ∷ with_evals (b ∷ c ∷ d ∷ ts) ]) ≡ are_closed (a ∷ b ∷ c ∷ d ∷ ts)
+    by_column one all (Some column) e = one ∙ sym (form_closed a b c d ts column e)
+    by_column one all None e = ap (λ (v : Bool). is_closed a.token && v) all
 
 pub read_closed : (ts : List Placed) → are_closed (as_read ts) ≡ are_closed ts
-read_closed ts = evals_closed 0 (with_calls ts) ∙ calls_closed ts
+read_closed ts = evals_closed (with_calls ts) ∙ calls_closed ts
 
 -- the verdict of a matcher's tokens
 pub matcher_verdict : {bytes : List ℕ} {e : Expression} (m : IsMatcher bytes e) → verdict (length bytes) None start (as_read m.tokens) ≡ Ok e

@@ -2,7 +2,9 @@ mod CallLemmas
 mod CountLemmas
 mod CuttingLemmas
 mod Depths
+mod FormLemmas
 mod FrontLemmas
+mod FunctionLemmas
 mod Gives
 mod LawLemmas
 mod ListLemmas

@@ -6,7 +6,7 @@ use Rattle.matcher_read.specs.Tokens.{Token, Placed, placed, name, called, numbe
 use Rattle.std.specs.Prelude.{option_map}
 use Rattle.matcher_read.specs.Helps.TokenLists.{TokenList, HasDigits, end_of, placed_of, token_of}
 use Rattle.matcher_read.specs.declared.token.PlacedToken.{PlacedToken}
-use Rattle.matcher_read.specs.Helps.Cutting.{Found, found, token_at, or_one, Cut, onto_cut, cut_full, blanks, cut_within, cut, listed, IsAtEnd, IsLeft, begins_opening, name_by, marked}
+use Rattle.matcher_read.specs.Helps.Cutting.{Found, sized_token, token_at, or_one, Cut, onto_cut, cut_full, blanks, cut_within, cut, listed, IsAtEnd, IsLeft, begins_opening, name_by, marked}
 use Rattle.matcher_read.proofs.TokenLemmas.{token_at-spelled, token_at-full}
 use Rattle.matcher_read.proofs.CuttingLemmas.{blanks-behind, cut_within-front, cut_full-at, cut_full-token, cut_within-one, cut-is}
 
@@ -40,11 +40,11 @@ end-place place [] counted end = omega arith ∙ ap (λ (c : Cut). end_of c.stra
 end-place place (b ∷ bytes) counted end = ap (λ (c : Cut). end_of c.stray (place + length (b ∷ bytes) - 1)) (sym (cut-full (length (b ∷ bytes)) place (b ∷ bytes) (omega arith) end.no_blank ∙ cut_full-at (cut_within (length (b ∷ bytes))) place (b ∷ bytes) None (omega arith) end.no_token))
 
 -- an opening parenthesis, and any other token
-open_sign : (t : Bool) → or_one 40 (cond t None None) ≡ Some (found opening 1)
+open_sign : (t : Bool) → or_one 40 (cond t None None) ≡ Some (sized_token opening 1)
 open_sign true = refl
 open_sign false = refl
 
-opening_found : (bytes : List ℕ) → token_at (40 ∷ bytes) ≡ Some (found opening 1)
+opening_found : (bytes : List ℕ) → token_at (40 ∷ bytes) ≡ Some (sized_token opening 1)
 unfolding token_at
 opening_found [] = refl
 opening_found (b ∷ bytes) = open_sign (eqb b 61)
@@ -66,8 +66,8 @@ name_before-other parts _ other = refl
 -- a name by the tokens behind it, and by the byte behind it
 mark-at : (test : Bool) (b : ℕ) (bytes : List ℕ) (parts : List (List ℕ)) (o : Option Found) (place : ℕ) → eqb b 40 ≡ test → token_at (b ∷ bytes) ≡ o → blanks (b ∷ bytes) ≡ 0 → token_before (name parts) (cut place (b ∷ bytes)).tokens ≡ name_by parts test
 mark-at true b bytes parts o place is e full =
-    let opens : token_at (b ∷ bytes) ≡ Some (found opening 1) = subst (λ (n : ℕ). token_at (n ∷ bytes) ≡ Some (found opening 1)) (sym (eqb-true b 40 is)) (opening_found bytes) in
-    ap (λ (c : Cut). token_before (name parts) c.tokens) (cut-token place (b ∷ bytes) (found opening 1) opens)
+    let opens : token_at (b ∷ bytes) ≡ Some (sized_token opening 1) = subst (λ (n : ℕ). token_at (n ∷ bytes) ≡ Some (sized_token opening 1)) (sym (eqb-true b 40 is)) (opening_found bytes) in
+    ap (λ (c : Cut). token_before (name parts) c.tokens) (cut-token place (b ∷ bytes) (sized_token opening 1) opens)
 mark-at false b bytes parts (Some front) place is e full =
     ap (λ (c : Cut). token_before (name parts) c.tokens) (cut-token place (b ∷ bytes) front e) ∙ name_before-other parts front.token (λ opens. eqb-false b 40 is (opening_first b bytes front e opens))
 mark-at false b bytes parts None place is e full =
@@ -102,13 +102,13 @@ listed-cut place bytes token next rest full e = record {
 }
 
 -- where a token stands behind the blanks, and is read
-pub listed-token : (place at next size : ℕ) (bytes front behind rest : List ℕ) (token : Token) → at ≡ place + blanks bytes → front ≡ drop (blanks bytes) bytes → token_at front ≡ Some (found token size)
+pub listed-token : (place at next size : ℕ) (bytes front behind rest : List ℕ) (token : Token) → at ≡ place + blanks bytes → front ≡ drop (blanks bytes) bytes → token_at front ≡ Some (sized_token token size)
     → behind ≡ drop size front → rest ≡ drop (blanks behind) behind → next ≡ at + size + blanks behind → IsListed place bytes (listed (Some (placed at (marked token (begins_opening rest)))) next rest)
 listed-token place at next size bytes front behind rest token is_at is_front e is_behind is_rest is_next =
     let full : blanks rest ≡ 0 = ap blanks is_rest ∙ blanks-behind behind in
     let to_front : cut place bytes ≡ cut at front = cut-blanks place bytes ∙ ap (λ (p : ℕ). cut p (drop (blanks bytes) bytes)) (sym is_at) ∙ ap (λ (t : List ℕ). cut at t) (sym is_front) in
     let to_rest : cut (at + size) (drop size front) ≡ cut next rest = ap (λ (t : List ℕ). cut (at + size) t) (sym is_behind) ∙ cut-blanks (at + size) behind ∙ ap (λ (p : ℕ). cut p (drop (blanks behind) behind)) (sym is_next) ∙ ap (λ (t : List ℕ). cut next t) (sym is_rest) in
-    let list = listed-cut at front token next rest full (cut-token at front (found token size) e ∙ ap (λ (c : Cut). onto_cut (placed at token) c) to_rest) in
+    let list = listed-cut at front token next rest full (cut-token at front (sized_token token size) e ∙ ap (λ (c : Cut). onto_cut (placed at token) c) to_rest) in
     record {
       tokens = list.tokens ∙ ap (λ (c : Cut). with_calls c.tokens) (sym to_front);
       stray = list.stray ∙ ap (λ (c : Cut). c.stray) (sym to_front);
@@ -147,8 +147,8 @@ digits_marked (name parts) opens h = digits_name opens parts
 digits_marked (number digits) opens h = h
 digits_marked _ opens h = tt
 
-pub has_digits : (bytes : List ℕ) (token : Token) (size : ℕ) (opens : Bool) → token_at bytes ≡ Some (found token size) → HasDigits (marked token opens)
-has_digits bytes token size opens e = digits_marked token opens (digits_spelled (token_at-spelled bytes (found token size) e).spelled)
+pub has_digits : (bytes : List ℕ) (token : Token) (size : ℕ) (opens : Bool) → token_at bytes ≡ Some (sized_token token size) → HasDigits (marked token opens)
+has_digits bytes token size opens e = digits_marked token opens (digits_spelled (token_at-spelled bytes (sized_token token size) e).spelled)
 
 -- what a list of tokens shows
 pub digits-is : (current : Option PlacedToken) (place : ℕ) (bytes : List ℕ) → IsLeft (option_map placed_of current) place bytes → IfSome current (λ token. HasDigits (token_of token.token))

@@ -131,11 +131,6 @@ whole_within most ts s e g f =
     let h = holds_within most ts s g in
     whole_stands most s.control h.levels_left s.lefts s.frames ts e h.levels h.stands f
 
-pub whole_by_goes : (ts : List Placed) (s : State) (e : Expression) → goes start ts ≡ Some s → final_value s ≡ Some e → (levels : ℕ) × Derives levels or_rule ts e
-whole_by_goes ts s e g f =
-    let m = goes_levels start s ts g in
-    (m.0, whole_within m.0 ts s e m.1 f)
-
 -- ---- the call that a closing parenthesis ends
 
 -- the tokens end in the arguments of this call, which are so many

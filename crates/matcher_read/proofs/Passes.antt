@@ -136,9 +136,6 @@ verdict-append size stray s (t ∷ ts) us = by_read (λ next. verdict-append siz
 pub verdict_behind : (size : ℕ) (stray : Option ℕ) (s next : State) (ts us : List Placed) → reads s ts ≡ Ok next → verdict size stray s (ts ++ us) ≡ verdict size stray next us
 verdict_behind size stray s next ts us e = verdict-append size stray s ts us ∙ ap (read_on (λ (later : State). verdict size stray later us)) e
 
-pub verdict_fault : (size : ℕ) (stray : Option ℕ) (s : State) (ts us : List Placed) (fault : MatcherFault) → reads s ts ≡ Err fault → verdict size stray s (ts ++ us) ≡ Err fault
-verdict_fault size stray s ts us fault e = verdict-append size stray s ts us ∙ ap (read_on (λ (later : State). verdict size stray later us)) e
-
 -- one token: it is read, it meets a fault, or it may not stand there
 abbrev read_by : State → Placed → Option State → Result State MatcherFault
 read_by s t o = elim o [

@@ -4,10 +4,10 @@ use Rattle.std.proofs.lemmas.Bool.{false≢true}
 use Rattle.std.specs.Str.Parse.{digits_value}
 use Rattle.matcher_read.specs.Tokens.{Placed, placed, operator}
 use Rattle.matcher_read.specs.Tokens as token
-use Rattle.matcher_read.specs.Expression.{Expression, text, whole, truth, request, policy, evaluated, negation, opposite, binary, among, call, Expressions, one_more, expressions_of, count}
+use Rattle.matcher_read.specs.Expression.{Expression, text, whole, truth, request, policy, evaluated, negation, opposite, binary, among, call, Expressions, one_more, count}
 use Rattle.matcher_read.specs.Calls.{callee_of}
-use Rattle.matcher_read.specs.Grammar.{Rule, or_rule, and_rule, cmp_rule, sum_rule, term_rule, unary_rule, prim_rule, and_or, cmp_and, sum_cmp, term_sum, unary_term, prim_unary, Derives, DerivesList, by_part, by_join, by_comparison, by_members, by_negation, by_opposite, by_text, by_unclosed, by_number, by_true, by_false, by_request, by_policy, by_eval, by_call, by_parentheses, by_last, by_more}
-use Rattle.matcher_read.specs.Matcher.{is_sound, are_sound, most_levels, first_wide}
+use Rattle.matcher_read.specs.Grammar.{Rule, or_rule, cmp_rule, prim_rule, Derives, DerivesList, by_part, by_join, by_comparison, by_members, by_negation, by_opposite, by_text, by_unclosed, by_number, by_true, by_false, by_request, by_policy, by_eval, by_call, by_parentheses, by_last, by_more}
+use Rattle.matcher_read.specs.Matcher.{is_sound, most_levels, first_wide}
 use Rattle.matcher_read.specs.declared.fault.MatcherFault.{MatcherFault}
 use Rattle.matcher_read.specs.declared.fault.MatcherFault.TheVariants.{Unexpected, NumberTooWide}
 use Rattle.matcher_read.specs.Helps.Machine.{State, Kind, goes, goes_within, depth, verdict, final_value, start, Lefts, members, Frame, Control, wants, no_lefts, comparison_of, or_of, state_of, levels_of}
@@ -15,7 +15,7 @@ use Rattle.matcher_read.proofs.Passes.{within_goes}
 use Rattle.matcher_read.proofs.Passes.{reads, verdict_behind}
 use Rattle.matcher_read.specs.Helps.Giving.{entry, Gives, holds_list}
 use Rattle.matcher_read.proofs.Gives.{step_negation, step_opposite, step_text, step_unclosed, step_number, step_true, step_false, step_request, step_policy, step_eval}
-use Rattle.matcher_read.proofs.RunParts.{list_of, list_of_same, are_closed, Fine, GivesList, Runs, RunsList, shallow_fault, shallow_levels, runs_part, runs_join, runs_comparison, runs_sign, runs_operand}
+use Rattle.matcher_read.proofs.RunParts.{list_of, are_closed, Fine, GivesList, Runs, RunsList, shallow_fault, shallow_levels, runs_part, runs_join, runs_comparison, runs_sign, runs_operand}
 use Rattle.matcher_read.proofs.RunLists.{number_before, list_last, list_more, runs_parentheses, runs_call, runs_members}
 use Rattle.matcher_read.specs.declared.tree.Operator.TheVariants as op
 
@@ -68,16 +68,6 @@ derives_goes d most frames h =
     let k = runs d most no_lefts frames (omega (arith, h)) in
     (k.gives.0, record k.gives.1 { signs = [] }, k.passes.within ∙ ap Some k.gives.2, k.gives.3)
 
--- by any rule, from a state that is fresh for it
-pub rule_goes : {n : ℕ} {rule : Rule} {ts : List Placed} {e : Expression} → Derives n rule ts e → (most : ℕ) (l : Lefts) (frames : List Frame) → depth (entry rule l frames) + n ≤ most
-    → (next : State) × Gives rule l frames next e × (goes_within most (entry rule l frames) ts ≡ Some next)
-rule_goes d most l frames h = let k = runs d most l frames h in (k.state, k.gives, k.passes.within)
-
--- a list, from behind its opening parenthesis or a comma
-pub list_goes_within : {n : ℕ} {ts : List Placed} {es : Expressions} → DerivesList n ts es → (most : ℕ) (frame : Frame) (frames : List Frame) → holds_list frame.kind ≡ true → levels_of (frame ∷ frames) + n ≤ most
-    → (next : State) × GivesList frame frames next es × (goes_within most (state_of wants no_lefts (frame ∷ frames)) ts ≡ Some next)
-list_goes_within d most frame frames kind h = let k = runs_list d most frame frames kind h in (k.state, k.gives, k.passes.within)
-
 -- the number of what stands before its last comma
 pub list_goes : {n : ℕ} {ts : List Placed} {es : Expressions} → DerivesList n ts es → (kind : Kind) (outer : Lefts) (frames : List Frame) → holds_list kind ≡ true
     → (c : Control) × (l : Lefts) × (before : List Expression)
@@ -107,26 +97,12 @@ value_of s = option_map (or_of s.lefts) (comparison_of s.lefts s.control)
 pub gives_value : (l : Lefts) (frames : List Frame) (s : State) (e : Expression) → Gives or_rule l frames s e → value_of s ≡ Some e
 gives_value l frames s e g = ap value_of g.2 ∙ g.3
 
--- what a rule derives, the whole does
-pub derives_or : {n : ℕ} {ts : List Placed} {e : Expression} (rule : Rule) → Derives n rule ts e → Derives n or_rule ts e
-derives_or or_rule d = d
-derives_or and_rule d = by_part and_or d
-derives_or cmp_rule d = by_part and_or (by_part cmp_and d)
-derives_or sum_rule d = by_part and_or (by_part cmp_and (by_part sum_cmp d))
-derives_or term_rule d = by_part and_or (by_part cmp_and (by_part sum_cmp (by_part term_sum d)))
-derives_or unary_rule d = by_part and_or (by_part cmp_and (by_part sum_cmp (by_part term_sum (by_part unary_term d))))
-derives_or prim_rule d = by_part and_or (by_part cmp_and (by_part sum_cmp (by_part term_sum (by_part unary_term (by_part prim_unary d)))))
-
 pub derives_one : {n m : ℕ} {ts : List Placed} {e f : Expression} → Derives n or_rule ts e → Derives m or_rule ts f → e ≡ f
 derives_one {n} {m} {ts} {e} {f} d k =
     let p = runs d (n + m) no_lefts [] (omega arith) in
     let q = runs k (n + m) no_lefts [] (omega arith) in
     let same = some_one p.state q.state (sym p.passes.within ∙ q.passes.within) in
     some_one e f (sym (gives_value no_lefts [] p.state e p.gives) ∙ ap value_of same ∙ gives_value no_lefts [] q.state f q.gives)
-
--- by whatever rules
-pub rule_one : {n m : ℕ} {ts : List Placed} {e f : Expression} (first second : Rule) → Derives n first ts e → Derives m second ts f → e ≡ f
-rule_one first second d k = derives_one (derives_or first d) (derives_or second k)
 
 -- some list that stands open
 abbrev open_list : Frame
@@ -144,13 +120,6 @@ one_list s t es fs g h same =
     let last = some_one g.1 h.1 (sym (gives_value no_lefts first s g.1 g.3) ∙ ap value_of same ∙ gives_value no_lefts second t h.1 h.3) in
     sym g.2 ∙ ap₂ (λ (b : List Expression) (x : Expression). b ++ x ∷ []) before last ∙ h.2
 
-pub derives_list_one : {n m : ℕ} {ts : List Placed} {es fs : Expressions} → DerivesList n ts es → DerivesList m ts fs → es ≡ fs
-derives_list_one {n} {m} {ts} {es} {fs} d k =
-    let p = runs_list d (n + m + 1) open_list [] refl (omega arith) in
-    let q = runs_list k (n + m + 1) open_list [] refl (omega arith) in
-    let same = some_one p.state q.state (sym p.passes.within ∙ q.passes.within) in
-    sym (list_of_same es) ∙ ap expressions_of (one_list p.state q.state es fs p.gives q.gives same) ∙ list_of_same fs
-
 -- ---- read without a fault
 
 -- what a sound expression is read to, within the levels that a matcher may have
@@ -165,15 +134,6 @@ reads_through {n} {rule} {ts} {e} d sound closed l frames h =
     let k = runs d most_levels l frames h in
     let read = k.passes.without_fault (record { sound = sound; closed = closed; shallow = le_refl most_levels }) in
     (k.state, k.gives, record { within = k.passes.within; without_fault = read; goes_on = λ size stray us. verdict_behind size stray (entry rule l frames) k.state ts us read })
-
-pub list_reads_through : {n : ℕ} {ts : List Placed} {es : Expressions} → DerivesList n ts es → are_sound es ≡ true → are_closed ts ≡ true
-    → (frame : Frame) (frames : List Frame) → holds_list frame.kind ≡ true → levels_of (frame ∷ frames) + n ≤ most_levels
-    → (next : State) × GivesList frame frames next es × ReadsTo (state_of wants no_lefts (frame ∷ frames)) ts next
-list_reads_through {n} {ts} {es} d sound closed frame frames kind h =
-    let k = runs_list d most_levels frame frames kind h in
-    let before = state_of wants no_lefts (frame ∷ frames) in
-    let read = k.passes.without_fault (record { sound = sound; closed = closed; shallow = le_refl most_levels }) in
-    (k.state, k.gives, record { within = k.passes.within; without_fault = read; goes_on = λ size stray us. verdict_behind size stray before k.state ts us read })
 
 -- ---- whole texts
 

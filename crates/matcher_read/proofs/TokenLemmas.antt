@@ -17,7 +17,7 @@ use Rattle.text_parts.specs.Lines.{has_byte}
 use Rattle.text_parts.specs.Names.{is_identifier, is_letter, is_word}
 use Rattle.matcher_read.specs.Tokens.{Token, name, number, text, unclosed, operator, exclamation, opening, closing, comma, sign, IsQuote, IsSpelling, as_name, as_number, as_text, as_unclosed, as_operator, as_exclamation, as_opening, as_closing, as_comma, IsFront, IsLongest, BeginsNoToken}
 use Rattle.matcher_read.specs.Helps.TokenLists.{pieces}
-use Rattle.matcher_read.specs.Helps.Cutting.{Found, found, begins_name, name_size, is_quote, sign_of_two, operator_of, mark_of, sign_of_one, or_mark, or_one, sign_at, name_at, number_at, quoted, text_at, token_at}
+use Rattle.matcher_read.specs.Helps.Cutting.{Found, sized_token, begins_name, name_size, is_quote, sign_of_two, operator_of, mark_of, sign_of_one, or_mark, or_one, sign_at, name_at, number_at, quoted, text_at, token_at}
 use Rattle.matcher_read.specs.declared.tree.Operator.{Operator}
 use Rattle.matcher_read.specs.declared.tree.Operator.TheVariants as op
 use Rattle.text_parts.proofs.CallerLemmas.{digit_is_no_letter, list_all-prefix, position-None, position-none_before, prefix_len-passing, word_from_letter}
@@ -97,9 +97,9 @@ one_spelled a (Some o) t is e =
     subst (λ (v : Token). IsSpelling v (a ∷ [])) same (subst (λ (spelling : List ℕ). IsSpelling (operator o) spelling) (operator_of-is a o is) as_operator)
 one_spelled a None t is e = mark_spelled a t e
 
-one_found : (a : ℕ) (bytes : List ℕ) (o : Option Token) (front : Found) → sign_of_one a ≡ o → option_map (λ token. found token 1) o ≡ Some front → IsSpelled (a ∷ bytes) front
+one_found : (a : ℕ) (bytes : List ℕ) (o : Option Token) (front : Found) → sign_of_one a ≡ o → option_map (λ token. sized_token token 1) o ≡ Some front → IsSpelled (a ∷ bytes) front
 one_found a bytes (Some t) front is e =
-    let same : found t 1 ≡ front = cc in
+    let same : sized_token t 1 ≡ front = cc in
     subst (λ (f : Found). IsSpelled (a ∷ bytes) f) same (record {
       some = omega arith;
       within = omega arith;
@@ -109,7 +109,7 @@ one_found a bytes None front is e = absurd cc
 
 sign_found : (a b : ℕ) (bytes : List ℕ) (o : Option Operator) (front : Found) → sign_of_two a b ≡ o → or_one a o ≡ Some front → IsSpelled (a ∷ b ∷ bytes) front
 sign_found a b bytes (Some o) front is e =
-    let same : found (operator o) 2 ≡ front = cc in
+    let same : sized_token (operator o) 2 ≡ front = cc in
     subst (λ (f : Found). IsSpelled (a ∷ b ∷ bytes) f) same (record {
       some = omega arith;
       within = omega arith;
@@ -191,7 +191,7 @@ begins-append-nil : (bytes : List ℕ) → begins_name (bytes ++ []) ≡ true �
 begins-append-nil [] begins = begins
 begins-append-nil (b ∷ bytes) begins = begins
 
-same_found : {t u : Token} {n m : ℕ} → t ≡ u → n ≡ m → Some (found t n) ≡ Some (found u m)
+same_found : {t u : Token} {n m : ℕ} → t ≡ u → n ≡ m → Some (sized_token t n) ≡ Some (sized_token u m)
 same_found e f = cc
 
 begins-parts : (parts : List (List ℕ)) → 0 < length parts → AreIdentifiers parts → begins_name (join_with_byte 46 parts) ≡ true
@@ -199,7 +199,7 @@ begins-parts [] some all = absurd (omega arith)
 begins-parts (part ∷ parts) some all = begins-append-nil (join_with_byte 46 (part ∷ parts)) (begins-join part parts [] all.0)
 
 -- the token so spelled is found in its spelling
-exact-name : (parts : List (List ℕ)) → 0 < length parts → AreIdentifiers parts → token_at (join_with_byte 46 parts) ≡ Some (found (name parts) (length (join_with_byte 46 parts)))
+exact-name : (parts : List (List ℕ)) → 0 < length parts → AreIdentifiers parts → token_at (join_with_byte 46 parts) ≡ Some (sized_token (name parts) (length (join_with_byte 46 parts)))
 exact-name parts some all =
     let joined : List ℕ = join_with_byte 46 parts in
     let reach = name_size-join parts [] all in
@@ -207,7 +207,7 @@ exact-name parts some all =
     let whole : take (name_size joined) joined ≡ joined = take_all (name_size joined) joined (omega arith) in
     token_at-name joined (begins-parts parts some all) ∙ same_found (ap (λ (t : List ℕ). name (pieces t)) whole ∙ ap (λ (p : List (List ℕ)). name p) (pieces-join parts some all)) size
 
-exact-number : (digits : List ℕ) → 0 < length digits → list_all is_ascii_digit digits ≡ true → token_at digits ≡ Some (found (number digits) (length digits))
+exact-number : (digits : List ℕ) → 0 < length digits → list_all is_ascii_digit digits ≡ true → token_at digits ≡ Some (sized_token (number digits) (length digits))
 exact-number [] some all = absurd (omega arith)
 exact-number (b ∷ digits) some all =
     let whole = prefix_len-passing is_ascii_digit (b ∷ digits) [] all in
@@ -215,8 +215,8 @@ exact-number (b ∷ digits) some all =
     token_at-number b digits (and_parts (is_ascii_digit b) (list_all is_ascii_digit digits) all).0 ∙ same_found (ap (λ (t : List ℕ). number t) (take_all (prefix_len is_ascii_digit (b ∷ digits)) (b ∷ digits) (omega arith))) size
 
 -- a text that is cut at its quote, and one without
-pub text_at-closed : (quote : ℕ) (bytes rest : List ℕ) → has_byte quote bytes ≡ false → text_at (quote ∷ bytes ++ quote ∷ rest) ≡ found (text bytes) (length bytes + 2)
-text_at-closed quote bytes rest none = ap (λ (at : Option ℕ). quoted (bytes ++ quote ∷ rest) at) (closed quote bytes rest none) ∙ ap (λ (t : List ℕ). found (text t) (length bytes + 2)) (take-append_seam bytes (quote ∷ rest))
+pub text_at-closed : (quote : ℕ) (bytes rest : List ℕ) → has_byte quote bytes ≡ false → text_at (quote ∷ bytes ++ quote ∷ rest) ≡ sized_token (text bytes) (length bytes + 2)
+text_at-closed quote bytes rest none = ap (λ (at : Option ℕ). quoted (bytes ++ quote ∷ rest) at) (closed quote bytes rest none) ∙ ap (λ (t : List ℕ). sized_token (text t) (length bytes + 2)) (take-append_seam bytes (quote ∷ rest))
 
 no_quote_at : (quote : ℕ) (bytes : List ℕ) (at : Option ℕ) → has_byte quote bytes ≡ false → position (λ b. eqb b quote) bytes ≡ at → at ≡ None
 no_quote_at quote bytes (Some at) none e =
@@ -224,21 +224,21 @@ no_quote_at quote bytes (Some at) none e =
     absurd (both_ways (has_byte quote bytes) none (list_any_at (λ b. eqb b quote) bytes at 0 there.0 there.1))
 no_quote_at quote bytes None none e = refl
 
-pub text_at-open : (quote : ℕ) (bytes : List ℕ) → has_byte quote bytes ≡ false → text_at (quote ∷ bytes) ≡ found (unclosed bytes) (length bytes + 1)
+pub text_at-open : (quote : ℕ) (bytes : List ℕ) → has_byte quote bytes ≡ false → text_at (quote ∷ bytes) ≡ sized_token (unclosed bytes) (length bytes + 1)
 text_at-open quote bytes none = ap (λ (at : Option ℕ). quoted bytes at) (no_quote_at quote bytes (position (λ b. eqb b quote) bytes) none refl)
 
-exact-text : (quote : ℕ) (bytes rest : List ℕ) → IsQuote quote → has_byte quote bytes ≡ false → token_at (quote ∷ bytes ++ quote ∷ rest) ≡ Some (found (text bytes) (length bytes + 2))
+exact-text : (quote : ℕ) (bytes rest : List ℕ) → IsQuote quote → has_byte quote bytes ≡ false → token_at (quote ∷ bytes ++ quote ∷ rest) ≡ Some (sized_token (text bytes) (length bytes + 2))
 exact-text quote bytes rest is none = token_at-text quote (bytes ++ quote ∷ rest) is ∙ ap (λ (f : Found). Some f) (text_at-closed quote bytes rest none)
 
-exact-unclosed : (quote : ℕ) (bytes : List ℕ) → IsQuote quote → has_byte quote bytes ≡ false → token_at (quote ∷ bytes) ≡ Some (found (unclosed bytes) (length (quote ∷ bytes)))
+exact-unclosed : (quote : ℕ) (bytes : List ℕ) → IsQuote quote → has_byte quote bytes ≡ false → token_at (quote ∷ bytes) ≡ Some (sized_token (unclosed bytes) (length (quote ∷ bytes)))
 exact-unclosed quote bytes is none = token_at-text quote bytes is ∙ ap (λ (f : Found). Some f) (text_at-open quote bytes none) ∙ same_found refl (omega arith)
 
-exact-operator : (o : Operator) → token_at (sign o) ≡ Some (found (operator o) (length (sign o)))
+exact-operator : (o : Operator) → token_at (sign o) ≡ Some (sized_token (operator o) (length (sign o)))
 unfolding token_at
 exact-operator op.Or = refl
 exact-operator _ = refl
 
-pub token_at-exact : {token : Token} {spelling : List ℕ} → IsSpelling token spelling → token_at spelling ≡ Some (found token (length spelling))
+pub token_at-exact : {token : Token} {spelling : List ℕ} → IsSpelling token spelling → token_at spelling ≡ Some (sized_token token (length spelling))
 unfolding token_at
 token_at-exact (as_name {parts = parts} some all) = exact-name parts some (recursion_from_All (λ (part : List ℕ). IsTrue (is_identifier part)) parts all)
 token_at-exact (as_number {digits = digits} some all) = exact-number digits some all
@@ -273,7 +273,7 @@ reaches-number (b ∷ digits) behind some all = record {
 
 reaches-text : (quote : ℕ) (bytes behind : List ℕ) → IsQuote quote → has_byte quote bytes ≡ false → Reaches ((quote ∷ bytes ++ quote ∷ []) ++ behind) (length (quote ∷ bytes ++ quote ∷ []))
 reaches-text quote bytes behind is none = record {
-  front = found (text bytes) (length bytes + 2);
+  front = sized_token (text bytes) (length bytes + 2);
   is = ap (λ (t : List ℕ). token_at (quote ∷ t)) (append_assoc bytes (quote ∷ []) behind) ∙ exact-text quote bytes behind is none;
   reach = omega (arith, length-append bytes (quote ∷ []));
 }
@@ -296,16 +296,16 @@ reaches-unclosed quote bytes behind is none = record {
 }
 
 or_one-reaches : (a : ℕ) (o : Option Operator) (t : Token) → sign_of_one a ≡ Some t → (front : Found) × (or_one a o ≡ Some front) × (1 ≤ front.size)
-or_one-reaches a (Some o) t is = (found (operator o) 2, refl, omega arith)
-or_one-reaches a None t is = (found t 1, ap (λ (u : Option Token). option_map (λ token. found token 1) u) is, omega arith)
+or_one-reaches a (Some o) t is = (sized_token (operator o) 2, refl, omega arith)
+or_one-reaches a None t is = (sized_token t 1, ap (λ (u : Option Token). option_map (λ token. sized_token token 1) u) is, omega arith)
 
 sign_at-reaches : (a : ℕ) (behind : List ℕ) (t : Token) → sign_of_one a ≡ Some t → (front : Found) × (sign_at (a ∷ behind) ≡ Some front) × (1 ≤ front.size)
 sign_at-reaches a [] t is = or_one-reaches a None t is
 sign_at-reaches a (b ∷ behind) t is = or_one-reaches a (sign_of_two a b) t is
 
-reaches-two : (bytes : List ℕ) (t : Token) → token_at bytes ≡ Some (found t 2) → Reaches bytes 2
+reaches-two : (bytes : List ℕ) (t : Token) → token_at bytes ≡ Some (sized_token t 2) → Reaches bytes 2
 reaches-two bytes t e = record {
-  front = found t 2;
+  front = sized_token t 2;
   is = e;
   reach = omega arith;
 }
@@ -365,7 +365,7 @@ token_at-longest bytes front e =
     }
 
 -- the longest token at a front is found
-pub token_at-is : (token : Token) (spelling behind : List ℕ) → IsLongest token spelling (spelling ++ behind) → token_at (spelling ++ behind) ≡ Some (found token (length spelling))
+pub token_at-is : (token : Token) (spelling behind : List ℕ) → IsLongest token spelling (spelling ++ behind) → token_at (spelling ++ behind) ≡ Some (sized_token token (length spelling))
 token_at-is token spelling behind is =
     let r = token_at-reaches behind is.spelled in
     let there = token_at-spelled (spelling ++ behind) r.front r.is in
@@ -375,7 +375,7 @@ token_at-is token spelling behind is =
     let spelled : IsSpelling r.front.token spelling = subst (λ (t : List ℕ). IsSpelling r.front.token t) front there.spelled in
     let one = token_at-exact spelled in
     let other = token_at-exact is.spelled in
-    let same : found r.front.token (length spelling) ≡ found token (length spelling) = same_Some _ _ (sym one ∙ other) in
+    let same : sized_token r.front.token (length spelling) ≡ sized_token token (length spelling) = same_Some _ _ (sym one ∙ other) in
     r.is ∙ same_found (ap (λ (f : Found). f.token) same) size
 
 -- nothing is found exactly where no token is spelled

@@ -6,23 +6,35 @@ use Rattle.matcher_read.specs.Tokens.{is_eval_name}
 use Rattle.matcher_read.specs.declared.tree.Function.{Function}
 use Rattle.matcher_read.specs.declared.tree.Function.TheVariants as f
 
--- how a function is written
-abbrev pub name_of : Function → List ℕ
-name_of f.KeyMatch = codes "keyMatch"
-name_of f.KeyMatch2 = codes "keyMatch2"
-name_of f.KeyMatch3 = codes "keyMatch3"
-name_of f.KeyMatch4 = codes "keyMatch4"
-name_of f.KeyMatch5 = codes "keyMatch5"
-name_of f.RegexMatch = codes "regexMatch"
-name_of f.IpMatch = codes "ipMatch"
-name_of f.GlobMatch = codes "globMatch"
-name_of f.KeyGet = codes "keyGet"
-name_of f.KeyGet2 = codes "keyGet2"
-name_of f.KeyGet3 = codes "keyGet3"
+-- how each function is written, and how many arguments it takes
+abbrev pub written : Function → List ℕ × ℕ
+written f.KeyMatch = (codes "keyMatch", 2)
+written f.KeyMatch2 = (codes "keyMatch2", 2)
+written f.KeyMatch3 = (codes "keyMatch3", 2)
+written f.KeyMatch4 = (codes "keyMatch4", 2)
+written f.KeyMatch5 = (codes "keyMatch5", 2)
+written f.RegexMatch = (codes "regexMatch", 2)
+written f.IpMatch = (codes "ipMatch", 2)
+written f.GlobMatch = (codes "globMatch", 2)
+written f.KeyGet = (codes "keyGet", 2)
+written f.KeyGet2 = (codes "keyGet2", 3)
+written f.KeyGet3 = (codes "keyGet3", 3)
 
 -- all functions
 abbrev pub functions : List Function
 functions = f.KeyMatch ∷ f.KeyMatch2 ∷ f.KeyMatch3 ∷ f.KeyMatch4 ∷ f.KeyMatch5 ∷ f.RegexMatch ∷ f.IpMatch ∷ f.GlobMatch ∷ f.KeyGet ∷ f.KeyGet2 ∷ f.KeyGet3 ∷ []
+
+-- how a function is written
+abbrev pub name_of : Function → List ℕ
+name_of called = (written called).0
+
+-- how many arguments a function takes
+abbrev pub arity : Function → ℕ
+arity called = (written called).1
+
+-- the function of a name
+abbrev pub function_of : List ℕ → Option Function
+function_of name = find (λ found. bytes_eq name (name_of found)) functions
 
 -- the names of the role relations 1 to 8
 abbrev pub relation_names : List (List ℕ)
@@ -41,14 +53,8 @@ function_or part None = relation_at part (position (bytes_eq part) relation_name
 -- what a name calls
 abbrev pub callee_of : List (List ℕ) → Callee
 callee_of [] = unknown []
-callee_of (part ∷ []) = function_or part (find (λ found. bytes_eq part (name_of found)) functions)
+callee_of (part ∷ []) = function_or part (function_of part)
 callee_of (part ∷ next ∷ parts) = unknown (part ∷ next ∷ parts)
-
--- how many arguments a function takes
-abbrev pub arity : Function → ℕ
-arity f.KeyGet2 = 3
-arity f.KeyGet3 = 3
-arity _ = 2
 
 -- it is a function or a relation, or `eval`, which takes no list of arguments
 abbrev pub is_known : Callee → Bool

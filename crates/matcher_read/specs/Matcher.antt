@@ -21,15 +21,15 @@ abbrev pub first_wide : ℕ
 first_wide = 9223372036854775808
 
 -- a number that fits 64 bits
-abbrev pub fits : ℤ → Bool
-fits (pos n) = nat_lt n first_wide
-fits (negsuc n) = false
+abbrev pub is_number : ℤ → Bool
+is_number (pos n) = nat_lt n first_wide
+is_number (negsuc n) = false
 
 -- numbers fit, and what is called is there and has as many arguments as it takes
 abbrev mutual
   pub is_sound : Expression → Bool
   is_sound (text at bytes) = true
-  is_sound (whole at n) = fits n
+  is_sound (whole at n) = is_number n
   is_sound (truth at b) = true
   is_sound (request at column path) = true
   is_sound (policy at column) = true

@@ -1,5 +1,5 @@
 -- The tokens of a matcher: the longest that fit, one behind the other, with blanks between them (Casbin, syntax for models: matchers).
-use Rattle.std.specs.Prelude.{◌≡◌, ℕ, zero, suc, ◌+◌, ◌<◌, ◌≤◌, ◌||◌, ◌&&◌, ◌⊎◌, Bool, true, false, cond, option_map, if◌then◌else◌, List, [], ◌∷◌, ◌++◌, length, codes, All, IsTrue, Option, Some, None}
+use Rattle.std.specs.Prelude.{◌≡◌, ℕ, ◌+◌, ◌<◌, ◌≤◌, ◌||◌, ◌&&◌, ◌⊎◌, Bool, true, false, cond, if◌then◌else◌, List, [], ◌∷◌, ◌++◌, length, codes, All, IsTrue, Option, Some, None}
 use Rattle.std.specs.Char.{is_ascii_digit}
 use Rattle.std.specs.List.{join_with_byte, list_all}
 use Rattle.std.specs.Str.{bytes_eq}
@@ -137,20 +137,15 @@ column_of _ = None
 abbrev pub eval_column : Token → Token → Token → Token → Option (List ℕ)
 eval_column first second third fourth = cond (is_eval first && (is_opening second && is_closing fourth)) (column_of third) None
 
--- `eval ( p.column )` as one token, where a token and those behind it begin so
-abbrev pub eval_at : Placed → List Placed → Option Placed
-eval_at first (second ∷ third ∷ fourth ∷ behind) = option_map (λ column. placed first.at (eval second.at column)) (eval_column first.token second.token third.token fourth.token)
-eval_at first _ = None
-
--- behind so many tokens, each `eval ( p.column )` as one
-abbrev pub evals_behind : ℕ → List Placed → List Placed
-evals_behind n [] = []
-evals_behind (suc n) (token ∷ behind) = evals_behind n behind
-evals_behind zero (token ∷ behind) = elim (eval_at token behind) [
-  | Some form ↦ form ∷ evals_behind 3 behind
-  | None ↦ token ∷ evals_behind 0 behind
+-- the tokens, each `eval ( p.column )` as one, and every other as it stands
+abbrev pub with_evals : List Placed → List Placed
+with_evals [] = []
+with_evals (first ∷ second ∷ third ∷ fourth ∷ behind) = elim (eval_column first.token second.token third.token fourth.token) [
+  | Some column ↦ placed first.at (eval second.at column) ∷ with_evals behind
+  | None ↦ first ∷ with_evals (second ∷ third ∷ fourth ∷ behind)
 ]
+with_evals (token ∷ behind) = token ∷ with_evals behind
 
 -- the tokens as the grammar reads them
 abbrev pub as_read : List Placed → List Placed
-as_read tokens = evals_behind 0 (with_calls tokens)
+as_read tokens = with_evals (with_calls tokens)

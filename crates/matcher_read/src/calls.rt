@@ -1,6 +1,6 @@
-ghost use Rattle.std.specs.Prelude.{◌≡◌, ◌+◌, option_map, position, find, MatchOption, false};
+ghost use Rattle.std.specs.Prelude.{◌≡◌, ◌+◌, option_map, position, MatchOption, false};
 ghost use Rattle.std.specs.Str.{bytes_eq};
-ghost use Rattle.matcher_read.specs.Calls.{callee_of, functions, is_known, name_of, relation_names, takes as accepts};
+ghost use Rattle.matcher_read.specs.Calls.{callee_of, is_known, relation_names, takes as accepts};
 ghost use Rattle.matcher_read.specs.Helps.Taking.{callee};
 ghost use Rattle.matcher_read.specs.Helps.TokenLists.{pieces};
 
@@ -19,7 +19,7 @@ pub(crate) fn called_by(name: &str) -> Option<Called>
     ensures { MatchOption result (is_known (callee_of (pieces name.now)) ≡ false)
         (λ called. callee_of (pieces name.now) ≡ callee called) }
 {
-    if let Some(function) = function_by(name) {
+    if let Some(function) = Function::of_name(name) {
         return Some(Called::Function(function));
     }
     if let Some(relation) = relation_by(name) {
@@ -29,26 +29,6 @@ pub(crate) fn called_by(name: &str) -> Option<Called>
         return Some(Called::Eval);
     }
     None
-}
-
-// The function of a name.
-fn function_by(name: &str) -> Option<Function>
-    ensures { result ≡ find (λ found. bytes_eq name.now (name_of found)) functions }
-{
-    match name {
-        "keyMatch" => Some(Function::KeyMatch),
-        "keyMatch2" => Some(Function::KeyMatch2),
-        "keyMatch3" => Some(Function::KeyMatch3),
-        "keyMatch4" => Some(Function::KeyMatch4),
-        "keyMatch5" => Some(Function::KeyMatch5),
-        "regexMatch" => Some(Function::RegexMatch),
-        "ipMatch" => Some(Function::IpMatch),
-        "globMatch" => Some(Function::GlobMatch),
-        "keyGet" => Some(Function::KeyGet),
-        "keyGet2" => Some(Function::KeyGet2),
-        "keyGet3" => Some(Function::KeyGet3),
-        _ => None,
-    }
 }
 
 // The number of a role relation.
@@ -75,8 +55,7 @@ pub(crate) fn takes(called: Called, arguments: usize) -> bool
     ensures { result ≡ accepts (callee called) arguments }
 {
     match called {
-        Called::Function(Function::KeyGet2 | Function::KeyGet3) => arguments == 3,
-        Called::Function(_) => arguments == 2,
+        Called::Function(function) => arguments == function.arguments() as usize,
         Called::Relation(_) => arguments == 2 || arguments == 3,
         Called::Eval => false,
     }

@@ -1,9 +1,9 @@
 ghost use Rattle.std.specs.Prelude.{◌≡◌, ◌<◌, ◌≤◌, None, Some, List, [], ◌∷◌, Option, IfSome, MatchOption, drop, length, option_map, ℕ};
-ghost use Rattle.matcher_read.specs.Helps.Forming.{BeginsWith};
+ghost use Rattle.matcher_read.specs.Helps.Forming.{BeginsWith, eval_at, evals_behind};
 ghost use Rattle.matcher_read.specs.Helps.TokenLists.{HasDigits, end_of, pieces, placed_of, token_of};
 ghost use Rattle.matcher_read.specs.Matcher.{most_bytes};
 ghost use Rattle.matcher_read.specs.Tokens as token;
-ghost use Rattle.matcher_read.specs.Tokens.{IsCut, Placed, as_read, column_of, eval_at, eval_column, evals_behind, is_eval};
+ghost use Rattle.matcher_read.specs.Tokens.{IsCut, Placed, as_read, column_of, eval_column, is_eval};
 
 use crate::token::{PlacedToken, Token};
 use crate::tokens::{Tokens, tokens_from};

@@ -20,8 +20,8 @@ mod words;
 pub use fault::MatcherFault;
 pub use kinds::{NodeKind, has_node};
 pub use law::{
-    every_text_is_a_matcher_or_at_fault, faulty_text_is_no_matcher, text_has_one_fault,
-    text_says_one_matcher,
+    every_text_is_a_matcher_or_at_fault, faulty_text_is_no_matcher, functions_have_names,
+    text_has_one_fault, text_says_one_matcher,
 };
 pub use reading::read_matcher;
 pub use tree::{Function, Operator, Tree};

@@ -2,7 +2,7 @@ ghost use Rattle.std.specs.Prelude.{◌≡◌, ◌<◌, ◌≤◌, ◌+◌, ◌-
 ghost use Rattle.std.specs.Char.{is_ascii_digit};
 ghost use Rattle.std.specs.List.{prefix_len};
 ghost use Rattle.std.specs.Str.{IsCharBoundary};
-ghost use Rattle.matcher_read.specs.Helps.Cutting.{begins_name, found, goes_on, is_quote, name_at, name_size, number_at, sign_at, sign_of_one, sign_of_two, text_at, token_at};
+ghost use Rattle.matcher_read.specs.Helps.Cutting.{begins_name, sized_token, goes_on, is_quote, name_at, name_size, number_at, sign_at, sign_of_one, sign_of_two, text_at, token_at};
 ghost use Rattle.matcher_read.specs.Helps.TokenLists.{token_of};
 
 use crate::tree::Operator;
@@ -45,7 +45,7 @@ pub(crate) struct PlacedToken<'a> {
 /// The longest token at the front of a text, and how many bytes spell it.
 pub(crate) fn first_token(text: &str) -> Option<(Token<'_>, usize)>
     ensures value { token_at text.now
-        ≡ option_map (λ front. found (token_of front.0) front.1) result }
+        ≡ option_map (λ front. sized_token (token_of front.0) front.1) result }
     ensures some { IfSome result (λ front. 0 < front.1) }
     ensures boundary { IfSome result (λ front. IsCharBoundary text.now front.1) }
 {
@@ -68,7 +68,7 @@ pub(crate) fn first_token(text: &str) -> Option<(Token<'_>, usize)>
 // The name at the front of a text.
 fn first_name(text: &str) -> (Token<'_>, usize)
     requires { begins_name text.now ≡ true }
-    ensures value { found (token_of result.0) result.1 ≡ name_at text.now }
+    ensures value { sized_token (token_of result.0) result.1 ≡ name_at text.now }
     ensures some { 0 < result.1 }
     ensures boundary { IsCharBoundary text.now result.1 }
 {
@@ -79,7 +79,7 @@ fn first_name(text: &str) -> (Token<'_>, usize)
 // The number at the front of a text.
 fn first_number(text: &str) -> (Token<'_>, usize)
     requires { 0 < prefix_len is_ascii_digit text.now }
-    ensures value { found (token_of result.0) result.1 ≡ number_at text.now }
+    ensures value { sized_token (token_of result.0) result.1 ≡ number_at text.now }
     ensures some { 0 < result.1 }
     ensures boundary { IsCharBoundary text.now result.1 }
 {
@@ -91,7 +91,7 @@ fn first_number(text: &str) -> (Token<'_>, usize)
 fn first_text(text: &str) -> (Token<'_>, usize)
     requires some { 0 < length text.now }
     requires ascii { slice_index text.now 0 < 128 }
-    ensures value { found (token_of result.0) result.1 ≡ text_at text.now }
+    ensures value { sized_token (token_of result.0) result.1 ≡ text_at text.now }
     ensures some { 0 < result.1 }
     ensures boundary { IsCharBoundary text.now result.1 }
 {
@@ -106,7 +106,7 @@ fn first_text(text: &str) -> (Token<'_>, usize)
 // The sign at the front of bytes; where one of two bytes fits, it is taken.
 fn first_sign(bytes: &[u8]) -> Option<(Token<'static>, usize)>
     requires { 0 < length bytes.now }
-    ensures value { option_map (λ front. found (token_of front.0) front.1) result
+    ensures value { option_map (λ front. sized_token (token_of front.0) front.1) result
         ≡ sign_at bytes.now }
     ensures some { IfSome result (λ front. 0 < front.1) }
     ensures ascii { IfSome result (λ front. slice_index bytes.now (front.1 - 1) < 128) }

@@ -49,6 +49,74 @@ pub enum Function {
     KeyGet3,
 }
 
+// All functions.
+const FUNCTIONS: [Function; 11] = [
+    Function::KeyMatch,
+    Function::KeyMatch2,
+    Function::KeyMatch3,
+    Function::KeyMatch4,
+    Function::KeyMatch5,
+    Function::RegexMatch,
+    Function::IpMatch,
+    Function::GlobMatch,
+    Function::KeyGet,
+    Function::KeyGet2,
+    Function::KeyGet3,
+];
+
+impl Function {
+    ghost use Rattle.std.specs.Prelude.{◌≤◌};
+    ghost use Rattle.matcher_read.specs.Calls.{arity, function_of, name_of};
+
+    /// How it is written in a matcher.
+    pub fn name(self) -> &'static str
+        ensures { result.now ≡ name_of self }
+    {
+        self.written().0
+    }
+
+    /// How many arguments it takes.
+    pub fn arguments(self) -> u32
+        ensures number { result ≡ arity self }
+        ensures few { result ≤ 3 }
+    {
+        self.written().1
+    }
+
+    /// The function of a name.
+    pub fn of_name(name: &str) -> Option<Function>
+        ensures { result ≡ function_of name.now }
+    {
+        for function in FUNCTIONS {
+            if name == function.name() {
+                return Some(function);
+            }
+        }
+        None
+    }
+
+    // How it is written, and how many arguments it takes.
+    fn written(self) -> (&'static str, u32)
+        ensures name { result.0.now ≡ name_of self }
+        ensures arguments { result.1 ≡ arity self }
+        ensures few { result.1 ≤ 3 }
+    {
+        match self {
+            Function::KeyMatch => ("keyMatch", 2),
+            Function::KeyMatch2 => ("keyMatch2", 2),
+            Function::KeyMatch3 => ("keyMatch3", 2),
+            Function::KeyMatch4 => ("keyMatch4", 2),
+            Function::KeyMatch5 => ("keyMatch5", 2),
+            Function::RegexMatch => ("regexMatch", 2),
+            Function::IpMatch => ("ipMatch", 2),
+            Function::GlobMatch => ("globMatch", 2),
+            Function::KeyGet => ("keyGet", 2),
+            Function::KeyGet2 => ("keyGet2", 3),
+            Function::KeyGet3 => ("keyGet3", 3),
+        }
+    }
+}
+
 /// A matcher that was read. Each node has its place: the byte of the text, counted from 1, where its literal, name,
 /// call or operator begins.
 #[derive(Drop)]

@@ -124,9 +124,6 @@ none_of p [] none at d within = absurd (omega arith)
 none_of p (first ∷ text) none zero d within = (or_parts _ _ none).0
 none_of p (first ∷ text) none (suc at) d within = none_of p text (or_parts _ _ none).1 at d (omega arith)
 
-same_byte : (byte : ℕ) → eqb byte byte ≡ true
-same_byte byte = grind (arith, nat_tests)
-
 pub columns_in-cut : (front behind : List ℕ) → has_byte 44 front ≡ false → columns_in (front ++ 44 ∷ behind) ≡ trimmed front ∷ columns_in behind
 unfolding columns_in
 columns_in-cut front behind none = ap (map trimmed) (slice_split_at (λ b. eqb b 44) front 44 behind (none_of (λ b. eqb b 44) front none) refl)

@@ -1,11 +1,10 @@
 -- What is left of a text without its comment, found byte by byte.
-use Rattle.std.proofs.Common.{◌≡◌, ◌≢◌, ℕ, ◌+◌, ◌<◌, ◌≤◌, ◌&&◌, ◌||◌, inl, inr, Bool, true, false, cond, List, [], ◌∷◌, ◌++◌, length, take, drop, get_or, eqb, Option, Some, None, refl, sym, ap, ◌∙◌, subst, arith, drop-cons}
+use Rattle.std.proofs.Common.{◌≡◌, ◌≢◌, ℕ, ◌<◌, ◌≤◌, ◌&&◌, ◌||◌, inl, inr, Bool, true, false, cond, List, [], ◌∷◌, ◌++◌, length, take, drop, get_or, eqb, Option, Some, None, refl, sym, ap, ◌∙◌, subst, arith, drop-cons}
 use Rattle.std.specs.Prelude.{is_none}
 use Rattle.std.proofs.lemmas.Bool.{eqb-true, eqb-false, or_parts}
 use Rattle.std.proofs.lemmas.Bool.Decides.{nat_tests}
-use Rattle.std.proofs.lemmas.List.{append_assoc, append-nil, drop_all, take_all, take_more}
+use Rattle.std.proofs.lemmas.List.{append_assoc, append-nil, drop_all, take_all}
 use Rattle.std.proofs.lemmas.List.Folds.{list_any-append}
-use Rattle.std.proofs.Math.Numerals.{add-one}
 use Rattle.text_parts.specs.Lines.{has_byte}
 use Rattle.model_conf.specs.Comments.{IsQuote, IsUncommented, ended, comment, plain, quoted, unclosed}
 use Rattle.model_conf.specs.Helps.Steps.{quote_after}
@@ -105,12 +104,6 @@ uncommented_only (unclosed {quote} {inside} is none is_left) =
 
 pub at_sharp : (text : List ℕ) (at : ℕ) → at < length text → get_or text at 0 ≡ 35 → uncommented None text ≡ take at text ++ uncommented None (drop at text) → uncommented None text ≡ take at text
 at_sharp text at within is so_far = so_far ∙ rw (drop-cons text at 0 within, is) (append-nil (take at text))
-
-pub one_further : (text : List ℕ) (quote : Option ℕ) (at : ℕ) → at < length text → (is_none quote && eqb (get_or text at 0) 35) ≡ false → uncommented None text ≡ take at text ++ uncommented quote (drop at text)
-    → uncommented None text ≡ take (at + 1) text ++ uncommented (quote_after quote (get_or text at 0)) (drop (at + 1) text)
-one_further text quote at within none so_far =
-    let step : uncommented quote (drop at text) ≡ get_or text at 0 ∷ uncommented (quote_after quote (get_or text at 0)) (drop (at + 1) text) = rw (add-one, drop-cons text at 0 within, none) refl in
-    so_far ∙ ap (λ (t : List ℕ). take at text ++ t) step ∙ sym (append_assoc (take at text) (get_or text at 0 ∷ []) (uncommented (quote_after quote (get_or text at 0)) (drop (at + 1) text))) ∙ ap (λ (t : List ℕ). t ++ uncommented (quote_after quote (get_or text at 0)) (drop (at + 1) text)) (sym (take_more text at 0 within))
 
 pub at_last : (text : List ℕ) (quote : Option ℕ) (at : ℕ) → length text ≤ at → uncommented None text ≡ take at text ++ uncommented quote (drop at text) → uncommented None text ≡ text
 at_last text quote at past so_far =

@@ -1,6 +1,6 @@
 -- Entries in memory, one after the other.
-use Rattle.std.proofs.Common.{◌≡◌, ℕ, suc, ◌+◌, ◌-◌, ◌<◌, ◌≤◌, ◌||◌, Bool, true, false, List, [], ◌∷◌, ◌++◌, length, drop, get_or, Option, Some, None, refl, sym, ap, ◌∙◌, arith, drop-cons}
-use Rattle.std.specs.Prelude.{option_and_then, string_bytes}
+use Rattle.std.proofs.Common.{◌≡◌, ℕ, suc, ◌+◌, ◌-◌, ◌<◌, ◌≤◌, ◌||◌, Bool, List, [], ◌∷◌, ◌++◌, length, drop, get_or, Option, Some, None, refl, sym, ap, ◌∙◌, arith, drop-cons}
+use Rattle.std.specs.Prelude.{option_and_then}
 use Rattle.std.specs.List.{list_any}
 use Rattle.std.specs.Option.{option_or}
 use Rattle.std.specs.Str.{bytes_eq}
@@ -12,14 +12,6 @@ use Rattle.model_conf.specs.Relations.{bad_shape_of, first_bad_shape, relations_
 use Rattle.model_conf.specs.Sections.{Entry, is_key_of}
 use Rattle.model_conf.specs.Helps.Seen.{entries_seen, entry_seen}
 use Rattle.model_conf.specs.declared.entries.Entry.{Entry as Kept}
-
--- ---- the value of a key
-
-pub value_here : (kept : List Kept) (d : Kept) (key : List ℕ) (at : ℕ) → at < length kept → bytes_eq (get_or kept at d).key.now key ≡ true → value_of (entries_seen (drop at kept)) key ≡ Some (string_bytes (get_or kept at d).value)
-value_here kept d key at within e = rw (drop-cons kept at d within, e) refl
-
-pub value_further : (kept : List Kept) (d : Kept) (key : List ℕ) (at : ℕ) → at < length kept → bytes_eq (get_or kept at d).key.now key ≡ false → value_of (entries_seen (drop (at + 1) kept)) key ≡ value_of (entries_seen (drop at kept)) key
-value_further kept d key at within e = rw (add-one, drop-cons kept at d within, e) refl
 
 -- ---- whether a key has a value
 

@@ -1,10 +1,8 @@
 -- A text that ends in `\`, and the lines that continue it.
-use Rattle.std.proofs.Common.{◌≡◌, ◌≢◌, ℕ, ◌<◌, Bool, true, false, Bor, Option, Some, None, List, [], ◌∷◌, ◌++◌, length, take, get_or, refl, sym, ap, ◌∙◌, subst, arith}
+use Rattle.std.proofs.Common.{◌≡◌, ◌≢◌, ℕ, Bool, true, false, Bor, Option, Some, None, List, [], ◌∷◌, ◌++◌, refl, sym, ap, ◌∙◌, subst}
 use Rattle.std.specs.Prelude.{MatchBool, MatchOption}
-use Rattle.std.specs.Str.{IsCharBoundary}
 use Rattle.std.proofs.lemmas.Bool.{MatchBool-at_true, MatchBool-at_false}
-use Rattle.std.proofs.lemmas.List.{append_assoc, append_cancel_right, length-append, take_at}
-use Rattle.std.proofs.lemmas.Str.{IsCharBoundary-before_ascii}
+use Rattle.std.proofs.lemmas.List.{append_assoc, append_cancel_right}
 use Rattle.text_parts.specs.Blanks.{before_blanks}
 use Rattle.text_parts.proofs.BlankLemmas.{back, before_blanks-blanks, before_blanks-other}
 use Rattle.text_parts.specs.Numbered.{Line}
@@ -29,26 +27,6 @@ open_by text bare None is none = λ front open_. none front (is ∙ before_open 
 open_by text bare (Some f) is spelled = ends_open text f.now (sym is ∙ spelled)
 
 -- ---- the front of a text that ends in `\`
-
-at_cut : (front back : List ℕ) (byte : ℕ) → get_or (front ++ byte ∷ back) (length front) 0 ≡ byte
-at_cut [] back byte = refl
-at_cut (f ∷ front) back byte = at_cut front back byte
-
-pub open_shorter : (text front : List ℕ) → EndsOpen text front → length front < length text
-open_shorter text front is = omega (arith, ap (λ (t : List ℕ). length t) is.spelled, length-append front (92 ∷ is.blanks))
-
--- the text may be cut behind it
-pub open_boundary : (text front : List ℕ) → EndsOpen text front → IsCharBoundary text (length front)
-open_boundary text front is =
-    let low : get_or text (length front) 0 ≡ 92 = ap (λ (t : List ℕ). get_or t (length front) 0) is.spelled ∙ at_cut front is.blanks 92 in
-    IsCharBoundary-before_ascii text (length front) (open_shorter text front is) (omega arith)
-
--- what is left when it is cut there
-pub open_cut : (text items front cut : List ℕ) → items ≡ text → EndsOpen items front → cut ≡ take (length front) text → EndsOpen text cut
-open_cut text items front cut same open_ is =
-    let opened : EndsOpen text front = subst (λ (t : List ℕ). EndsOpen t front) same open_ in
-    let left : cut ≡ front = is ∙ ap (λ (t : List ℕ). take (length front) t) opened.spelled ∙ take_at front (92 ∷ opened.blanks) (length front) refl in
-    subst (λ (f : List ℕ). EndsOpen text f) (sym left) opened
 
 -- where there is none
 pub closed_as : (text items : List ℕ) → items ≡ text → ((front : List ℕ) → ¬ (EndsOpen items front)) → (front : List ℕ) → ¬ (EndsOpen text front)

@@ -1,7 +1,6 @@
 -- The expressions of trees, one level at a time.
 use Rattle.std.proofs.Common.{◌≡◌, ℕ, ℤ, ◌⊎◌, inl, inr, Bool, List, [], ◌∷◌, map, Vec, Box, Global, sym, ap, ◌∙◌}
-use Rattle.matcher_read.specs.Expression.{Expression, expression, expression_step, expressions_of, text, whole, truth, request, policy, evaluated, binary, among, call, function, relation}
-use Rattle.matcher_read.specs.declared.tree.Function.{Function}
+use Rattle.matcher_read.specs.Expression.{Expression, expression, expression_step, expressions_of, text, whole, truth, request, policy, evaluated, binary, among, call, relation}
 use Rattle.matcher_read.specs.declared.tree.Operator.{Operator}
 use Rattle.matcher_read.specs.declared.tree.Tree.{Tree, Tree-F, fold-roll-Tree}
 use Rattle.matcher_read.specs.declared.tree.Tree.TheVariants as t
@@ -30,9 +29,6 @@ expression-Binary at op left right = ap expression (sym (t.rolls-Binary at op le
 
 pub expression-Among : (at : ℕ) (value : Box Tree Global) (members : Vec Tree Global) → expression (t.Among at value members) ≡ among at (expression value.value) (expressions_of (map expression members.items))
 expression-Among at value members = ap expression (sym (t.rolls-Among at value members)) ∙ fold-roll-Tree Expression expression_step (Tree-F.Among at value members)
-
-pub expression-Call : (at : ℕ) (f : Function) (arguments : Vec Tree Global) → expression (t.Call at f arguments) ≡ call at (function f) (expressions_of (map expression arguments.items))
-expression-Call at f arguments = ap expression (sym (t.rolls-Call at f arguments)) ∙ fold-roll-Tree Expression expression_step (Tree-F.Call at f arguments)
 
 pub expression-Role : (at number : ℕ) (arguments : Vec Tree Global) → expression (t.Role at number arguments) ≡ call at (relation number) (expressions_of (map expression arguments.items))
 expression-Role at number arguments = ap expression (sym (t.rolls-Role at number arguments)) ∙ fold-roll-Tree Expression expression_step (Tree-F.Role at number arguments)

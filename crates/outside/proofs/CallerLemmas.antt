@@ -1,11 +1,18 @@
--- What proofs here and in the crates above cite of told bytes, and of texts that are pushed one after the other.
-use Rattle.std.proofs.Common.{◌≡◌, ℕ, ◌≤◌, List, [], ◌++◌, refl, sym, ap, append_assoc, arith}
+-- What proofs here and in the crates above cite of told bytes, of texts that are pushed one after the other, and of what a source and a shelf tell of their calls.
+use Rattle.std.proofs.Common.{◌≡◌, ℕ, ◌≤◌, Bool, true, false, List, [], ◌∷◌, ◌++◌, inl, inr, refl, sym, ap, ◌∙◌, append_assoc, arith}
 use Rattle.std.specs.Prelude.{Option, Some, None, Result, Ok, Err}
+use Rattle.std.specs.Global.{Vec}
 use Rattle.std.proofs.lemmas.List.{append-nil}
+use Rattle.outside.specs.Ends.{IsEndedOnce, ends_after}
 use Rattle.outside.specs.Faults.{Rose}
+use Rattle.outside.specs.Fetches.{Fetches}
+use Rattle.outside.specs.Files.{Files}
+use Rattle.outside.specs.Log.{Adds, call, has_failed}
 use Rattle.outside.specs.Pushes.{PushesAll}
 use Rattle.outside.specs.Told.{with_front, with_back, TookFront}
 use Rattle.outside.specs.declared.fault.Failed.{Failed}
+use Rattle.outside.specs.declared.fetch_log.FetchCall.{FetchCall}
+use Rattle.outside.specs.declared.shelf.Fetch.{Fetch}
 
 pub with_front-nothing : (told : Option (List ℕ)) → with_front [] told ≡ told
 with_front-nothing None = refl
@@ -74,3 +81,46 @@ pushes_then before mid now a b c text more (Err e) whole counted next = record {
 pub pushes_some : (before now : Option (List ℕ)) (a b : ℕ) (text : List ℕ) (r : Result (Unit {0}) Failed) → PushesAll before now a b text r → TookFront before now text
 pushes_some before now a b text (Ok u) pushed = record { front = text; rest = []; parts = sym (append-nil text); took = pushed.took }
 pushes_some before now a b text (Err e) pushed = pushed.stopped
+
+-- ---- ends of a source
+
+-- an answer that does not say so
+pub ends_kept : (ends : Option ℕ) → ends_after ends false ≡ ends
+ends_kept None = refl
+ends_kept (Some n) = refl
+
+pub ended_once : (ends now : Option ℕ) (said : Bool) → now ≡ ends_after ends said → IsEndedOnce ends now
+ended_once ends now true told = inr told
+ended_once ends now false told = inl (told ∙ ends_kept ends)
+
+-- ---- the log of a shelf
+
+-- no call
+pub adds_none : (log : Option (List FetchCall)) → Adds log log []
+adds_none None = tt
+adds_none (Some calls) = (calls, refl, sym (append-nil calls))
+
+-- calls, and then more
+pub adds_then : (before mid now : Option (List FetchCall)) (first more : List FetchCall) → Adds before mid first → Adds mid now more → Adds before now (first ++ more)
+adds_then before mid None first more one two = tt
+adds_then before None (Some now) first more one (earlier, told, is) = absurd cc
+adds_then before (Some mid) (Some now) first more (earlier, told, mid_is) (later, same, now_is) =
+    (earlier, told, now_is ∙ ap (λ (calls : List FetchCall). calls ++ more) (same_calls (sym same) ∙ mid_is) ∙ append_assoc earlier first more)
+  where
+    same_calls : {xs ys : List FetchCall} → Some xs ≡ Some ys → xs ≡ ys
+    same_calls e = cc
+
+-- a fetch of a shelf that tells no calls, and its call
+pub with_call : (files now : Option Files) (calls calls_now : Option (List FetchCall)) (a b : ℕ) (name : List ℕ) (most : ℕ) (result : Result (Vec ℕ) Fetch)
+    → Fetches files now None None a b name most result → Adds calls calls_now (call name (has_failed result) ∷ []) → Fetches files now calls calls_now a b name most result
+with_call files now calls calls_now a b name most result is told = record {
+  same_files = is.same_files;
+  found = is.found;
+  within = is.within;
+  absent = is.absent;
+  uncounted = is.uncounted;
+  too_long = is.too_long;
+  told = told;
+  counted = is.counted;
+  failed = is.failed;
+}

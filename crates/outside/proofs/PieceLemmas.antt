@@ -13,9 +13,10 @@ pub record IsPushed (before now : Option (List ℕ)) (bytes : List ℕ) (at faul
   pub counted : faults_before ≤ faults_now
 
 -- how far a loop has read
-pub record IsRead (most : ℕ) (before now : Option (List ℕ)) (bytes : List ℕ) (faults_before faults_now : ℕ) : Type 0 where
+pub record IsRead (most : ℕ) (before now : Option (List ℕ)) (ends ends_now : Option ℕ) (bytes : List ℕ) (faults_before faults_now : ℕ) : Type 0 where
   pub within : length bytes ≤ most
   pub read : before ≡ with_front bytes now
+  pub not_ended : ends_now ≡ ends
   pub counted : faults_before ≤ faults_now
 
 -- the piece from a place to the end
@@ -39,8 +40,8 @@ pub pushed_front : (before now : Option (List ℕ)) (bytes : List ℕ) (at a b :
 pushed_front before now bytes at a b so_far = record { front = take at bytes; rest = drop at bytes; parts = sym (take-append-drop at bytes); took = so_far.took }
 
 -- the bytes that were read before a piece, and the piece
-pub read_on : (most : ℕ) (before mid now : Option (List ℕ)) (bytes more : List ℕ) (a b : ℕ) → IsRead most before mid bytes a b → mid ≡ with_front more now → HasRead before now
-read_on most before mid now bytes more a b so_far given = record { bytes = bytes ++ more; read = rw (so_far.read, given) (with_front-append now bytes more) }
+pub read_on : (most : ℕ) (before mid now : Option (List ℕ)) (ends ends_mid : Option ℕ) (bytes more : List ℕ) (a b : ℕ) → IsRead most before mid ends ends_mid bytes a b → mid ≡ with_front more now → HasRead before now
+read_on most before mid now ends ends_mid bytes more a b so_far given = record { bytes = bytes ++ more; read = rw (so_far.read, given) (with_front-append now bytes more) }
 
 -- what a piece took from the bytes that were left, and what is left
 pub given_is : (bytes piece buf : List ℕ) (at n : ℕ) → piece ≡ take (at + n - at) (drop at bytes) → length piece ≡ n → drop at bytes ≡ take n (piece ++ drop n buf) ++ drop (at + n) bytes

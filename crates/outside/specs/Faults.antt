@@ -5,6 +5,10 @@ use Rattle.std.specs.Prelude.{ℕ, ◌+◌, ◌^◌, ◌-◌, ◌≤◌, min}
 abbrev pub most_faults : ℕ
 most_faults = 2 ^ 64 - 1
 
+-- a count with one more
+abbrev pub one_more : ℕ → ℕ
+one_more count = min (count + 1) most_faults
+
 -- a count that stood at `before` has risen to `now`, or stands at its end
 abbrev pub Rose : ℕ → ℕ → Type 0
 Rose before now = min (before + 1) most_faults ≤ now

@@ -1,8 +1,10 @@
 pub mod Faults
 pub mod Told
+pub mod Ends
 pub mod Pulls
 pub mod Pushes
 pub mod Files
+pub mod Log
 pub mod Fetches
 pub mod Listed
 pub mod Helps

@@ -1,8 +1,9 @@
 -- Objects in memory that fail at listed calls, the calls being numbered from 1.
-use Rattle.std.specs.Prelude.{ℕ, ◌+◌, ◌-◌, ◌^◌, ◌==◌, ◌&&◌, ◌||◌, ◌++◌, [], Bool, List, if◌then◌else◌, is_some, length, min, not, take}
+use Rattle.std.specs.Prelude.{ℕ, ◌+◌, ◌-◌, ◌^◌, ◌==◌, ◌&&◌, ◌||◌, ◌++◌, [], Bool, List, Option, if◌then◌else◌, is_some, length, min, not, take}
 use Rattle.std.specs.List.{list_any}
 use Rattle.outside.specs.Faults.{most_faults}
 use Rattle.outside.specs.Files.{file_of}
+use Rattle.outside.specs.declared.fetch_log.FetchCall.{FetchCall}
 
 -- which calls fail, how many calls there were, and how many failed
 pub record Schedule : Type 0 where
@@ -34,9 +35,10 @@ after_fault schedule = record schedule { faults = min (schedule.faults + 1) most
 abbrev pub after_call_that : Bool → Schedule → Schedule
 after_call_that fails schedule = if fails then after_fault (after_call schedule) else after_call schedule
 
--- a source: the bytes that are left
+-- a source: the bytes that are left, and how often it has answered that it is at its end
 pub record ListedSource : Type 0 where
   pub left : List ℕ
+  pub ends : ℕ
   pub schedule : Schedule
 
 -- a sink: the bytes that it took, how many it takes in all, and how many at a call
@@ -65,15 +67,16 @@ after_push sink piece = record sink {
   schedule = after_call_that (push_fails sink piece) sink.schedule;
 }
 
--- a shelf: names and bytes
+-- a shelf: names and bytes, and the fetches as far as it tells them
 pub record ListedShelf : Type 0 where
   pub entries : List (List ℕ × List ℕ)
+  pub log : Option (List FetchCall)
   pub schedule : Schedule
 
 -- the next fetch of the name fails: it is a listed call, and the file is there
 abbrev pub fetch_fails : ListedShelf → List ℕ → Bool
 fetch_fails shelf name = is_listed shelf.schedule && is_some (file_of shelf.entries name)
 
--- after a fetch of the name
+-- after a fetch of the name, apart from its log
 abbrev pub after_fetch : ListedShelf → List ℕ → ListedShelf
 after_fetch shelf name = record shelf { schedule = after_call_that (fetch_fails shelf name) shelf.schedule }

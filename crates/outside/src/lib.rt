@@ -2,6 +2,7 @@
 #![tactic(auto)]
 
 mod fault;
+mod fetch_log;
 mod memory;
 mod share;
 mod shelf;
@@ -10,9 +11,10 @@ mod source;
 mod text;
 
 pub use fault::{Failed, NoMemory};
+pub use fetch_log::{FetchCall, FetchLog};
 pub use memory::{ListShelf, ListSink, ListSource, SureShelf, SureSink, SureSource};
 pub use share::Share;
 pub use shelf::{Fetch, Shelf};
 pub use sink::{Sink, push_all};
-pub use source::{ReadStop, Source, read_all};
+pub use source::{ReadStop, Source, ends_after, read_all};
 pub use text::Text;

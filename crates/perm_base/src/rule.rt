@@ -39,6 +39,14 @@ pub enum RuleFault {
 }
 
 impl Rule {
+    /// The rule of these texts, none of which holds CR or LF. It takes no memory.
+    pub fn from_vec(fields: Vec<Text>) -> Rule
+        requires { AreFields fields.items }
+        ensures { result ≡ fields.items }
+    {
+        Rule { fields }
+    }
+
     /// The rule of these texts. It takes no memory; where a text holds CR or LF, the texts are dropped.
     pub fn from_fields(fields: Vec<Text>) -> Result<Rule, RuleFault>
         requires { vec_len fields < 2 ^ 32 }

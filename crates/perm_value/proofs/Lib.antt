@@ -1,6 +1,7 @@
 mod MemberLemmas
 mod WeightLemmas
 mod CompareLemmas
+mod HashLemmas
 mod RisingLemmas
 mod AttributeLemmas
 mod WithinLemmas

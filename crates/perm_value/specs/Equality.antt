@@ -1,10 +1,11 @@
 -- When two data are equal: the same kind and the same content.
-use Rattle.std.specs.Prelude.{Bool, false, true, ◌&&◌}
+use Rattle.std.specs.Prelude.{Bool, false, true, ◌&&◌, List}
 use Rattle.std.specs.Bool.{beq}
 use Rattle.std.specs.Ordering.{int_eq, on}
 use Rattle.std.specs.Str.{bytes_eq}
 use Rattle.perm_value.specs.Datum.{Datum, nothing, truth, whole, text, list, object, Items, no_items, item, Members, no_members, member}
-use Rattle.perm_value.specs.Seen.{datum_of_view}
+use Rattle.perm_value.specs.Seen.{datum, datum_of_view, items}
+use Rattle.perm_value.specs.declared.value.Value.{Value}
 use Rattle.perm_value.specs.declared.value.View.{View}
 
 -- texts by their bytes, lists by their items in order, objects by their names and data in order
@@ -31,3 +32,11 @@ abbrev mutual
 -- the equality of views
 abbrev pub view_eq : View → View → Bool
 view_eq = on datum_of_view datum_eq
+
+-- the equality of values
+abbrev pub value_eq : Value → Value → Bool
+value_eq = on datum datum_eq
+
+-- the equality of requests: as many values, each equal to the other's at its place
+abbrev pub request_eq : List Value → List Value → Bool
+request_eq = on items items_eq

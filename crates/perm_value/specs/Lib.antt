@@ -1,6 +1,7 @@
 pub mod Datum
 pub mod Attribute
 pub mod Equality
+pub mod Hashed
 pub mod Seen
 pub mod Json
 pub mod Fields

@@ -1,8 +1,10 @@
-ghost use Rattle.std.specs.Prelude.{◌≡◌, IsTrue, ◌↔◌};
-ghost use Rattle.perm_value.specs.Helps.EqualityLaws.{view_eq-laws};
-ghost use Rattle.perm_value.specs.Equality.{datum_eq, items_eq, members_eq, view_eq};
-ghost use Rattle.perm_value.specs.Seen.{datum_of_view, items, members};
+ghost use Rattle.std.specs.Prelude.{◌≡◌, IsTrue, ◌↔◌, map};
+ghost use Rattle.std.specs.Cmp.{partial_equiv_from_equiv};
+ghost use Rattle.perm_value.specs.Helps.EqualityLaws.{request_eq-equiv, value_eq-equiv, view_eq-laws};
+ghost use Rattle.perm_value.specs.Equality.{datum_eq, items_eq, members_eq, request_eq, value_eq, view_eq};
+ghost use Rattle.perm_value.specs.Seen.{datum, datum_of_view, items, members};
 
+use crate::request::Request;
 use crate::value::{Value, View};
 use std::collections::BTreeMap;
 
@@ -19,6 +21,42 @@ impl PartialEq for View<'_> {
     {
         is_same(self, other)
     }
+}
+
+/// Values are equal where they stand for one datum. It takes no memory.
+impl PartialEq for Value {
+    ghost eq = { value_eq };
+
+    ghost laws = { partial_equiv_from_equiv value_eq-equiv };
+
+    fn eq(&self, other: &Value) -> bool
+        ensures same { result ≡ value_eq self.now other.now }
+        ensures decides { IsTrue result ↔ (datum self.now ≡ datum other.now) }
+    {
+        is_same(&self.view(), &other.view())
+    }
+}
+
+impl Eq for Value {
+    ghost laws = { value_eq-equiv };
+}
+
+/// Requests are equal where they have the same values in the same order. It takes no memory.
+impl PartialEq for Request {
+    ghost eq = { request_eq };
+
+    ghost laws = { partial_equiv_from_equiv request_eq-equiv };
+
+    fn eq(&self, other: &Request) -> bool
+        ensures same { result ≡ request_eq self.now other.now }
+        ensures decides { IsTrue result ↔ (map datum self.now ≡ map datum other.now) }
+    {
+        are_same_items(self.as_slice(), other.as_slice())
+    }
+}
+
+impl Eq for Request {
+    ghost laws = { request_eq-equiv };
 }
 
 // Whether both have the same kind and content.
@@ -38,7 +76,7 @@ fn is_same(one: &View<'_>, other: &View<'_>) -> bool
 }
 
 #[cycle(same)]
-fn are_same_items(values: &[Value], others: &[Value]) -> bool
+pub(crate) fn are_same_items(values: &[Value], others: &[Value]) -> bool
     ensures { result ≡ items_eq (items values.now) (items others.now) }
 {
     let mut others = others.iter();

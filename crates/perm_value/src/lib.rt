@@ -4,6 +4,7 @@
 mod compare;
 mod copy;
 mod fields;
+mod hashing;
 mod json;
 mod request;
 mod value;

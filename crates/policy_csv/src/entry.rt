@@ -61,10 +61,7 @@ fn entry_of(
     let Some((table, columns)) = table_named(shapes, name) else {
         return Err(PolicyFault::UnknownTable { line: number });
     };
-    // What is read of a line holds no line end.
-    let Ok(rule) = Rule::from_fields(fields) else {
-        unreachable!()
-    };
+    let rule = Rule::from_vec(fields);
     if rule.len() != columns {
         return Err(PolicyFault::Columns { line: number });
     }

@@ -1,28 +1,26 @@
 -- What a desk keeps where an edit is drafted.
-use Rattle.std.proofs.Common.{◌≡◌, ◌<◌, true, List, [], ◌∷◌, ◌++◌, length, length-append, sym, ap, subst, ◌∙◌, arith}
+use Rattle.std.proofs.Common.{◌≡◌, ℕ, ◌+◌, ◌<◌, true, List, [], ◌∷◌, ◌++◌, length, length-append, Ok, Some, refl, sym, ap, subst, ◌∙◌, arith}
 use Rattle.std.proofs.lemmas.List.{append-nil}
-use Rattle.edit_calls.specs.Admitted.{admits}
+use Rattle.edit_calls.specs.Admitted.{AreAdmitted, admits}
 use Rattle.perm_base.specs.declared.shapes.Shapes.{Shapes}
-use Rattle.policy_desk.specs.Desks.{IsDesk, Work, edits_of}
-use Rattle.policy_state.specs.Admitted.{AreAdmitted}
-use Rattle.policy_state.specs.States.{tables}
+use Rattle.policy_desk.specs.Desks.{IsDesk, Work, edits_of, floor_after}
+use Rattle.policy_desk.specs.Ready.{IsPreparedFor}
+use Rattle.policy_desk.specs.Transitions.{IsBegun, IsPublished, after_call}
+use Rattle.policy_state.proofs.CallerLemmas.{admitted_both, stands_same}
+use Rattle.policy_state.specs.Ready.{Ready}
+use Rattle.policy_state.specs.States.{State, StandsFor, tables}
 use Rattle.policy_table.proofs.CallerLemmas.{are_lists, counted_edited}
 use Rattle.policy_table.specs.Changes.{edited, flat, replay}
 use Rattle.policy_table.specs.Limits.{AreSound}
 use Rattle.policy_table.specs.Tables.{AreLists, IsKept, Policy}
 use Rattle.policy_table.specs.declared.change.Change.{Change}
-use Rattle.version_log.specs.Log.{most_versions}
+use Rattle.version_log.specs.Log.{most_versions, versions}
 use Rattle.version_log.proofs.CallerLemmas.{replay_both}
 
 -- sound tables after one edit are lists
 pub one_few : (shapes : Shapes) (policy : Policy) (edits : List (List Change)) (edit : List Change) → edits ≡ edit ∷ [] → IsKept policy → AreSound shapes (edited edit policy) → AreLists (edited (flat edits) policy).lists
 one_few shapes policy edits edit one kept sound = subst (λ (changes : List Change). AreLists (edited changes policy).lists) (sym (ap flat one ∙ append-nil edit))
     (are_lists shapes (edited edit policy) (counted_edited edit policy ∙ kept.lists.counted) sound.shaped sound.within)
-
--- one more edit that is admitted behind the others
-admitted_more : (shapes : Shapes) (edits : List (List Change)) (policy : Policy) (edit : List Change) → AreAdmitted shapes policy edits → admits shapes (replay edits policy) edit ≡ true → AreAdmitted shapes policy (edits ++ edit ∷ [])
-admitted_more shapes [] policy edit all one = (one, tt)
-admitted_more shapes (first ∷ edits) policy edit all one = (all.0, admitted_more shapes edits (edited first policy) edit all.1 one)
 
 -- a desk with one more pending edit, which is made in its drafts
 pub drafted : (desk : Work) (edit : List Change) (pending : List (List Change)) (drafts : Policy) → IsDesk desk → admits desk.state.shapes desk.drafts edit ≡ true → AreSound desk.state.shapes (edited edit desk.drafts)
@@ -31,8 +29,67 @@ drafted desk edit pending drafts old admitted sound few more made = record {
   drafts = made ∙ ap (edited edit) old.drafts ∙ sym (replay_both desk.pending (edit ∷ []) (tables desk.state)) ∙ ap (λ (l : List (List Change)). replay l (tables desk.state)) (sym more);
   sound = subst (AreSound desk.state.shapes) (sym made) sound;
   admitted = subst (AreAdmitted desk.state.shapes (tables desk.state)) (sym more)
-      (admitted_more desk.state.shapes desk.pending (tables desk.state) edit old.admitted (subst (λ (p : Policy). admits desk.state.shapes p edit ≡ true) old.drafts admitted));
+      (admitted_both desk.state.shapes desk.pending (edit ∷ []) (tables desk.state) old.admitted (subst (λ (p : Policy). admits desk.state.shapes p edit ≡ true) old.drafts admitted, tt));
   few = omega (arith, few, ap (λ (l : List (List Change)). length l) more, length-append desk.pending (edit ∷ []));
   from = old.from;
   until = old.until;
 }
+
+-- it is the desk after the call
+pub drafted_is : (now inside : Work) (edit : List Change) (pending : List (List Change)) (drafts : Policy) → inside ≡ now → pending ≡ inside.pending ++ edit ∷ [] → drafts ≡ edited edit inside.drafts
+    → record inside { pending = pending; drafts = drafts } ≡ after_call (Ok (Some edit)) now
+drafted_is now inside edit pending drafts is more made = (λ j. record inside { pending = more j; drafts = made j }) ∙ ap (after_call (Ok (Some edit))) is
+
+-- a publish is begun
+pub begun_from : (now inside : Work) (state : State) (floor : ℕ) → inside ≡ now → floor ≡ floor_after now → state.shapes ≡ inside.state.shapes → state.column ≡ inside.state.column
+    → state.log.start ≡ inside.state.log.start → state.log.base ≡ inside.state.log.base → state.log.tail ≡ inside.state.log.tail → IsBegun now (record inside { state = state; floor = floor })
+begun_from now inside state floor is raised shapes column start base tail =
+    subst (λ (d : Work). IsBegun d (record inside { state = state; floor = floor })) is
+    (record {
+      state = record {
+        shapes = shapes;
+        column = column;
+        start = start;
+        base = base;
+        tail = tail;
+        stands = λ opening history stands. stands_same inside.state.log state.log opening history start base tail stands;
+      };
+      others = let here : floor ≡ floor_after inside = raised ∙ ap floor_after (sym is) in λ j. record inside { state = state; floor = here j };
+    })
+
+-- it is made
+pub made_from : (now inside : Work) (ready : Ready) (state : State) (pending : List (List Change)) → pending ≡ [] → inside ≡ now → IsDesk inside → IsPreparedFor now ready → state.shapes ≡ inside.state.shapes → state.column ≡ inside.state.column → state.log.start ≡ ready.start
+    → ((opening : Policy) (history : List (List Change)) → StandsFor inside.state opening history → StandsFor state opening (history ++ ready.edits))
+    → tables state ≡ replay ready.edits (tables inside.state) → versions state.log ≡ versions inside.state.log + length ready.edits
+    → IsPublished now.floor now (record inside { state = state; pending = pending })
+made_from now inside ready state pending none is kept prepared shapes column start stands tables_are more =
+    let here : IsPreparedFor inside ready = subst (λ (d : Work). IsPreparedFor d ready) (sym is) prepared in
+    subst (λ (d : Work). IsPublished d.floor d (record inside { state = state; pending = pending })) is
+    (record {
+      state = record {
+        shapes = shapes;
+        column = column;
+        stands = λ opening history before. subst (λ (p : List (List Change)). StandsFor state opening (history ++ p)) here.edits (stands opening history before);
+        more = more ∙ ap (λ (p : List (List Change)). versions inside.state.log + length p) here.edits;
+      };
+      tables_are = tables_are ∙ ap (λ (p : List (List Change)). replay p (tables inside.state)) here.edits ∙ sym kept.drafts;
+      start = start ∙ here.start;
+      others = λ j. record inside { state = state; pending = none j };
+    })
+
+-- a publish that is begun and then made
+pub published_from : (before ready now : Work) → IsBegun before ready → IsPublished ready.floor ready now → IsPublished (floor_after before) before now
+published_from before ready now begun made = record {
+  state = record {
+    shapes = made.state.shapes ∙ begun.state.shapes;
+    column = made.state.column ∙ begun.state.column;
+    stands = λ opening history stands. subst (λ (p : List (List Change)). StandsFor now.state opening (history ++ p)) pending (made.state.stands opening history (begun.state.stands opening history stands));
+    more = omega (arith, made.state.more, begun.state.start, ap (λ (l : List (List Change)). length l) begun.state.tail, ap (λ (l : List (List Change)). length l) pending);
+  };
+  tables_are = made.tables_are ∙ ap (λ (d : Work). d.drafts) begun.others;
+  start = made.start ∙ ap (λ (d : Work). d.floor) begun.others;
+  others = made.others ∙ ap (λ (d : Work). record d { state = now.state; pending = []; floor = d.floor }) begun.others;
+}
+  where
+    pending : ready.pending ≡ before.pending
+    pending = ap (λ (d : Work). d.pending) begun.others

@@ -1,2 +1,3 @@
 mod AnswerLemmas
 mod DeskLemmas
+pub mod CallerLemmas

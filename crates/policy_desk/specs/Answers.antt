@@ -1,24 +1,16 @@
 -- The answer of a management call at a desk, and what it leaves.
-use Rattle.std.specs.Prelude.{◌≡◌, ℕ, ◌==◌, Bool, List, [], ◌∷◌, ◌++◌, Some, None, is_some, Ok, Err, if◌then◌else◌}
-use Rattle.edit_calls.specs.Answers.{Answer, answer}
+use Rattle.std.specs.Prelude.{◌≡◌, Bool, List, [], ◌∷◌, ◌++◌, Some, None, is_some, Ok, Err}
+use Rattle.edit_calls.specs.Answers.{Answer, answer, while_few}
 use Rattle.edit_calls.specs.declared.call.Call.{Call}
-use Rattle.edit_calls.specs.declared.refused.CallRefused.TheVariants.{Full}
 use Rattle.policy_desk.specs.Desks.{Work, edits_of}
 use Rattle.policy_table.specs.Changes.{edited}
 use Rattle.policy_table.specs.Tables.{Policy}
 use Rattle.policy_table.specs.declared.change.Change.{Change}
-use Rattle.policy_table.specs.declared.limit.Limit.TheVariants.{Edits}
 use Rattle.version_log.specs.Log.{most_versions}
-
--- an answer beside so many edits: one edit more is refused where there are as many as there may be
-abbrev pub while_few : ℕ → Answer → Answer
-while_few edits (Ok (Some edit)) = if edits == most_versions then Err (Full Edits) else Ok (Some edit)
-while_few edits (Ok None) = Ok None
-while_few edits (Err refused) = Err refused
 
 -- what the drafts answer, while there are few edits
 abbrev pub desk_answer : Work → Call → Answer
-desk_answer desk call = while_few (edits_of desk) (answer desk.state.shapes desk.drafts call)
+desk_answer desk call = while_few most_versions (edits_of desk) (answer desk.state.shapes desk.drafts call)
 
 -- the call is not refused, and it is said whether it changes something
 abbrev pub IsAnswered : Answer → Bool → Type 0

@@ -2,7 +2,7 @@
 -- API; here its calls wait for a publish).
 use Rattle.std.specs.Prelude.{◌≡◌, ℕ, ◌+◌, ◌-◌, ◌≤◌, max, List, Option, length}
 use Rattle.std.specs.Option.{option_map_or}
-use Rattle.policy_state.specs.Admitted.{AreAdmitted}
+use Rattle.edit_calls.specs.Admitted.{AreAdmitted}
 use Rattle.policy_state.specs.States.{State, tables}
 use Rattle.policy_table.specs.Changes.{replay}
 use Rattle.policy_table.specs.Limits.{AreSound}

@@ -1,3 +1,4 @@
 pub mod Desks
 pub mod Answers
+pub mod Transitions
 pub mod Ready

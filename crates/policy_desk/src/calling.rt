@@ -1,9 +1,9 @@
-ghost use Rattle.std.specs.Prelude.{◌≡◌, ◌<◌, ◌++◌, ◌∷◌, [], IfOk, IfSome, MatchResult, Ok, OnErr, OnOk, true};
+ghost use Rattle.std.specs.Prelude.{◌≡◌, ◌<◌, IfOk, IfSome, MatchResult, Ok, OnErr, OnOk, Some, true};
 ghost use Rattle.edit_calls.specs.Admitted.{admits};
 ghost use Rattle.edit_calls.specs.Told.{IsTold};
-ghost use Rattle.policy_desk.specs.Answers.{IsAnswered, desk_answer, drafts_after, pending_after};
+ghost use Rattle.policy_desk.specs.Answers.{IsAnswered, desk_answer};
 ghost use Rattle.policy_desk.specs.Desks.{edits_of};
-ghost use Rattle.policy_table.specs.Changes.{edited};
+ghost use Rattle.policy_desk.specs.Transitions.{after_call};
 ghost use Rattle.version_log.specs.Log.{most_versions};
 
 use crate::desk::Desk;
@@ -25,15 +25,9 @@ impl Desk {
         ensures answered { MatchResult result
             (IsAnswered (desk_answer self.old call.now))
             (IsTold (desk_answer self.old call.now)) }
-        ensures pending { IfOk result (λ _. self.new.pending
-            ≡ pending_after (desk_answer self.old call.now) self.old.pending) }
-        ensures drafts { IfOk result (λ _. self.new.drafts
-            ≡ drafts_after (desk_answer self.old call.now) self.old.drafts) }
-        ensures refused_pending { OnErr result (self.new.pending ≡ self.old.pending) }
-        ensures refused_drafts { OnErr result (self.new.drafts ≡ self.old.drafts) }
-        ensures state { self.new.state ≡ self.old.state }
-        ensures kept { self.new.kept ≡ self.old.kept }
-        ensures floor { self.new.floor ≡ self.old.floor }
+        ensures done { IfOk result (λ _. self.new
+            ≡ after_call (desk_answer self.old call.now) self.old) }
+        ensures refused { OnErr result (self.new ≡ self.old) }
     {
         let Some(edit) = self.edit_by(alloc, call)? else {
             return Ok(false);
@@ -67,13 +61,8 @@ impl Desk {
     fn draft(&mut self, alloc: Global, edit: Edit) -> Result<(), NoMemory>
         requires admitted { admits self.old.state.shapes self.old.drafts edit ≡ true }
         requires few { edits_of self.old < most_versions }
-        ensures pending { OnOk result (self.new.pending ≡ self.old.pending ++ edit ∷ []) }
-        ensures drafts { OnOk result (self.new.drafts ≡ edited edit self.old.drafts) }
-        ensures refused_pending { OnErr result (self.new.pending ≡ self.old.pending) }
-        ensures refused_drafts { OnErr result (self.new.drafts ≡ self.old.drafts) }
-        ensures state { self.new.state ≡ self.old.state }
-        ensures kept { self.new.kept ≡ self.old.kept }
-        ensures floor { self.new.floor ≡ self.old.floor }
+        ensures done { OnOk result (self.new ≡ after_call (Ok (Some edit)) self.old) }
+        ensures refused { OnErr result (self.new ≡ self.old) }
     {
         admitted_edits_keep_sound();
         self.drafts.kept();

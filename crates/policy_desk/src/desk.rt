@@ -78,13 +78,6 @@ impl Desk {
         &self.pending
     }
 
-    /// The published tables after the pending edits.
-    pub fn drafts(&self) -> &Tables
-        ensures policy { result.now.policy ≡ self.now.drafts }
-    {
-        &self.drafts
-    }
-
     /// The version before which edits may be let go. Publishes raise it, and nothing lowers it.
     pub fn floor(&self) -> u32
         ensures floor { result ≡ self.now.floor }
@@ -103,20 +96,9 @@ impl Desk {
     /// Lets later publishes keep so many edits before the version at which they begin; until this is called they keep all.
     /// It takes no memory, and moves nothing yet.
     pub fn keep(&mut self, edits: u32)
-        ensures kept { self.new.kept ≡ Some edits }
-        ensures state { self.new.state ≡ self.old.state }
-        ensures pending { self.new.pending ≡ self.old.pending }
-        ensures drafts { self.new.drafts ≡ self.old.drafts }
-        ensures floor { self.new.floor ≡ self.old.floor }
+        ensures kept { self.new ≡ record self.old { kept = Some edits } }
     {
         self.kept = Some(edits);
-    }
-
-    /// The published policy; the pending edits are dropped.
-    pub fn into_state(self) -> PolicyState
-        ensures state { result ≡ self.state }
-    {
-        self.state
     }
 }
 

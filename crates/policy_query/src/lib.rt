@@ -7,6 +7,6 @@ mod refused;
 mod rules;
 
 pub use edits::edit_of;
-pub use names::{roles_of, users_of};
+pub use names::{names_refusal, roles_of, users_of};
 pub use refused::QueryRefused;
 pub use rules::{has_rule, rows_of};

@@ -19,6 +19,24 @@ const ROLE: u32 = 1;
 
 const DOMAIN: u32 = 2;
 
+/// Why `roles_of` and `users_of` refuse a question about a relation, whatever the tables hold and whatever name is asked
+/// for: the shapes lack the relation, or a domain is given where it has none, or none where it has one. It takes no memory.
+pub fn names_refusal(shapes: &Shapes, relation: u8, domain: Option<&[u8]>) -> Option<QueryRefused>
+    ensures { result ≡ names_refusal shapes.now relation (option_copied domain.entry) }
+{
+    let Some(shape) = shapes.roles.find(relation) else {
+        let table = TableId::G(relation);
+        return Some(QueryRefused::NoTable { table });
+    };
+    let want = named_columns(shape.with_domain);
+    let got = named_columns(domain.is_some());
+    if want == got {
+        None
+    } else {
+        Some(QueryRefused::Columns { want, got })
+    }
+}
+
 /// The roles that a name has in a relation by rules of its own, in one domain where the relation has domains: each once,
 /// in the order of its first rule. Names and domains are compared byte by byte (Casbin, GetRolesForUser and
 /// GetRolesForUserInDomain). Refused are a relation that the shapes lack, a domain where it has none, and none where it
@@ -63,23 +81,6 @@ pub fn users_of(
     }
     let rules = tables.rows(TableId::G(relation));
     Ok(names_beside(alloc, rules, ROLE, USER, name, domain)?)
-}
-
-// Why names of a relation are not told.
-fn names_refusal(shapes: &Shapes, relation: u8, domain: Option<&[u8]>) -> Option<QueryRefused>
-    ensures { result ≡ names_refusal shapes.now relation (option_copied domain.entry) }
-{
-    let Some(shape) = shapes.roles.find(relation) else {
-        let table = TableId::G(relation);
-        return Some(QueryRefused::NoTable { table });
-    };
-    let want = named_columns(shape.with_domain);
-    let got = named_columns(domain.is_some());
-    if want == got {
-        None
-    } else {
-        Some(QueryRefused::Columns { want, got })
-    }
 }
 
 // How many columns a query for names gives: a name, and a domain or none.
@@ -145,8 +146,5 @@ fn rule_of(alloc: Global, names: &[&str]) -> Result<Rule, NoMemory>
     for name in names {
         fields.push(Text::from_str(alloc, name)?)?;
     }
-    let Ok(rule) = Rule::from_fields(fields) else {
-        unreachable!()
-    };
-    Ok(rule)
+    Ok(Rule::from_vec(fields))
 }

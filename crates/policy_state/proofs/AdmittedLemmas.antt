@@ -5,15 +5,15 @@ use Rattle.std.specs.List.{list_all}
 use Rattle.std.specs.Option.{option_map_or}
 use Rattle.std.proofs.lemmas.Bool.{and_parts, eqb-true, lt-ltb}
 use Rattle.std.proofs.lemmas.Bool.Decides.{Decides-eqb}
-use Rattle.edit_calls.specs.Admitted.{admits, is_fitting, may_stand}
+use Rattle.std.proofs.lemmas.Option.{same_Some}
+use Rattle.edit_calls.specs.Admitted.{AreAdmitted, admits, is_fitting, may_stand}
 use Rattle.perm_base.specs.RoleShapes.{shape_of}
 use Rattle.perm_base.specs.declared.shapes.RoleShape.{RoleShape}
 use Rattle.perm_base.specs.declared.shapes.Shapes.{Shapes}
 use Rattle.perm_base.specs.declared.shapes.TableId.{TableId}
 use Rattle.perm_base.specs.declared.shapes.TableId.TheVariants.{G, P}
 use Rattle.policy_index.specs.Indexed.{all_fit, fits_column}
-use Rattle.policy_state.specs.Admitted.{AreAdmitted}
-use Rattle.policy_table.specs.Changes.{applies, edited, flat, is_table, own, table_of}
+use Rattle.policy_table.specs.Changes.{applies, edited, flat, is_table, own, replay, table_of}
 use Rattle.policy_table.specs.Limits.{AreSound, columns_of, role_columns}
 use Rattle.policy_table.specs.Tables.{Fields, Policy, most_tables}
 use Rattle.policy_table.specs.declared.change.Change.{Change}
@@ -56,6 +56,25 @@ all_made shapes keep policy (edit ∷ edits) nine sound are =
       all_made shapes keep (edited edit policy) edits counted after are.1,
     )
 
+-- ---- edits of two lists
+
+-- a front of them is admitted
+pub admitted_front : (shapes : Shapes) (front back : List (List Change)) (policy : Policy) → AreAdmitted shapes policy (front ++ back) → AreAdmitted shapes policy front
+admitted_front shapes [] back policy all = tt
+admitted_front shapes (edit ∷ front) back policy all = (all.0, admitted_front shapes front back (edited edit policy) all.1)
+
+-- what is left is admitted in the tables after the front
+pub admitted_rest : (shapes : Shapes) (front back : List (List Change)) (policy : Policy) → AreAdmitted shapes policy (front ++ back) → AreAdmitted shapes (replay front policy) back
+admitted_rest shapes [] back policy all = all
+admitted_rest shapes (edit ∷ front) back policy all = admitted_rest shapes front back (edited edit policy) all.1
+
+-- and both are so together
+pub admitted_both : (shapes : Shapes) (front back : List (List Change)) (policy : Policy) → AreAdmitted shapes policy front → AreAdmitted shapes (replay front policy) back → AreAdmitted shapes policy (front ++ back)
+admitted_both shapes [] back policy one other = other
+admitted_both shapes (edit ∷ front) back policy one other = (one.0, admitted_both shapes front back (edited edit policy) one.1 other)
+
+-- ---- rules that are put in
+
 -- what passes a test of two lists passes it of both
 all_both : {X : Type 0} (p : X → Bool) (front back : List X) → list_all p (front ++ back) ≡ (list_all p front && list_all p back)
 all_both p [] back = refl
@@ -73,10 +92,16 @@ all_fitting shapes policy (edit ∷ edits) are =
     ∙ ap (λ (b : Bool). b && list_all (is_fitting shapes) (flat edits)) (and_parts _ _ (and_parts _ _ are.0).0).0
     ∙ all_fitting shapes (edited edit policy) edits are.1
 
--- a rule that may stand in a table has its columns
+-- a rule that may stand in a table has its number of columns
+pub has_columns : (shapes : Shapes) (table : TableId) (rule : Fields) → may_stand shapes table rule ≡ true → columns_of shapes table ≡ Some (length rule)
+has_columns shapes table rule may = by (columns_of shapes table) (and_parts _ _ may).0
+  where
+    by : (columns : Option ℕ) → option_map_or (λ (columns : ℕ). length rule == columns) columns false ≡ true → columns ≡ Some (length rule)
+    by None is = absurd cc
+    by (Some columns) is = ap Some (sym (eqb-true (length rule) columns is))
+
 columns_known : (shapes : Shapes) (table : TableId) (rule : Fields) (columns : ℕ) → columns_of shapes table ≡ Some columns → may_stand shapes table rule ≡ true → length rule ≡ columns
-columns_known shapes table rule columns known may =
-    eqb-true (length rule) columns (sym (ap (λ (p : Option ℕ). option_map_or (λ (columns : ℕ). length rule == columns) p false) known) ∙ (and_parts _ _ may).0)
+columns_known shapes table rule columns known may = same_Some (length rule) columns (sym (has_columns shapes table rule may) ∙ known)
 
 -- changes of one table that put in rules which may stand there pass a test that rules with its columns pass
 own_pass : (shapes : Shapes) (table : TableId) (test : Change → Bool) → ((change : Change) → table ≡ table_of change → is_fitting shapes change ≡ true → test change ≡ true)

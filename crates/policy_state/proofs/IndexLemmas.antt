@@ -7,7 +7,7 @@ use Rattle.perm_base.specs.declared.shapes.TableId.TheVariants.{P}
 use Rattle.policy_index.specs.Indexed.{Indexed}
 use Rattle.policy_index.specs.Places.{HaveColumn}
 use Rattle.policy_index.proofs.CallerLemmas.{edit_follows, possible_follows}
-use Rattle.policy_state.specs.Admitted.{AreAdmitted}
+use Rattle.edit_calls.specs.Admitted.{AreAdmitted}
 use Rattle.policy_state.specs.Helps.Kept.{CanReserve, IsIndexOf, KeptIndex, indexed_of, reindexed}
 use Rattle.policy_state.specs.Ready.{CanIndex}
 use Rattle.policy_state.proofs.AdmittedLemmas.{KeepSound, all_apply, all_fitting, all_have_column, all_sound}

@@ -10,7 +10,7 @@ use Rattle.perm_base.specs.RoleShapes.{AreRoles, shape_of}
 use Rattle.perm_base.specs.declared.shapes.RoleShape.{RoleShape}
 use Rattle.perm_base.specs.declared.shapes.Shapes.{Shapes}
 use Rattle.perm_base.specs.declared.shapes.TableId.TheVariants.{G}
-use Rattle.policy_state.specs.Admitted.{AreAdmitted}
+use Rattle.edit_calls.specs.Admitted.{AreAdmitted}
 use Rattle.policy_state.specs.Helps.Kept.{AreSections, CanTake, Kept, changes_in, kept_of, made, section_of}
 use Rattle.policy_state.specs.Ready.{CanLink}
 use Rattle.policy_state.proofs.AdmittedLemmas.{KeepSound, all_apply, all_fitting, all_have_columns, all_sound}

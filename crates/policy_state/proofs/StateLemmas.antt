@@ -1,15 +1,16 @@
 -- A policy when edits are made ready in it, and when they are made.
-use Rattle.std.proofs.Common.{◌≡◌, ℕ, ◌+◌, ◌≤◌, List, length, map, Option, sym, ap, subst, ◌∙◌, arith}
+use Rattle.std.proofs.Common.{◌≡◌, ℕ, ◌+◌, ◌-◌, ◌≤◌, List, ◌++◌, length, map, drop, Option, sym, ap, subst, ◌∙◌, arith}
 use Rattle.std.specs.Prelude.{IfSome, option_map}
+use Rattle.std.proofs.lemmas.List.{take-append-drop}
 use Rattle.std.proofs.lemmas.Simd.{map-map}
 use Rattle.perm_base.specs.declared.shapes.Shapes.{Shapes}
 use Rattle.perm_base.specs.declared.shapes.TableId.TheVariants.{P}
 use Rattle.policy_index.specs.Indexed.{Indexed}
-use Rattle.policy_state.specs.Admitted.{AreAdmitted}
+use Rattle.edit_calls.specs.Admitted.{AreAdmitted}
 use Rattle.policy_state.specs.Helps.Kept.{AreSections, IsIndexOf, IsState, changes_in, indexed_of, kept_of, made, parts_of, reindexed}
 use Rattle.policy_state.specs.Ready.{CanIndex, CanLink, IsPreparedFor, Ready, ReadyParts}
 use Rattle.policy_state.specs.States.{Parts, State, tables}
-use Rattle.policy_state.proofs.AdmittedLemmas.{KeepSound, all_made, all_sound}
+use Rattle.policy_state.proofs.AdmittedLemmas.{KeepSound, admitted_both, admitted_front, admitted_rest, all_made, all_sound}
 use Rattle.policy_state.proofs.IndexLemmas.{column_after, index_after}
 use Rattle.policy_state.proofs.SectionLemmas.{sections_after}
 use Rattle.policy_table.specs.Changes.{edited, flat, own, replay}
@@ -20,7 +21,7 @@ use Rattle.policy_table.specs.declared.change.Change.{Change}
 use Rattle.policy_table.proofs.CallerLemmas.{are_lists, counted_edited, replayed}
 use Rattle.role_domain.specs.Sections.{Draft, Section}
 use Rattle.version_log.specs.Log.{AreMadeIn, Logged, most_versions, tables_of, versions}
-use Rattle.version_log.specs.Starts.{IsReadyFor}
+use Rattle.version_log.specs.Starts.{IsReadyFor, before}
 
 -- edits that are admitted in the tables of a state are in those that it keeps
 pub admitted_in : (now : State) (shapes : Shapes) (column : Option ℕ) (log : Logged) (parts : Parts) (edits : List (List Change)) → record { shapes = shapes; column = column; log = log; parts = parts } ≡ now
@@ -71,14 +72,46 @@ pub log_can_push : (shapes : Shapes) → KeepSound shapes → (log new : Logged)
 log_can_push shapes keep log new policy edits nine is sound admitted same =
     subst (λ (p : Policy). AreMadeIn p edits) (sym (same ∙ is)) (all_made shapes keep policy edits nine sound (subst (λ (p : Policy). AreAdmitted shapes p edits) is admitted))
 
+-- a log that starts later and has further edits begins from sound tables, and its edits are admitted
+pub record IsAdmittedLog (shapes : Shapes) (log : Logged) : Type 0 where
+  pub base : AreSound shapes log.base
+  pub admitted : AreAdmitted shapes log.base log.tail
+
+pub log_after : (shapes : Shapes) → KeepSound shapes → (log later new : Logged) (to : ℕ) (edits : List (List Change)) → AreSound shapes log.base → AreAdmitted shapes log.base log.tail
+    → later.base ≡ edited (flat (before log to)) log.base → later.tail ≡ drop (to - log.start) log.tail → tables_of later ≡ tables_of log → new.base ≡ later.base → new.tail ≡ later.tail ++ edits
+    → AreAdmitted shapes (tables_of log) edits → IsAdmittedLog shapes new
+log_after shapes keep log later new to edits sound admitted base tail same new_base new_tail more = record {
+  base = subst (AreSound shapes) (sym (new_base ∙ base)) (all_sound shapes keep log.base front sound (admitted_front shapes front rest log.base whole));
+  admitted =
+      subst (AreAdmitted shapes new.base) (sym new_tail)
+      (subst (λ (p : Policy). AreAdmitted shapes p (later.tail ++ edits)) (sym new_base) (admitted_both shapes later.tail edits later.base left (subst (λ (p : Policy). AreAdmitted shapes p edits) (sym same) more)));
+}
+  where
+    front : List (List Change)
+    front = before log to
+
+    rest : List (List Change)
+    rest = drop (to - log.start) log.tail
+
+    whole : AreAdmitted shapes log.base (before log to ++ drop (to - log.start) log.tail)
+    whole = subst (AreAdmitted shapes log.base) (sym (take-append-drop (to - log.start) log.tail)) admitted
+
+    left : AreAdmitted shapes later.base later.tail
+    left =
+        subst (AreAdmitted shapes later.base) (sym tail)
+        (subst (λ (p : Policy). AreAdmitted shapes p (drop (to - log.start) log.tail)) (replayed (before log to) log.base ∙ sym base)
+        (admitted_rest shapes (before log to) (drop (to - log.start) log.tail) log.base whole))
+
 -- a state is kept
 pub state_after : (shapes : Shapes) → KeepSound shapes → (column : Option ℕ) (log new : Logged) (parts : Parts) (held : Held) (index : Option Indexed) (sections : List Section) (ready : Ready)
     → length parts.held.policy.lists ≡ most_tables → IsState shapes column log parts → IsPreparedFor (record { shapes = shapes; column = column; log = log; parts = parts }) ready
     → held.policy ≡ edited ready.parts.tables parts.held.policy → option_map indexed_of index ≡ reindexed ready.parts.index (option_map indexed_of parts.index)
-    → map kept_of sections ≡ made ready.parts.sections (map kept_of parts.sections) → tables_of new ≡ replay ready.edits (tables_of log)
+    → map kept_of sections ≡ made ready.parts.sections (map kept_of parts.sections) → tables_of new ≡ replay ready.edits (tables_of log) → IsAdmittedLog shapes new
     → IsState shapes column new (parts_of held index sections)
-state_after shapes keep column log new parts held index sections ready nine kept is tables_made index_made sections_made log_made = record {
+state_after shapes keep column log new parts held index sections ready nine kept is tables_made index_made sections_made log_made logged = record {
   valid = kept.valid;
+  base = logged.base;
+  admitted = logged.admitted;
   sound = subst (AreSound shapes) (sym here) (all_sound shapes keep parts.held.policy ready.edits kept.sound admitted);
   tables = log_made ∙ ap (replay ready.edits) kept.tables ∙ replayed ready.edits parts.held.policy ∙ sym here;
   column = column_after parts.index index ready.parts.index is.index index_made ∙ kept.column;

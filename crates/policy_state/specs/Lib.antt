@@ -1,5 +1,4 @@
 pub mod States
-pub mod Admitted
 pub mod Asked
 pub mod Ready
 pub mod Helps

@@ -2,7 +2,7 @@
 use Rattle.std.specs.Prelude.{◌≡◌, ℕ, ◌+◌, ◌≤◌, List, [], ◌∷◌, map, length, Option, Some, None, IfSome, ⊤}
 use Rattle.perm_base.specs.declared.shapes.TableId.TheVariants.{P}
 use Rattle.policy_index.specs.Indexed.{Indexed, IsPreparedFor as CanBeIndexed}
-use Rattle.policy_state.specs.Admitted.{AreAdmitted}
+use Rattle.edit_calls.specs.Admitted.{AreAdmitted}
 use Rattle.policy_state.specs.States.{State, tables}
 use Rattle.policy_table.specs.Changes.{flat, own}
 use Rattle.policy_table.specs.Held.{IsPreparedFor as CanBeMade}

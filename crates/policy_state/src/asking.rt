@@ -1,4 +1,4 @@
-ghost use Rattle.std.specs.Prelude.{◌≡◌, ◌↔◌, ◌≤◌, IfOk, IfSome, IfNone, IsSome, IsTrue, Some};
+ghost use Rattle.std.specs.Prelude.{◌≡◌, ◌↔◌, ◌+◌, ◌≤◌, Bool, IfOk, IfSome, IfNone, IsSome, IsTrue, Some};
 ghost use Rattle.std.specs.Option.{option_copied};
 ghost use Rattle.perm_base.specs.RoleShapes.{shape_of};
 ghost use Rattle.perm_base.specs.declared.shapes.RoleShape.{RoleShape};
@@ -6,7 +6,8 @@ ghost use Rattle.perm_base.specs.declared.shapes.TableId.TheVariants.{G, P};
 ghost use Rattle.policy_index.specs.Places.{places_of};
 ghost use Rattle.policy_state.specs.Asked.{IsAskedOf};
 ghost use Rattle.policy_state.specs.States.{tables};
-ghost use Rattle.policy_table.specs.Tables.{rows};
+ghost use Rattle.policy_table.specs.Tables.{Fields, rows};
+ghost use Rattle.role_domain.specs.Relations.{HasFewRoles, TellsRows, asked_rows};
 ghost use Rattle.role_domain.specs.Sections.{rows_in};
 ghost use Rattle.role_meaning.specs.Implied.{AreImplied};
 ghost use Rattle.role_meaning.specs.Links.{IsLinked};
@@ -46,7 +47,8 @@ impl PolicyState {
     }
 
     /// Whether the one name has the other as its role in a relation, in one domain where the relation has domains, by at most
-    /// as many links as the hierarchy limit says (Casbin, `hasLink`). It takes no memory.
+    /// as many links as the hierarchy limit says (Casbin, `hasLink`). It takes no memory, and in a domain with few roles no
+    /// more steps than its rows of the name and of patterns are, and one.
     pub fn linked<L: Ledger>(
         &self,
         relation: u8,
@@ -60,6 +62,12 @@ impl PolicyState {
             → IsTrue result ↔ IsLinked shape (rows (tables self.now) (G relation))
             self.now.shapes.limit (option_copied domain.entry) x.now y.now }
         ensures steps { steps.old ≤ steps.new }
+        ensures few_steps { (shape : RoleShape) (test : Fields → Bool)
+            → shape_of self.now.shapes.roles relation ≡ Some shape
+            → TellsRows shape (rows (tables self.now) (G relation)) (option_copied domain.entry) test
+            → HasFewRoles shape (rows (tables self.now) (G relation)) (option_copied domain.entry)
+            → steps.new ≤ steps.old
+            + asked_rows shape test x.now (rows (tables self.now) (G relation)) + 1 }
     {
         self.section(relation).linked(x, y, domain, steps)
     }

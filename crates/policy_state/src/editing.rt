@@ -1,5 +1,5 @@
 ghost use Rattle.std.specs.Prelude.{◌≡◌, ◌+◌, ◌≤◌, ◌++◌, IfOk, List, length};
-ghost use Rattle.policy_state.specs.Admitted.{AreAdmitted};
+ghost use Rattle.edit_calls.specs.Admitted.{AreAdmitted};
 ghost use Rattle.policy_state.specs.Ready.{IsPreparedFor};
 ghost use Rattle.policy_state.specs.States.{StandsFor, tables};
 ghost use Rattle.policy_table.specs.Changes.{replay};
@@ -104,6 +104,8 @@ fn push_all(log: &mut Log, edits: Vec<Edit>)
     requires few { versions log.old + length edits.items ≤ most_versions }
     requires made { AreMadeIn (tables_of log.old) edits.items }
     ensures start { log.new.start ≡ log.old.start }
+    ensures base { log.new.base ≡ log.old.base }
+    ensures tail { log.new.tail ≡ log.old.tail ++ edits.items }
     ensures tables { tables_of log.new ≡ replay edits.items (tables_of log.old) }
     ensures versions { versions log.new ≡ versions log.old + length edits.items }
     ensures stands { (opening : Policy) (history : List (List Change))

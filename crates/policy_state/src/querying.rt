@@ -1,10 +1,11 @@
-ghost use Rattle.std.specs.Prelude.{◌≡◌, MatchResult, Some};
+ghost use Rattle.std.specs.Prelude.{◌≡◌, IfOk, MatchResult, Some};
 ghost use Rattle.std.specs.Option.{option_copied};
 ghost use Rattle.policy_query.specs.Answers.{IsAnswer};
 ghost use Rattle.policy_query.specs.Edits.{IsEdit, edit_refusal};
 ghost use Rattle.policy_query.specs.Names.{roles_answer, users_answer};
 ghost use Rattle.policy_query.specs.Rules.{has_answer, rows_answer};
 ghost use Rattle.policy_state.specs.States.{tables};
+ghost use Rattle.version_log.specs.EditText.{NameRules};
 
 use crate::state::PolicyState;
 use perm_base::{Rule, Rules, TableId};
@@ -74,10 +75,11 @@ impl PolicyState {
     }
 
     /// The edit of a number; edits are numbered from 1, one a version. Refused are a number that no edit has and one whose
-    /// edit is dropped. It takes no memory, and is never refused for want of it.
+    /// edit is dropped. It takes no memory, and is never refused for want of it. The text of the edit is read back.
     pub fn history(&self, number: u32) -> Result<&Edit, QueryRefused>
         ensures answer { MatchResult result (λ edit. IsEdit self.now.log number edit.now)
             (λ refused. edit_refusal self.now.log number ≡ Some refused) }
+        ensures names { IfOk result (λ edit. NameRules edit.now) }
     {
         edit_of(&self.log, number)
     }

@@ -1,9 +1,11 @@
-ghost use Rattle.std.specs.Prelude.{◌≡◌, ◌<◌, ◌≤◌, [], IfOk, IfSome, List};
+ghost use Rattle.std.specs.Prelude.{◌≡◌, ◌<◌, ◌≤◌, [], All, IfOk, IfSome, List};
 ghost use Rattle.perm_base.specs.Shapes.{AreValid};
+ghost use Rattle.edit_calls.specs.Admitted.{AreAdmitted};
 ghost use Rattle.policy_state.specs.States.{StandsFor, tables};
 ghost use Rattle.policy_table.specs.Limits.{AreSound};
 ghost use Rattle.policy_table.specs.Tables.{Policy};
 ghost use Rattle.policy_table.specs.declared.change.Change.{Change};
+ghost use Rattle.version_log.specs.EditText.{NameRules};
 ghost use Rattle.version_log.specs.Log.{IsLog, most_versions, versions};
 
 use crate::indexing::make_index;
@@ -139,11 +141,16 @@ impl PolicyState {
         self.column
     }
 
-    /// What it keeps: the shapes are valid, the tables are sound, and each edit of the log was made in the tables before it.
+    /// What it keeps: the shapes are valid, the tables are sound, the log begins from sound tables, and each edit of the log is
+    /// admitted in the tables before it and was made there. So each names rules of 1 to 32 fields, of tables with names, and
+    /// its text is read back.
     pub fn kept(&self)
         ensures valid { AreValid self.now.shapes }
         ensures sound { AreSound self.now.shapes (tables self.now) }
         ensures log { IsLog self.now.log.start self.now.log.base self.now.log.tail }
+        ensures base { AreSound self.now.shapes self.now.log.base }
+        ensures admitted { AreAdmitted self.now.shapes self.now.log.base self.now.log.tail }
+        ensures names { All NameRules self.now.log.tail }
     {
         self.log.kept();
         let _shapes = &self.shapes;

@@ -8,7 +8,7 @@ use Rattle.std.specs.Result.{result_ok, OkIff}
 use Rattle.std.specs.Str.Parse.{ParsesSigned, digits_value}
 use Rattle.std.proofs.lemmas.Bool.{eqb-true, eqb-false, le-ltb, lt-ltb, ltb-false, ltb-true}
 use Rattle.std.proofs.lemmas.Str.Parse.{IsNumeralModel, numerals_by_value, parse_signed_minus, parse_signed_plain}
-use Rattle.policy_table.specs.Ranks.{digits_number, number_of}
+use Rattle.policy_table.specs.Ranks.{digits_number, integer_of}
 use mir.Syntax.{w64}
 
 own : IsNumeralModel (λ ds. list_all is_ascii_digit ds ≡ true) (digits_value 10)
@@ -28,7 +28,7 @@ digits_told made most ds (Err e) h = by (nat_lt 0 (length ds)) refl (list_all is
     by false x b y c z = refl
 
 -- the number of a text, where `parse` tells it and the text begins with no `+`
-pub number_told : {E : Type 0} (text : List ℕ) (r : Result ℤ E) → ParsesSigned w64 10 text r → eqb (get_or text 0 0) 43 ≡ false → result_ok r ≡ number_of text
+pub number_told : {E : Type 0} (text : List ℕ) (r : Result ℤ E) → ParsesSigned w64 10 text r → eqb (get_or text 0 0) 43 ≡ false → result_ok r ≡ integer_of text
 number_told text r h plus = by (eqb (get_or text 0 0) 45) refl
   where
     below : {E : Type 0} (n : ℕ) (r : Result ℤ E) (p q : Type 0) → OkIff r (p × q × (n < 9223372036854775808)) (pos n) → OkIff r (p × q × (n ≤ 9223372036854775807)) (pos n)

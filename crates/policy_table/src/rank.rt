@@ -1,6 +1,6 @@
 ghost use Rattle.std.specs.Prelude.{◌≡◌, ◌≤◌, drop, filter, length, not, take};
 ghost use Rattle.std.specs.Ordering.{is_lt};
-ghost use Rattle.policy_table.specs.Ranks.{is_above, is_above_rank, number_of, rank};
+ghost use Rattle.policy_table.specs.Ranks.{is_above, is_above_rank, integer_of, rank};
 ghost use Rattle.policy_table.specs.Tables.{AreRising};
 
 use perm_base::Rule;
@@ -13,7 +13,7 @@ pub(crate) fn rank(rule: &Rule) -> Option<i64>
     if rule.len() == 0 {
         return None;
     }
-    number_of(rule.text(0))
+    integer_of(rule.text(0))
 }
 
 /// How many of rising rules are not above a rank.
@@ -54,8 +54,8 @@ pub(crate) fn compare(first: &Rule, second: &Rule) -> Ordering
 }
 
 // The whole number that a text writes in digits, with `-` before them or not, where it fits 64 bits.
-fn number_of(text: &str) -> Option<i64>
-    ensures { result ≡ number_of text.now }
+fn integer_of(text: &str) -> Option<i64>
+    ensures { result ≡ integer_of text.now }
 {
     // `parse` takes a `+` too.
     if text.starts_with('+') {

@@ -1,3 +1,3 @@
 pub mod CallerLemmas
-pub mod RefusedLemmas
+pub mod FoundLemmas
 pub mod SearchLemmas

@@ -1,4 +1,3 @@
 pub mod Found
-pub mod Refused
 pub mod Refusals
 pub mod Finders

@@ -1,9 +1,7 @@
-ghost use Rattle.std.specs.Prelude.{◌≡◌, [], None, Some, true, Contains, IfOk, OnOk, IsErr, IsErrOf, IsUtf8};
+ghost use Rattle.std.specs.Prelude.{◌≡◌, [], IsErr, IsErrOf, false, true};
 ghost use Rattle.outside.specs.Listed.{fresh, is_listed};
-ghost use Rattle.regex_gate.specs.Found.{found};
-ghost use Rattle.regex_gate.specs.Refused.{IsEachOnce};
-ghost use Rattle.regex_gate.specs.Refusals.{IsUsed};
-ghost use Rattle.regex_gate.specs.Finders.{after_find, after_refused_find, refusals_of};
+ghost use Rattle.regex_gate.specs.Finders.{Finds, after_find, refusals_of};
+ghost use Rattle.regex_gate.specs.Found.{IsRefusable};
 
 use crate::finder::{FindStop, Finder};
 use crate::regex_finder::RegexFinder;
@@ -11,7 +9,7 @@ use std::alloc::Global;
 use std::marker::Model;
 
 /// A finder that refuses listed calls too. Every call counts, whatever its answer, and the counter stands still at
-/// 2^32 - 1. Contracts see its schedule, and the patterns that it refused.
+/// 2^32 - 1. Contracts see its schedule, and its log.
 #[derive(Drop)]
 pub struct ListFinder {
     refused: Vec<u32>,
@@ -48,16 +46,12 @@ impl Finder for ListFinder {
     ghost refusals = { refusals_of };
 
     fn find(&mut self, pattern: &[u8], text: &[u8]) -> Result<bool, FindStop>
-        ensures found { IfOk result (λ is_found. found pattern.now text.now ≡ Some is_found) }
-        ensures utf8 { OnOk result (IsUtf8 pattern.now) }
+        ensures finds { Finds (refusals_of self.old) (refusals_of self.new)
+            pattern.now text.now result }
+        ensures counted { self.new ≡ after_find self.old pattern.now result }
         ensures listed { is_listed self.old.schedule ≡ true → IsErr result }
-        ensures used { IsUsed (refusals_of self.old) (refusals_of self.new) None }
-        ensures refused { IsErrOf result FindStop.Refused
-            → self.new ≡ after_refused_find self.old pattern.now }
-        ensures stands { IsErrOf result FindStop.Refused → Contains self.new.patterns pattern.now }
-        ensures same { OnOk result (self.new ≡ after_find self.old) }
-        ensures no_memory { IsErrOf result FindStop.NoMemory → self.new ≡ after_find self.old }
-        ensures each_once { IsEachOnce self.new.patterns }
+        ensures refused_for { is_listed self.old.schedule ≡ false
+            → IsErrOf result FindStop.Refused → IsRefusable pattern.now }
     {
         self.calls = self.calls.saturating_add(1);
         if self.refused.contains(&self.calls) {

@@ -1,8 +1,7 @@
-ghost use Rattle.std.specs.Prelude.{◌≡◌, [], None, Some, Contains, IfOk, OnOk, OnErr, IsErrOf, IsUtf8};
-ghost use Rattle.regex_gate.specs.Found.{found};
-ghost use Rattle.regex_gate.specs.Refused.{has_pattern, with_pattern, IsEachOnce};
-ghost use Rattle.regex_gate.specs.Refusals.{IsUsed};
-ghost use Rattle.regex_gate.specs.Finders.{after_refusal};
+ghost use Rattle.std.specs.Prelude.{◌≡◌, ◌++◌, ◌∷◌, [], IsErrOf, OnErr, OnOk};
+ghost use Rattle.regex_gate.specs.Finders.{Finds};
+ghost use Rattle.regex_gate.specs.Found.{IsRefusable};
+ghost use Rattle.regex_gate.specs.Refusals.{after_refusal};
 
 use crate::finder::{FindStop, Finder};
 use crate::pattern::Pattern;
@@ -12,7 +11,7 @@ use std::alloc::Global;
 use std::marker::Model;
 
 /// A finder that refuses what `regex` does not build. It builds the pattern at each call. Contracts see how often
-/// it has refused, and the patterns that it refused.
+/// it has refused, and its log.
 #[derive(Drop)]
 pub struct RegexFinder {
     alloc: Global,
@@ -25,11 +24,7 @@ impl Model for RegexFinder {
 
     ghost Value = { Refusals };
 
-    ghost use Rattle.regex_gate.specs.Refused.{IsEachOnce};
-
     ghost view = { λ f. record { count = f.count; patterns = f.patterns.items } };
-
-    ghost invariant = { λ f. IsEachOnce f.patterns.items };
 }
 
 impl RegexFinder {
@@ -44,14 +39,11 @@ impl RegexFinder {
         }
     }
 
-    /// Counts and keeps a pattern as refused. Where there is no room for it, nothing changes.
+    /// Counts a pattern as refused and puts it into the log. Where there is no room for it, nothing changes.
     pub(crate) fn refuse(&mut self, pattern: &[u8]) -> FindStop
         ensures refused { result ≡ FindStop.Refused
             → self.new ≡ after_refusal self.old pattern.now }
         ensures no_memory { result ≡ FindStop.NoMemory → self.new ≡ self.old }
-        ensures used { IsUsed self.old self.new None }
-        ensures stands { result ≡ FindStop.Refused → Contains self.new.patterns pattern.now }
-        ensures each_once { IsEachOnce self.new.patterns }
     {
         match keep(self.alloc, &mut self.patterns, pattern) {
             Ok(()) => {
@@ -67,15 +59,8 @@ impl Finder for RegexFinder {
     ghost refusals = { λ f. f };
 
     fn find(&mut self, pattern: &[u8], text: &[u8]) -> Result<bool, FindStop>
-        ensures found { IfOk result (λ is_found. found pattern.now text.now ≡ Some is_found) }
-        ensures utf8 { OnOk result (IsUtf8 pattern.now) }
-        ensures used { IsUsed self.old self.new None }
-        ensures refused { IsErrOf result FindStop.Refused
-            → self.new ≡ after_refusal self.old pattern.now }
-        ensures stands { IsErrOf result FindStop.Refused → Contains self.new.patterns pattern.now }
-        ensures same { OnOk result (self.new ≡ self.old) }
-        ensures no_memory { IsErrOf result FindStop.NoMemory → self.new ≡ self.old }
-        ensures each_once { IsEachOnce self.new.patterns }
+        ensures finds { Finds self.old self.new pattern.now text.now result }
+        ensures refused_for { IsErrOf result FindStop.Refused → IsRefusable pattern.now }
     {
         match search(self.alloc, pattern, text)? {
             Some(is_found) => Ok(is_found),
@@ -84,21 +69,11 @@ impl Finder for RegexFinder {
     }
 }
 
-// Puts a pattern at the end of a list, unless it stands there already.
+// Puts a pattern at the end of a list.
 fn keep(alloc: Global, patterns: &mut Vec<Pattern>, pattern: &[u8]) -> Result<(), NoMemory>
-    ensures ok { OnOk result (patterns.new.items ≡ with_pattern patterns.old.items pattern.now) }
+    ensures ok { OnOk result (patterns.new.items ≡ patterns.old.items ++ pattern.now ∷ []) }
     ensures err { OnErr result (patterns.new.items ≡ patterns.old.items) }
-    ensures stands { OnOk result (Contains patterns.new.items pattern.now) }
-    ensures each_once { IsEachOnce patterns.old.items → IsEachOnce patterns.new.items }
 {
-    if !has_pattern(patterns, pattern) {
-        patterns.push(Pattern::from_slice(alloc, pattern)?)?;
-    }
+    patterns.push(Pattern::from_slice(alloc, pattern)?)?;
     Ok(())
-}
-
-fn has_pattern(patterns: &[Pattern], pattern: &[u8]) -> bool
-    ensures { result ≡ has_pattern patterns.now pattern.now }
-{
-    patterns.iter().any(|kept| pattern == kept.bytes())
 }

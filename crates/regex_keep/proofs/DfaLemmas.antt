@@ -1,12 +1,11 @@
 -- An automaton of the tree that was read searches for the pattern.
-use Rattle.std.proofs.Common.{◌≡◌, ℕ, ◌<◌, ◌≤◌, List, length, get_or, Option, Some, None, IsSomeAnd, IfSome, IsUtf8, is_some, option_map, true, false, refl, sym, ap, ◌∙◌, subst, arith, inl, inr, Fits, w8}
+use Rattle.std.proofs.Common.{◌≡◌, ℕ, ◌<◌, List, length, get_or, Option, Some, None, IfSome, IsUtf8, is_some, option_map, true, false, refl, sym, ap, ◌∙◌, subst, arith, inl, inr, Fits, w8}
 use Rattle.std.specs.Prelude.{All}
 use Rattle.std.specs.Str.{chars}
 use Rattle.std.proofs.lemmas.Bool.{cases_lt}
 use Rattle.std.proofs.lemmas.List.{get_or_past}
 use Rattle.std.proofs.lemmas.List.Elements.{All-from_get_or, All-get_or}
-use Rattle.regex.specs.Patterns.{Config, Re, SameCaptures}
-use Rattle.regex.proofs.ForCallers.{is_match_alike}
+use Rattle.regex.specs.Patterns.{Config, Re}
 use Rattle.regex_compile.specs.Implements.{Implements}
 use Rattle.regex_dfa.specs.Search.{end_from, IsEnd}
 use Rattle.regex_dfa.specs.declared.dfa.Dfa.{Dfa}
@@ -20,10 +19,10 @@ use Rattle.regex_hir.proofs.FindLemmas.{first_between_cong}
 use Rattle.regex_nfa.specs.Run.{find_in}
 use Rattle.regex_nfa.specs.declared.nfa.Nfa.{Nfa}
 use Rattle.regex_nfa.proofs.SearchLemmas.{run_unanchored}
-use Rattle.regex_syntax.specs.Brackets.{Nested}
 use Rattle.regex_syntax.specs.Grammar.{Names, read}
 use Rattle.regex_syntax.specs.Verdict.{Reads}
-use Rattle.regex_gate.specs.Found.{byte_config, found}
+use Rattle.regex_gate.specs.Found.{byte_config, has_match}
+use Rattle.regex_gate.proofs.CallerLemmas.{found_alike, has_match_text}
 use Rattle.regex_keep.specs.Helps.Dfas.{IsDfaOf, answer_of}
 
 pub bytes_of : (text : List ℕ) → ((i : ℕ) → Fits w8 (get_or text i 0)) → All (λ b. b < 256) text
@@ -34,13 +33,6 @@ byte_at text bytes k = elim (cases_lt k (length text)) as (λ _. get_or text k 0
   | inl inside ↦ All-get_or (λ b. b < 256) text k 0 inside bytes
   | inr past ↦ omega (arith, get_or_past text k 0 past)
 ]
-
--- what matches alike is found alike
-found_alike : (o : Option (Nested Re × Names)) (P : Nested Re × Names → Type 0) (re : Re) (text : List ℕ) → ((k : ℕ) → get_or text k 0 < 256)
-    → ((p : Nested Re × Names) → P p → SameCaptures re p.0.value) → IsSomeAnd o P
-    → option_map (λ (p : Nested Re × Names). is_some (find p.0.value text 0)) o ≡ Some (is_some (find re text 0))
-found_alike None P re text bytes alike is = absurd is
-found_alike (Some p) P re text bytes alike is = ap (λ (b : _). Some b) (sym (is_match_alike (alike p is) text bytes false 0))
 
 some_mapped : {A B : Type 0} (f : A → B) (o : Option A) → is_some (option_map f o) ≡ is_some o
 some_mapped f None = refl
@@ -58,20 +50,18 @@ ends_alike nfa re text same bytes =
 
 pub dfa_read : (pattern : List ℕ) (dfa : Dfa) (config : Config) (hir : Hir) (names : Names) → IsUtf8 pattern → config ≡ byte_config → Implements dfa.nfa (meaning hir)
     → Reads config pattern hir names → IsDfaOf pattern dfa
-unfolding found Reads
-dfa_read pattern dfa config hir names utf8 is same reads =
+unfolding Reads
+dfa_read pattern dfa config hir names utf8 is same reads = λ text bytes.
     let tree = subst (λ (c : Config). Reads c pattern hir names) is reads in
-    record {
-      utf8 = utf8;
-      finds = λ text bytes. found_alike (read byte_config (chars pattern)) _ (meaning hir) text (byte_at text bytes) (λ p h. h.1) tree
-          ∙ ap (λ (b : _). Some b) (sym (ends_alike dfa.nfa (meaning hir) text same bytes));
-    }
+    has_match_text pattern text utf8
+    ∙ found_alike (read byte_config (chars pattern)) _ (meaning hir) text (byte_at text bytes) (λ p h. h.1) tree
+    ∙ ap (λ (b : _). Some b) (sym (ends_alike dfa.nfa (meaning hir) text same bytes))
 
 -- the end of a search tells whether the pattern is found
 pub found_by_end : (pattern : List ℕ) (dfa : Dfa) (text : List ℕ) (end : End) → IsDfaOf pattern dfa → All (λ b. b < 256) text
     → IsEnd dfa.nfa text 0 (length text) false true (end_from dfa.nfa text (length text) dfa.nfa.unanchored 0) end
-    → IfSome (answer_of end) (λ is_found. found pattern text ≡ Some is_found)
-found_by_end pattern dfa text (At e) is bytes h = is.finds text bytes ∙ ap (λ (b : _). Some b) h.0
-found_by_end pattern dfa text NoMatch is bytes h = is.finds text bytes ∙ ap (λ (o : Option ℕ). Some (is_some o)) h
+    → IfSome (answer_of end) (λ is_found. has_match pattern text ≡ Some is_found)
+found_by_end pattern dfa text (At e) is bytes h = is text bytes ∙ ap (λ (b : _). Some b) h.0
+found_by_end pattern dfa text NoMatch is bytes h = is text bytes ∙ ap (λ (o : Option ℕ). Some (is_some o)) h
 found_by_end pattern dfa text (Idle next) is bytes h = tt
 found_by_end pattern dfa text GaveUp is bytes h = tt

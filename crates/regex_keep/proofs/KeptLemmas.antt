@@ -1,5 +1,5 @@
 -- The searches that are kept, through a look, a search and one more search.
-use Rattle.std.proofs.Common.{◌≡◌, ℕ, Bool, true, false, List, [], ◌∷◌, ◌⊎◌, inl, inr, Option, Some, None, OnSome, IsUtf8, Result, Ok, Err, OnOk, OnErr, refl, sym, ap, ◌∙◌, subst}
+use Rattle.std.proofs.Common.{◌≡◌, ℕ, Bool, true, false, List, [], ◌∷◌, ◌⊎◌, inl, inr, Some, Result, Ok, Err, OnOk, OnErr, refl, sym, ap, ◌∙◌, subst}
 use Rattle.std.specs.Prelude.{All, Contains, bytes_eq}
 use Rattle.std.specs.Global.{Vec}
 use Rattle.std.specs.Map.{lookup, set_value}
@@ -32,11 +32,6 @@ pub kept_under : (searches : Searches) (pattern search : List ℕ) → AreKept s
 kept_under searches pattern search kept is =
     let at = Contains-lookup (is_under pattern) searches.entries search is in
     All-contains IsKept searches.entries (at.0, search) kept.under at.1 ∙ sym ((bytes_eq-Decides pattern at.0.items).0 at.2)
-
--- what its search says of the pattern
-pub utf8_found : (answer : Option Bool) (pattern search : List ℕ) → search ≡ pattern → IsUtf8 search → OnSome answer (IsUtf8 pattern)
-utf8_found None pattern search is utf8 = tt
-utf8_found (Some found) pattern search is utf8 = subst IsUtf8 is utf8
 
 set_kept : (test : Vec ℕ → Bool) (entries : List Entry) (search : List ℕ) → AllKept entries → ((key : Vec ℕ) → test key ≡ true → search ≡ key.items)
     → AllKept (set_value test entries search)

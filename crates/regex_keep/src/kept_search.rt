@@ -1,5 +1,5 @@
-ghost use Rattle.std.specs.Prelude.{◌≡◌, Some, IfSome, IsUtf8};
-ghost use Rattle.regex_gate.specs.Found.{found};
+ghost use Rattle.std.specs.Prelude.{◌≡◌, Some, IfSome};
+ghost use Rattle.regex_gate.specs.Found.{has_match};
 ghost use Rattle.regex_keep.specs.Helps.Dfas.{answer_of, IsDfaOf};
 
 use regex_dfa::{Dfa, End, Forward};
@@ -59,8 +59,7 @@ impl KeptSearch {
 
     /// Whether the pattern is found in a text. None where the search gives up.
     pub(crate) fn find(&mut self, text: &[u8]) -> Option<bool>
-        ensures found { IfSome result (λ is_found. found self.old text.now ≡ Some is_found) }
-        ensures utf8 { IsUtf8 self.old }
+        ensures found { IfSome result (λ is_found. has_match self.old text.now ≡ Some is_found) }
         ensures same { self.new ≡ self.old }
     {
         answer_of(

@@ -1,5 +1,5 @@
-ghost use Rattle.std.specs.Prelude.{◌≡◌, Some, IfSome, OnSome, IsUtf8};
-ghost use Rattle.regex_gate.specs.Found.{found};
+ghost use Rattle.std.specs.Prelude.{◌≡◌, Some, IfSome};
+ghost use Rattle.regex_gate.specs.Found.{has_match};
 ghost use Rattle.regex_keep.specs.Helps.Kept.{AreKept};
 
 use crate::kept_search::KeptSearch;
@@ -34,8 +34,7 @@ impl KeptSearches {
     /// Whether a pattern is found in a text, by the search that is kept for it, or else by a new one, which is then kept.
     /// None where there is no search for it, or the search gives up.
     pub(crate) fn find(&mut self, pattern: &[u8], text: &[u8]) -> Option<bool>
-        ensures found { IfSome result (λ is_found. found pattern.now text.now ≡ Some is_found) }
-        ensures utf8 { OnSome result (IsUtf8 pattern.now) }
+        ensures { IfSome result (λ is_found. has_match pattern.now text.now ≡ Some is_found) }
     {
         if let Some(search) = self.searches.get_mut(pattern) {
             return search.find(text);

@@ -22,9 +22,11 @@ use Rattle.role_domain.proofs.Fitting.{fits_same}
 use Rattle.role_graph.specs.Graph.{shape_of}
 use Rattle.role_graph.specs.Groups.{times}
 use Rattle.role_graph.proofs.CallerLemmas.{same_itself, stands_from_times, times_from_stands}
+use Rattle.role_meaning.specs.Depths.{IsDepth, ReachesTop}
 use Rattle.role_meaning.specs.Distances.{IsFar}
 use Rattle.role_meaning.specs.Fits.{Fits}
 use Rattle.role_meaning.specs.Implied.{AreImplied, IsImplied, IsNearer}
+use Rattle.role_meaning.specs.ImpliedUsers.{AreUsersOf, IsUserOf}
 use Rattle.role_meaning.specs.Links.{CountsIn, HasRoles, Reaches, domain_of, role_of, user_of}
 use Rattle.role_meaning.proofs.CallerLemmas.{map_stands, plain_fits}
 
@@ -107,6 +109,20 @@ far_across one other x y distance alike far = record {
   least = λ lower less reaches. far.least lower less (reaches_across other one lower x y alike.back reaches);
 }
 
+top_across : (one other : Asked) (links : ℕ) (x : List ℕ) → Alike one other → ReachesTop one.shape one.rows one.domain links x → ReachesTop other.shape other.rows other.domain links x
+top_across one other links x alike reaches = record {
+  top = reaches.top;
+  reaches = reaches_across one other links x reaches.top alike.there reaches.reaches;
+  ends = λ has. reaches.ends (roles_across other one reaches.top alike.back has);
+}
+
+pub depth_across : (one other : Asked) (limit : ℕ) (x : List ℕ) (depth : ℕ) → Alike one other → IsDepth one.shape one.rows limit one.domain x depth → IsDepth other.shape other.rows limit other.domain x depth
+depth_across one other limit x depth alike is = record {
+  within = is.within;
+  holds = λ low. top_across one other depth x alike (is.holds low);
+  least = λ lower less reaches. is.least lower less (top_across other one lower x (record { there = alike.back; back = alike.there }) reaches);
+}
+
 -- a name that is reached and is another is the role of a row
 reached_role : (asked : Asked) (links : ℕ) (x y : List ℕ) → ReachesIn asked links x y → (x ≡ y) ⊎ Contains (map role_of asked.rows) y
 unfolding Reaches
@@ -146,6 +162,20 @@ all_implied_across one other limit x names alike are = record {
       to_other = far_across one other x z nearer.far alike nearer.to_other;
       before = nearer.before;
     }
+
+user_across : (one other : Asked) (limit : ℕ) (users : List (List ℕ)) (x y : List ℕ) → Covers one other → IsUserOf one.shape one.rows limit one.domain users x y → IsUserOf other.shape other.rows limit other.domain users x y
+user_across one other limit users x y covers is = record {
+  user = is.user;
+  other = is.other;
+  plain = subst (λ (fit : Fit). is_pattern fit y ≡ false) covers.names is.plain;
+  linked = reaches_across one other limit y x covers is.linked;
+}
+
+pub users_across : (one other : Asked) (limit : ℕ) (users : List (List ℕ)) (x : List ℕ) (names : List (List ℕ)) → Alike one other → AreUsersOf one.shape one.rows limit one.domain users x names → AreUsersOf other.shape other.rows limit other.domain users x names
+users_across one other limit users x names alike are = record {
+  members = λ y. (λ stands. user_across one other limit users x y alike.there ((are.members y).0 stands), λ is. (are.members y).1 (user_across other one limit users x y alike.back is));
+  order = are.order;
+}
 
 pub few_across : (one other : Asked) → Covers other one → HasFewRoles one.shape one.rows one.domain → HasFewRoles other.shape other.rows other.domain
 few_across one other covers few = record {

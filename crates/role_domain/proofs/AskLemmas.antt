@@ -24,14 +24,16 @@ use Rattle.role_domain.specs.Helps.Walks.{IsDistance, inner, walk_of}
 use Rattle.role_domain.specs.Relations.{HasFewRoles, IsNamed, Tells, TellsRows, asked_rows, counted, named, pair_of, terms_of}
 use Rattle.role_domain.specs.declared.domain.Domain.{Domain}
 use Rattle.role_domain.specs.declared.terms.Terms.{Terms}
-use Rattle.role_domain.proofs.Across.{Alike, all_implied_across, alike_on, far_across, few_across, graph_alike, graph_of, has_across, inner_of, linked_across, outer_alike, outer_of, patterns_alike, row_counts}
+use Rattle.role_domain.proofs.Across.{Alike, all_implied_across, alike_on, depth_across, far_across, few_across, graph_alike, graph_of, has_across, inner_of, linked_across, outer_alike, outer_of, patterns_alike, row_counts, users_across}
 use Rattle.role_domain.proofs.Bringing.{FitsDecided, tells_of, test_of}
 use Rattle.role_domain.proofs.Counting.{Passes, count_agree_on, count_alike, count_filter, count_map, pairs_of, passing_counts, some_passes, times_pairs}
 use Rattle.role_domain.proofs.Walking.{far_told, linked_told}
 use Rattle.role_graph.specs.Graph.{Graph, GraphReaches, IsGraphFar, asked_rows as graph_asked, shape_of}
 use Rattle.role_graph.specs.Groups.{times}
+use Rattle.role_meaning.specs.Depths.{IsDepth}
 use Rattle.role_meaning.specs.Distances.{IsFar}
 use Rattle.role_meaning.specs.Implied.{AreImplied}
+use Rattle.role_meaning.specs.ImpliedUsers.{AreImpliedUsers, AreUsersOf}
 use Rattle.role_meaning.specs.Links.{HasRoles, IsLinked, domain_of, role_of, user_of}
 use Rattle.role_meaning.proofs.CallerLemmas.{map_cases, map_stands, stands_cases, stands_nowhere}
 
@@ -77,10 +79,21 @@ module _ (shape : RoleShape) (limit : ℕ) (policy : Policy) (entries : List (Li
     pub has_there : (x : List ℕ) (test : Bool) → IsTrue test ↔ HasRoles (shape_of there.graph.names) there.graph.rows None x → IsTrue test ↔ HasRoles shape all_rows domain x
     has_there x test told = has_across (graph_of there.graph.names there.graph.rows) (outer_of shape all_rows domain) x test alike told
 
+    pub depth_there : (x : List ℕ) (depth : ℕ) → IsDepth (shape_of there.graph.names) there.graph.rows there.graph.limit None x depth → IsDepth shape all_rows limit domain x depth
+    depth_there x depth is =
+        depth_across (graph_of there.graph.names there.graph.rows) (outer_of shape all_rows domain) limit x depth alike
+        (subst (λ (n : ℕ). IsDepth (shape_of there.graph.names) there.graph.rows n None x depth) right.limited is)
+
     pub implied_there : (x : List ℕ) (names : List (List ℕ)) → AreImplied (shape_of there.graph.names) there.graph.rows there.graph.limit None x names → AreImplied shape all_rows limit domain x names
     implied_there x names are =
         all_implied_across (graph_of there.graph.names there.graph.rows) (outer_of shape all_rows domain) limit x names alike
         (subst (λ (n : ℕ). AreImplied (shape_of there.graph.names) there.graph.rows n None x names) right.limited are)
+
+    pub users_there : (x : List ℕ) (among : List Fields) (names : List (List ℕ)) → among ≡ all_rows → AreUsersOf (shape_of there.graph.names) there.graph.rows there.graph.limit None (map user_of among) x names → AreImpliedUsers shape all_rows limit domain x names
+    users_there x among names all are =
+        users_across (graph_of there.graph.names there.graph.rows) (outer_of shape all_rows domain) limit (map user_of all_rows) x names alike
+        (subst (λ (l : List Fields). AreUsersOf (shape_of there.graph.names) there.graph.rows limit None (map user_of l) x names) all
+        (subst (λ (n : ℕ). AreUsersOf (shape_of there.graph.names) there.graph.rows n None (map user_of among) x names) right.limited are))
 
     -- some row has its text
     is_named : IsNamed all_rows domain
@@ -185,6 +198,11 @@ module _ (shape : RoleShape) (limit : ℕ) (policy : Policy) (entries : List (Li
         has_across (inner_of (terms_of shape limit) patterns text) (outer_of shape all_rows domain) x test alike_patterns
         (subst (λ (t : Terms). IsTrue test ↔ HasRoles (inner t) patterns (Some text) x) same_terms (subst (λ (l : List Fields). IsTrue test ↔ HasRoles (inner terms) l (Some text) x) same_rows told))
 
+    pub depth_nowhere : (terms : Terms) (walked : List Fields) (x : List ℕ) (depth : ℕ) → terms ≡ terms_of shape limit → walked ≡ patterns → IsDepth (inner terms) walked limit (Some text) x depth → IsDepth shape all_rows limit domain x depth
+    depth_nowhere terms walked x depth same_terms same_rows is =
+        depth_across (inner_of (terms_of shape limit) patterns text) (outer_of shape all_rows domain) limit x depth alike_patterns
+        (subst (λ (t : Terms). IsDepth (inner t) patterns limit (Some text) x depth) same_terms (subst (λ (l : List Fields). IsDepth (inner terms) l limit (Some text) x depth) same_rows is))
+
     pub implied_nowhere : (decided : FitsDecided) (graph : Graph) (x : List ℕ) (names : List (List ℕ)) → graph.names ≡ shape.names → graph.limit ≡ limit
         → ((test : List ℕ → Bool) → Tells (terms_of shape limit).domains text test → (one : Fields) → times one graph.rows ≡ counted test one patterns)
         → AreImplied (shape_of graph.names) graph.rows graph.limit None x names → AreImplied shape all_rows limit domain x names
@@ -195,6 +213,18 @@ module _ (shape : RoleShape) (limit : ℕ) (policy : Policy) (entries : List (Li
         (counts (test_of decided (terms_of shape limit).domains text) (tells_of decided (terms_of shape limit).domains text)))
         alike_patterns)
         (subst (λ (n : ℕ). AreImplied (shape_of graph.names) graph.rows n None x names) same_limit are)
+
+    pub users_nowhere : (decided : FitsDecided) (graph : Graph) (x : List ℕ) (among : List Fields) (names : List (List ℕ)) → among ≡ all_rows → graph.names ≡ shape.names → graph.limit ≡ limit
+        → ((test : List ℕ → Bool) → Tells (terms_of shape limit).domains text test → (one : Fields) → times one graph.rows ≡ counted test one patterns)
+        → AreUsersOf (shape_of graph.names) graph.rows graph.limit None (map user_of among) x names → AreImpliedUsers shape all_rows limit domain x names
+    users_nowhere decided graph x among names all same_names same_limit counts are =
+        users_across (graph_of graph.names graph.rows) (outer_of shape all_rows domain) limit (map user_of all_rows) x names
+        (alike_on (graph_of graph.names graph.rows) (inner_of (terms_of shape limit) patterns text) (outer_of shape all_rows domain)
+        (graph_alike graph.names (terms_of shape limit) graph.rows patterns text (test_of decided (terms_of shape limit).domains text) same_names (tells_of decided (terms_of shape limit).domains text)
+        (counts (test_of decided (terms_of shape limit).domains text) (tells_of decided (terms_of shape limit).domains text)))
+        alike_patterns)
+        (subst (λ (l : List Fields). AreUsersOf (shape_of graph.names) graph.rows limit None (map user_of l) x names) all
+        (subst (λ (n : ℕ). AreUsersOf (shape_of graph.names) graph.rows n None (map user_of among) x names) same_limit are))
 
     -- it is kept where no domain is asked for, and there are no rows then
     pub kept_nowhere : (test : Bool) → not test ≡ is_some domain → IsTrue test ↔ (IsNamed all_rows domain × HasFewRoles shape all_rows domain)

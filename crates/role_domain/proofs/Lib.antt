@@ -12,6 +12,7 @@ mod Touching
 mod Turning
 mod SectionLemmas
 mod Marks
+mod Climbing
 mod AskLemmas
 mod OnlyLemmas
 pub mod CallerLemmas

@@ -6,8 +6,10 @@ ghost use Rattle.perm_base.specs.declared.shapes.TableId.TheVariants.{G};
 ghost use Rattle.policy_table.specs.Changes.{applies, edited};
 ghost use Rattle.policy_table.specs.Limits.{role_columns};
 ghost use Rattle.policy_table.specs.Tables.{Fields, place, rows, without_rules};
+ghost use Rattle.role_meaning.specs.Depths.{IsDepth};
 ghost use Rattle.role_meaning.specs.Distances.{IsFar};
 ghost use Rattle.role_meaning.specs.Implied.{AreImplied};
+ghost use Rattle.role_meaning.specs.ImpliedUsers.{AreImpliedUsers};
 ghost use Rattle.role_meaning.specs.Links.{HasRoles, IsLinked};
 ghost use Rattle.role_domain.specs.Relations.{HasFewPatterns, HasFewRoles, IsNamed, TellsRows, asked_rows};
 ghost use Rattle.role_domain.specs.Sections.{IsPreparedFor, all_columns, only, own_of, rows_after, rows_in};
@@ -19,7 +21,7 @@ use crate::moves::{moved, said};
 use crate::patterns::{fitting, patterns_after};
 use crate::prepared::Prepared;
 use crate::terms::terms_of;
-use crate::walk::{distance, has_roles};
+use crate::walk::{depth, distance, has_roles};
 use dist_rows::Steps;
 use perm_base::{NoMemory, RoleShape, Rule, Share, TableId};
 use policy_table::{Edit, Tables, no_tables};
@@ -204,6 +206,25 @@ impl RoleSection {
         }
     }
 
+    /// How deep the name stands in the domain: the least number of links by which it reaches a name
+    /// without roles, and one more than the limit where it reaches none within it (Casbin, priority by
+    /// the hierarchy of subjects). It takes no memory.
+    pub fn depth(&self, x: &[u8], domain: Option<&[u8]>) -> u8
+        requires { is_some domain ≡ self.now.shape.with_domain }
+        ensures { IsDepth self.now.shape (rows_in self.now) self.now.limit
+            (option_copied domain.entry) x.now result }
+    {
+        links_are_decided();
+        let text = asked(domain);
+        match self.domains.get(text) {
+            Some(found) => found.graph.depth(x),
+            None => {
+                let terms = terms_of(self.shape, self.limit);
+                depth(terms, &self.patterns, text, x, self.limit)
+            }
+        }
+    }
+
     /// The names other than `x` that it reaches in the domain within the limit, the nearer first,
     /// those of one distance by bytes (Casbin, implicit roles).
     pub fn roles_within(
@@ -227,6 +248,42 @@ impl RoleSection {
         let graph = graph_of(alloc, terms.names, self.limit, &pairs, &[])?;
         let names = graph.roles_within(alloc, x)?;
         Ok(names)
+    }
+
+    /// The users of the rows of the relation that are no patterns, other than `x`, and that reach it in
+    /// the domain within the limit: each once, by bytes (Casbin, implicit users). The links of the
+    /// domain are walked once, from `x` back; then each row's user is looked up.
+    pub fn users_within(
+        &self,
+        alloc: Global,
+        x: &[u8],
+        domain: Option<&[u8]>,
+    ) -> Result<Rule, NoMemory>
+        requires { is_some domain ≡ self.now.shape.with_domain }
+        ensures { IfOk result (λ names. AreImpliedUsers self.now.shape (rows_in self.now)
+            self.now.limit (option_copied domain.entry) x.now names) }
+    {
+        links_are_decided();
+        let text = asked(domain);
+        let among = self.all_rows();
+        if let Some(there) = self.domains.get(text) {
+            let names = there.graph.users_within(alloc, x, among)?;
+            return Ok(names);
+        }
+        let terms = terms_of(self.shape, self.limit);
+        let pairs = fitting(alloc, terms.domains, text, &self.patterns)?;
+        let graph = graph_of(alloc, terms.names, self.limit, &pairs, &[])?;
+        let names = graph.users_within(alloc, x, among)?;
+        Ok(names)
+    }
+
+    // The rows of the relation.
+    fn all_rows(&self) -> &[Rule]
+        ensures rows { result.now ≡ rows_in self.now }
+        ensures columns { All (λ row. 2 ≤ length row) result.now }
+        ensures few { length result.now ≤ 200000 }
+    {
+        self.tables.rows(TableId::G(self.shape.number))
     }
 
     /// Whether some row has the domain's text, or no domain is asked for, and at most 1,024 names

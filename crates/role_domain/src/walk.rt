@@ -2,9 +2,10 @@
 //! names only such rows count.
 
 ghost use Rattle.std.specs.Prelude.{◌≡◌, ◌<◌, ◌≤◌, ◌↔◌, ℕ, All, List, [], IsTrue, Some, false, get_or, length};
+ghost use Rattle.role_meaning.specs.Depths.{IsDepth};
 ghost use Rattle.role_meaning.specs.Fits.{Fits};
 ghost use Rattle.role_meaning.specs.Links.{HasRoles, domain_of, role_of, user_of};
-ghost use Rattle.role_domain.specs.Helps.Walks.{Enters, Extends, GoesOn, IsDistance, IsMarked, IsNext, IsRoleAt, inner, walk_of};
+ghost use Rattle.role_domain.specs.Helps.Walks.{Enters, Extends, GoesOn, HasTop, IsDistance, IsMarked, IsNext, IsRoleAt, inner, walk_of};
 
 use crate::rows::domain_of;
 use crate::terms::Terms;
@@ -48,6 +49,32 @@ pub(crate) fn distance(
         fresh = step(terms, rows, text, &fresh, &mut reached);
     }
     None
+}
+
+/// The least number of links, up to `most`, by which a name reaches one without roles in the domain
+/// of a text, and one more than `most` where it reaches none. It takes no memory.
+pub(crate) fn depth(terms: Terms, rows: &[Rule], text: &[u8], x: &[u8], most: u8) -> u8
+    requires few { length rows.now ≤ 64 }
+    requires columns { All (λ row. 2 ≤ length row) rows.now }
+    requires most { most ≤ 254 }
+    ensures { IsDepth (inner terms) rows.now most (Some text.now) x.now result }
+{
+    if !has_roles(terms, rows, text, x) {
+        return 0;
+    }
+    let mut reached = [false; MOST];
+    let mut fresh = [false; MOST];
+    enter(terms, rows, text, x, &mut reached, &mut fresh);
+    for level in 0..most {
+        if !has_some(&fresh) {
+            return most + 1;
+        }
+        if has_top(terms, rows, text, &fresh) {
+            return level + 1;
+        }
+        fresh = step(terms, rows, text, &fresh, &mut reached);
+    }
+    most + 1
 }
 
 /// Whether a name fits the user of a row that counts in the domain of a text. It takes no memory.
@@ -127,6 +154,23 @@ fn has_role(rows: &[Rule], name: &[u8], marks: &Marks) -> bool
             continue;
         }
         if row.field(1) == name {
+            return true;
+        }
+    }
+    false
+}
+
+// Whether the role of a marked row has no roles.
+fn has_top(terms: Terms, rows: &[Rule], text: &[u8], marks: &Marks) -> bool
+    requires few { length rows.now ≤ 64 }
+    requires columns { All (λ row. 2 ≤ length row) rows.now }
+    ensures { IsTrue result ↔ HasTop (walk_of terms rows.now text.now) marks.now }
+{
+    for (at, row) in rows.iter().enumerate() {
+        if !marks[at] {
+            continue;
+        }
+        if !has_roles(terms, rows, text, row.field(1)) {
             return true;
         }
     }

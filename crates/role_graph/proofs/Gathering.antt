@@ -440,7 +440,7 @@ implied_few shape rows limit x names are =
     (λ q is. any_stands q (map role_of rows) ((are.members q).0 (stands_any q names is)).role) in
     omega (arith, few, length-map rows role_of)
 
-all_whole : (ys : List (List ℕ)) → ((y : List ℕ) → Contains ys y → has_line_end y ≡ false) → list_any has_line_end ys ≡ false
+pub all_whole : (ys : List (List ℕ)) → ((y : List ℕ) → Contains ys y → has_line_end y ≡ false) → list_any has_line_end ys ≡ false
 all_whole [] every = refl
 all_whole (y ∷ ys) every =
     ap (λ (t : Bool). t || list_any has_line_end ys) (every y (stands_here y ys)) ∙ all_whole ys (λ z stands. every z (stands_behind y ys z stands))

@@ -1,3 +1,4 @@
+mod Among
 mod Answering
 mod Bridging
 mod Chains
@@ -11,6 +12,7 @@ mod Following
 mod Gathering
 mod GroupRows
 mod Keyed
+mod Leading
 mod Leasts
 mod LinkLemmas
 mod Linking
@@ -23,6 +25,7 @@ mod Preparing
 mod Putting
 mod Rooms
 mod Resizing
+mod Seeking
 mod Tallies
 mod Walking
 pub mod CallerLemmas

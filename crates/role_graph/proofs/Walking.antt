@@ -297,20 +297,3 @@ has_gone_all linked from place all all_after new none has one at role is stands 
     by : (one < place) ⊎ (place ≤ one) → IsSet all_after at
     by (inl before) = has.marked one at role before is stands fits
     by (inr behind) = absurd (none one behind is)
-
--- no group before a place has the role
-pub record HasNone (linked : Linked) (name : List ℕ) (groups : List ℕ) (place : ℕ) : Type 0 where
-  pub before : (at : ℕ) → at < place → IsSet groups at → IsRoleAt linked name at → ⊥
-
-pub has_none_begin : (linked : Linked) (name : List ℕ) (groups : List ℕ) → HasNone linked name groups 0
-has_none_begin linked name groups = record { before = λ at low. absurd (omega arith) }
-
-pub has_none_on : (linked : Linked) (name : List ℕ) (groups : List ℕ) (place here : ℕ) → ((other : ℕ) → place ≤ other → other < here → IsSet groups other → ⊥) → (Contains (get_or linked.groups here no_group).roles name → ⊥) → HasNone linked name groups place → HasNone linked name groups (here + 1)
-has_none_on linked name groups place here none absent has = record {
-  before = λ at low one stands. by at low one stands (cases_eq at here) (cases_lt at place);
-}
-  where
-    by : (at : ℕ) → at < here + 1 → IsSet groups at → IsRoleAt linked name at → (at ≡ here) ⊎ (at ≡ here → ⊥) → (at < place) ⊎ (place ≤ at) → ⊥
-    by at low one stands (inl same) past = absent (subst (λ (k : ℕ). Contains (get_or linked.groups k no_group).roles name) same stands.stands)
-    by at low one stands (inr differ) (inl before) = has.before at before one stands
-    by at low one stands (inr differ) (inr behind) = none at behind (omega arith) one

@@ -7,3 +7,4 @@ pub mod Edits
 pub mod Names
 pub mod Squares
 pub mod Distances
+pub mod Users

@@ -3,8 +3,10 @@
 ghost use Rattle.std.specs.Prelude.{◌≡◌, ◌^◌, false, ◌+◌, ◌<◌, ◌≤◌, ◌↔◌, All, [], IfOk, OnOk, IsTrue, None, length, map};
 ghost use Rattle.std.specs.List.{list_any};
 ghost use Rattle.perm_base.specs.LineEnds.{has_line_end};
+ghost use Rattle.role_meaning.specs.Depths.{IsDepth};
 ghost use Rattle.role_meaning.specs.Implied.{AreImplied};
-ghost use Rattle.role_meaning.specs.Links.{HasRoles, role_of};
+ghost use Rattle.role_meaning.specs.ImpliedUsers.{AreUsersOf};
+ghost use Rattle.role_meaning.specs.Links.{HasRoles, role_of, user_of};
 ghost use Rattle.policy_table.specs.Limits.{different};
 ghost use Rattle.policy_table.specs.Tables.{Fields};
 ghost use Rattle.role_graph.specs.Groups.{after, times};
@@ -21,7 +23,8 @@ use crate::prepared::{Prepared, names_of, roles_of};
 use crate::reserving::reserve_square;
 use crate::roles::Roles;
 use crate::touching::{MOST_NODES, touched};
-use crate::walk::distance;
+use crate::users::users_among;
+use crate::walk::{depth, distance};
 use dist_rows::{DistRows, Steps};
 use perm_base::{Fit, NoMemory, Rule, Share, Text};
 use std::alloc::Global;
@@ -157,6 +160,16 @@ impl RoleGraph {
         distance(&self.links, x, y, FARTHEST).unwrap_or(TOO_FAR)
     }
 
+    /// How deep the name stands: the least number of links by which it reaches a name without roles,
+    /// and one more than the limit where it reaches none within it (Casbin, priority by the hierarchy
+    /// of subjects). It takes no memory.
+    pub fn depth(&self, x: &[u8]) -> u8
+        ensures { IsDepth (shape_of self.now.names) self.now.rows self.now.limit None x.now
+            result }
+    {
+        depth(&self.links, x, self.limit)
+    }
+
     /// The names other than `x` that it reaches within the limit, the nearer first, those of one
     /// distance by bytes (Casbin, implicit roles).
     pub fn roles_within(&self, alloc: Global, x: &[u8]) -> Result<Rule, NoMemory>
@@ -177,6 +190,18 @@ impl RoleGraph {
             return listed(&self.links, &self.roles, &self.square, alloc, x, self.limit);
         }
         implied(&self.links, alloc, x, self.limit)
+    }
+
+    /// The users of rows that are no patterns, other than `x`, and that reach it within the limit: each
+    /// once, by bytes (Casbin, implicit users). The links are walked from `x` back.
+    pub fn users_within(&self, alloc: Global, x: &[u8], among: &[Rule]) -> Result<Rule, NoMemory>
+        requires columns { All (λ row. 2 ≤ length row) among.now }
+        requires few { length among.now ≤ most_rows }
+        ensures { IfOk result (λ names. AreUsersOf (shape_of self.now.names) self.now.rows
+            self.now.limit None (map user_of among.now) x.now names) }
+    {
+        let users = users_among(&self.links, alloc, x, self.limit, among)?;
+        Ok(rule_of(users))
     }
 
     /// Prepares to take the rows of `remove` out, each once, and to add those of `insert`. The

@@ -87,8 +87,8 @@ fn add_new(
     Ok(())
 }
 
-// Adds a role, unless it is the name or seen already.
-fn add_one(
+/// Adds a role, unless it is the name or seen already.
+pub(crate) fn add_one(
     alloc: Global,
     role: &Text,
     x: &[u8],

@@ -17,6 +17,7 @@ mod prepared;
 mod reserving;
 mod roles;
 mod touching;
+mod users;
 mod walk;
 
 pub use dist_rows::Steps;

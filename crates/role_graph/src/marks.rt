@@ -30,14 +30,16 @@ impl Marks {
         Marks { words: [0; WORDS] }
     }
 
-    fn has(&self, at: usize) -> bool
+    /// Whether a place is marked.
+    pub(crate) fn has(&self, at: usize) -> bool
         requires { at < 200000 }
         ensures { IsTrue result ↔ IsSet self.now at }
     {
         (self.words[at / 64] >> (at % 64)) & 1 == 1
     }
 
-    fn set(&mut self, at: usize)
+    /// Marks a place.
+    pub(crate) fn set(&mut self, at: usize)
         requires { at < 200000 }
         ensures marked { IsSet self.new at }
         ensures kept { (other : ℕ) → IsSet self.old other → IsSet self.new other }

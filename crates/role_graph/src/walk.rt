@@ -1,15 +1,25 @@
 //! Walks from a name, level by level: what is new at a level is reached by so many links, and by no
 //! fewer.
 
-ghost use Rattle.std.specs.Prelude.{◌≡◌, ◌+◌, ◌<◌, ◌≤◌, ◌↔◌, ℕ, List, IsTrue, length};
+ghost use Rattle.std.specs.Prelude.{◌≡◌, ◌+◌, ◌<◌, ◌≤◌, ◌↔◌, ℕ, List, IsTrue, None, length};
 ghost use Rattle.std.specs.List.{Contains};
+ghost use Rattle.role_meaning.specs.Depths.{IsDepth};
+ghost use Rattle.role_graph.specs.Graph.{shape_of};
+ghost use Rattle.role_graph.specs.Groups.{rows_of};
 ghost use Rattle.role_graph.specs.Helps.Kept.{linked_of};
 ghost use Rattle.role_graph.specs.Helps.Marks.{Extends, IsNext, IsSet};
-ghost use Rattle.role_graph.specs.Helps.Walks.{FitsAt, GoesOn, IsDistance, IsRoleAt};
+ghost use Rattle.role_graph.specs.Helps.Walks.{FitsAt, GoesOn, HasSought, IsDistance, IsFirst, IsRoleAt, IsSought};
 
 use crate::links::Links;
 use crate::marks::Marks;
 use perm_base::Text;
+
+/// What a walk looks for: a name, or any name without roles.
+#[derive(Clone, Copy)]
+pub(crate) enum Sought<'a> {
+    Name(&'a [u8]),
+    Top,
+}
 
 /// The least number of links, up to `most`, by which one name reaches the other. It takes no
 /// memory.
@@ -17,7 +27,26 @@ pub(crate) fn distance(links: &Links, x: &[u8], y: &[u8], most: u8) -> Option<u8
     requires { most ≤ 254 }
     ensures { IsDistance (linked_of links.now) x.now y.now most result }
 {
-    if x == y {
+    seek(links, x, Sought::Name(y), most)
+}
+
+/// The least number of links, up to `most`, by which a name reaches one without roles, and one more
+/// than `most` where it reaches none. It takes no memory.
+pub(crate) fn depth(links: &Links, x: &[u8], most: u8) -> u8
+    requires { most ≤ 254 }
+    ensures { IsDepth (shape_of links.now.names) (rows_of (linked_of links.now).groups) most None
+        x.now result }
+{
+    let _few = links.len();
+    seek(links, x, Sought::Top, most).unwrap_or(most + 1)
+}
+
+// The least number of links, up to `most`, by which a name reaches one that is sought.
+fn seek(links: &Links, x: &[u8], sought: Sought, most: u8) -> Option<u8>
+    requires { most ≤ 254 }
+    ensures { IsFirst (linked_of links.now) sought.entry x.now most result }
+{
+    if is_sought(links, sought, x) {
         return Some(0);
     }
     let mut reached = Marks::new();
@@ -26,12 +55,35 @@ pub(crate) fn distance(links: &Links, x: &[u8], y: &[u8], most: u8) -> Option<u8
         if fresh.is_empty() {
             return None;
         }
-        if has_role(links, y, &fresh) {
+        if has_sought(links, sought, &fresh) {
             return Some(level + 1);
         }
         fresh = step(links, &fresh, &mut reached);
     }
     None
+}
+
+// Whether a name is sought.
+fn is_sought(links: &Links, sought: Sought, name: &[u8]) -> bool
+    ensures { IsTrue result ↔ IsSought (linked_of links.now) sought.entry name.now }
+{
+    match sought {
+        Sought::Name(wanted) => name == wanted,
+        Sought::Top => !links.has_fitting(name),
+    }
+}
+
+// Whether some of the names is sought.
+fn some_is_sought(links: &Links, sought: Sought, names: &[Text]) -> bool
+    ensures { IsTrue result ↔ ((name : List ℕ) × Contains names.now name
+        × IsSought (linked_of links.now) sought.entry name) }
+{
+    for name in names {
+        if is_sought(links, sought, name.bytes()) {
+            return true;
+        }
+    }
+    false
 }
 
 /// Marks the groups whose users a name fits, and tells which of them were not marked.
@@ -45,15 +97,15 @@ pub(crate) fn begin(links: &Links, name: &[u8], reached: &mut Marks) -> Marks
     fresh
 }
 
-// Whether a name is the role of a row of one of the groups.
-fn has_role(links: &Links, name: &[u8], groups: &Marks) -> bool
+// Whether one of the groups has a role that is sought.
+fn has_sought(links: &Links, sought: Sought, groups: &Marks) -> bool
     requires { (at : ℕ) → IsSet groups.now at → at < length (linked_of links.now).groups }
-    ensures { IsTrue result ↔ ((at : ℕ) × IsSet groups.now at
-        × IsRoleAt (linked_of links.now) name.now at) }
+    ensures { IsTrue result
+        ↔ HasSought (linked_of links.now) sought.entry (IsSet groups.now) }
 {
     let mut place = 0;
     while let Some(at) = groups.next(place) {
-        if holds(links.roles_at(at), name) {
+        if some_is_sought(links, sought, links.roles_at(at)) {
             return true;
         }
         place = at + 1;

@@ -14,6 +14,7 @@ use Rattle.policy_table.specs.Tables.{Fields}
 use Rattle.role_meaning.specs.Depths.{IsOrderByDepth, Ranked, by_depth, put_by_depth, ranked_from}
 use Rattle.role_meaning.specs.Distances.{farthest}
 use Rattle.role_meaning.specs.Implied.{AreImplied, IsNearer}
+use Rattle.role_meaning.specs.ImpliedUsers.{AreImpliedUsers}
 use Rattle.role_meaning.specs.Links.{Reaches}
 use Rattle.role_meaning.proofs.Reach.{least_unique}
 use Rattle.role_meaning.proofs.Rows.{map_cases, map_stands, stands_behind, stands_cases, stands_here, stands_nowhere}
@@ -78,6 +79,11 @@ nearer_apart shape rows domain x y z one two =
 pub implied_unique : (shape : RoleShape) (rows : List Fields) (limit : ℕ) (domain : Option (List ℕ)) (x : List ℕ) (names others : List (List ℕ)) → AreImplied shape rows limit domain x names → AreImplied shape rows limit domain x others → names ≡ others
 implied_unique shape rows limit domain x names others one two =
     one_list (IsNearer shape rows domain x) (nearer_apart shape rows domain x) names others one.order two.order
+    (λ y stands. (two.members y).1 ((one.members y).0 stands)) (λ y stands. (one.members y).1 ((two.members y).0 stands))
+
+pub users_unique : (shape : RoleShape) (rows : List Fields) (limit : ℕ) (domain : Option (List ℕ)) (x : List ℕ) (names others : List (List ℕ)) → AreImpliedUsers shape rows limit domain x names → AreImpliedUsers shape rows limit domain x others → names ≡ others
+users_unique shape rows limit domain x names others one two =
+    one_list (λ (y z : List ℕ). slice_cmp nat_cmp y z ≡ Less) (λ y z first second. not_both_before (slice_cmp nat_cmp y z) (slice_cmp nat_cmp z y) (nat_list_cmp_total.antisymm y z) first second) names others one.order two.order
     (λ y stands. (two.members y).1 ((one.members y).0 stands)) (λ y stands. (one.members y).1 ((two.members y).0 stands))
 
 -- the deeper before the less deep, and of one depth the earlier before the later

@@ -4,3 +4,4 @@ pub mod Least
 pub mod Distances
 pub mod Depths
 pub mod Implied
+pub mod ImpliedUsers

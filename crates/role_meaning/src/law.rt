@@ -10,6 +10,7 @@ ghost use Rattle.role_meaning.specs.Depths.{IsDepth, IsOrderByDepth, by_depth};
 ghost use Rattle.role_meaning.specs.Distances.{IsFar, farthest};
 ghost use Rattle.role_meaning.specs.Fits.{Fits};
 ghost use Rattle.role_meaning.specs.Implied.{AreImplied};
+ghost use Rattle.role_meaning.specs.ImpliedUsers.{AreImpliedUsers};
 ghost use Rattle.role_meaning.specs.Links.{CountsIn, HasRoles, Reaches, SomeLink};
 
 use key_match::covering_is_decided;
@@ -123,5 +124,15 @@ pub fn implied_roles_are_one()
         (names others : List (List ℕ))
         → AreImplied shape rows limit domain x names
         → AreImplied shape rows limit domain x others
+        → names ≡ others }
+{}
+
+/// The law that a name has one list of implied users.
+pub fn implied_users_are_one()
+    ensures { (shape : RoleShape) (rows : List Fields) (limit : ℕ) (domain : Option (List ℕ))
+        (x : List ℕ)
+        (names others : List (List ℕ))
+        → AreImpliedUsers shape rows limit domain x names
+        → AreImpliedUsers shape rows limit domain x others
         → names ≡ others }
 {}

@@ -235,6 +235,3 @@ module _ (json : Bool) (bytes : List ℕ) where
       by : (test : Bool) → is_utf8 bytes ≡ test → ((items : List Said) × IsRequests json bytes items) ⊎ (¬ (IsUtf8 bytes))
       by true e = inl (asked json (requests_of bytes), requests_are (asked json (requests_of bytes)) (IsUtf8-from_is_utf8 bytes e) refl)
       by false e = inr (λ utf8. true≢false (sym (is_utf8-from_IsUtf8 bytes utf8) ∙ e))
-
-pub requests_end : (json : Bool) (rest bytes : List ℕ) (taken : List Said) → requests_of rest ≡ [] → taken ++ asked json (requests_of rest) ≡ asked json (requests_of bytes) → taken ≡ asked json (requests_of bytes)
-requests_end json rest bytes taken none reads = sym (append-nil taken) ∙ ap (λ (lines : List (List ℕ)). taken ++ asked json lines) (sym none) ∙ reads

@@ -30,8 +30,8 @@ RequestReader = List ℕ → Reading
 -- ---- the parts of arguments
 
 -- the number that one to nine digits are; leading zeros are allowed
-abbrev pub number_of : List ℕ → Option ℕ
-number_of text = if nat_lt 0 (length text) && nat_le (length text) 9 && list_all is_ascii_digit text then Some (digits_value 10 text) else None
+abbrev pub whole_number_of : List ℕ → Option ℕ
+whole_number_of text = if nat_lt 0 (length text) && nat_le (length text) 9 && list_all is_ascii_digit text then Some (digits_value 10 text) else None
 
 -- the table of this name
 abbrev pub table_of : List ℕ → Result TableId LineCause
@@ -48,7 +48,7 @@ relation_of name = ok_or (option_and_then relation_number (table_named name)) ca
 
 -- a number among the fields
 abbrev pub numeral : List ℕ → Result ℕ LineCause
-numeral text = ok_or (number_of text) cause.Number
+numeral text = ok_or (whole_number_of text) cause.Number
 
 -- ---- what fields say together
 

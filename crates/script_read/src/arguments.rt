@@ -2,7 +2,7 @@ ghost use Rattle.std.specs.Prelude.{◌≡◌, ◌<◌, length};
 ghost use Rattle.std.specs.Char.{is_ascii_digit};
 ghost use Rattle.std.specs.List.{list_all};
 ghost use Rattle.perm_base.specs.LineEnds.{AreFields};
-ghost use Rattle.script_read.specs.Items.{count_of, filter_of, name_of, names_of, number_of};
+ghost use Rattle.script_read.specs.Items.{count_of, filter_of, name_of, names_of, whole_number_of};
 ghost use Rattle.script_read.specs.Items.{numeral, relation_of, rows_of, rule_of, table_of};
 
 use crate::fault::LineCause;
@@ -19,7 +19,7 @@ pub(crate) fn rule_of(mut fields: Vec<Text>) -> Result<(TableId, Rule), LineCaus
         return Err(LineCause::Fields);
     }
     let table = table_of(&name)?;
-    Ok((table, rule_from(fields)))
+    Ok((table, Rule::from_vec(fields)))
 }
 
 /// A table, a place, and values from there on.
@@ -33,7 +33,7 @@ pub(crate) fn filter_of(mut fields: Vec<Text>) -> Result<(TableId, u32, Rule), L
     let table = table_of(&fields[0])?;
     let at = numeral(&fields[1])?;
     fields.drain(..2);
-    Ok((table, at, rule_from(fields)))
+    Ok((table, at, Rule::from_vec(fields)))
 }
 
 /// A table alone, or with a place and values.
@@ -46,7 +46,7 @@ pub(crate) fn rows_of(mut fields: Vec<Text>) -> Result<(TableId, u32, Rule), Lin
     }
     let name = fields.remove(0);
     let table = table_of(&name)?;
-    Ok((table, 0, rule_from(fields)))
+    Ok((table, 0, Rule::from_vec(fields)))
 }
 
 /// A role relation and a name, or these and a domain.
@@ -83,18 +83,6 @@ pub(crate) fn count_of(fields: Vec<Text>) -> Result<u32, LineCause>
     numeral(&text)
 }
 
-// The rule of fields that were read.
-fn rule_from(fields: Vec<Text>) -> Rule
-    requires { AreFields fields.items }
-    ensures { result ≡ fields.items }
-{
-    // What is read of a line holds no line end.
-    let Ok(rule) = Rule::from_fields(fields) else {
-        unreachable!()
-    };
-    rule
-}
-
 // The table of a name.
 fn table_of(name: &Text) -> Result<TableId, LineCause>
     ensures { result ≡ table_of name.now }
@@ -117,12 +105,12 @@ fn relation_of(name: &Text) -> Result<u8, LineCause>
 fn numeral(text: &Text) -> Result<u32, LineCause>
     ensures { result ≡ numeral text.now }
 {
-    number_of(text.as_str()).ok_or(LineCause::Number)
+    whole_number_of(text.as_str()).ok_or(LineCause::Number)
 }
 
 // The number of one to nine digits.
-fn number_of(text: &str) -> Option<u32>
-    ensures { result ≡ number_of text.now }
+fn whole_number_of(text: &str) -> Option<u32>
+    ensures { result ≡ whole_number_of text.now }
 {
     if text.is_empty() || text.len() > 9 || !are_digits(text) {
         return None;

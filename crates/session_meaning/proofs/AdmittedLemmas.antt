@@ -1,28 +1,23 @@
 -- Each given edit is admitted in the tables before it, and so the tables of each version are in order.
-use Rattle.std.proofs.Common.{◌≡◌, ℕ, zero, suc, ◌<◌, ◌≤◌, Bool, true, false, cond, eqb, List, [], ◌∷◌, ◌++◌, length, take, take_all, slice_get, Option, Some, None, Ok, Err, refl, subst, arith}
+use Rattle.std.proofs.Common.{◌≡◌, ℕ, zero, suc, Bool, true, false, eqb, List, [], ◌∷◌, ◌++◌, length, take, take_all, slice_get, Option, Some, None, Ok, Err, refl, subst, arith}
 use Rattle.std.specs.Prelude.{if◌then◌else◌, is_some, ⊤}
-use Rattle.std.specs.List.{AllByRecursion, IsDistinct, fold}
-use Rattle.std.specs.Option.{option_map_or, option_or}
-use Rattle.std.proofs.lemmas.Bool.{eqb-true, lt-ltb}
-use Rattle.std.proofs.lemmas.List.Elements.{recursion_from_All}
+use Rattle.std.specs.List.{IsDistinct, fold}
+use Rattle.std.specs.Option.{option_map_or}
 use Rattle.std.proofs.lemmas.Option.{same_Some}
 use Rattle.edit_calls.proofs.CallerLemmas.{has_place}
 use Rattle.edit_calls.specs.Admitted.{admits}
-use Rattle.edit_calls.specs.Answers.{Answer, answer, within}
+use Rattle.edit_calls.specs.Answers.{Answer, answer, while_few, within}
 use Rattle.edit_calls.specs.Edits.{edit_by}
-use Rattle.edit_calls.specs.Refusals.{filter_fault, has_long_field, added_rules, named_rules, other_length, refusal, table_of}
+use Rattle.edit_calls.specs.Refusals.{refusal, table_of}
 use Rattle.edit_calls.specs.declared.call.Call.{Call}
 use Rattle.edit_calls.specs.declared.refused.CallRefused.{CallRefused}
-use Rattle.edit_calls.specs.declared.refused.CallRefused.TheVariants.{FieldTooLong, Full, NoTable}
-use Rattle.perm_base.specs.RoleShapes.{IsNumbered, shape_of}
+use Rattle.edit_calls.specs.declared.refused.CallRefused.TheVariants.{Full}
 use Rattle.perm_base.specs.Shapes.{AreValid}
-use Rattle.perm_base.specs.declared.shapes.RoleShape.{RoleShape}
 use Rattle.perm_base.specs.declared.shapes.Shapes.{Shapes}
-use Rattle.perm_base.specs.declared.shapes.TableId.{TableId}
-use Rattle.perm_base.specs.declared.shapes.TableId.TheVariants.{P, G}
+use Rattle.perm_base.specs.declared.shapes.TableId.TheVariants.{P}
 use Rattle.policy_table.proofs.CallerLemmas.{are_lists, kept_of, ordered_edited}
 use Rattle.policy_table.specs.Changes.{applies, edited, replay}
-use Rattle.policy_table.specs.Limits.{AreSound, columns_of, passed, role_columns}
+use Rattle.policy_table.specs.Limits.{AreSound, passed}
 use Rattle.policy_table.specs.Tables.{AreOrdered, IsKept, Policy, most_tables, place, rows, same}
 use Rattle.policy_table.specs.declared.change.Change.{Change}
 use Rattle.policy_table.specs.declared.limit.Limit.{Limit}
@@ -30,7 +25,7 @@ use Rattle.policy_table.specs.declared.limit.Limit.TheVariants.{Edits}
 use Rattle.script_read.specs.Said.{Said}
 use Rattle.script_read.specs.Said as said
 use Rattle.version_log.specs.Log.{most_versions}
-use Rattle.session_meaning.specs.Given.{given, while_few, with_edit, with_item}
+use Rattle.session_meaning.specs.Given.{given, with_edit, with_item}
 use Rattle.session_meaning.specs.Versions.{tables_at}
 
 -- what the laws of calls say
@@ -119,7 +114,7 @@ module _ (laws : CallLaws) (shapes : Shapes) where
         by_count edit true one = all
         by_count edit false one = admitted_more shapes edits opening edit all one
 
-        by : (answered : Answer) → answer shapes (replay edits opening) call ≡ answered → AreAdmitted shapes opening (with_edit edits (while_few (length edits) answered))
+        by : (answered : Answer) → answer shapes (replay edits opening) call ≡ answered → AreAdmitted shapes opening (with_edit edits (while_few most_versions (length edits) answered))
         by (Ok None) is = all
         by (Err refused) is = all
         by (Ok (Some edit)) is = by_count edit (eqb (length edits) most_versions) (answer_admitted (replay edits opening) call edit ordered is)

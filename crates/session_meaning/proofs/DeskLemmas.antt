@@ -1,17 +1,13 @@
 -- What a desk that stands behind the items of a script says of the next one.
 use Rattle.std.proofs.Common.{◌≡◌, ℕ, zero, suc, ◌+◌, ◌-◌, ◌<◌, ◌≤◌, max, Bool, true, false, ◌==◌, ◌||◌, List, [], ◌∷◌, ◌++◌, append-nil, append_assoc, length, length-append, length-drop, take, drop, slice_get, get_or, Option, Some, None, Ok, Err, refl, sym, ap, subst, ◌∙◌, arith}
-use Rattle.std.specs.Prelude.{MatchBool, ◌≢◌, if◌then◌else◌, nat_le, nat_lt}
+use Rattle.std.specs.Prelude.{if◌then◌else◌, nat_le, nat_lt}
 use Rattle.std.specs.List.{filter_map, last_or}
 use Rattle.std.specs.Option.{option_map_or}
-use Rattle.std.proofs.lemmas.Bool.{eq-eqb, leb-false, ne_eqb}
+use Rattle.std.proofs.lemmas.Bool.{leb-false}
 use Rattle.std.proofs.lemmas.Option.{get_or_from_slice_get}
-use Rattle.answer_lines.specs.declared.answer.Answer.{Answer}
-use Rattle.answer_lines.specs.declared.answer.Answer.TheVariants as answer
-use Rattle.edit_calls.specs.Answers.{Answer as CallAnswer, answer as answer_in}
+use Rattle.edit_calls.specs.Answers.{Answer as CallAnswer, answer as answer_in, while_few}
 use Rattle.edit_calls.specs.declared.call.Call.{Call}
-use Rattle.model_conf.specs.ModelText.{ModelParts}
 use Rattle.perm_base.specs.declared.shapes.Shapes.{Shapes}
-use Rattle.perm_value.specs.Datum.{Datum}
 use Rattle.policy_query.specs.Answers.{answer_unless}
 use Rattle.policy_query.specs.Edits.{IsEdit, edit_refusal}
 use Rattle.policy_query.specs.declared.refused.QueryRefused.{QueryRefused}
@@ -22,10 +18,10 @@ use Rattle.policy_table.specs.declared.change.Change.{Change}
 use Rattle.script_read.specs.Said.{Said}
 use Rattle.script_read.specs.Said as said
 use Rattle.version_log.proofs.CallerLemmas.{replay_both, tables_after}
-use Rattle.version_log.specs.Log.{Logged, Stands, tables_of, versions}
+use Rattle.version_log.specs.Log.{Logged, Stands, most_versions, tables_of, versions}
 use Rattle.session_meaning.specs.Desks.{IsBehind, history}
-use Rattle.session_meaning.specs.Given.{call_answer, given, while_few, with_edit, with_item}
-use Rattle.session_meaning.specs.Replies.{IsDecided, IsReply, recall_refusal, recalled}
+use Rattle.session_meaning.specs.Given.{call_answer, given, with_edit, with_item}
+use Rattle.session_meaning.specs.Replies.{recall_refusal, recalled}
 use Rattle.session_meaning.specs.Versions.{count_of, is_publish, kept, out, published, start}
 use Rattle.session_meaning.proofs.GivenLemmas.{given_more, given_none}
 use Rattle.session_meaning.proofs.OutLemmas.{history_none, history_publish, history_same, out_among}
@@ -84,8 +80,8 @@ module _ (shapes : Shapes) (opening : Policy) where
         omega (arith, desk_version, whole, ap (λ (l : List (List Change)). length l) desk.others, length-append (history shapes opening items) pending)
 
     -- a call is answered by its drafts
-    pub desk_call : (call : Call) → while_few (versions log + length pending) (answer_in shapes (replay pending (tables_of log)) call) ≡ call_answer shapes opening (given shapes opening items) call
-    desk_call call = λ j. while_few (desk_edits j) (answer_in shapes (desk_drafts j) call)
+    pub desk_call : (call : Call) → while_few most_versions (versions log + length pending) (answer_in shapes (replay pending (tables_of log)) call) ≡ call_answer shapes opening (given shapes opening items) call
+    desk_call call = λ j. while_few most_versions (desk_edits j) (answer_in shapes (desk_drafts j) call)
 
     -- why an edit is not recalled
     desk_refusal : (number : ℕ) → edit_refusal log number ≡ recall_refusal (out shapes opening items) (start shapes opening items) number
@@ -183,16 +179,3 @@ module _ (shapes : Shapes) (opening : Policy) where
     others = given_none shapes opening ∙ sym (history_none shapes opening) ∙ sym (append-nil (history shapes opening []));
     keeps = sym kept_none;
   }
-
--- ---- requests
-
-module _ (model : ModelParts) (shapes : Shapes) (opening : Policy) (IsBad : List ℕ → Type 0) (before : List Said) (values : List Datum) (reply : Answer) where
-  -- a request with as many values as the model has columns is decided
-  pub reply_decided : length values ≡ length model.request → IsDecided model shapes opening IsBad before values reply → IsReply model shapes opening IsBad before (said.asks (Ok values)) reply
-  reply_decided fits is = subst (λ (b : Bool). MatchBool b (IsDecided model shapes opening IsBad before values reply) (reply ≡ answer.Arity (length values) (length model.request)))
-      (sym (eq-eqb (length values) (length model.request) fits)) is
-
-  -- any other is refused
-  pub reply_arity : length values ≢ length model.request → reply ≡ answer.Arity (length values) (length model.request) → IsReply model shapes opening IsBad before (said.asks (Ok values)) reply
-  reply_arity other is = subst (λ (b : Bool). MatchBool b (IsDecided model shapes opening IsBad before values reply) (reply ≡ answer.Arity (length values) (length model.request)))
-      (sym (ne_eqb (length values) (length model.request) other)) is

@@ -5,7 +5,7 @@ use Rattle.std.specs.List.{fold}
 use Rattle.std.proofs.lemmas.Bool.{eqb-false}
 use Rattle.std.proofs.lemmas.List.{take-append-le}
 use Rattle.std.proofs.lemmas.List.Sums.{fold-append}
-use Rattle.edit_calls.specs.Answers.{Answer, answer}
+use Rattle.edit_calls.specs.Answers.{Answer, answer, while_few}
 use Rattle.edit_calls.specs.declared.refused.CallRefused.TheVariants.{Full}
 use Rattle.perm_base.specs.declared.shapes.Shapes.{Shapes}
 use Rattle.policy_table.specs.Changes.{replay}
@@ -15,7 +15,7 @@ use Rattle.policy_table.specs.declared.limit.Limit.TheVariants.{Edits}
 use Rattle.script_read.specs.Said.{Said}
 use Rattle.script_read.specs.Said as said
 use Rattle.version_log.specs.Log.{most_versions}
-use Rattle.session_meaning.specs.Given.{call_answer, given, while_few, with_edit, with_item}
+use Rattle.session_meaning.specs.Given.{call_answer, given, with_edit, with_item}
 
 -- edits, and others behind them
 abbrev pub Begins : List (List Change) → List (List Change) → Type 0
@@ -30,7 +30,7 @@ edit_behind edits (Ok None) = none_behind edits
 edit_behind edits (Err refused) = none_behind edits
 
 -- a further edit is given while there are few
-few_edit : (edits : List (List Change)) (answered : Answer) → length edits ≤ most_versions → length (with_edit edits (while_few (length edits) answered)) ≤ most_versions
+few_edit : (edits : List (List Change)) (answered : Answer) → length edits ≤ most_versions → length (with_edit edits (while_few most_versions (length edits) answered)) ≤ most_versions
 few_edit edits (Ok None) few = few
 few_edit edits (Err refused) few = few
 few_edit edits (Ok (Some edit)) few = by (eqb (length edits) most_versions) refl

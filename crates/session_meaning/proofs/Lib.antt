@@ -6,4 +6,5 @@ mod ReplyLemmas
 mod LineLemmas
 mod PrintableLemmas
 mod DeskLemmas
+mod RoundLemmas
 pub mod CallerLemmas

@@ -1,88 +1,106 @@
 -- The lines of a script.
-use Rattle.std.proofs.Common.{◌≡◌, ℕ, suc, List, [], ◌∷◌, ◌++◌, append_assoc, append-nil, length, refl, sym, ap, subst, ◌∙◌}
+use Rattle.std.proofs.Common.{◌≡◌, ℕ, suc, true, false, List, [], ◌∷◌, ◌++◌, append_assoc, append-nil, length, refl, sym, ap, subst, ◌∙◌}
+use Rattle.std.proofs.lemmas.List.Concat.{flat_map-append}
 use Rattle.answer_lines.specs.declared.answer.Line.{Line}
 use Rattle.model_conf.specs.ModelText.{ModelParts}
 use Rattle.perm_base.specs.declared.shapes.Shapes.{Shapes}
 use Rattle.policy_table.specs.Tables.{Policy}
 use Rattle.script_read.specs.Said.{Said}
-use Rattle.session_meaning.specs.Plain.{AreLines, IsLine, IsPlain, number_behind}
+use Rattle.session_meaning.specs.Plain.{AreLines, IsLine, IsPlain, all_refused, none_refused, number_behind}
+use Rattle.session_meaning.specs.Replies.{is_decided}
+use Rattle.session_meaning.specs.Versions.{out, published}
 use Rattle.session_meaning.proofs.ReplyLemmas.{OneJudged, SomeJudged, StaysJudged, reply_one, reply_some, reply_stays}
 
+-- what was refused for one item more
+pub all_more : (refused : List (List (List ℕ))) (more : List (List ℕ)) → all_refused (refused ++ more ∷ []) ≡ all_refused refused ++ more
+all_more refused more = flat_map-append (λ (patterns : List (List ℕ)). patterns) refused (more ∷ []) ∙ ap (λ (l : List (List ℕ)). all_refused refused ++ l) (append-nil more)
+
+-- where nothing is in both, nothing is in either
+none_in : {X : Type 0} (xs ys : List X) → xs ++ ys ≡ [] → (xs ≡ []) × (ys ≡ [])
+none_in [] ys none = (refl, none)
+none_in (x ∷ xs) ys none = absurd cc
+
 module _ (model : ModelParts) (shapes : Shapes) (opening : Policy) where
-  module _ (IsBad : List ℕ → Type 0) where
-    line_one : OneJudged model shapes IsBad → (before : List Said) (item : Said) (first second : Line) → IsLine model shapes opening IsBad before item first → IsLine model shapes opening IsBad before item second → first ≡ second
-    line_one one before item first second p q =
-        let number : first.number ≡ second.number = p.number ∙ sym q.number in
-        let same : first.answer ≡ second.answer = reply_one model shapes opening before IsBad one item first.answer second.answer p.answer q.answer in
-        λ j. record { number = number j; answer = same j }
+  -- ---- one list, where nothing was refused
 
-    lines_one : OneJudged model shapes IsBad → (before items : List Said) (first second : List Line) → AreLines model shapes opening IsBad before items first → AreLines model shapes opening IsBad before items second → first ≡ second
-    lines_one one before [] [] [] p q = refl
-    lines_one one before [] [] (z ∷ zs) p q = absurd q
-    lines_one one before [] (y ∷ ys) zs p q = absurd p
-    lines_one one before (item ∷ items) [] zs p q = absurd p
-    lines_one one before (item ∷ items) (y ∷ ys) [] p q = absurd q
-    lines_one one before (item ∷ items) (y ∷ ys) (z ∷ zs) p q =
-        let line = line_one one before item y z p.0 q.0 in
-        let others = lines_one one (before ++ item ∷ []) items ys zs p.1 q.1 in
-        λ j. line j ∷ others j
+  line_one : OneJudged model shapes [] → (before : List Said) (item : Said) (first second : Line) → IsLine model shapes opening before item [] first → IsLine model shapes opening before item [] second → first ≡ second
+  line_one one before item first second p q =
+      let number : first.number ≡ second.number = p.number ∙ sym q.number in
+      let same : first.answer ≡ second.answer = reply_one model shapes opening before (out shapes opening before) (published shapes opening before) [] one item first.answer second.answer p.answer q.answer in
+      λ j. record { number = number j; answer = same j }
 
-    pub plain_one : OneJudged model shapes IsBad → (items : List Said) (first second : List Line) → IsPlain model shapes opening IsBad items first → IsPlain model shapes opening IsBad items second → first ≡ second
-    unfolding IsPlain
-    plain_one one items first second p q = lines_one one [] items first second p q
+  lines_one : OneJudged model shapes [] → (before items : List Said) (refused others : List (List (List ℕ))) (first second : List Line) → AreLines model shapes opening before items refused first → AreLines model shapes opening before items others second
+      → all_refused refused ≡ [] → all_refused others ≡ [] → first ≡ second
+  lines_one one before [] [] [] [] [] p q none no_others = refl
+  lines_one one before (item ∷ items) (patterns ∷ refused) (more ∷ others) (y ∷ ys) (z ∷ zs) p q none no_others =
+      let no_first = none_in patterns (all_refused refused) none in
+      let no_second = none_in more (all_refused others) no_others in
+      let line = line_one one before item y z (subst (λ (l : List (List ℕ)). IsLine model shapes opening before item l y) no_first.0 p.0) (subst (λ (l : List (List ℕ)). IsLine model shapes opening before item l z) no_second.0 q.0) in
+      let rest = lines_one one (before ++ item ∷ []) items refused others ys zs p.1 q.1 no_first.1 no_second.1 in
+      λ j. line j ∷ rest j
+  lines_one one before [] (patterns ∷ refused) others first second p q none no_others = absurd p
+  lines_one one before [] [] others (y ∷ ys) second p q none no_others = absurd p
+  lines_one one before [] [] (more ∷ others) [] second p q none no_others = absurd q
+  lines_one one before [] [] [] [] (z ∷ zs) p q none no_others = absurd q
+  lines_one one before (item ∷ items) [] others first second p q none no_others = absurd p
+  lines_one one before (item ∷ items) (patterns ∷ refused) others [] second p q none no_others = absurd p
+  lines_one one before (item ∷ items) (patterns ∷ refused) [] (y ∷ ys) second p q none no_others = absurd q
+  lines_one one before (item ∷ items) (patterns ∷ refused) (more ∷ others) (y ∷ ys) [] p q none no_others = absurd q
 
-    lines_some : SomeJudged model shapes IsBad → (before items : List Said) → (lines : List Line) × AreLines model shapes opening IsBad before items lines
-    lines_some some before [] = ([], tt)
-    lines_some some before (item ∷ items) =
-        let reply = reply_some model shapes opening before IsBad some item in
-        let others = lines_some some (before ++ item ∷ []) items in
-        let line : Line = record { number = number_behind (length before); answer = reply.0 } in
-        (line ∷ others.0, (record { number = refl; answer = reply.1 }, others.1))
+  pub plain_one : OneJudged model shapes [] → (items : List Said) (refused others : List (List (List ℕ))) (first second : List Line) → IsPlain model shapes opening items refused first → IsPlain model shapes opening items others second
+      → all_refused refused ≡ [] → all_refused others ≡ [] → first ≡ second
+  unfolding IsPlain
+  plain_one one items refused others first second p q none no_others = lines_one one [] items refused others first second p q none no_others
 
-    pub plain_some : SomeJudged model shapes IsBad → (items : List Said) → (lines : List Line) × IsPlain model shapes opening IsBad items lines
-    unfolding IsPlain
-    plain_some some items = lines_some some [] items
+  -- ---- lines are there
 
-    lines_more : (before items : List Said) (lines : List Line) (item : Said) (line : Line) → AreLines model shapes opening IsBad before items lines → IsLine model shapes opening IsBad (before ++ items) item line
-        → AreLines model shapes opening IsBad before (items ++ item ∷ []) (lines ++ line ∷ [])
-    lines_more before [] [] item line are is = (subst (λ (l : List Said). IsLine model shapes opening IsBad l item line) (append-nil before) is, tt)
-    lines_more before [] (y ∷ ys) item line are is = absurd are
-    lines_more before (x ∷ xs) [] item line are is = absurd are
-    lines_more before (x ∷ xs) (y ∷ ys) item line are is =
-        (are.0, lines_more (before ++ x ∷ []) xs ys item line are.1 (subst (λ (l : List Said). IsLine model shapes opening IsBad l item line) (sym (append_assoc before (x ∷ []) xs)) is))
+  lines_some : SomeJudged model shapes [] → (before items : List Said) → (lines : List Line) × AreLines model shapes opening before items (none_refused items) lines
+  lines_some some before [] = ([], tt)
+  lines_some some before (item ∷ items) =
+      let reply = reply_some model shapes opening before (out shapes opening before) (published shapes opening before) [] some item in
+      let others = lines_some some (before ++ item ∷ []) items in
+      let line : Line = record { number = number_behind (length before); answer = reply.0 } in
+      (line ∷ others.0, (record { number = refl; answer = reply.1; unasked = λ calm. refl }, others.1))
 
-    -- a script without items has no lines
-    pub plain_none : IsPlain model shapes opening IsBad [] []
-    unfolding IsPlain
-    plain_none = tt
+  pub plain_some : SomeJudged model shapes [] → (items : List Said) → (lines : List Line) × IsPlain model shapes opening items (none_refused items) lines
+  unfolding IsPlain
+  plain_some some items = lines_some some [] items
 
-    -- one item more has its line behind the others
-    pub plain_more : (items : List Said) (lines : List Line) (item : Said) (line : Line) → IsPlain model shapes opening IsBad items lines → IsLine model shapes opening IsBad items item line
-        → IsPlain model shapes opening IsBad (items ++ item ∷ []) (lines ++ line ∷ [])
-    unfolding IsPlain
-    plain_more items lines item line are is = lines_more [] items lines item line are is
+  lines_counted : (before items : List Said) (refused : List (List (List ℕ))) (lines : List Line) → AreLines model shapes opening before items refused lines → length lines ≡ length items
+  lines_counted before [] [] [] are = refl
+  lines_counted before (x ∷ xs) (patterns ∷ refused) (y ∷ ys) are = ap (λ (n : ℕ). suc n) (lines_counted (before ++ x ∷ []) xs refused ys are.1)
+  lines_counted before _ _ _ are = absurd are
 
-    lines_counted : (before items : List Said) (lines : List Line) → AreLines model shapes opening IsBad before items lines → length lines ≡ length items
-    lines_counted before [] [] are = refl
-    lines_counted before [] (y ∷ ys) are = absurd are
-    lines_counted before (x ∷ xs) [] are = absurd are
-    lines_counted before (x ∷ xs) (y ∷ ys) are = ap (λ (n : ℕ). suc n) (lines_counted (before ++ x ∷ []) xs ys are.1)
+  -- there are as many lines as items
+  pub plain_counted : (items : List Said) (refused : List (List (List ℕ))) (lines : List Line) → IsPlain model shapes opening items refused lines → length lines ≡ length items
+  unfolding IsPlain
+  plain_counted items refused lines are = lines_counted [] items refused lines are
 
-    -- there are as many lines as items
-    pub plain_counted : (items : List Said) (lines : List Line) → IsPlain model shapes opening IsBad items lines → length lines ≡ length items
-    unfolding IsPlain
-    plain_counted items lines are = lines_counted [] items lines are
+  -- ---- one item more
 
-  module _ (IsBad IsWorse : List ℕ → Type 0) (stays : StaysJudged model shapes IsBad IsWorse) where
-    line_stays : (before : List Said) (item : Said) (line : Line) → IsLine model shapes opening IsBad before item line → IsLine model shapes opening IsWorse before item line
-    line_stays before item line is = record { number = is.number; answer = reply_stays model shapes opening before IsBad IsWorse stays item line.answer is.answer }
+  lines_more : (before items : List Said) (refused : List (List (List ℕ))) (lines : List Line) (item : Said) (patterns : List (List ℕ)) (line : Line) → AreLines model shapes opening before items refused lines → IsLine model shapes opening (before ++ items) item patterns line
+      → AreLines model shapes opening before (items ++ item ∷ []) (refused ++ patterns ∷ []) (lines ++ line ∷ [])
+  lines_more before [] [] [] item patterns line are is = (subst (λ (l : List Said). IsLine model shapes opening l item patterns line) (append-nil before) is, tt)
+  lines_more before (x ∷ xs) (p ∷ ps) (y ∷ ys) item patterns line are is =
+      (are.0, lines_more (before ++ x ∷ []) xs ps ys item patterns line are.1 (subst (λ (l : List Said). IsLine model shapes opening l item patterns line) (sym (append_assoc before (x ∷ []) xs)) is))
+  lines_more before _ _ _ item patterns line are is = absurd are
 
-    lines_stay : (before items : List Said) (lines : List Line) → AreLines model shapes opening IsBad before items lines → AreLines model shapes opening IsWorse before items lines
-    lines_stay before [] [] are = tt
-    lines_stay before [] (y ∷ ys) are = absurd are
-    lines_stay before (x ∷ xs) [] are = absurd are
-    lines_stay before (x ∷ xs) (y ∷ ys) are = (line_stays before x y are.0, lines_stay (before ++ x ∷ []) xs ys are.1)
+  -- a script without items has no lines
+  pub plain_none : IsPlain model shapes opening [] [] []
+  unfolding IsPlain
+  plain_none = tt
 
-    pub plain_stays : (items : List Said) (lines : List Line) → IsPlain model shapes opening IsBad items lines → IsPlain model shapes opening IsWorse items lines
-    unfolding IsPlain
-    plain_stays items lines are = lines_stay [] items lines are
+  -- one item more has its line behind the others
+  pub plain_more : (items : List Said) (refused : List (List (List ℕ))) (lines : List Line) (item : Said) (patterns : List (List ℕ)) (line : Line) → IsPlain model shapes opening items refused lines → IsLine model shapes opening items item patterns line
+      → IsPlain model shapes opening (items ++ item ∷ []) (refused ++ patterns ∷ []) (lines ++ line ∷ [])
+  unfolding IsPlain
+  plain_more items refused lines item patterns line are is = lines_more [] items refused lines item patterns line are is
+
+  -- ---- more patterns that were refused
+
+  pub line_stays : (few many : List (List ℕ)) → StaysJudged model shapes few many → (before : List Said) (item : Said) (line : Line) → is_decided model item ≡ true → IsLine model shapes opening before item few line → IsLine model shapes opening before item many line
+  line_stays few many stays before item line decided is = record {
+    number = is.number;
+    answer = reply_stays model shapes opening before (out shapes opening before) (published shapes opening before) few many stays item line.answer decided is.answer;
+    unasked = λ calm. absurd (let both : true ≡ false = sym decided ∙ calm in cc);
+  }

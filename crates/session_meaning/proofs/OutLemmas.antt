@@ -1,25 +1,20 @@
 -- The version that is out, and the published edits.
-use Rattle.std.proofs.Common.{◌≡◌, ℕ, ◌+◌, ◌-◌, ◌≤◌, Bool, true, false, not, cond, List, [], ◌∷◌, ◌++◌, length, length-append, take, take_all, drop, refl, sym, ap, ◌∙◌, arith}
+use Rattle.std.proofs.Common.{◌≡◌, ℕ, ◌-◌, ◌≤◌, false, not, List, [], ◌∷◌, ◌++◌, length, length-append, take, drop, refl, sym, ap, ◌∙◌, arith}
 use Rattle.std.specs.List.{before_last, suffix_len}
 use Rattle.std.proofs.lemmas.List.{take-append-drop}
 use Rattle.perm_base.proofs.CallerLemmas.{front_of, last_before, last_here}
 use Rattle.perm_base.specs.declared.shapes.Shapes.{Shapes}
-use Rattle.policy_table.specs.Changes.{replay}
 use Rattle.policy_table.specs.Tables.{Policy}
 use Rattle.policy_table.specs.declared.change.Change.{Change}
 use Rattle.script_read.specs.Said.{Said}
 use Rattle.script_read.specs.Said as said
 use Rattle.session_meaning.specs.Desks.{history}
 use Rattle.session_meaning.specs.Given.{given}
-use Rattle.session_meaning.specs.Versions.{is_publish, out, published}
+use Rattle.session_meaning.specs.Versions.{is_publish, out}
 use Rattle.session_meaning.proofs.GivenLemmas.{Begins, given_both, given_none}
 
 module _ (shapes : Shapes) (opening : Policy) where
   -- ---- one item more
-
-  pub out_none : out shapes opening [] ≡ 0
-  unfolding out
-  out_none = ap (λ (l : List (List Change)). length l) (given_none shapes opening)
 
   pub out_publish : (before : List Said) → out shapes opening (before ++ said.publishes ∷ []) ≡ length (given shapes opening before)
   unfolding out
@@ -63,10 +58,3 @@ module _ (shapes : Shapes) (opening : Policy) where
   pub history_same : (before : List Said) (item : Said) → is_publish item ≡ false → history shapes opening (before ++ item ∷ []) ≡ history shapes opening before
   history_same before item other =
       history_is (before ++ item ∷ []) ∙ ap (given shapes opening) (last_before is_publish before item other) ∙ sym (history_is before)
-
-  -- the published tables behind a publish are the drafts before it
-  pub published_publish : (before : List Said) → published shapes opening (before ++ said.publishes ∷ []) ≡ replay (given shapes opening before) opening
-  published_publish before = ap (λ (l : List (List Change)). replay l opening) (history_publish before)
-
-  pub published_same : (before : List Said) (item : Said) → is_publish item ≡ false → published shapes opening (before ++ item ∷ []) ≡ published shapes opening before
-  published_same before item other = ap (λ (l : List (List Change)). replay l opening) (history_same before item other)

@@ -1,15 +1,16 @@
 -- What an item is answered can be printed, where its table has a name.
 use Rattle.std.proofs.Common.{◌≡◌, ℕ, zero, suc, ◌+◌, ◌-◌, ◌<◌, ◌≤◌, inl, inr, Bool, true, false, not, cond, ◌||◌, ◌==◌, eqb, List, [], ◌∷◌, length, slice_get, Option, Some, None, Ok, Err, refl, sym, ap, subst, ◌∙◌, arith}
-use Rattle.std.specs.Prelude.{MatchBool, find, if◌then◌else◌, is_some, nat_le, nat_lt, ⊤}
+use Rattle.std.specs.Prelude.{All, Contains, MatchBool, ◌++◌, find, if◌then◌else◌, is_some, nat_le, nat_lt, ⊤}
 use Rattle.std.specs.List.{AllByRecursion, AllZip, list_all}
 use Rattle.std.specs.List.Sorted.{IsPermutation}
 use Rattle.std.specs.Option.{option_map_or, option_or}
 use Rattle.std.proofs.lemmas.List.Elements.{All-from_recursion, recursion_from_All}
 use Rattle.std.proofs.lemmas.List.Sorted.{All-permutation}
-use Rattle.answer_lines.specs.Told.{comes_with_rule, has_name, is_call_told, is_printable, is_query_told, row_has_rule}
+use Rattle.answer_lines.specs.Told.{comes_with_rule, has_name, is_call_told, is_printable, is_query_told, is_request_told, row_has_rule}
 use Rattle.answer_lines.specs.declared.answer.Answer.{Answer}
 use Rattle.answer_lines.specs.declared.answer.Answer.TheVariants as answer
-use Rattle.edit_calls.specs.Answers.{Answer as CallAnswer, answer as answer_in, within}
+use Rattle.answer_lines.specs.declared.answer.Line.{Line}
+use Rattle.edit_calls.specs.Answers.{Answer as CallAnswer, answer as answer_in, while_few, within}
 use Rattle.edit_calls.specs.Edits.{edit_by}
 use Rattle.edit_calls.specs.Refusals.{added_rules, bad_filter, filter_fault, has_long_field, named_rules, other_length, refusal, table_of}
 use Rattle.edit_calls.specs.declared.call.Call.{Call}
@@ -44,15 +45,22 @@ use Rattle.policy_table.specs.Tables.{Fields, Policy, rows}
 use Rattle.policy_table.specs.declared.change.Change.{Change}
 use Rattle.policy_table.specs.declared.limit.Limit.{Limit}
 use Rattle.policy_table.specs.declared.limit.Limit.TheVariants.{Edits}
+use Rattle.perm_value.specs.declared.request.RequestFault.{RequestFault}
+use Rattle.perm_value.specs.declared.request.RequestFault.TheVariants as request
+use Rattle.script_read.specs.Named.{is_named, is_request_told as is_told}
 use Rattle.script_read.specs.Said.{Said}
 use Rattle.script_read.specs.Said as said
 use Rattle.version_log.specs.Log.{most_versions}
-use Rattle.session_meaning.specs.Given.{given, while_few}
-use Rattle.session_meaning.specs.Named.{is_named}
-use Rattle.session_meaning.specs.Replies.{IsDecided, IsReply, call_reply, query_reply, recall_refusal, rule_at, rule_of}
+use Rattle.session_meaning.specs.Given.{given}
+use Rattle.session_meaning.specs.Plain.{AreLines, IsPlain}
+use Rattle.session_meaning.specs.Replies.{IsDecided, IsReplyAt, call_reply, query_reply, recall_refusal, rule_at, rule_of}
 use Rattle.session_meaning.specs.Versions.{out, published, start}
 
 -- ---- the rule that a verdict names stands
+
+-- the law that the order in which rows are judged has each once
+abbrev pub RowsAreMoved : Type 0
+RowsAreMoved = (case : Case) (e : Effect) (table : List Fields) (judged : List Numbered) → AreInOrder case e table judged → IsPermutation (numbered_from 1 table) judged
 
 -- where an outcome names a row of p, its rule is there
 abbrev HasRule : Policy → Taken → Type 0
@@ -120,7 +128,7 @@ module _ (policy : Policy) where
       (subst (λ (number : Option ℕ). row_has_rule number (rule_at policy number) ≡ true) (sym each.0.0) all.0, rows_have case refused judged outcomes each.1 all.1)
 
   -- the order in which rows are judged has each once
-  module _ (moved : (case : Case) (e : Effect) (table : List Fields) (judged : List Numbered) → AreInOrder case e table judged → IsPermutation (numbered_from 1 table) judged) where
+  module _ (moved : RowsAreMoved) where
     outcomes_have : (case : Case) (refused : Option Refusal) (names : Bool) (table : List Fields) (outcomes : List Taken) → table ≡ rows policy P → HasOutcomesOver case refused names table outcomes
         → AllByRecursion (HasRule policy) outcomes
     outcomes_have case refused false table outcomes same is = one_has case refused outcomes is
@@ -192,7 +200,7 @@ refusal_told shapes called named = by (columns_of shapes (table_of called))
 abbrev Printable : CallAnswer → Type 0
 Printable answered = is_printable (call_reply answered) ≡ true
 
-few_told : (count : ℕ) (answered : CallAnswer) → Printable answered → Printable (while_few count answered)
+few_told : (count : ℕ) (answered : CallAnswer) → Printable answered → Printable (while_few most_versions count answered)
 few_told count (Ok None) told = refl
 few_told count (Err refused) told = told
 few_told count (Ok (Some edit)) told = by (eqb count most_versions)
@@ -277,26 +285,50 @@ recall_told version start number = by (number == 0 || nat_lt version number) (na
 
 -- ---- what an item is answered
 
-module _ (moved : (case : Case) (e : Effect) (table : List Fields) (judged : List Numbered) → AreInOrder case e table judged → IsPermutation (numbered_from 1 table) judged)
-    (model : ModelParts) (shapes : Shapes) (opening : Policy) (IsBad : List ℕ → Type 0) (before : List Said) where
-  decided_printable : (values : List Datum) (reply : Answer) → IsDecided model shapes opening IsBad before values reply → is_printable reply ≡ true
-  decided_printable values reply is = ap is_printable is.told ∙ rule_stands (published shapes opening before) moved model shapes values IsBad is.verdict is.judged
+-- why a line is no request is told alike
+same_told : (fault : RequestFault) → is_told fault ≡ is_request_told fault
+same_told request.NoMemory = refl
+same_told (request.Quote column) = refl
+same_told request.TooMany = refl
+same_told request.Syntax = refl
+same_told request.NotAnArray = refl
+same_told (request.TooDeep field) = refl
+same_told (request.NotWhole field) = refl
 
-  pub reply_printable : (item : Said) (reply : Answer) → is_named item ≡ true → IsReply model shapes opening IsBad before item reply → is_printable reply ≡ true
-  reply_printable (said.asks (Ok values)) reply named is = by (eqb (length values) (length model.request)) is
-    where
-      by : (fits : Bool) → MatchBool fits (IsDecided model shapes opening IsBad before values reply) (reply ≡ answer.Arity (length values) (length model.request)) → is_printable reply ≡ true
-      by true decided = decided_printable values reply decided
-      by false told = ap is_printable told
-  reply_printable (said.asks (Err fault)) reply named is = ap is_printable is ∙ named
-  reply_printable (said.edits called) reply named is =
-      ap is_printable is ∙ few_told (length (given shapes opening before)) (answer_in shapes (replay (given shapes opening before) opening) called) (answer_told shapes (replay (given shapes opening before) opening) called named)
-  reply_printable said.publishes reply named is = ap is_printable is
-  reply_printable said.syncs reply named is = ap is_printable is
-  reply_printable (said.has table rule) reply named is = ap is_printable is ∙ query_told (answer.Has (out shapes opening before)) (rule_refusal shapes table rule) _ (rule_told shapes table rule named) refl
-  reply_printable (said.rows table at values) reply named is = ap is_printable is ∙ query_told (answer.Rows (out shapes opening before) table) (filter_refusal shapes table at values) _ (rows_told shapes table at values named) named
-  reply_printable (said.roles relation name domain) reply named is = ap is_printable is ∙ query_told (answer.Roles (out shapes opening before)) (names_refusal shapes relation domain) _ (names_told shapes relation domain named) refl
-  reply_printable (said.users relation name domain) reply named is = ap is_printable is ∙ query_told (answer.Users (out shapes opening before)) (names_refusal shapes relation domain) _ (names_told shapes relation domain named) refl
-  reply_printable (said.keeps count) reply named is = ap is_printable is
-  reply_printable (said.recalls number) reply named is =
-      ap is_printable is ∙ query_told (answer.Recorded (out shapes opening before) number) (recall_refusal (out shapes opening before) (start shapes opening before) number) _ (recall_told (out shapes opening before) (start shapes opening before) number) refl
+module _ (moved : RowsAreMoved) (model : ModelParts) (shapes : Shapes) (opening : Policy) where
+  module _ (refused : List (List ℕ)) (before : List Said) (at : ℕ) (over : Policy) where
+    decided_printable : (values : List Datum) (reply : Answer) → IsDecided model shapes refused at over values reply → is_printable reply ≡ true
+    decided_printable values reply is = ap is_printable is.told ∙ rule_stands over moved model shapes values (Contains refused) is.verdict is.judged
+
+    pub reply_printable : (item : Said) (reply : Answer) → is_named item ≡ true → IsReplyAt model shapes opening refused before at over item reply → is_printable reply ≡ true
+    reply_printable (said.asks (Ok values)) reply named is = by (eqb (length values) (length model.request)) is
+      where
+        by : (fits : Bool) → MatchBool fits (IsDecided model shapes refused at over values reply) (reply ≡ answer.Arity (length values) (length model.request)) → is_printable reply ≡ true
+        by true decided = decided_printable values reply decided
+        by false told = ap is_printable told
+    reply_printable (said.asks (Err fault)) reply named is = ap is_printable is ∙ sym (same_told fault) ∙ named
+    reply_printable (said.edits called) reply named is =
+        ap is_printable is ∙ few_told (length (given shapes opening before)) (answer_in shapes (replay (given shapes opening before) opening) called) (answer_told shapes (replay (given shapes opening before) opening) called named)
+    reply_printable said.publishes reply named is = ap is_printable is
+    reply_printable said.syncs reply named is = ap is_printable is
+    reply_printable (said.has table rule) reply named is = ap is_printable is ∙ query_told (answer.Has (out shapes opening before)) (rule_refusal shapes table rule) _ (rule_told shapes table rule named) refl
+    reply_printable (said.rows table place values) reply named is = ap is_printable is ∙ query_told (answer.Rows (out shapes opening before) table) (filter_refusal shapes table place values) _ (rows_told shapes table place values named) named
+    reply_printable (said.roles relation name domain) reply named is = ap is_printable is ∙ query_told (answer.Roles (out shapes opening before)) (names_refusal shapes relation domain) _ (names_told shapes relation domain named) refl
+    reply_printable (said.users relation name domain) reply named is = ap is_printable is ∙ query_told (answer.Users (out shapes opening before)) (names_refusal shapes relation domain) _ (names_told shapes relation domain named) refl
+    reply_printable (said.keeps count) reply named is = ap is_printable is
+    reply_printable (said.recalls number) reply named is =
+        ap is_printable is ∙ query_told (answer.Recorded (out shapes opening before) number) (recall_refusal (out shapes opening before) (start shapes opening before) number) _ (recall_told (out shapes opening before) (start shapes opening before) number) refl
+
+  lines_printable : (before items : List Said) (refused : List (List (List ℕ))) (lines : List Line) → AreLines model shapes opening before items refused lines
+      → AllByRecursion (λ (item : Said). is_named item ≡ true) items → AllByRecursion (λ (line : Line). is_printable line.answer ≡ true) lines
+  lines_printable before [] [] [] are named = tt
+  lines_printable before (item ∷ items) (patterns ∷ refused) (line ∷ lines) are named =
+      (reply_printable patterns before (out shapes opening before) (published shapes opening before) item line.answer named.0 are.0.answer, lines_printable (before ++ item ∷ []) items refused lines are.1 named.1)
+  lines_printable before _ _ _ are named = absurd are
+
+  -- the lines of a script whose tables have names can be printed
+  pub plain_printable : (items : List Said) (refused : List (List (List ℕ))) (lines : List Line) → IsPlain model shapes opening items refused lines
+      → All (λ (item : Said). is_named item ≡ true) items → All (λ (line : Line). is_printable line.answer ≡ true) lines
+  unfolding IsPlain
+  plain_printable items refused lines are named = All-from_recursion (λ (line : Line). is_printable line.answer ≡ true) lines
+      (lines_printable [] items refused lines are (recursion_from_All (λ (item : Said). is_named item ≡ true) items named))

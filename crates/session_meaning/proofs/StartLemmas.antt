@@ -1,5 +1,5 @@
 -- How many edits are to be kept, and where those that are kept start.
-use Rattle.std.proofs.Common.{◌≡◌, ℕ, ◌-◌, ◌≤◌, max, Bool, true, false, List, [], ◌∷◌, ◌++◌, append_assoc, append-nil, Option, Some, None, refl, ap, ◌∙◌, arith}
+use Rattle.std.proofs.Common.{◌≡◌, ℕ, ◌-◌, max, false, List, [], ◌∷◌, ◌++◌, append_assoc, append-nil, Option, Some, None, refl, ap, ◌∙◌, arith}
 use Rattle.std.specs.List.{filter_map, last_or}
 use Rattle.std.specs.Option.{option_map_or}
 use Rattle.std.proofs.lemmas.List.Elements.{filter_map-append}
@@ -8,7 +8,6 @@ use Rattle.policy_table.specs.Tables.{Policy}
 use Rattle.script_read.specs.Said.{Said}
 use Rattle.script_read.specs.Said as said
 use Rattle.session_meaning.specs.Versions.{count_of, is_publish, kept, out, start, start_asked, start_behind}
-use Rattle.session_meaning.proofs.OutLemmas.{out_among, out_publish, out_same}
 
 last_or-append : {X : Type 0} (first : Option X) (xs ys : List X) → last_or first (xs ++ ys) ≡ last_or (last_or first xs) ys
 last_or-append first [] ys = refl
@@ -63,35 +62,3 @@ module _ (shapes : Shapes) (opening : Policy) where
   -- all else leaves it
   pub start_same : (before : List Said) (item : Said) → is_publish item ≡ false → start shapes opening (before ++ item ∷ []) ≡ start shapes opening before
   start_same before item other = omega (arith, start_more before item, asks_none before item other)
-
-  -- ---- the start is no version behind the one that is out
-
-  asked_within : (before : List Said) (item : Said) → start_asked shapes opening before item ≤ out shapes opening before
-  asked_within before said.publishes = by (kept before)
-    where
-      by : (count : Option ℕ) → option_map_or (λ (n : ℕ). out shapes opening before - n) count 0 ≤ out shapes opening before
-      by None = omega arith
-      by (Some count) = omega arith
-  asked_within before _ = omega arith
-
-  out_rises : (before : List Said) (item : Said) → out shapes opening before ≤ out shapes opening (before ++ item ∷ [])
-  out_rises before item = by (is_publish item) refl
-    where
-      by : (test : Bool) → is_publish item ≡ test → out shapes opening before ≤ out shapes opening (before ++ item ∷ [])
-      by true e = rises item e
-        where
-          rises : (other : Said) → is_publish other ≡ true → out shapes opening before ≤ out shapes opening (before ++ other ∷ [])
-          rises said.publishes is = omega (arith, out_publish shapes opening before, out_among shapes opening before)
-          rises _ is = absurd cc
-      by false e = omega (arith, out_same shapes opening before item e)
-
-  within_more : (before items : List Said) → start shapes opening before ≤ out shapes opening before → start shapes opening (before ++ items) ≤ out shapes opening (before ++ items)
-  within_more before [] within = omega (arith, within, ap (start shapes opening) (append-nil before), ap (out shapes opening) (append-nil before))
-  within_more before (item ∷ items) within =
-      let one : start shapes opening (before ++ item ∷ []) ≤ out shapes opening (before ++ item ∷ [])
-      = omega (arith, within, start_more before item, asked_within before item, out_rises before item) in
-      let whole = append_assoc before (item ∷ []) items in
-      omega (arith, within_more (before ++ item ∷ []) items one, ap (start shapes opening) whole, ap (out shapes opening) whole)
-
-  pub start_within : (items : List Said) → start shapes opening items ≤ out shapes opening items
-  start_within items = within_more [] items (omega (arith, start_none))

@@ -1,24 +1,16 @@
 -- The edits that the calls of a script give. A call is answered against the drafts: the opening tables after the edits that were
 -- given before it (Casbin, management API; here its calls wait for a publish).
-use Rattle.std.specs.Prelude.{ℕ, ◌==◌, List, [], ◌∷◌, ◌++◌, length, Some, None, Ok, Err, if◌then◌else◌}
+use Rattle.std.specs.Prelude.{List, [], ◌∷◌, ◌++◌, length, Some, None, Ok, Err}
 use Rattle.std.specs.List.{fold}
-use Rattle.edit_calls.specs.Answers.{Answer, answer}
+use Rattle.edit_calls.specs.Answers.{Answer, answer, while_few}
 use Rattle.edit_calls.specs.declared.call.Call.{Call}
-use Rattle.edit_calls.specs.declared.refused.CallRefused.TheVariants.{Full}
 use Rattle.perm_base.specs.declared.shapes.Shapes.{Shapes}
 use Rattle.policy_table.specs.Changes.{replay}
 use Rattle.policy_table.specs.Tables.{Policy}
 use Rattle.policy_table.specs.declared.change.Change.{Change}
-use Rattle.policy_table.specs.declared.limit.Limit.TheVariants.{Edits}
 use Rattle.script_read.specs.Said.{Said}
 use Rattle.script_read.specs.Said as said
 use Rattle.version_log.specs.Log.{most_versions}
-
--- an answer behind so many edits: where there are as many as there may be, a further one is refused
-abbrev pub while_few : ℕ → Answer → Answer
-while_few count (Ok (Some edit)) = if count == most_versions then Err (Full Edits) else Ok (Some edit)
-while_few count (Ok None) = Ok None
-while_few count (Err refused) = Err refused
 
 -- the edits, and one more where the answer is an edit
 abbrev pub with_edit : List (List Change) → Answer → List (List Change)
@@ -29,7 +21,7 @@ with_edit edits (Err refused) = edits
 module _ (shapes : Shapes) (opening : Policy) where
   -- what a call is answered behind these edits
   abbrev pub call_answer : List (List Change) → Call → Answer
-  call_answer edits call = while_few (length edits) (answer shapes (replay edits opening) call)
+  call_answer edits call = while_few most_versions (length edits) (answer shapes (replay edits opening) call)
 
   -- the edits, and the one that a further item gives: calls alone give edits
   abbrev pub with_item : List (List Change) → Said → List (List Change)

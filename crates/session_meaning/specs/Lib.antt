@@ -1,6 +1,6 @@
 pub mod Given
 pub mod Versions
 pub mod Replies
-pub mod Named
 pub mod Plain
+pub mod Rounds
 pub mod Desks

@@ -1,6 +1,7 @@
--- What an item of a script is answered behind others, where all items are done one after the other: requests and queries by the
--- tables that are out, calls by the drafts.
-use Rattle.std.specs.Prelude.{◌≡◌, ℕ, ◌-◌, ◌==◌, ◌||◌, nat_le, nat_lt, List, [], length, Option, Some, None, Result, Ok, Err, MatchBool, get_or, if◌then◌else◌, is_some, slice_get}
+-- What an item of a script is answered behind others: queries by the tables that are out, calls by the drafts, and requests by the
+-- tables of a version, which is the one that is out where all items are done one after the other.
+use Rattle.std.specs.Prelude.{◌≡◌, ℕ, ◌-◌, ◌==◌, ◌||◌, nat_le, nat_lt, Bool, false, List, [], length, Option, Some, None, Result, Ok, Err, MatchBool, get_or, if◌then◌else◌, is_some, slice_get}
+use Rattle.std.specs.List.{Contains}
 use Rattle.answer_lines.specs.declared.answer.Answer.{Answer}
 use Rattle.answer_lines.specs.declared.answer.Answer.TheVariants as answer
 use Rattle.edit_calls.specs.Answers.{Answer as CallAnswer}
@@ -18,7 +19,7 @@ use Rattle.policy_query.specs.declared.refused.QueryRefused.{QueryRefused}
 use Rattle.policy_query.specs.declared.refused.QueryRefused.TheVariants.{NoEdit, Dropped}
 use Rattle.policy_table.specs.Tables.{Fields, Policy, rows}
 use Rattle.policy_table.specs.declared.change.Change.{Change}
-use Rattle.script_read.specs.Said.{Said}
+use Rattle.script_read.specs.Said.{Reading, Said}
 use Rattle.script_read.specs.Said as said
 use Rattle.session_meaning.specs.Given.{call_answer, given}
 use Rattle.session_meaning.specs.Versions.{out, published, start}
@@ -55,7 +56,25 @@ recall_refusal version start number =
 abbrev pub recalled : Shapes → Policy → List Said → ℕ → Result (List Change) QueryRefused
 recalled shapes opening items number = answer_unless (recall_refusal (out shapes opening items) (start shapes opening items) number) (get_or (given shapes opening items) (number - 1) [])
 
-module _ (model : ModelParts) (shapes : Shapes) (opening : Policy) (IsBad : List ℕ → Type 0) (before : List Said) where
+-- the item is a request with as many values as the model has columns: these alone are decided
+abbrev pub is_decided : ModelParts → Said → Bool
+is_decided model (said.asks (Ok values)) = length values == length model.request
+is_decided model _ = false
+
+-- at a version of these tables, where these patterns were refused
+module _ (model : ModelParts) (shapes : Shapes) (refused : List (List ℕ)) (version : ℕ) (tables : Policy) where
+  -- the verdict that is judged for a request, with the version, and the rule that the verdict names
+  pub record IsDecided (values : List Datum) (reply : Answer) : Type 0 where
+    pub verdict : Verdict
+    pub judged : IsJudged model shapes tables values (Contains refused) verdict
+    pub told : reply ≡ answer.Decided version verdict (rule_of tables verdict)
+
+  -- what the line of a request is answered: where it has as many values as the model has columns, its verdict; and else why not
+  abbrev pub IsAnswerTo : Reading → Answer → Type 0
+  IsAnswerTo (Ok values) reply = MatchBool (length values == length model.request) (IsDecided values reply) (reply ≡ answer.Arity (length values) (length model.request))
+  IsAnswerTo (Err fault) reply = reply ≡ answer.Request fault
+
+module _ (model : ModelParts) (shapes : Shapes) (opening : Policy) (refused : List (List ℕ)) (before : List Said) where
   -- behind these items: the version that is out, its tables, and the edits that are given
   abbrev version : ℕ
   version = out shapes opening before
@@ -66,22 +85,19 @@ module _ (model : ModelParts) (shapes : Shapes) (opening : Policy) (IsBad : List
   abbrev edits : List (List Change)
   edits = given shapes opening before
 
-  -- the verdict that is judged for a request, and the rule that it names
-  pub record IsDecided (values : List Datum) (reply : Answer) : Type 0 where
-    pub verdict : Verdict
-    pub judged : IsJudged model shapes tables values IsBad verdict
-    pub told : reply ≡ answer.Decided version verdict (rule_of tables verdict)
+  -- what a further item is answered, where a request is answered at this version of these tables
+  abbrev pub IsReplyAt : ℕ → Policy → Said → Answer → Type 0
+  IsReplyAt at over (said.asks reading) reply = IsAnswerTo model shapes refused at over reading reply
+  IsReplyAt at over (said.edits call) reply = reply ≡ call_reply (call_answer shapes opening edits call)
+  IsReplyAt at over said.publishes reply = reply ≡ answer.Published (length edits)
+  IsReplyAt at over said.syncs reply = reply ≡ answer.Synced version
+  IsReplyAt at over (said.has table rule) reply = reply ≡ query_reply (answer.Has version) (has_answer shapes tables table rule)
+  IsReplyAt at over (said.rows table place values) reply = reply ≡ query_reply (answer.Rows version table) (rows_answer shapes tables table place values)
+  IsReplyAt at over (said.roles relation name domain) reply = reply ≡ query_reply (answer.Roles version) (roles_answer shapes tables relation name domain)
+  IsReplyAt at over (said.users relation name domain) reply = reply ≡ query_reply (answer.Users version) (users_answer shapes tables relation name domain)
+  IsReplyAt at over (said.keeps count) reply = reply ≡ answer.Kept count
+  IsReplyAt at over (said.recalls number) reply = reply ≡ query_reply (answer.Recorded version number) (recalled shapes opening before number)
 
-  -- what a further item is answered
+  -- what it is answered where a request is answered by what is out
   abbrev pub IsReply : Said → Answer → Type 0
-  IsReply (said.asks (Ok values)) reply = MatchBool (length values == length model.request) (IsDecided values reply) (reply ≡ answer.Arity (length values) (length model.request))
-  IsReply (said.asks (Err fault)) reply = reply ≡ answer.Request fault
-  IsReply (said.edits call) reply = reply ≡ call_reply (call_answer shapes opening edits call)
-  IsReply said.publishes reply = reply ≡ answer.Published (length edits)
-  IsReply said.syncs reply = reply ≡ answer.Synced version
-  IsReply (said.has table rule) reply = reply ≡ query_reply (answer.Has version) (has_answer shapes tables table rule)
-  IsReply (said.rows table at values) reply = reply ≡ query_reply (answer.Rows version table) (rows_answer shapes tables table at values)
-  IsReply (said.roles relation name domain) reply = reply ≡ query_reply (answer.Roles version) (roles_answer shapes tables relation name domain)
-  IsReply (said.users relation name domain) reply = reply ≡ query_reply (answer.Users version) (users_answer shapes tables relation name domain)
-  IsReply (said.keeps count) reply = reply ≡ answer.Kept count
-  IsReply (said.recalls number) reply = reply ≡ query_reply (answer.Recorded version number) (recalled shapes opening before number)
+  IsReply item reply = IsReplyAt version tables item reply

@@ -1,4 +1,4 @@
-ghost use Rattle.std.specs.Prelude.{◌≡◌, ◌++◌, ◌≤◌, ℕ, List, [], Some, length, slice_get, true};
+ghost use Rattle.std.specs.Prelude.{◌≡◌, ◌++◌, ◌≤◌, ℕ, All, List, [], Some, false, length, slice_get, true};
 ghost use Rattle.std.specs.List.{Contains};
 ghost use Rattle.answer_lines.specs.Told.{is_printable};
 ghost use Rattle.answer_lines.specs.declared.answer.Answer as answer;
@@ -10,13 +10,14 @@ ghost use Rattle.perm_base.specs.declared.shapes.Shapes.{Shapes};
 ghost use Rattle.policy_table.specs.Limits.{AreSound};
 ghost use Rattle.policy_table.specs.Tables.{AreOrdered, IsKept, Policy};
 ghost use Rattle.policy_table.specs.declared.change.Change.{Change};
+ghost use Rattle.script_read.specs.Named.{is_named};
 ghost use Rattle.script_read.specs.Said.{Said};
 ghost use Rattle.version_log.specs.Log.{most_versions};
 ghost use Rattle.session_meaning.specs.Given.{given};
-ghost use Rattle.session_meaning.specs.Named.{is_named};
-ghost use Rattle.session_meaning.specs.Plain.{IsPlain};
-ghost use Rattle.session_meaning.specs.Replies.{IsReply};
-ghost use Rattle.session_meaning.specs.Versions.{tables_at};
+ghost use Rattle.session_meaning.specs.Plain.{AreLines, IsLine, IsPlain, all_refused, none_refused};
+ghost use Rattle.session_meaning.specs.Replies.{IsReplyAt, is_decided};
+ghost use Rattle.session_meaning.specs.Rounds.{AreOfRound, IsShared};
+ghost use Rattle.session_meaning.specs.Versions.{is_publish, tables_at};
 
 use edit_calls::{admitted_edits_keep_sound, edits_apply, edits_are_admitted};
 use matcher_meaning::{
@@ -25,36 +26,37 @@ use matcher_meaning::{
 
 /// The law that each script has lines, one for each item.
 pub fn lines_are_there()
-    ensures there { (model : ModelParts) (shapes : Shapes) (opening : Policy)
-        (bad : List (List ℕ)) (items : List Said)
-        → (lines : List Line) × IsPlain model shapes opening (Contains bad) items lines }
+    ensures there { (model : ModelParts) (shapes : Shapes) (opening : Policy) (items : List Said)
+        → (lines : List Line) × IsPlain model shapes opening items (none_refused items) lines }
     ensures counted { (model : ModelParts) (shapes : Shapes) (opening : Policy)
-        (bad : List (List ℕ)) (items : List Said) (lines : List Line)
-        → IsPlain model shapes opening (Contains bad) items lines
+        (items : List Said) (refused : List (List (List ℕ))) (lines : List Line)
+        → IsPlain model shapes opening items refused lines
         → length lines ≡ length items }
 {
     case_verdict_is_there();
 }
 
-/// The law that a script has the same lines each time, where no pattern counts as refused.
+/// The law that a script has the same lines each time, where nothing is refused.
 pub fn lines_are_one()
-    ensures none_bad { (model : ModelParts) (shapes : Shapes) (opening : Policy)
-        (items : List Said) (first second : List Line)
-        → IsPlain model shapes opening (Contains []) items first
-        → IsPlain model shapes opening (Contains []) items second
+    ensures { (model : ModelParts) (shapes : Shapes) (opening : Policy) (items : List Said)
+        (refused others : List (List (List ℕ))) (first second : List Line)
+        → IsPlain model shapes opening items refused first
+        → IsPlain model shapes opening items others second
+        → all_refused refused ≡ [] → all_refused others ≡ []
         → first ≡ second }
 {
     case_verdict_is_unique();
     judged_is_the_verdict();
 }
 
-/// The law that lines stay those of their script where more patterns count as refused.
+/// The law that the line of a request that is decided stays its line where more patterns were refused for it.
 pub fn lines_stay()
-    ensures more_bad { (model : ModelParts) (shapes : Shapes) (opening : Policy)
-        (bad worse : List (List ℕ)) (items : List Said) (lines : List Line)
-        → ((pattern : List ℕ) → Contains bad pattern → Contains worse pattern)
-        → IsPlain model shapes opening (Contains bad) items lines
-        → IsPlain model shapes opening (Contains worse) items lines }
+    ensures { (model : ModelParts) (shapes : Shapes) (opening : Policy) (before : List Said)
+        (item : Said) (few many : List (List ℕ)) (line : Line)
+        → ((pattern : List ℕ) → Contains few pattern → Contains many pattern)
+        → is_decided model item ≡ true
+        → IsLine model shapes opening before item few line
+        → IsLine model shapes opening before item many line }
 {
     judged_is_the_verdict();
 }
@@ -63,12 +65,37 @@ pub fn lines_stay()
 /// a name each table that is named has one.
 pub fn replies_are_printable()
     ensures printable { (model : ModelParts) (shapes : Shapes) (opening : Policy)
-        (bad : List (List ℕ)) (before : List Said) (item : Said) (reply : answer.Answer)
+        (refused : List (List ℕ)) (before : List Said) (version : ℕ) (tables : Policy)
+        (item : Said) (reply : answer.Answer)
         → is_named item ≡ true
-        → IsReply model shapes opening (Contains bad) before item reply
+        → IsReplyAt model shapes opening refused before version tables item reply
         → is_printable reply ≡ true }
 {
     order_of_rows_is_one();
+}
+
+/// The law that each script has lines with any number of workers, one for each item: its plain lines are among them. In a round
+/// without a publish there are no others.
+pub fn plain_lines_are_shared()
+    ensures plain { (model : ModelParts) (shapes : Shapes) (opening : Policy) (workers : ℕ)
+        (items : List Said) (refused : List (List (List ℕ))) (lines : List Line)
+        → IsPlain model shapes opening items refused lines
+        → IsShared model shapes opening workers items refused lines }
+    ensures there { (model : ModelParts) (shapes : Shapes) (opening : Policy) (workers : ℕ)
+        (items : List Said)
+        → (lines : List Line)
+        × IsShared model shapes opening workers items (none_refused items) lines }
+    ensures counted { (model : ModelParts) (shapes : Shapes) (opening : Policy) (workers : ℕ)
+        (items : List Said) (refused : List (List (List ℕ))) (lines : List Line)
+        → IsShared model shapes opening workers items refused lines
+        → length lines ≡ length items }
+    ensures calm { (model : ModelParts) (shapes : Shapes) (opening : Policy) (workers : ℕ)
+        (before round : List Said) (refused : List (List (List ℕ))) (lines : List Line)
+        → All (λ item. is_publish item ≡ false) round
+        → AreOfRound model shapes opening workers before round refused lines
+        → AreLines model shapes opening before round refused lines }
+{
+    lines_are_there();
 }
 
 /// The law that the edits of a longer list of items begin with those of its front, and that there are never more than may be.

@@ -84,10 +84,7 @@ fn read_printed(alloc: Global, text: &str) -> Result<Option<Vec<Text>>, NoMemory
         Err(FieldFault::Quote { .. }) => return Ok(None),
         Err(FieldFault::TooMany) => return Ok(None),
     };
-    // What is read of a line holds no line end.
-    let Ok(line) = Rule::from_fields(fields) else {
-        unreachable!()
-    };
+    let line = Rule::from_vec(fields);
     let printed = print_fields(alloc, &line)?;
     if printed.as_str() != text {
         return Ok(None);
@@ -109,8 +106,5 @@ fn named_rule(mut fields: Vec<Text>) -> Option<(TableId, Rule)>
     if fields.is_empty() || fields.len() > MOST_FIELDS {
         return None;
     }
-    let Ok(rule) = Rule::from_fields(fields) else {
-        unreachable!()
-    };
-    Some((table, rule))
+    Some((table, Rule::from_vec(fields)))
 }

@@ -1,9 +1,12 @@
 -- Why a part of a run was not read, by cases on the stop.
-use Rattle.std.specs.Prelude.{◌≡◌, ◌⊎◌, ℕ, ◌<◌, List, Option, Some, IfSome, length, ⊤}
+use Rattle.std.specs.Prelude.{◌≡◌, ◌⊎◌, ℕ, ◌<◌, Bool, true, false, List, Option, Some, IfSome, length, ⊤}
 use Rattle.command_words.specs.declared.command.Options.{Options}
 use Rattle.model_conf.specs.Faults.{IsModelFault}
 use Rattle.model_conf.specs.ModelText.{ModelParts}
 use Rattle.outside.specs.Files.{Files, Lacks, OfFile}
+use Rattle.outside.specs.declared.fetch_log.FetchCall.{FetchCall}
+use Rattle.outside.specs.declared.shelf.Fetch.{Fetch}
+use Rattle.outside.specs.declared.shelf.Fetch.TheVariants as fetch
 use Rattle.perm_base.specs.declared.shapes.Shapes.{Shapes}
 use Rattle.policy_csv.specs.Faults.{IsPolicyFault}
 use Rattle.run_status.specs.Parts.{limit_of}
@@ -17,26 +20,38 @@ use Rattle.casbin_run.specs.declared.job.Task.{Task}
 use Rattle.casbin_run.specs.Causes.{HasFault}
 use Rattle.casbin_run.specs.Given.{AreFiles, FileIs, Fits, InputIs, ModelIs}
 use Rattle.casbin_run.specs.Jobs.{absent_in, shapes_with}
+use Rattle.casbin_run.specs.Reached.{at_model, at_options, at_policy, fetches_to}
 
 -- the files of a job are this model and this policy, and these are the shapes
 pub record IsLoaded (files : Option Files) (job : Job) (loaded : Loaded) : Type 0 where
   pub are_files : AreFiles files job loaded.model loaded.tables.policy
   pub shapes_are : loaded.shapes ≡ shapes_with job.options loaded.model
 
--- the file of a part was not fetched
-abbrev pub FetchStops : Option Files → List ℕ → Part → (rose : Type 0) → Stop → Type 0
-FetchStops files name part rose (CannotRead p) = (p ≡ part) × (Lacks files name ⊎ rose)
-FetchStops files name part rose (TooLong p) = (p ≡ part) × OfFile files name (λ bytes. limit_of part < length bytes)
-FetchStops files name part rose NoMemory = ⊤
-FetchStops files name part rose _ = ⊥
+-- the stop that comes of a file that was not fetched
+abbrev pub fetch_stop : Part → Fetch → Stop
+fetch_stop part fetch.Absent = CannotRead part
+fetch_stop part fetch.Failed = CannotRead part
+fetch_stop part fetch.TooLong = TooLong part
+fetch_stop part fetch.NoMemory = NoMemory
+
+-- the file is not there, or the shelf failed, and told so
+abbrev pub Lost : Option Files → List ℕ → (told : Bool → Type 0) → (rose : Type 0) → Type 0
+Lost files name told rose = (Lacks files name × told false) ⊎ (rose × told true)
+
+-- the file of a part was not fetched; `told` holds of whether the shelf told of a fetch that failed
+abbrev pub FetchStops : Option Files → List ℕ → Part → (told : Bool → Type 0) → (rose : Type 0) → Stop → Type 0
+FetchStops files name part told rose (CannotRead p) = (p ≡ part) × Lost files name told rose
+FetchStops files name part told rose (TooLong p) = (p ≡ part) × OfFile files name (λ bytes. limit_of part < length bytes) × told false
+FetchStops files name part told rose NoMemory = told false
+FetchStops files name part told rose _ = ⊥
 
 -- the model was not read
-abbrev pub ModelStops : Option Files → List ℕ → (rose : Type 0) → Stop → Type 0
-ModelStops files name rose (CannotRead Model) = Lacks files name ⊎ rose
-ModelStops files name rose (TooLong Model) = OfFile files name (λ bytes. limit_of Model < length bytes)
-ModelStops files name rose (NoModel fault) = FileIs files name Model (λ bytes. IsModelFault bytes fault)
-ModelStops files name rose NoMemory = ⊤
-ModelStops files name rose _ = ⊥
+abbrev pub ModelStops : Option Files → List ℕ → (told : Bool → Type 0) → (rose : Type 0) → Stop → Type 0
+ModelStops files name told rose (CannotRead Model) = Lost files name told rose
+ModelStops files name told rose (TooLong Model) = OfFile files name (λ bytes. limit_of Model < length bytes) × told false
+ModelStops files name told rose (NoModel fault) = FileIs files name Model (λ bytes. IsModelFault bytes fault) × told false
+ModelStops files name told rose NoMemory = told false
+ModelStops files name told rose _ = ⊥
 
 -- the options do not fit the model
 abbrev pub ShapesStop : Option Options → ModelParts → Stop → Type 0
@@ -45,12 +60,12 @@ ShapesStop options model NoMemory = ⊤
 ShapesStop options model _ = ⊥
 
 -- the policy was not read
-abbrev pub PolicyStops : Option Files → List ℕ → Shapes → (rose : Type 0) → Stop → Type 0
-PolicyStops files name shapes rose (CannotRead Policy) = Lacks files name ⊎ rose
-PolicyStops files name shapes rose (TooLong Policy) = OfFile files name (λ bytes. limit_of Policy < length bytes)
-PolicyStops files name shapes rose (NoPolicy fault) = FileIs files name Policy (λ bytes. IsPolicyFault shapes bytes fault)
-PolicyStops files name shapes rose NoMemory = ⊤
-PolicyStops files name shapes rose _ = ⊥
+abbrev pub PolicyStops : Option Files → List ℕ → Shapes → (told : Bool → Type 0) → (rose : Type 0) → Stop → Type 0
+PolicyStops files name shapes told rose (CannotRead Policy) = Lost files name told rose
+PolicyStops files name shapes told rose (TooLong Policy) = OfFile files name (λ bytes. limit_of Policy < length bytes) × told false
+PolicyStops files name shapes told rose (NoPolicy fault) = FileIs files name Policy (λ bytes. IsPolicyFault shapes bytes fault) × told false
+PolicyStops files name shapes told rose NoMemory = told false
+PolicyStops files name shapes told rose _ = ⊥
 
 -- the model was read, and the fact holds of it
 abbrev pub BehindModel : Option Files → Job → (ModelParts → Type 0) → Type 0
@@ -60,17 +75,17 @@ BehindModel files job fact = (model : ModelParts) × ModelIs files job model × 
 abbrev pub BehindOptions : Option Files → Job → (ModelParts → Type 0) → Type 0
 BehindOptions files job fact = (model : ModelParts) × Fits files job model × fact model
 
--- one of these
-abbrev pub LoadStops : Option Files → Job → (rose : Type 0) → Stop → Type 0
-LoadStops files job rose (CannotRead Model) = Lacks files job.files.model ⊎ rose
-LoadStops files job rose (TooLong Model) = OfFile files job.files.model (λ bytes. limit_of Model < length bytes)
-LoadStops files job rose (NoModel fault) = FileIs files job.files.model Model (λ bytes. IsModelFault bytes fault)
-LoadStops files job rose (NoRelation relation) = BehindModel files job (λ model. absent_in job.options model ≡ Some relation)
-LoadStops files job rose (CannotRead Policy) = BehindOptions files job (λ model. Lacks files job.files.policy ⊎ rose)
-LoadStops files job rose (TooLong Policy) = BehindOptions files job (λ model. OfFile files job.files.policy (λ bytes. limit_of Policy < length bytes))
-LoadStops files job rose (NoPolicy fault) = BehindOptions files job (λ model. FileIs files job.files.policy Policy (λ bytes. IsPolicyFault (shapes_with job.options model) bytes fault))
-LoadStops files job rose NoMemory = ⊤
-LoadStops files job rose _ = ⊥
+-- one of these; `told` holds of the fetches that the shelf told
+abbrev pub LoadStops : Option Files → Job → (told : List FetchCall → Type 0) → (rose : Type 0) → Stop → Type 0
+LoadStops files job told rose (CannotRead Model) = Lost files job.files.model (λ failed. told (fetches_to (at_model job) failed)) rose
+LoadStops files job told rose (TooLong Model) = OfFile files job.files.model (λ bytes. limit_of Model < length bytes) × told (fetches_to (at_model job) false)
+LoadStops files job told rose (NoModel fault) = FileIs files job.files.model Model (λ bytes. IsModelFault bytes fault) × told (fetches_to (at_model job) false)
+LoadStops files job told rose (NoRelation relation) = BehindModel files job (λ model. (absent_in job.options model ≡ Some relation) × told (fetches_to (at_options job model) false))
+LoadStops files job told rose (CannotRead Policy) = BehindOptions files job (λ model. Lost files job.files.policy (λ failed. told (fetches_to (at_policy job model) failed)) rose)
+LoadStops files job told rose (TooLong Policy) = BehindOptions files job (λ model. OfFile files job.files.policy (λ bytes. limit_of Policy < length bytes) × told (fetches_to (at_policy job model) false))
+LoadStops files job told rose (NoPolicy fault) = BehindOptions files job (λ model. FileIs files job.files.policy Policy (λ bytes. IsPolicyFault (shapes_with job.options model) bytes fault) × told (fetches_to (at_policy job model) false))
+LoadStops files job told rose NoMemory = told (fetches_to (at_model job) false) ⊎ BehindOptions files job (λ model. told (fetches_to (at_policy job model) false))
+LoadStops files job told rose _ = ⊥
 
 -- the bytes of the input were not read
 abbrev pub BytesStop : Option (List ℕ) → (rose : Type 0) → Stop → Type 0

@@ -4,7 +4,7 @@ use Rattle.live_pair.specs.Story.{edits_in, publishes, unpublished}
 use Rattle.live_pair.specs.declared.edits.Event.{Event}
 use Rattle.live_pair.specs.declared.edits.Event.TheVariants.{Staged, Publish}
 use Rattle.perm_base.specs.declared.shapes.Shapes.{Shapes}
-use Rattle.policy_state.specs.Admitted.{AreAdmitted}
+use Rattle.edit_calls.specs.Admitted.{AreAdmitted}
 use Rattle.policy_state.specs.States.{State, StandsFor}
 use Rattle.policy_table.specs.Changes.{replay}
 use Rattle.policy_table.specs.Tables.{Policy}
@@ -14,6 +14,15 @@ use Rattle.version_log.specs.Log.{most_versions}
 -- the last event
 abbrev pub ending : List Event → Option Event
 ending log = fold (λ _ event. Some event) None log
+
+-- a history with the publish that its last edits wait for, where they do
+abbrev pub closed_by : Option Event → List Event → List Event
+closed_by (Some (Staged edits)) log = log ++ Publish ∷ []
+closed_by (Some Publish) log = log
+closed_by None log = log
+
+abbrev pub closed : List Event → List Event
+closed log = closed_by (ending log) log
 
 -- the edits that were handed over, in publishes or not
 abbrev pub handed : List Event → List (List Change)

@@ -16,8 +16,8 @@ pub record Found : Type 0 where
   pub token : Token
   pub size : ℕ
 
-abbrev pub found : Token → ℕ → Found
-found token size = record { token = token; size = size }
+abbrev pub sized_token : Token → ℕ → Found
+sized_token token size = record { token = token; size = size }
 
 -- the bytes begin with a letter or `_`
 abbrev pub begins_name : List ℕ → Bool
@@ -39,8 +39,8 @@ is_quote byte = byte == 34 || byte == 39
 
 -- the text behind a quote, by the place of the next equal quote
 abbrev pub quoted : List ℕ → Option ℕ → Found
-quoted bytes (Some at) = found (text (take at bytes)) (at + 2)
-quoted bytes None = found (unclosed bytes) (length bytes + 1)
+quoted bytes (Some at) = sized_token (text (take at bytes)) (at + 2)
+quoted bytes None = sized_token (unclosed bytes) (length bytes + 1)
 
 -- the sign of a byte before `=`
 abbrev pub sign_with_equal : ℕ → Option Operator
@@ -49,7 +49,7 @@ sign_with_equal byte =
 
 -- the text at the front, behind its quote
 abbrev pub text_at : List ℕ → Found
-text_at [] = found (unclosed []) 0
+text_at [] = sized_token (unclosed []) 0
 text_at (quote ∷ bytes) = quoted bytes (position (λ b. b == quote) bytes)
 
 -- the sign of two bytes
@@ -78,8 +78,8 @@ sign_of_one byte = or_mark byte (operator_of byte)
 
 -- the sign of two bytes where there is one, or else the sign of one byte
 abbrev pub or_one : ℕ → Option Operator → Option Found
-or_one byte (Some o) = Some (found (operator o) 2)
-or_one byte None = option_map (λ token. found token 1) (sign_of_one byte)
+or_one byte (Some o) = Some (sized_token (operator o) 2)
+or_one byte None = option_map (λ token. sized_token token 1) (sign_of_one byte)
 
 -- the sign at the front
 abbrev pub sign_at : List ℕ → Option Found
@@ -89,11 +89,11 @@ sign_at (byte ∷ next ∷ bytes) = or_one byte (sign_of_two byte next)
 
 -- the name at the front
 abbrev pub name_at : List ℕ → Found
-name_at bytes = found (name (pieces (take (name_size bytes) bytes))) (name_size bytes)
+name_at bytes = sized_token (name (pieces (take (name_size bytes) bytes))) (name_size bytes)
 
 -- the number at the front
 abbrev pub number_at : List ℕ → Found
-number_at bytes = found (number (take (prefix_len is_ascii_digit bytes) bytes)) (prefix_len is_ascii_digit bytes)
+number_at bytes = sized_token (number (take (prefix_len is_ascii_digit bytes) bytes)) (prefix_len is_ascii_digit bytes)
 
 -- the longest token at the front
 unfoldable pub token_at : List ℕ → Option Found

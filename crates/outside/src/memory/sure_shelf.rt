@@ -1,4 +1,4 @@
-ghost use Rattle.std.specs.Prelude.{◌≡◌, [], Some, IsErrOf, OnOk, OnErr};
+ghost use Rattle.std.specs.Prelude.{◌≡◌, [], Some, None, IsErrOf, OnOk, OnErr};
 ghost use Rattle.outside.specs.Fetches.{Fetches};
 ghost use Rattle.outside.specs.Files.{file_of, Puts};
 
@@ -45,11 +45,13 @@ impl SureShelf {
 impl Shelf for SureShelf {
     ghost files = { λ s. Some (file_of s) };
 
+    ghost calls = { λ _. None };
+
     ghost faults = { λ _. 0 };
 
     fn fetch(&mut self, alloc: Global, name: &str, most: u64) -> Result<Vec<u8>, Fetch>
         ensures fetches { Fetches (Some (file_of self.old)) (Some (file_of self.new))
-            0 0 name.now most result }
+            None None 0 0 name.now most result }
         ensures sure { ¬ (IsErrOf result Fetch.Failed) }
         ensures same { self.new ≡ self.old }
     {

@@ -1,4 +1,4 @@
-ghost use Rattle.std.specs.Prelude.{◌≡◌, Some, IfOk, IsOk, length, min};
+ghost use Rattle.std.specs.Prelude.{◌≡◌, Some, None, IfOk, IsOk, length, min};
 ghost use Rattle.outside.specs.Pulls.{Pulls};
 
 use crate::fault::Failed;
@@ -34,10 +34,12 @@ impl SureSource {
 impl Source for SureSource {
     ghost left = { λ s. Some s };
 
+    ghost ends = { λ _. None };
+
     ghost faults = { λ _. 0 };
 
     fn pull(&mut self, buf: &mut [u8]) -> Result<usize, Failed>
-        ensures pulls { Pulls (Some self.old) (Some self.new) 0 0 buf.old buf.new result }
+        ensures pulls { Pulls (Some self.old) (Some self.new) None None 0 0 buf.old buf.new result }
         ensures sure { IsOk result }
         ensures count { IfOk result (λ count. count ≡ min (length buf.old) (length self.old)) }
     {

@@ -5,6 +5,7 @@ use Rattle.perm_base.specs.declared.shapes.RoleShape.{RoleShape}
 use Rattle.perm_base.specs.declared.shapes.Shapes.{Shapes}
 use Rattle.perm_base.specs.declared.shapes.TableId.TheVariants.{G, P}
 use Rattle.policy_index.specs.Indexed.{Indexed, all_fit, only_p}
+use Rattle.edit_calls.specs.Admitted.{AreAdmitted}
 use Rattle.policy_state.specs.States.{Parts}
 use Rattle.policy_table.specs.Changes.{applies, edited, flat, own}
 use Rattle.policy_table.specs.Limits.{AreSound, role_columns}
@@ -49,9 +50,12 @@ indexed_of index = record { column = index.column; policy = index.held.policy }
 abbrev pub parts_of : Held → Option Indexed → List Section → Parts
 parts_of held index sections = record { held = held; index = index; sections = sections }
 
--- what a state keeps: valid shapes, sound tables that are those of the log, their index by the column, and their sections
+-- what a state keeps: valid shapes; a log that begins from sound tables and whose edits are admitted one after the other; sound
+-- tables that are those of the log, their index by the column, and their sections
 pub record IsState (shapes : Shapes) (by : Option ℕ) (log : Logged) (parts : Parts) : Type 0 where
   pub valid : AreValid shapes
+  pub base : AreSound shapes log.base
+  pub admitted : AreAdmitted shapes log.base log.tail
   pub sound : AreSound shapes parts.held.policy
   pub tables : tables_of log ≡ parts.held.policy
   pub column : option_map (λ (index : Indexed). index.column) parts.index ≡ by

@@ -5,7 +5,7 @@ use Rattle.policy_table.specs.Tables.{Fields}
 use Rattle.role_domain.specs.declared.terms.Terms.{Terms}
 use Rattle.role_meaning.specs.Fits.{Fits}
 use Rattle.role_meaning.specs.Least.{IsLeast}
-use Rattle.role_meaning.specs.Links.{Reaches, domain_of, role_of, user_of}
+use Rattle.role_meaning.specs.Links.{HasRoles, Reaches, domain_of, role_of, user_of}
 
 -- the shape of a relation whose rows have a domain
 abbrev pub inner : Terms → RoleShape
@@ -70,3 +70,10 @@ pub record IsEntered (walk : Walk) (x : List ℕ) (links at : ℕ) : Type 0 wher
 abbrev pub IsDistance : Walk → List ℕ → List ℕ → ℕ → Option ℕ → Type 0
 IsDistance walk x y most None = ¬ Walks walk most x y
 IsDistance walk x y most (Some links) = (links ≤ most) × IsLeast most (λ (fewer : ℕ). Walks walk fewer x y) links
+
+-- the role of a marked row has no roles
+pub record HasTop (walk : Walk) (marks : List Bool) : Type 0 where
+  pub at : ℕ
+  pub within : at < length walk.rows
+  pub marked : IsMarked marks at
+  pub top : ¬ HasRoles (inner walk.terms) walk.rows (Some walk.text) (role_of (get_or walk.rows at []))

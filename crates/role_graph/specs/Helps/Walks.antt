@@ -8,6 +8,8 @@ use Rattle.role_meaning.specs.Links.{Reaches}
 use Rattle.role_graph.specs.Graph.{shape_of}
 use Rattle.role_graph.specs.Groups.{Group, rows_of}
 use Rattle.role_graph.specs.Helps.Marks.{IsSet}
+use Rattle.role_graph.specs.declared.walk.Sought.{Sought}
+use Rattle.role_graph.specs.declared.walk.Sought.TheVariants.{Name, Top}
 
 -- the groups of a graph, and how names are compared with users
 pub record Linked : Type 0 where
@@ -59,3 +61,29 @@ pub record IsLink (linked : Linked) (name role : List ℕ) : Type 0 where
   pub at : ℕ
   pub fits : FitsAt linked name at
   pub stands : IsRoleAt linked role at
+
+-- ---- what a walk looks for
+
+-- the name is the one that is sought; or any name without roles is sought, and it fits no user
+abbrev pub IsSought : Linked → Sought → List ℕ → Type 0
+IsSought linked (Name sought) name = name ≡ sought.now
+IsSought linked Top name = (at : ℕ) → FitsAt linked name at → ⊥
+
+-- a name that is sought is reached by at most so many links
+pub record ReachesSought (linked : Linked) (sought : Sought) (links : ℕ) (x : List ℕ) : Type 0 where
+  pub name : List ℕ
+  pub is : IsSought linked sought name
+  pub reaches : Reaches (shape_of linked.names) (rows_of linked.groups) None links x name
+
+-- the least number of links up to `most` to a name that is sought, where there is one
+abbrev pub IsFirst : Linked → Sought → List ℕ → ℕ → Option ℕ → Type 0
+IsFirst linked sought x most None = ¬ ReachesSought linked sought most x
+IsFirst linked sought x most (Some found) = (found ≤ most) × IsLeast most (λ (links : ℕ). ReachesSought linked sought links x) found
+
+-- one of these groups has a role that is sought
+pub record HasSought (linked : Linked) (sought : Sought) (Groups : ℕ → Type 0) : Type 0 where
+  pub at : ℕ
+  pub marked : Groups at
+  pub role : List ℕ
+  pub stands : IsRoleAt linked role at
+  pub is : IsSought linked sought role

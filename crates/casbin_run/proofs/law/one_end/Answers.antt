@@ -18,7 +18,7 @@ once c = record {
   script_fault = c.text_has_one_script_fault.ensures;
   script_either = c.faulty_text_is_no_script.ensures;
   requests = c.input_says_one_list_of_requests.ensures;
-  lines = c.lines_are_one.ensures.none_bad;
+  lines = c.lines_are_one.ensures;
 }
 
 pub returns-clause-one_cause : goal.returns-clause-one_cause

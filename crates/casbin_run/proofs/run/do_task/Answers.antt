@@ -11,7 +11,7 @@ use Rattle.casbin_run.proofs.run.do_task.Goals as goal
 pub returns-in_err-text-in-Enforce-clause-stopped : goal.returns-in_err-text-in-Enforce-clause-stopped
 returns-in_err-text-in-Enforce-clause-stopped g c =
     let stop : c.from_residual.result ≡ Err c.in_err-text-in-Enforce.field-0.0 = search rules in
-    rw (c.in-Enforce.is, stop) (input_stops (ground (Enforce c.in-Enforce.json) c.args.loaded (g.S.Source.left c.args.input.now)) _ _ _ _ _ c.in_err-text-in-Enforce.field-0.0 refl c.in_err-text-in-Enforce.ensures.stopped)
+    rw (c.in-Enforce.is, stop) (input_stops (ground (Enforce c.in-Enforce.json) c.args.loaded (g.S.Source.left c.args.input.now)) _ _ _ _ c.in_err-text-in-Enforce.field-0.0 refl c.in_err-text-in-Enforce.ensures.stopped)
 
 pub returns-in_ok-text-in-Enforce-clause-done : goal.returns-in_ok-text-in-Enforce-clause-done
 returns-in_ok-text-in-Enforce-clause-done g c =
@@ -50,3 +50,16 @@ returns-in-Format-clause-done g c = rw c.in-Format.is (on_ok_weaker c.format.res
 
 pub returns-in-Format-clause-stopped : goal.returns-in-Format-clause-stopped
 returns-in-Format-clause-stopped g c = rw c.in-Format.is (IfErr-weaker c.format.result _ _ (shown_stops (ground Format c.args.loaded (g.S.Source.left c.args.input.now)) (g.P.Finder.refusals c.args.finder.now) refl _ _ _ _) c.format.ensures.stopped)
+
+-- what is printed reads back
+pub returns-in_ok-text-in-Enforce-clause-reads_back : goal.returns-in_ok-text-in-Enforce-clause-reads_back
+returns-in_ok-text-in-Enforce-clause-reads_back g c = rw c.in-Enforce.is (on_ok_weaker c.enforce.result (λ all. tt) c.enforce.ensures.printed)
+
+pub returns-in_ok-script-in-Serve-clause-reads_back : goal.returns-in_ok-script-in-Serve-clause-reads_back
+returns-in_ok-script-in-Serve-clause-reads_back g c = rw c.in-Serve.is (on_ok_weaker c.serve.result (λ all. tt) c.serve.ensures.printed)
+
+pub returns-in-Check-clause-reads_back : goal.returns-in-Check-clause-reads_back
+returns-in-Check-clause-reads_back g c = rw c.in-Check.is c.check.ensures.reads_back
+
+pub returns-in-Format-clause-reads_back : goal.returns-in-Format-clause-reads_back
+returns-in-Format-clause-reads_back g c = rw c.in-Format.is c.format.ensures.reads_back

@@ -1,6 +1,6 @@
 use Rattle.std.proofs.lemmas.Result.{err_from_is_err_and}
 use Rattle.casbin_run.proofs.GatheredLemmas.{next_left}
-use Rattle.casbin_run.proofs.PrintLemmas.{lines_more, lines_moved, lines_none, lines_quiet, lines_stopped}
+use Rattle.casbin_run.proofs.PrintLemmas.{lines_first, lines_more, lines_moved, lines_none, lines_stopped}
 use Rattle.casbin_run.proofs.session.print_lines.Goals as goal
 
 pub loop-line-init : goal.loop-line-init
@@ -9,7 +9,7 @@ loop-line-init g c = lines_none _ _ _ _ c.new-text.ensures.bytes
 pub returns-in_err-push_line-clause-stopped : goal.returns-in_err-push_line-clause-stopped
 returns-in_err-push_line-clause-stopped g c =
     let p = err_from_is_err_and c.from_residual.result c.from_residual.ensures.1 in
-    rw (p.1, p.2) (lines_quiet _ _ _ _ _ _ _ c.loop-line.invariant)
+    rw (p.1, p.2) (lines_first _ _ _ _ _ _ _ c.loop-line.invariant)
 
 pub returns-in_err-push_full-clause-stopped : goal.returns-in_err-push_full-clause-stopped
 returns-in_err-push_full-clause-stopped g c =

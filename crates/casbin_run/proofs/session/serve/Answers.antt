@@ -28,6 +28,6 @@ returns g c =
     let same_policy = ap (λ (s : State). tables s) c.in_ok-desk.ensures.state ∙ is.policy_is in
     let script = map seen c.args.script.now in
     answers_over (λ (items : List Said). items ≡ script) c.in_ok-opened.opened.program desk.state.shapes (tables desk.state) _ _ c.args.loaded _ _ c.print_lines.result is.program_is same_shapes same_policy
-    (on_ok_weaker c.print_lines.result (said_all _ _ _ _ _ _ script c.in_ok-lines.lines refl c.in_ok-lines.ensures.plain c.in_ok-lines.ensures.counted _ _) (rw c.as_slice.ensures at c.print_lines.ensures.printed))
-    (IfErr-weaker c.print_lines.result _ _ (said_some _ _ _ _ _ _ script c.in_ok-lines.lines refl c.in_ok-lines.ensures.plain c.in_ok-lines.ensures.counted _ _ _) (rw c.as_slice.ensures at c.print_lines.ensures.stopped))
+    (on_ok_weaker c.print_lines.result (said_all _ _ _ _ _ _ script c.in_ok-lines.lines refl c.in_ok-lines.ensures.plain _ _) (rw c.as_slice.ensures at c.print_lines.ensures.printed))
+    (IfErr-weaker c.print_lines.result _ _ (said_some _ _ _ _ _ _ script c.in_ok-lines.lines refl c.in_ok-lines.ensures.plain _ _ _) (rw c.as_slice.ensures at c.print_lines.ensures.stopped))
     c.print_lines.ensures.counted c.run_plain.ensures.used

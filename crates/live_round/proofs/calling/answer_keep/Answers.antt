@@ -1,5 +1,9 @@
+use Rattle.std.proofs.Common.{ap}
+use Rattle.policy_desk.specs.Desks.{Work}
 use Rattle.live_round.proofs.PublishLemmas.{keep_step}
 use Rattle.live_round.proofs.calling.answer_keep.Goals as goal
 
 pub returns-clause-step : goal.returns-clause-step
-returns-clause-step c = keep_step c.args.desk.now c.keep.new.self c.args.count c.keep.ensures.kept c.keep.ensures.state c.keep.ensures.pending c.keep.ensures.floor
+returns-clause-step c =
+    let is = c.keep.ensures.kept in
+    keep_step c.args.desk.now c.keep.new.self c.args.count (ap (λ (d : Work). d.kept) is) (ap (λ (d : Work). d.state) is) (ap (λ (d : Work). d.pending) is) (ap (λ (d : Work). d.floor) is)

@@ -1,7 +1,10 @@
+use Rattle.std.proofs.Common.{ap, sym, ◌∙◌}
+use Rattle.policy_desk.specs.Desks.{Work}
 use Rattle.live_round.proofs.PublishLemmas.{publish_step}
 use Rattle.live_round.proofs.calling.answer_publish.Goals as goal
 
 pub returns-clause-step : goal.returns-clause-step
 returns-clause-step c =
-    publish_step c.args.desk.now c.publish.new.self c.publish.ensures.shapes c.publish.ensures.kept c.in_ok-version.version c.in_ok-version.ensures.version c.in_ok-version.ensures.more
-    c.in_ok-version.ensures.stands c.in_ok-version.ensures.start c.in_ok-version.ensures.none c.publish.ensures.floor
+    let is = c.in_ok-version.ensures.published in
+    publish_step c.args.desk.now c.publish.new.self is.state.shapes (ap (λ (d : Work). d.kept) is.others) c.in_ok-version.version c.in_ok-version.ensures.version is.state.more
+    is.state.stands (is.start ∙ sym (ap (λ (d : Work). d.floor) is.others)) (ap (λ (d : Work). d.pending) is.others) (ap (λ (d : Work). d.floor) is.others)

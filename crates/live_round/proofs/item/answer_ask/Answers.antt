@@ -1,7 +1,8 @@
-use Rattle.live_round.proofs.StepLemmas.{both_ok, request_step}
+use Rattle.std.proofs.lemmas.Result.{IfOk-weaker}
 use Rattle.script_read.specs.Said.{reading}
+use Rattle.live_round.proofs.StepLemmas.{request_step}
 use Rattle.live_round.proofs.item.answer_ask.Goals as goal
 
 pub returns-clause-step : goal.returns-clause-step
-returns-clause-step g c = both_ok c.answer_request.result _ _ _ (λ reply is counted. request_step c.args.program.now _ _ c.args.desk.now c.state.result.now c.state.ensures.state (reading c.args.asked.now) reply is counted)
-    c.answer_request.ensures.answer c.answer_request.ensures.counted
+returns-clause-step g c =
+    IfOk-weaker c.answer_request.result _ _ (λ reply is. request_step c.args.program.now _ _ c.args.desk.now c.state.result.now c.state.ensures.state (reading c.args.asked.now) reply is) c.answer_request.ensures.answer

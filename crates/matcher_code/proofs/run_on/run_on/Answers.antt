@@ -1,7 +1,6 @@
-use Rattle.std.proofs.Common.{rules, ◌≡◌, ◌≤◌, ◌<◌, List, map, length, slice_get, Some, None, Ok, Err, arith, refl, subst}
+use Rattle.std.proofs.Common.{rules, ◌≡◌, ◌≤◌, ◌<◌, List, map, length, slice_get, Some, None, Ok, Err, arith, refl, subst, ◌∙◌}
 use Rattle.std.proofs.lemmas.Option.{slice_get_read}
 use Rattle.model_conf.specs.ModelText.{ModelParts}
-use Rattle.regex_gate.proofs.CallerLemmas.{used_then}
 use Rattle.perm_value.specs.Seen.{datum_of_view}
 use Rattle.matcher_code.specs.Helps.Ends.{StepEnds, case_for}
 use Rattle.matcher_code.specs.Helps.Runs.{IsAt, LeadsOn}
@@ -44,7 +43,7 @@ loop-reached-preserved g c = record {
   leads = λ model. (goes_on g c model).1.1;
   behind = omega (arith, c.loop-reached.invariant.behind, (goes_on g c some_model).0);
   at = (goes_on g c some_model).1.0;
-  used = used_then _ _ _ None c.loop-reached.invariant.used c.in_ok-to.ensures.used;
+  none = c.in_ok-to.ensures.refused ∙ c.loop-reached.invariant.none;
 }
 
 pub returns-in-Eval-clause-run : goal.returns-in-Eval-clause-run

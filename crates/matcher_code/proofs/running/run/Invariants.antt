@@ -1,6 +1,5 @@
-use Rattle.std.proofs.Common.{◌-◌, [], map, length, None, option_copied}
+use Rattle.std.proofs.Common.{◌≡◌, ◌-◌, [], map, length, option_copied}
 use Rattle.perm_value.specs.Seen.{datum, datum_of_view}
-use Rattle.regex_gate.specs.Refusals.{IsUsed}
 use Rattle.matcher_code.specs.Running.{case_of}
 use Rattle.matcher_code.specs.Helps.Runs.{IsAt, LeadsOn}
 use Rattle.matcher_code.proofs.running.run.Given as goal
@@ -9,7 +8,7 @@ abbrev pub invariant-loop-pause : goal.invariant-loop-pause
 invariant-loop-pause g l = record {
   leads : LeadsOn (case_of l.model (map datum l.request) (option_copied l.fn.row) (g.K.Links.shapes l.links) (g.K.Links.policy l.links)) l.code.ops 0 [] l.place (map datum_of_view l.stack);
   at : IsAt l.code.ops l.place (length l.stack);
-  used : IsUsed (g.P.Finder.refusals l.initial.finder) (g.P.Finder.refusals l.finder) None;
+  none : g.P.Finder.refusals l.finder ≡ g.P.Finder.refusals l.initial.finder;
 }
 
 abbrev pub decreases-loop-pause : goal.decreases-loop-pause

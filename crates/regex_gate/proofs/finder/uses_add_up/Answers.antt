@@ -1,4 +1,4 @@
-use Rattle.regex_gate.proofs.CallerLemmas.{used_none, used_then, refused_still}
+use Rattle.regex_gate.proofs.CallerLemmas.{used_none, used_then, refused_since, refused_still}
 use Rattle.regex_gate.proofs.finder.uses_add_up.Goals as goal
 
 pub returns-clause-none : goal.returns-clause-none
@@ -7,5 +7,8 @@ returns-clause-none c = used_none
 pub returns-clause-again : goal.returns-clause-again
 returns-clause-again c = used_then
 
-pub returns-clause-stays : goal.returns-clause-stays
-returns-clause-stays c = refused_still
+pub returns-clause-since : goal.returns-clause-since
+returns-clause-since c = refused_since
+
+pub returns-clause-still : goal.returns-clause-still
+returns-clause-still c = refused_still

@@ -1,6 +1,5 @@
-use Rattle.std.specs.List.{Contains}
 use Rattle.session_meaning.proofs.PrintableLemmas.{reply_printable}
 use Rattle.session_meaning.proofs.laws.replies_are_printable.Goals as goal
 
 pub returns : goal.returns
-returns c = record { printable = λ model shapes opening bad before item reply. reply_printable c.order_of_rows_is_one.ensures.moved model shapes opening (Contains bad) before item reply }
+returns c = record { printable = reply_printable c.order_of_rows_is_one.ensures.moved }

@@ -2,7 +2,6 @@ use Rattle.std.proofs.Common.{◌≡◌, true, not, true≢false, rules, sym, ap
 use Rattle.std.specs.Str.{bytes_eq}
 use Rattle.std.proofs.lemmas.Slice.Eq.{bytes_eq-Decides}
 use Rattle.perm_base.specs.FieldLine as field
-use Rattle.perm_base.proofs.CallerLemmas.{no_line_end}
 use Rattle.version_log.proofs.SpellingLemmas.{printed_other, printed_read}
 use Rattle.version_log.proofs.item_read.read_printed.Goals as goal
 
@@ -11,9 +10,6 @@ returns-in-Err-Quote-clause-none c = λ fields is. let memory = c.in-Err-Quote.e
 
 pub returns-in-Err-TooMany-clause-none : goal.returns-in-Err-TooMany-clause-none
 returns-in-Err-TooMany-clause-none c = λ fields is. let memory = c.in-Err-TooMany.ensures.only fields (printed_read c.args.text.now fields is) in absurd cc
-
-pub unreachable-requires : goal.unreachable-requires
-unreachable-requires c = no_line_end c.in-Ok.fields.items c.in_default.field-0 c.in-Ok.ensures.rule.whole_lines c.in_default.ensures.line_end
 
 pub returns-then-ne-clause-none : goal.returns-then-ne-clause-none
 returns-then-ne-clause-none c = λ fields is.

@@ -1,5 +1,6 @@
 use Rattle.std.proofs.Common.{◌≡◌, [], List, sym, ap, subst, ◌∙◌}
 use Rattle.live_pair.proofs.SideLemmas.{stands_whole}
+use Rattle.policy_state.proofs.CallerLemmas.{version_stands}
 use Rattle.live_pair.specs.Seats.{Way}
 use Rattle.live_pair.specs.Story.{edits_in, publishes, unpublished}
 use Rattle.live_pair.specs.declared.edits.Event.{Event}
@@ -15,3 +16,9 @@ returns-clause-stands g c =
     let none : unpublished first log ≡ [] = subst (λ (l : List Event). unpublished first l ≡ []) (sym c.get.ensures) c.self.invariant.1 in
     let front : publishes first log ≡ c.args.self.now.front = ap (λ (l : List Event). publishes first l) c.get.ensures ∙ sym c.self.invariant.0 ∙ ap (λ (w : Way). w.front) c.self.view_is in
     subst (λ (f : List (List (List Change))). StandsFor c.state.result.now opening (edits_in f)) front (stands_whole opening first log c.state.result.now none c.state.ensures.stands)
+
+pub returns-clause-start : goal.returns-clause-start
+returns-clause-start g c = (returns-clause-stands g c).within
+
+pub returns-clause-version : goal.returns-clause-version
+returns-clause-version g c = version_stands c.state.result.now.log g.J.Naming.opening (edits_in c.args.self.now.front) (returns-clause-stands g c)

@@ -9,7 +9,7 @@ stage-requires-clause-admitted g c =
     let desk = c.args.desk.now in
     let es : List (List Change) = c.in_ok-edits.edits in
     let is : Lacks first c.args.self.now c.again-told.result es desk.pending
-    = lacks first c.args.self.now c.self.inside.told c.again-told.result es c.pending.result.now desk.pending c.waiting-from.result (c.self.view_is ∙ c.append_parked.ensures) c.again-told.ensures c.requires.begun c.waiting-from.ensures c.in_ok-edits.ensures c.pending.ensures.pending in
+    = lacks first c.args.self.now c.self.inside.told c.again-told.result es c.pending.result.now desk.pending c.waiting-from.result (c.self.view_is ∙ c.append_parked.ensures.same) c.again-told.ensures c.requires.begun c.waiting-from.ensures c.in_ok-edits.ensures c.pending.ensures.pending in
     (can_stage_here g.J.Naming.shapes g.J.Naming.opening first c.args.self.now c.again-told.result desk es is c.holds.ensures.desk c.requires.shapes c.requires.stands).admitted
 
 pub stage-requires-clause-few : goal.stage-requires-clause-few
@@ -18,7 +18,7 @@ stage-requires-clause-few g c =
     let desk = c.args.desk.now in
     let es : List (List Change) = c.in_ok-edits.edits in
     let is : Lacks first c.args.self.now c.again-told.result es desk.pending
-    = lacks first c.args.self.now c.self.inside.told c.again-told.result es c.pending.result.now desk.pending c.waiting-from.result (c.self.view_is ∙ c.append_parked.ensures) c.again-told.ensures c.requires.begun c.waiting-from.ensures c.in_ok-edits.ensures c.pending.ensures.pending in
+    = lacks first c.args.self.now c.self.inside.told c.again-told.result es c.pending.result.now desk.pending c.waiting-from.result (c.self.view_is ∙ c.append_parked.ensures.same) c.again-told.ensures c.requires.begun c.waiting-from.ensures c.in_ok-edits.ensures c.pending.ensures.pending in
     (can_stage_here g.J.Naming.shapes g.J.Naming.opening first c.args.self.now c.again-told.result desk es is c.holds.ensures.desk c.requires.shapes c.requires.stands).few
 
 pub returns-in-Err-clause-begun : goal.returns-in-Err-clause-begun
@@ -27,7 +27,7 @@ returns-in-Err-clause-begun g c =
     let desk = c.args.desk.now in
     let es : List (List Change) = c.in_ok-edits.edits in
     let is : Lacks first c.args.self.now c.again-told.result es desk.pending
-    = lacks first c.args.self.now c.self.inside.told c.again-told.result es c.pending.result.now desk.pending c.waiting-from.result (c.self.view_is ∙ c.append_parked.ensures) c.again-told.ensures c.requires.begun c.waiting-from.ensures c.in_ok-edits.ensures c.pending.ensures.pending in
+    = lacks first c.args.self.now c.self.inside.told c.again-told.result es c.pending.result.now desk.pending c.waiting-from.result (c.self.view_is ∙ c.append_parked.ensures.same) c.again-told.ensures c.requires.begun c.waiting-from.ensures c.in_ok-edits.ensures c.pending.ensures.pending in
     begun_here first c.args.self.now c.again-told.result c.stage.new.self c.again.result es desk.pending is c.if-not-stage.ensures c.again.ensures
 
 pub returns-clause-begun : goal.returns-clause-begun
@@ -36,5 +36,5 @@ returns-clause-begun g c =
     let desk = c.args.desk.now in
     let es : List (List Change) = c.in_ok-edits.edits in
     let is : Lacks first c.args.self.now c.again-told.result es desk.pending
-    = lacks first c.args.self.now c.self.inside.told c.again-told.result es c.pending.result.now desk.pending c.waiting-from.result (c.self.view_is ∙ c.append_parked.ensures) c.again-told.ensures c.requires.begun c.waiting-from.ensures c.in_ok-edits.ensures c.pending.ensures.pending in
+    = lacks first c.args.self.now c.self.inside.told c.again-told.result es c.pending.result.now desk.pending c.waiting-from.result (c.self.view_is ∙ c.append_parked.ensures.same) c.again-told.ensures c.requires.begun c.waiting-from.ensures c.in_ok-edits.ensures c.pending.ensures.pending in
     begun_here first c.args.self.now c.again-told.result c.stage.new.self c.again.result es desk.pending is c.if-not-stage.ensures c.again.ensures

@@ -2,7 +2,7 @@ use Rattle.std.proofs.Common.{◌≡◌, ◌+◌, ◌≤◌, ◌++◌, ◌∷◌
 use Rattle.live_pair.proofs.SideLemmas.{CanMake, can_make, up_to_staged}
 use Rattle.live_pair.proofs.StoryLemmas.{next_staged}
 use Rattle.live_pair.specs.declared.edits.Event.TheVariants.{Staged}
-use Rattle.policy_state.specs.Admitted.{AreAdmitted}
+use Rattle.edit_calls.specs.Admitted.{AreAdmitted}
 use Rattle.policy_state.specs.States.{tables}
 use Rattle.policy_table.specs.declared.change.Change.{Change}
 use Rattle.version_log.specs.Log.{most_versions, versions}
@@ -12,7 +12,7 @@ pub make-requires-clause-admitted : goal.make-requires-clause-admitted
 make-requires-clause-admitted g c =
     let i = c.self.inside in
     let op = c.args.operation.now in
-    let one = c.if-not-is_one_short_of.ensures refl in
+    let one = c.if-not-is_one_short_of.ensures in
     let next : op.told ≡ i.told ++ Staged op.edits ∷ [] = next_staged i.told op.told op.edits one.0 one.1 op.last in
     let can : CanMake i.state op.edits = can_make g.J.Naming.shapes g.J.Naming.opening g.J.Naming.first i.told op.told op.edits i.state next c.kept.ensures.given c.self.invariant in
     subst (AreAdmitted i.state.shapes (tables i.state)) (sym c.as_slice-edits.ensures) can.admitted
@@ -21,7 +21,7 @@ pub make-requires-clause-few : goal.make-requires-clause-few
 make-requires-clause-few g c =
     let i = c.self.inside in
     let op = c.args.operation.now in
-    let one = c.if-not-is_one_short_of.ensures refl in
+    let one = c.if-not-is_one_short_of.ensures in
     let next : op.told ≡ i.told ++ Staged op.edits ∷ [] = next_staged i.told op.told op.edits one.0 one.1 op.last in
     let can : CanMake i.state op.edits = can_make g.J.Naming.shapes g.J.Naming.opening g.J.Naming.first i.told op.told op.edits i.state next c.kept.ensures.given c.self.invariant in
     subst (λ (l : List (List Change)). versions i.state.log + length l ≤ most_versions) (sym c.as_slice-edits.ensures) can.few
@@ -30,6 +30,6 @@ pub invariant_of-self-2 : goal.invariant_of-self-2
 invariant_of-self-2 g c =
     let i = c.self.inside in
     let op = c.args.operation.now in
-    let one = c.if-not-is_one_short_of.ensures refl in
+    let one = c.if-not-is_one_short_of.ensures in
     let next : c.again.result ≡ i.told ++ Staged c.as_slice-edits.result.now ∷ [] = c.again.ensures ∙ next_staged i.told op.told op.edits one.0 one.1 op.last ∙ ap (λ (l : List (List Change)). i.told ++ Staged l ∷ []) (sym c.as_slice-edits.ensures) in
     up_to_staged g.J.Naming.shapes g.J.Naming.opening g.J.Naming.first i.told c.again.result c.as_slice-edits.result.now i.state c.make.new.state next c.in-Ok.ensures.shapes c.in-Ok.ensures.stands c.self.invariant

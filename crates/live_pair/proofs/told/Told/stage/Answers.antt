@@ -4,7 +4,7 @@ use Rattle.live_pair.proofs.StoryLemmas.{counted_all, counted_staged}
 use Rattle.live_pair.specs.Helps.Sides.{AreCounted, history}
 use Rattle.live_pair.specs.declared.edits.Event.{Event}
 use Rattle.live_pair.specs.declared.edits.Event.TheVariants.{Staged}
-use Rattle.policy_state.specs.Admitted.{AreAdmitted}
+use Rattle.edit_calls.specs.Admitted.{AreAdmitted}
 use Rattle.policy_table.specs.Changes.{replay}
 use Rattle.policy_table.specs.declared.change.Change.{Change}
 use Rattle.version_log.specs.Log.{most_versions}

@@ -1,6 +1,6 @@
 use Rattle.std.proofs.Common.{◌≡◌, ◌<◌, true, sym, subst, rules}
 use Rattle.edit_calls.specs.Admitted.{admits}
-use Rattle.policy_desk.proofs.DeskLemmas.{drafted, one_few}
+use Rattle.policy_desk.proofs.DeskLemmas.{drafted, drafted_is, one_few}
 use Rattle.policy_desk.specs.Desks.{Work, edits_of}
 use Rattle.policy_table.specs.Changes.{edited}
 use Rattle.version_log.specs.Log.{most_versions}
@@ -19,3 +19,8 @@ invariant_of-self-2 c =
     let made : c.commit.new.self.policy ≡ edited c.args.edit c.self.inside.drafts.policy = search rules in
     drafted _ c.args.edit c.push_reserved.new.self.items c.commit.new.self.policy c.self.invariant admitted
     (c.admitted_edits_keep_sound.ensures.sound c.self.inside.state.shapes c.self.inside.drafts.policy c.args.edit c.self.invariant.sound admitted) few (search rules) made
+
+pub returns-clause-done : goal.returns-clause-done
+returns-clause-done c =
+    let made : c.commit.new.self.policy ≡ edited c.args.edit c.self.inside.drafts.policy = search rules in
+    drafted_is c.args.self.now _ c.args.edit c.push_reserved.new.self.items c.commit.new.self.policy c.self.view_is (search rules) made

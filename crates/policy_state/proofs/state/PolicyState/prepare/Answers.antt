@@ -1,5 +1,5 @@
 use Rattle.std.proofs.Common.{◌≡◌, ◌+◌, ◌≤◌, arith, length, rules, sym, subst}
-use Rattle.policy_state.specs.Admitted.{AreAdmitted}
+use Rattle.edit_calls.specs.Admitted.{AreAdmitted}
 use Rattle.policy_state.specs.States.{State, tables}
 use Rattle.policy_state.specs.Helps.Kept.{parts_of}
 use Rattle.policy_state.proofs.AdmittedLemmas.{all_apply}

@@ -1,0 +1,78 @@
+use anyhow::{Context, Result, bail, ensure};
+use case_list::Case;
+use matcher_code::{Links, Stack, Stop, WideStack, build, run};
+use matcher_meaning::links_of_tables_are_decided;
+use model_conf::{Model, read_model};
+use perm_base::{Rule, read_fields};
+use perm_value::{Request, View, request_of_fields};
+use regex_gate::ListFinder;
+use std::alloc::Global;
+
+/// What the matcher of a case's model comes to, for the case's request and rule, or without a rule.
+pub(crate) fn truth(alloc: Global, case: &Case) -> Result<String> {
+    let model = read_model(alloc, &case.text(alloc, "file")?);
+    let model = model.ok().context("the file is no model")?;
+    let line = line_of(case, "request").context("no request")?;
+    let request = request_of_fields(alloc, line);
+    let request = request.ok().context("the line is no request")?;
+    let rule = match line_of(case, "rule") {
+        Some(line) => Some(rule_of(alloc, line)?),
+        None => None,
+    };
+    let mut finder = ListFinder::new(alloc, case.numbers(alloc, "finder-fails")?);
+    asked(alloc, &model, &request, rule.as_ref(), &mut finder)
+}
+
+// What stands behind a key.
+fn line_of<'a>(case: &'a Case, key: &str) -> Option<&'a str> {
+    let field = case.fields.iter().find(|field| field.key.as_str() == key)?;
+    Some(field.rest.as_str())
+}
+
+fn rule_of(alloc: Global, line: &str) -> Result<Rule> {
+    let fields = read_fields(alloc, line)
+        .ok()
+        .context("the line is no fields")?;
+    ensure!(fields.len() <= 34, "a case has at most 34 fields");
+    Rule::from_fields(fields)
+        .ok()
+        .context("the fields are no rule")
+}
+
+// No role relation, so that no name is linked to another.
+struct NoLinks;
+
+impl Links for NoLinks {
+    ghost use Rattle.policy_table.specs.Tables.{without_rules};
+    ghost use Rattle.std.specs.Prelude.{false};
+    ghost use Rattle.cases_runs.specs.Shapes.{without_roles};
+
+    ghost shapes = { λ _. without_roles };
+
+    ghost policy = { λ _. without_rules false };
+
+    fn linked(&self, _relation: u8, _x: &[u8], _y: &[u8], _domain: Option<&[u8]>) -> bool {
+        links_of_tables_are_decided();
+        false
+    }
+}
+
+// Asks for the truth. What the contract says is of no use here, so this function keeps it from the others.
+fn asked(
+    alloc: Global,
+    model: &Model,
+    request: &Request,
+    rule: Option<&Rule>,
+    finder: &mut ListFinder,
+) -> Result<String> {
+    let code = build(alloc, model).ok().context("memory ran out")?;
+    let mut stack: WideStack = Stack::new();
+    match run(
+        alloc, &code, model, request, rule, &NoLinks, finder, &mut stack,
+    ) {
+        Ok(View::Truth(truth)) => Ok(format!(in alloc; "truth {truth}")?),
+        Ok(_) => bail!("the matcher has a value that is no truth"),
+        Err(Stop::Fault(fault)) => Ok(format!(in alloc; "{:?} at {}", fault.cause, fault.at)?),
+        Err(Stop::NoMemory) => bail!("memory ran out"),
+    }
+}

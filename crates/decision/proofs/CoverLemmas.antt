@@ -1,0 +1,209 @@
+-- Rows that are looked at in place of all, and what follows from those of them.
+use Rattle.std.proofs.Common.{◌≡◌, ◌⊎◌, inl, inr, ℕ, zero, suc, ◌+◌, ◌<◌, ◌≤◌, Bool, true, false, cond, if◌then◌else◌, List, [], ◌∷◌, ◌++◌, drop, find, get_or, length, All, Option, Some, None, Ok, refl, sym, ap, ◌∙◌, subst, arith}
+use Rattle.std.specs.List.{AllByRecursion, AllZip, Contains}
+use Rattle.std.proofs.lemmas.List.Elements.{All-from_recursion, recursion_from_All}
+use Rattle.effect_fold.specs.Verdict.{Taken, allow_by, allows, ends, unsettled, verdict, verdict_at}
+use Rattle.effect_fold.specs.declared.effect.Effect.{Effect}
+use Rattle.effect_fold.specs.declared.effect.Effect.TheVariants as effect
+use Rattle.effect_fold.specs.declared.outcome.Outcome.TheVariants.{Unmatched}
+use Rattle.effect_fold.specs.declared.verdict.Verdict.{Verdict}
+use Rattle.policy_index.specs.Places.{has_text, places_from, places_of}
+use Rattle.policy_table.specs.Tables.{Fields}
+use Rattle.role_meaning.proofs.CallerLemmas.{stands_behind, stands_cases, stands_here}
+use Rattle.matcher_meaning.specs.Cases.{Case}
+use Rattle.matcher_meaning.specs.Order.{Numbered, in_order_of, numbered, numbered_from}
+use Rattle.matcher_meaning.specs.Perm.{Refusal, refused_at}
+use Rattle.matcher_meaning.specs.Verdicts.{RowHasOutcome}
+use Rattle.decision.proofs.RowLemmas.{each_middle, each_weaker, numbered_at}
+use Rattle.decision.specs.Helps.Covering.{Covers}
+use Rattle.decision.specs.Helps.Leaving.{AreAllThatMatter, IsLeftOut}
+use Rattle.decision.specs.Helps.Outcomes.{IsJudgedOn}
+
+-- all rows are looked at
+pub covers_all : (case : Case) (all : List Numbered) → Covers case all all
+covers_all case [] = tt
+covers_all case (row ∷ all) = inl (refl, covers_all case all)
+
+-- one row more is left out
+covers_more : (case : Case) (row : Numbered) (all some : List Numbered) → IsLeftOut case row.fields → Covers case all some → Covers case (row ∷ all) some
+covers_more case row all [] out covers = (out, covers)
+covers_more case row all (one ∷ some) out covers = inr (out, covers)
+
+covers_left_out : (case : Case) (number : ℕ) (table : List Fields) → AllByRecursion (IsLeftOut case) table → Covers case (numbered_from number table) []
+covers_left_out case number [] out = tt
+covers_left_out case number (fields ∷ table) out = (out.0, covers_left_out case (suc number) table out.1)
+
+-- no row is looked at
+pub covers_none : (case : Case) (table : List Fields) → All (IsLeftOut case) table → Covers case (numbered_from 1 table) []
+covers_none case table out = covers_left_out case 1 table (recursion_from_All (IsLeftOut case) table out)
+
+-- what stands behind so many elements begins with the one at that place
+first_behind : (table : List Fields) (at : ℕ) (fields : Fields) (rest : List Fields) → drop at table ≡ fields ∷ rest → (at < length table) × (get_or table at [] ≡ fields) × (drop (suc at) table ≡ rest)
+first_behind [] zero fields rest e = absurd cc
+first_behind [] (suc at) fields rest e = absurd cc
+first_behind (one ∷ table) zero fields rest e =
+    let same : one ≡ fields = cc in
+    let others : table ≡ rest = cc in
+    (omega arith, same, others)
+first_behind (one ∷ table) (suc at) fields rest e =
+    let found = first_behind table at fields rest e in
+    (omega (arith, found.0), found.1, found.2)
+
+-- the row at this place of the table
+at_place : (table : List Fields) (at number : ℕ) (fields : Fields) (rest : List Fields) → number ≡ suc at → drop at table ≡ fields ∷ rest → get_or (numbered_from 1 table) at (numbered (suc at) []) ≡ numbered number fields
+at_place table at number fields rest is e =
+    let found = first_behind table at fields rest e in
+    let same : 1 + at ≡ number = omega (arith, is) in
+    numbered_at 1 table at (numbered (suc at) []) [] found.0 ∙ ap (λ (n : ℕ). numbered n (get_or table at [])) same ∙ ap (numbered number) found.1
+
+-- the rows with the text are looked at, of those behind the first places
+covers_rest : (case : Case) (column : ℕ) (text : List ℕ) (table : List Fields) (first number : ℕ) (rest : List Fields) → number ≡ suc first → drop first table ≡ rest → AllByRecursion (λ (fields : Fields). has_text column text fields ≡ false → IsLeftOut case fields) rest
+    → Covers case (numbered_from number rest) (in_order_of (places_from first column text rest) (numbered_from 1 table))
+covers_rest case column text table first number [] is e others = tt
+covers_rest case column text table first number (fields ∷ rest) is e others =
+    by (has_text column text fields) refl
+    (covers_rest case column text table (first + 1) (suc number) rest (omega (arith, is)) (next ∙ (first_behind table first fields rest e).2) others.1)
+  where
+    next : drop (first + 1) table ≡ drop (suc first) table
+    next = let same : first + 1 ≡ suc first = omega arith in ap (λ (n : ℕ). drop n table) same
+
+    places : List ℕ
+    places = places_from (first + 1) column text rest
+
+    by : (b : Bool) → has_text column text fields ≡ b → Covers case (numbered_from (suc number) rest) (in_order_of places (numbered_from 1 table))
+        → Covers case (numbered number fields ∷ numbered_from (suc number) rest) (in_order_of (if b then first ∷ places else places) (numbered_from 1 table))
+    by true is_text covers = inl (at_place table first number fields rest is e, covers)
+    by false is_text covers = covers_more case (numbered number fields) (numbered_from (suc number) rest) (in_order_of places (numbered_from 1 table)) (others.0 is_text) covers
+
+-- the rows at the places that matter are looked at
+pub covers_places : (case : Case) (table : List Fields) (places : List ℕ) → AreAllThatMatter case table places → Covers case (numbered_from 1 table) (in_order_of places (numbered_from 1 table))
+covers_places case table places matter =
+    subst (λ (at : List ℕ). Covers case (numbered_from 1 table) (in_order_of at (numbered_from 1 table))) (sym matter.places_are)
+    (covers_rest case matter.column matter.text table 0 1 table refl refl (recursion_from_All (λ (fields : Fields). has_text matter.column matter.text fields ≡ false → IsLeftOut case fields) table matter.others))
+
+-- places are those of rows
+places_below : (size first column : ℕ) (text : List ℕ) (rest : List Fields) → first + length rest ≤ size → AllByRecursion (λ (place : ℕ). place < size) (places_from first column text rest)
+places_below size first column text [] few = tt
+places_below size first column text (fields ∷ rest) few = by (has_text column text fields) (places_below size (first + 1) column text rest (omega (arith, few)))
+  where
+    by : (b : Bool) → AllByRecursion (λ (place : ℕ). place < size) (places_from (first + 1) column text rest)
+        → AllByRecursion (λ (place : ℕ). place < size) (if b then first ∷ places_from (first + 1) column text rest else places_from (first + 1) column text rest)
+    by true others = (omega (arith, few), others)
+    by false others = others
+
+pub places_within : (case : Case) (table : List Fields) (places : List ℕ) → AreAllThatMatter case table places → All (λ (place : ℕ). place < length table) places
+places_within case table places matter =
+    subst (All (λ (place : ℕ). place < length table)) (sym matter.places_are)
+    (All-from_recursion (λ (place : ℕ). place < length table) (places_of matter.column matter.text table) (places_below (length table) 0 matter.column matter.text table (omega arith)))
+
+-- what holds of places holds of those behind the first
+pub places_behind : (table : List Fields) (all places : List ℕ) (place : ℕ) → all ≡ place ∷ places → All (λ (at : ℕ). at < length table) all → All (λ (at : ℕ). at < length table) places
+places_behind table all places place e each =
+    let split = recursion_from_All (λ (at : ℕ). at < length table) (place ∷ places) (subst (All (λ (at : ℕ). at < length table)) e each) in
+    All-from_recursion (λ (at : ℕ). at < length table) places split.1
+
+-- the row at the first place, and those at the others
+pub rows_at : (table : List Fields) (all places : List ℕ) (place : ℕ) (default : Fields) → all ≡ place ∷ places → All (λ (at : ℕ). at < length table) all → in_order_of all (numbered_from 1 table) ≡ numbered (place + 1) (get_or table place default) ∷ in_order_of places (numbered_from 1 table)
+rows_at table all places place default e each =
+    let split = recursion_from_All (λ (at : ℕ). at < length table) (place ∷ places) (subst (All (λ (at : ℕ). at < length table)) e each) in
+    let number : 1 + place ≡ place + 1 = omega arith in
+    let first : get_or (numbered_from 1 table) place (numbered (suc place) []) ≡ numbered (place + 1) (get_or table place default) = numbered_at 1 table place (numbered (suc place) []) default split.0 ∙ ap (λ (n : ℕ). numbered n (get_or table place default)) number in
+    ap (λ (at : List ℕ). in_order_of at (numbered_from 1 table)) e ∙ ap (λ (one : Numbered). one ∷ in_order_of places (numbered_from 1 table)) first
+
+-- rows that are looked at have numbers from that of the first row on
+covered_from : (case : Case) (number : ℕ) (table : List Fields) (some : List Numbered) → Covers case (numbered_from number table) some → AllByRecursion (λ (one : Numbered). number ≤ one.number) some
+covered_from case number [] [] covers = tt
+covered_from case number [] (one ∷ some) covers = absurd covers
+covered_from case number (fields ∷ table) [] covers = tt
+covered_from case number (fields ∷ table) (one ∷ some) (inl (same, covers)) = (
+  omega (arith, ap (λ (r : Numbered). r.number) same),
+  each_weaker (λ (r : Numbered). suc number ≤ r.number) (λ (r : Numbered). number ≤ r.number) some (λ r more. omega (arith, more)) (covered_from case (suc number) table some covers),
+)
+covered_from case number (fields ∷ table) (one ∷ some) (inr (out, covers)) =
+    each_weaker (λ (r : Numbered). suc number ≤ r.number) (λ (r : Numbered). number ≤ r.number) (one ∷ some) (λ r more. omega (arith, more)) (covered_from case (suc number) table (one ∷ some) covers)
+
+-- the rows before one of them have lower numbers
+covered_before : (case : Case) (number : ℕ) (table : List Fields) (front : List Numbered) (row : Numbered) (back : List Numbered) → Covers case (numbered_from number table) (front ++ row ∷ back) → AllByRecursion (λ (one : Numbered). one.number < row.number) front
+covered_before case number table [] row back covers = tt
+covered_before case number [] (one ∷ front) row back covers = absurd covers
+covered_before case number (fields ∷ table) (one ∷ front) row back (inl (same, covers)) =
+    let later : suc number ≤ row.number = each_middle (λ (r : Numbered). suc number ≤ r.number) front row back (covered_from case (suc number) table (front ++ row ∷ back) covers) in
+    (omega (arith, ap (λ (r : Numbered). r.number) same, later), covered_before case (suc number) table front row back covers)
+covered_before case number (fields ∷ table) (one ∷ front) row back (inr (out, covers)) = covered_before case (suc number) table (one ∷ front) row back covers
+
+pub numbers_before : (case : Case) (table : List Fields) (some front : List Numbered) (row : Numbered) (back : List Numbered) → Covers case (numbered_from 1 table) some → some ≡ front ++ row ∷ back → AllByRecursion (λ (one : Numbered). one.number < row.number) front
+numbers_before case table some front row back covers e = covered_before case 1 table front row back (subst (Covers case (numbered_from 1 table)) e covers)
+
+-- what holds of each row that is looked at, and of each that is left out, holds of all
+pub covered_each : (case : Case) (Holds : Numbered → Type 0) → ((row : Numbered) → IsLeftOut case row.fields → Holds row) → (all some : List Numbered) → Covers case all some → AllByRecursion Holds some → AllByRecursion Holds all
+covered_each case Holds out [] [] covers each = tt
+covered_each case Holds out [] (one ∷ some) covers each = absurd covers
+covered_each case Holds out (row ∷ all) [] (left, covers) each = (out row left, covered_each case Holds out all [] covers tt)
+covered_each case Holds out (row ∷ all) (one ∷ some) (inl (same, covers)) each = (subst Holds same each.0, covered_each case Holds out all some covers each.1)
+covered_each case Holds out (row ∷ all) (one ∷ some) (inr (left, covers)) each = (out row left, covered_each case Holds out all (one ∷ some) covers each)
+
+-- a row that is looked at is one of all
+pub covered_stands : (case : Case) (all some : List Numbered) (row : Numbered) → Covers case all some → Contains some row → Contains all row
+covered_stands case [] [] row covers stands = stands
+covered_stands case [] (one ∷ some) row covers stands = absurd covers
+covered_stands case (first ∷ all) [] row (left, covers) stands = stands_behind first all row (covered_stands case all [] row covers stands)
+covered_stands case (first ∷ all) (one ∷ some) row (inl (same, covers)) stands = by (stands_cases one some row stands) (covered_stands case all some row covers)
+  where
+    by : (one ≡ row) ⊎ Contains some row → (Contains some row → Contains all row) → Contains (first ∷ all) row
+    by (inl here) later = subst (Contains (first ∷ all)) (sym same ∙ here) (stands_here first all)
+    by (inr behind) later = stands_behind first all row (later behind)
+covered_stands case (first ∷ all) (one ∷ some) row (inr (left, covers)) stands = stands_behind first all row (covered_stands case all (one ∷ some) row covers stands)
+
+-- outcomes among which each test that no row without a match passes finds the same
+abbrev AreAlike : List Taken → List Taken → Type 0
+AreAlike whole outcomes = (test : Taken → Bool) → ((row : Option ℕ) → test (row, Unmatched) ≡ false) → find test whole ≡ find test outcomes
+
+-- outcomes of all rows that are alike to those of the rows looked at
+abbrev HasAlike : Case → Option Refusal → List Numbered → List Taken → Type 0
+HasAlike case refused all outcomes = (whole : List Taken) × AllZip (RowHasOutcome case refused) all whole × AreAlike whole outcomes
+
+-- a row that is left out comes to no match
+out_is_unmatched : (case : Case) (refused : Option Refusal) (row : Numbered) → IsLeftOut case row.fields → RowHasOutcome case refused row (Some row.number, Unmatched)
+out_is_unmatched case refused row out = (refl, (Ok false, out (refused_at refused (Some row.number)), refl))
+
+alike_behind : (case : Case) (refused : Option Refusal) (row : Numbered) (all : List Numbered) (outcomes : List Taken) → IsLeftOut case row.fields → HasAlike case refused all outcomes → HasAlike case refused (row ∷ all) outcomes
+alike_behind case refused row all outcomes out (whole, are, alike) = ((Some row.number, Unmatched) ∷ whole, (out_is_unmatched case refused row out, are), λ test passes_none. same test (passes_none (Some row.number)) (alike test passes_none))
+  where
+    same : (test : Taken → Bool) → test (Some row.number, Unmatched) ≡ false → find test whole ≡ find test outcomes → find test ((Some row.number, Unmatched) ∷ whole) ≡ find test outcomes
+    same test not_it rest = rw not_it rest
+
+alike_with : (case : Case) (refused : Option Refusal) (row : Numbered) (all : List Numbered) (taken : Taken) (outcomes : List Taken) → RowHasOutcome case refused row taken → HasAlike case refused all outcomes → HasAlike case refused (row ∷ all) (taken ∷ outcomes)
+alike_with case refused row all taken outcomes is (whole, are, alike) = (taken ∷ whole, (is, are), λ test passes_none. ap (λ (found : Option Taken). cond (test taken) (Some taken) found) (alike test passes_none))
+
+covered_outcomes : (case : Case) (refused : Option Refusal) (all some : List Numbered) (outcomes : List Taken) → Covers case all some → AllZip (RowHasOutcome case refused) some outcomes → HasAlike case refused all outcomes
+covered_outcomes case refused [] [] outcomes covers are = (outcomes, are, λ test passes_none. refl)
+covered_outcomes case refused [] (one ∷ some) outcomes covers are = absurd covers
+covered_outcomes case refused (row ∷ all) [] outcomes (out, covers) are = alike_behind case refused row all outcomes out (covered_outcomes case refused all [] outcomes covers are)
+covered_outcomes case refused (row ∷ all) (one ∷ some) [] covers are = absurd are
+covered_outcomes case refused (row ∷ all) (one ∷ some) (taken ∷ outcomes) (inl (same, covers)) are =
+    alike_with case refused row all taken outcomes (subst (λ (r : Numbered). RowHasOutcome case refused r taken) same are.0) (covered_outcomes case refused all some outcomes covers are.1)
+covered_outcomes case refused (row ∷ all) (one ∷ some) (taken ∷ outcomes) (inr (out, covers)) are = alike_behind case refused row all (taken ∷ outcomes) out (covered_outcomes case refused all (one ∷ some) (taken ∷ outcomes) covers are)
+
+unsettled_alike : (e : Effect) (whole outcomes : List Taken) → AreAlike whole outcomes → unsettled e whole ≡ unsettled e outcomes
+unsettled_alike effect.AllowOverride whole outcomes alike = refl
+unsettled_alike effect.DenyOverride whole outcomes alike = refl
+unsettled_alike effect.AllowAndDeny whole outcomes alike = ap allow_by (alike allows (λ row. refl))
+unsettled_alike effect.Priority whole outcomes alike = refl
+unsettled_alike effect.SubjectPriority whole outcomes alike = refl
+
+-- outcomes that are alike have one verdict
+alike_verdict : (e : Effect) (whole outcomes : List Taken) → AreAlike whole outcomes → verdict e whole ≡ verdict e outcomes
+alike_verdict e whole outcomes alike = ap (verdict_at e whole) (alike (ends e) (λ row. refl)) ∙ by (find (ends e) outcomes)
+  where
+    by : (found : Option Taken) → verdict_at e whole found ≡ verdict_at e outcomes found
+    by (Some taken) = refl
+    by None = unsettled_alike e whole outcomes alike
+
+-- what is judged on the rows that are looked at is judged on all
+pub judged_over_all : (case : Case) (Refused : Option (List ℕ) → Type 0) (all some : List Numbered) (v : Verdict) → Covers case all some → IsJudgedOn case (λ refused outcomes. AllZip (RowHasOutcome case refused) some outcomes) Refused v → IsJudgedOn case (λ refused outcomes. AllZip (RowHasOutcome case refused) all outcomes) Refused v
+judged_over_all case Refused all some v covers (inl (none, (outcomes, are, is))) =
+    let found = covered_outcomes case None all some outcomes covers are in
+    inl (none, (found.0, found.1, is ∙ sym (alike_verdict case.model.effect found.0 outcomes found.2)))
+judged_over_all case Refused all some v covers (inr (refusal, bad, fault, (outcomes, are, is))) =
+    let found = covered_outcomes case (Some refusal) all some outcomes covers are in
+    inr (refusal, bad, fault, (found.0, found.1, is ∙ sym (alike_verdict case.model.effect found.0 outcomes found.2)))

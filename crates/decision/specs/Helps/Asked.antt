@@ -1,0 +1,27 @@
+-- What a decision is asked for, as a case over the tables of its policy.
+use Rattle.std.specs.Prelude.{◌≤◌, ℕ, List, map, option_copied}
+use Rattle.perm_base.specs.declared.shapes.TableId.TheVariants.{P}
+use Rattle.perm_value.specs.Seen.{datum}
+use Rattle.policy_state.specs.States.{tables}
+use Rattle.policy_table.specs.Tables.{Fields, rows}
+use Rattle.matcher_meaning.specs.Cases.{Case}
+use Rattle.matcher_meaning.specs.Verdicts.{case_of}
+use Rattle.decision.specs.Helps.Parts.{IsProgram}
+use Rattle.decision.specs.declared.asking.Asking.{Asking}
+
+-- the request over the tables of the policy, without a row, and with nothing refused
+abbrev pub case_in : Asking → Case
+case_in asking = case_of asking.model.now asking.state.now.shapes (tables asking.state.now) (map datum asking.request.now)
+
+-- the rows of p
+abbrev pub rows_of : Asking → List Fields
+rows_of asking = rows (tables asking.state.now) P
+
+-- what it knows beside the model is that of a program
+abbrev pub IsAsked : Asking → Type 0
+IsAsked asking = IsProgram asking.model.now asking.code.now asking.by_row asking.effect_place asking.domain_place (option_copied asking.index)
+
+-- the same, and a stack of so many places has room for the code
+pub record CanRun (asking : Asking) (places : ℕ) : Type 0 where
+  pub program : IsAsked asking
+  pub room : asking.code.now.height ≤ places

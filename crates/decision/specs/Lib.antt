@@ -1,0 +1,4 @@
+pub mod Programs
+pub mod Indexed
+pub mod Judging
+pub mod Helps

@@ -1,0 +1,117 @@
+ghost use Rattle.std.specs.Prelude.{◌≡◌, IfErr, IfOk, Ok, option_copied, true};
+ghost use Rattle.perm_value.specs.Datum as datums;
+ghost use Rattle.regex_gate.specs.Refusals.{IsUsed, RefusedOnly};
+ghost use Rattle.matcher_meaning.specs.Cases.{at_row};
+ghost use Rattle.matcher_meaning.specs.Comes.{takes_memory};
+ghost use Rattle.matcher_meaning.specs.Perm.{outcome_of, word_of};
+ghost use Rattle.matcher_code.specs.Running.{IsAnswer, IsWantOfMemory};
+ghost use Rattle.decision.specs.Helps.Asked.{CanRun, IsAsked, case_in};
+ghost use Rattle.decision.specs.Helps.Outcomes.{ComesTo, SaysTruth, truth_in, word_of_row};
+
+use crate::asking::Asking;
+use crate::links::StateLinks;
+use effect_fold::Outcome;
+use matcher_code::{Stack, Stop, run};
+use perm_base::{NoMemory, Rule};
+use perm_value::View;
+use regex_gate::Finder;
+
+/// What a row comes to, or the evaluation without one.
+pub(crate) fn outcome<'a, P: Finder, const N: usize>(
+    asking: &Asking<'a>,
+    row: Option<&'a Rule>,
+    finder: &mut P,
+    stack: &mut Stack<'a, N>,
+) -> Result<Outcome, NoMemory>
+    requires { CanRun asking.now N }
+    ensures comes { IfOk result (ComesTo (case_in asking.now)
+        (RefusedOnly (P.refusals finder.old) (P.refusals finder.new)) (option_copied row.entry)) }
+    ensures no_memory { IfErr result (λ e. takes_memory asking.now.model.now.matcher ≡ true) }
+    ensures used { IsUsed (P.refusals finder.old) (P.refusals finder.new) }
+{
+    match truth(asking, row, finder, stack) {
+        Ok(true) => Ok(matched(word_of_row(asking, row))),
+        Ok(false) => Ok(Outcome::Unmatched),
+        Err(Stop::Fault(fault)) => Ok(Outcome::Failed(fault)),
+        Err(Stop::NoMemory) => Err(NoMemory),
+    }
+}
+
+// Whether the matcher holds for a row, or without one.
+fn truth<'a, P: Finder, const N: usize>(
+    asking: &Asking<'a>,
+    row: Option<&'a Rule>,
+    finder: &mut P,
+    stack: &mut Stack<'a, N>,
+) -> Result<bool, Stop>
+    requires { CanRun asking.now N }
+    ensures truth { IsAnswer (SaysTruth (at_row (case_in asking.now) (option_copied row.entry)))
+        datums.truth (RefusedOnly (P.refusals finder.old) (P.refusals finder.new)) result }
+    ensures no_memory { IfErr result (λ stop. IsWantOfMemory stop
+        → takes_memory asking.now.model.now.matcher ≡ true) }
+    ensures used { IsUsed (P.refusals finder.old) (P.refusals finder.new) }
+{
+    let links = StateLinks {
+        state: asking.state,
+    };
+    match run(
+        asking.alloc,
+        asking.code,
+        asking.model,
+        asking.request,
+        row,
+        &links,
+        finder,
+        stack,
+    ) {
+        Ok(value) => Ok(truth_in(value)),
+        Err(stop) => Err(stop),
+    }
+}
+
+// The truth that a value is; other values are none.
+fn truth_in(value: View) -> bool
+    ensures { result ≡ truth_in value.entry }
+{
+    match value {
+        View::Truth(truth) => truth,
+        _ => false,
+    }
+}
+
+// What a match comes to by the row's word.
+fn matched(word: Option<bool>) -> Outcome
+    ensures { result ≡ outcome_of (Ok true) word }
+{
+    match word {
+        Some(allow) => Outcome::Matched(allow),
+        None => Outcome::Unmatched,
+    }
+}
+
+// Whether a row says allow or deny; without a row, or without a column `eft`, it is allow.
+fn word_of_row(asking: &Asking, row: Option<&Rule>) -> Option<bool>
+    requires { IsAsked asking.now }
+    ensures { result ≡ word_of_row asking.now.model.now.policy (option_copied row.entry) }
+{
+    let Some(row) = row else {
+        return Some(true);
+    };
+    let Some(at) = asking.effect_place else {
+        return Some(true);
+    };
+    word_of(if at < row.len() { row.field(at) } else { b"" })
+}
+
+// Whether a text is `allow` or `deny`.
+fn word_of(text: &[u8]) -> Option<bool>
+    ensures { result ≡ word_of text.now }
+{
+    if text == b"allow".as_slice() {
+        Some(true)
+    } else if text == b"deny".as_slice() {
+        Some(false)
+    } else {
+        None
+    }
+}

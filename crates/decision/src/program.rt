@@ -1,0 +1,131 @@
+ghost use Rattle.std.specs.Prelude.{◌≡◌, ◌↔◌, ◌≢◌, ◌<◌, IfErr, IfOk, IfSome, Ok, length};
+ghost use Rattle.decision.specs.Indexed.{index_column};
+
+use crate::asking::Asking;
+use crate::index::{Index, index_of};
+use crate::names::names_policy;
+use matcher_code::{Code, build};
+use model_conf::Model;
+use perm_base::{NoMemory, Share};
+use perm_value::Request;
+use policy_state::PolicyState;
+use std::alloc::Global;
+
+/// A model, ready to judge requests. Contracts see the model.
+#[derive(Drop)]
+pub struct Program {
+    model: Model,
+    code: Code,
+    // Whether the matcher names a column of the policy.
+    by_row: bool,
+    // The places of the policy's columns `eft` and `dom`.
+    effect_place: Option<u32>,
+    domain_place: Option<u32>,
+    // What is kept of the column of the index.
+    index: Option<Index>,
+}
+
+impl std::marker::Model for Program {
+    ghost use Rattle.std.specs.Coded.{Coded, codes};
+    ghost use Rattle.model_conf.specs.Helps.ExpressionCode.{Sign, expression_code};
+    ghost use Rattle.model_conf.specs.ModelText.{ModelParts};
+    ghost use Rattle.decision.specs.Helps.Parts.{IsProgram};
+
+    ghost Value = { ModelParts };
+
+    ghost coded = { let s : Coded Sign = Prim.hlevel codes in Prim.hlevel (codes, expression_code s) };
+
+    ghost view = { λ p. p.model };
+
+    ghost invariant = { λ p.
+        IsProgram p.model p.code p.by_row p.effect_place p.domain_place p.index };
+}
+
+impl Share for Program {}
+
+/// A request has another number of values than the model wants.
+#[derive(Clone, Copy, Debug, PartialEq, Eq)]
+pub struct Arity {
+    pub got: u32,
+    pub want: u32,
+}
+
+/// Makes a model ready to judge requests: its matcher becomes code. A refusal drops the model.
+pub fn make_program(alloc: Global, model: Model) -> Result<Program, NoMemory>
+    ensures { IfOk result (λ program. program ≡ model) }
+{
+    let code = build(alloc, &model)?;
+    let by_row = names_policy(model.matcher());
+    let effect_place = model.policy_columns().place_of(b"eft");
+    let domain_place = model.policy_columns().place_of(b"dom");
+    let index = index_of(alloc, &model)?;
+    Ok(Program {
+        model,
+        code,
+        by_row,
+        effect_place,
+        domain_place,
+        index,
+    })
+}
+
+impl Program {
+    /// The model.
+    pub fn model(&self) -> &Model
+        ensures { result.now ≡ self.now }
+    {
+        &self.model
+    }
+
+    /// The column of the policy, counted from 0, by which an index finds the rows that may match; where there is none, all
+    /// may. It takes no memory.
+    pub fn index_column(&self) -> Option<u32>
+        ensures column { result ≡ index_column self.now }
+        ensures within { IfSome result (λ column. column < length self.now.policy) }
+    {
+        Some(self.index.as_ref()?.policy)
+    }
+
+    /// Whether a request has as many values as the model has columns for it.
+    pub fn takes(&self, request: &Request) -> Result<(), Arity>
+        ensures taken { (result ≡ Ok tt) ↔ (length request.now ≡ length self.now.request) }
+        ensures refused { IfErr result (λ arity. (length request.now ≢ length self.now.request)
+            × (arity ≡ record { got = length request.now; want = length self.now.request })) }
+    {
+        let got = request.len();
+        let want = self.model.request_columns().len();
+        if got != want {
+            return Err(Arity { got, want });
+        }
+        Ok(())
+    }
+}
+
+impl Program {
+    ghost use Rattle.decision.specs.Helps.Asked.{IsAsked};
+
+    /// What a request over a policy is asked for.
+    pub(crate) fn asking<'a>(
+        &'a self,
+        alloc: Global,
+        state: &'a PolicyState,
+        request: &'a Request,
+    ) -> Asking<'a>
+        ensures asked { IsAsked result }
+        ensures model { result.model.now ≡ self.now }
+        ensures state { result.state.now ≡ state.now }
+        ensures request { result.request.now ≡ request.now }
+    {
+        Asking {
+            alloc,
+            model: &self.model,
+            code: &self.code,
+            by_row: self.by_row,
+            effect_place: self.effect_place,
+            domain_place: self.domain_place,
+            index: self.index.as_ref(),
+            state,
+            request,
+        }
+    }
+}

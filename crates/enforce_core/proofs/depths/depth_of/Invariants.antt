@@ -1,4 +1,0 @@
-use Rattle.enforce_core.proofs.depths.depth_of.Given as goal
-
-abbrev pub ghosts-depth_in : goal.ghosts-depth_in
-ghosts-depth_in a = record { name = a.blank.name; parts = a.blank.parts }

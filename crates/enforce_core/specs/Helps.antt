@@ -1,9 +1,0 @@
--- What the steps of a decision see and give: helps for proofs, which no public clause cites.
-pub mod Parts
-pub mod Asked
-pub mod Outcomes
-pub mod Suiting
-pub mod Firsts
-pub mod Indexing
-pub mod Leaving
-pub mod Covering

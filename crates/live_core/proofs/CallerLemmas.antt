@@ -1,4 +1,0 @@
--- What a caller cites.
-pub use Rattle.live_core.proofs.EventLemmas.{notes_both, notes_later, seats_both, versions_both}
-pub use Rattle.live_core.proofs.CutLemmas.{cut_kept, cut_later, cut_none, cut_published, cut_rises, cut_whole}
-pub use Rattle.live_core.proofs.LawLemmas.{entered_cut, following_entries, legal_entry, rising_entries, whole_entry}

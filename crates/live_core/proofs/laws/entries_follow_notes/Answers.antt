@@ -1,5 +1,0 @@
-use Rattle.live_core.proofs.LawLemmas.{following_entries}
-use Rattle.live_core.proofs.laws.entries_follow_notes.Goals as goal
-
-pub returns : goal.returns
-returns c = record { follow = following_entries }

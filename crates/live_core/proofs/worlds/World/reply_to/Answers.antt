@@ -1,9 +1,0 @@
-use Rattle.std.proofs.Common.{List, ap, ◌∙◌}
-use Rattle.live_core.proofs.WorldLemmas.{answered}
-use Rattle.live_core.specs.Replies.{reply_of}
-use Rattle.live_core.specs.declared.events.Event.{Event}
-use Rattle.live_core.proofs.worlds.World.reply_to.Goals as goal
-
-pub returns : goal.returns
-returns c =
-    c.answer.ensures ∙ answered c.self.inside.counts c.self.inside.events.items c.args.event.now c.self.invariant ∙ ap (λ (l : List Event). reply_of l c.args.event.now) c.self.view_is

@@ -1,8 +1,0 @@
-use Rattle.std.proofs.Common.{sym, ◌∙◌, arith}
-use Rattle.policy_table.proofs.NumberLemmas.{number_told}
-use Rattle.policy_table.proofs.rank.number_of.Goals as goal
-
-pub returns : goal.returns
-returns c =
-    let told = c.starts_with.ensures.byte (omega arith) (omega arith) (λ w o finds. finds) in
-    c.ok.ensures.value ∙ number_told c.args.text.now c.parse.result c.parse.ensures.value.0 (sym told ∙ c.if-starts_with.false)

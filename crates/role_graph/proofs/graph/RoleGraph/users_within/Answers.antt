@@ -1,0 +1,9 @@
+use Rattle.std.proofs.Common.{None, map, subst, sym}
+use Rattle.role_meaning.specs.ImpliedUsers.{AreUsersOf}
+use Rattle.role_meaning.specs.Links.{user_of}
+use Rattle.role_graph.specs.Graph.{Graph, shape_of}
+use Rattle.role_graph.proofs.graph.RoleGraph.users_within.Goals as goal
+
+pub returns : goal.returns
+returns c = subst (λ (graph : Graph). AreUsersOf (shape_of graph.names) graph.rows graph.limit None (map user_of c.args.among.now) c.args.x.now c.rule_of.result) c.self.view_is
+    (subst (AreUsersOf (shape_of c.self.inside.links.names) _ c.self.inside.limit None (map user_of c.args.among.now) c.args.x.now) (sym c.rule_of.ensures) c.in_ok-users.ensures.users)
