@@ -1,7 +1,7 @@
 -- A run that stops at its words or its files has asked nothing of the input.
 use Rattle.std.proofs.Common.{◌≡◌, Bool, true, false, refl, ⊎_elim, sym, ap, ◌∙◌}
 use Rattle.run_status.specs.Statuses.{status_of}
-use Rattle.run_status.specs.declared.part.Part.TheVariants.{Input}
+use Rattle.run_status.specs.declared.part.Part.TheVariants.{Input, Report}
 use Rattle.run_status.specs.declared.status.Status.{Status}
 use Rattle.run_status.specs.declared.status.Status.TheVariants as statuses
 use Rattle.run_status.specs.declared.stop.Stop.{Stop}
@@ -20,6 +20,7 @@ module _ (g : Given) (before now : World) where
   given_before stop (at_options job model) of stops = refl
   given_before stop (at_policy job model) of stops = refl
   given_before (TooLong Input) (at_task job model policy) of stops = absurd cc
+  given_before (TooLong Report) (at_task job model policy) of stops = absurd cc
   given_before (NoScript script.NoMemory) (at_task job model policy) of stops = absurd cc
   given_before (NoScript fault) (at_task job model policy) of stops = absurd cc
   given_before _ (at_task job model policy) of stops = absurd stops

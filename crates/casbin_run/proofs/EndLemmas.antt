@@ -11,10 +11,9 @@ use Rattle.run_status.specs.Statuses.{status_of}
 use Rattle.run_status.specs.Told.{IsTold}
 use Rattle.run_status.specs.declared.status.Status.{Status}
 use Rattle.run_status.specs.declared.status.Status.TheVariants as statuses
-use Rattle.run_status.specs.declared.part.Part.TheVariants.{Model, Policy, Input}
+use Rattle.run_status.specs.declared.part.Part.TheVariants.{Model, Policy, Input, Report}
 use Rattle.run_status.specs.declared.stop.Stop.{Stop}
 use Rattle.run_status.specs.declared.stop.Stop.TheVariants.{Words, NoModel, NoRelation, NoPolicy, NoScript, CannotRead, CannotWrite, TooLong, NoMemory}
-use Rattle.session_meaning.specs.Plain.{IsPlain}
 use Rattle.casbin_run.specs.Answered.{Answers, TookAll, TookFirst, TookSome}
 use Rattle.casbin_run.specs.Causes.{EndsBy, FailsAt, StopsAt, is_of_shelf}
 use Rattle.casbin_run.specs.Ends.{Ends, HasDone}
@@ -26,6 +25,7 @@ use Rattle.casbin_run.specs.Helps.Working.{DidAll, DidFirst, DidSome, WorkStops,
 use Rattle.casbin_run.specs.Jobs.{job_asked, reads_input}
 use Rattle.casbin_run.specs.Shown.{ReadsBack}
 use Rattle.casbin_run.specs.Reached.{HasAsked, IsReached, Reached, at_words, at_model, at_options, at_policy, at_task, fetches_to}
+use Rattle.casbin_run.specs.Texts.{HasRoom, IsTooLong, Writes}
 use Rattle.casbin_run.specs.Worlds.{InputRose, OutRose, Pulled, ShelfRose, Taken, World}
 use Rattle.casbin_run.specs.declared.files.Loaded.{Loaded}
 use Rattle.casbin_run.specs.declared.job.Job.{Job}
@@ -73,13 +73,21 @@ module _ (g : Given) (before now : World) (job : Job) (asked : job_asked g.words
   module _ (loaded : Loaded) (is : IsLoaded g.files job loaded) where
     answers_of : Worked (ground job.task loaded g.input) (HaveRefused before.finders now.finders) → Answers g before now
     answers_of worked = record {
-      text = _;
+      text = worked.text;
       refused = worked.refused;
       answered = record {
-        in_order = record { job = job; model = loaded.model; policy = loaded.tables.policy; items = worked.items; asked = asked; are_files = is.are_files; says = worked.says };
-        lines = worked.lines;
-        plain = subst (λ (shapes : Shapes). IsPlain loaded.model shapes loaded.tables.policy worked.items worked.refused worked.lines) is.shapes_are worked.plain;
-        spelled = refl;
+        in_order = record {
+          job = job;
+          model = loaded.model;
+          policy = loaded.tables.policy;
+          items = worked.items;
+          asked = asked;
+          are_files = is.are_files;
+          says = worked.says;
+          room = subst (λ (shapes : Shapes). HasRoom job.task shapes loaded.tables.policy) is.shapes_are worked.room;
+        };
+        pieces = worked.pieces;
+        writes = subst (λ (shapes : Shapes). Writes job.task loaded.model shapes loaded.tables.policy worked.items worked.refused worked.pieces worked.text) is.shapes_are worked.writes;
       };
       logged = worked.logged;
     }
@@ -112,6 +120,7 @@ module _ (g : Given) (before now : World) (job : Job) (asked : job_asked g.words
       }
 
       pub work_ends : (stop : Stop) → WorkStops (ground job.task loaded g.input) (HaveRefused before.finders now.finders) before.out.bytes now.out.bytes (InputRose before now) (OutRose before now) stop → EndsBy g before now stop
+      work_ends (TooLong Report) stops = given_stops g before now (TooLong Report) here (asked, is.are_files) (subst (λ (shapes : Shapes). IsTooLong job.task shapes loaded.tables.policy) is.shapes_are stops) task_asked
       work_ends (CannotRead Input) stops = outside_stops g before now (CannotRead Input) here (asked, is.are_files) stops task_asked
       work_ends (TooLong Input) stops = given_stops g before now (TooLong Input) here (asked, is.are_files) stops task_asked
       work_ends (NoScript fault) stops = given_stops g before now (NoScript fault) here (asked, is.are_files) stops task_asked

@@ -4,6 +4,7 @@ pub mod AskLemmas
 pub mod PrintLemmas
 pub mod FinderLemmas
 pub mod LoadLemmas
+pub mod RolesLemmas
 pub mod WorkLemmas
 pub mod EndLemmas
 pub mod ReadingLemmas

@@ -15,7 +15,7 @@ use Rattle.policy_csv.specs.Policy.{IsPolicy}
 use Rattle.policy_table.specs.Tables as table
 use Rattle.run_status.specs.Parts.{limit_of}
 use Rattle.run_status.specs.declared.part.Part.{Part}
-use Rattle.run_status.specs.declared.part.Part.TheVariants.{Model, Policy, Input}
+use Rattle.run_status.specs.declared.part.Part.TheVariants.{Model, Policy, Input, Report}
 use Rattle.run_status.specs.declared.stop.Stop.{Stop}
 use Rattle.run_status.specs.declared.stop.Stop.TheVariants.{NoModel, NoRelation, NoPolicy, CannotRead, TooLong, NoMemory}
 use Rattle.casbin_run.specs.Given.{FileIs, Fits, ModelIs}
@@ -35,9 +35,11 @@ pub model_fetch : (files : Option Files) (name : List ℕ) (told : Bool → Type
 model_fetch files name told rose (CannotRead Model) (same, lost) = lost
 model_fetch files name told rose (CannotRead Policy) (same, lost) = absurd cc
 model_fetch files name told rose (CannotRead Input) (same, lost) = absurd cc
+model_fetch files name told rose (CannotRead Report) (same, lost) = absurd cc
 model_fetch files name told rose (TooLong Model) (same, wide, is) = (wide, is)
 model_fetch files name told rose (TooLong Policy) (same, wide, is) = absurd cc
 model_fetch files name told rose (TooLong Input) (same, wide, is) = absurd cc
+model_fetch files name told rose (TooLong Report) (same, wide, is) = absurd cc
 model_fetch files name told rose NoMemory stops = stops
 model_fetch files name told rose _ stops = absurd stops
 
@@ -45,9 +47,11 @@ pub policy_fetch : (files : Option Files) (name : List ℕ) (shapes : Shapes) (t
 policy_fetch files name shapes told rose (CannotRead Policy) (same, lost) = lost
 policy_fetch files name shapes told rose (CannotRead Model) (same, lost) = absurd cc
 policy_fetch files name shapes told rose (CannotRead Input) (same, lost) = absurd cc
+policy_fetch files name shapes told rose (CannotRead Report) (same, lost) = absurd cc
 policy_fetch files name shapes told rose (TooLong Policy) (same, wide, is) = (wide, is)
 policy_fetch files name shapes told rose (TooLong Model) (same, wide, is) = absurd cc
 policy_fetch files name shapes told rose (TooLong Input) (same, wide, is) = absurd cc
+policy_fetch files name shapes told rose (TooLong Report) (same, wide, is) = absurd cc
 policy_fetch files name shapes told rose NoMemory stops = stops
 policy_fetch files name shapes told rose _ stops = absurd stops
 

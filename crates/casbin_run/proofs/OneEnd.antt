@@ -1,7 +1,8 @@
 -- What is given has one end: what is read comes to one state at each part, and the states to one end.
-use Rattle.std.proofs.Common.{◌≡◌, ℕ, ◌<◌, ◌≤◌, Bool, true, List, [], length, refl, sym, ap, subst, ◌∙◌, arith}
-use Rattle.std.specs.Prelude.{IsSome, Option, Some, None}
+use Rattle.std.proofs.Common.{◌≡◌, ℕ, ◌<◌, ◌≤◌, Bool, true, List, [], inl, inr, length, refl, sym, ap, subst, ◌∙◌, arith}
+use Rattle.std.specs.Prelude.{◌⊎◌, IsSome, Option, Some, None}
 use Rattle.answer_lines.specs.declared.answer.Line.{Line}
+use Rattle.command_words.specs.FileNames.{SubjectName}
 use Rattle.outside.specs.Files.{Files}
 use Rattle.model_conf.specs.Faults.{IsModelFault}
 use Rattle.model_conf.specs.ModelText.{ModelParts, IsModel}
@@ -12,6 +13,7 @@ use Rattle.policy_csv.specs.Policy.{IsPolicy}
 use Rattle.policy_csv.specs.declared.fault.PolicyFault.{PolicyFault}
 use Rattle.policy_table.specs.Tables as table
 use Rattle.run_status.specs.Parts.{limit_of}
+use Rattle.run_status.specs.declared.part.Part.TheVariants as part
 use Rattle.run_status.specs.declared.part.Part.TheVariants.{Model, Policy, Input}
 use Rattle.run_status.specs.declared.stop.Stop.{Stop}
 use Rattle.run_status.specs.declared.stop.Stop.TheVariants.{Words, NoModel, NoRelation, NoPolicy, NoScript, CannotRead, TooLong}
@@ -24,10 +26,11 @@ use Rattle.casbin_run.specs.Causes.{Cause, HasFault, StopsAt}
 use Rattle.casbin_run.specs.Given.{AreFiles, FileIs, Fits, Given, IsInOrder, ModelIs, SaysItems}
 use Rattle.casbin_run.specs.Jobs.{absent_in, job_asked, reads_input, shapes_with}
 use Rattle.casbin_run.specs.Reached.{IsReached, Reached, at_words, at_model, at_options, at_policy, at_task}
-use Rattle.casbin_run.specs.Texts.{text_of}
+use Rattle.casbin_run.specs.Roles.{IsImplied, IsLong, IsReported, IsShort}
+use Rattle.casbin_run.specs.Texts.{HasRoom, IsOfLines, IsTooLong, Writes, text_of_lines}
 use Rattle.casbin_run.specs.declared.job.Job.{Job}
 use Rattle.casbin_run.specs.declared.job.Task.{Task}
-use Rattle.casbin_run.specs.declared.job.Task.TheVariants.{Enforce, Serve, Check, Format}
+use Rattle.casbin_run.specs.declared.job.Task.TheVariants.{Enforce, Serve, Check, Format, Implicit, Report}
 
 -- what reading a part comes to
 data State (X F : Type 0) : Type 0 where
@@ -97,6 +100,8 @@ SaysBytes (Enforce json) bytes items = IsRequests json bytes items
 SaysBytes (Serve json) bytes items = IsScript json bytes items
 SaysBytes Check bytes items = ⊥
 SaysBytes Format bytes items = ⊥
+SaysBytes (Implicit subject) bytes items = ⊥
+SaysBytes Report bytes items = ⊥
 
 abbrev IsInputState : Option (List ℕ) → Task → InputState → Type 0
 IsInputState content task state = IsState content (limit_of Input) (SaysBytes task) (HasFault task) state
@@ -109,19 +114,29 @@ input_end (bad fault) = Some (NoScript fault)
 input_end (good items) = None
 
 abbrev InputEnds : Option (List ℕ) → Task → Option Stop → Type 0
-InputEnds input (Enforce json) end = (state : InputState) × IsInputState input (Enforce json) state × (end ≡ input_end state)
-InputEnds input (Serve json) end = (state : InputState) × IsInputState input (Serve json) state × (end ≡ input_end state)
-InputEnds input Check end = end ≡ None
-InputEnds input Format end = end ≡ None
+InputEnds input task end = (state : InputState) × IsInputState input task state × (end ≡ input_end state)
 
-abbrev AfterPolicy : Option (List ℕ) → Task → Option Stop → PolicyState → Type 0
-AfterPolicy input task end absent = end ≡ Some (CannotRead Policy)
-AfterPolicy input task end long = end ≡ Some (TooLong Policy)
-AfterPolicy input task end (bad fault) = end ≡ Some (NoPolicy fault)
-AfterPolicy input task end (good policy) = InputEnds input task end
+-- the end that a report gives
+abbrev ReportEnds : Shapes → table.Policy → Option Stop → Type 0
+ReportEnds shapes policy end = (IsLong shapes policy × (end ≡ Some (TooLong part.Report))) ⊎ (IsShort shapes policy × (end ≡ None))
+
+-- the end that a task gives
+abbrev TaskEnds : Option (List ℕ) → Task → Shapes → table.Policy → Option Stop → Type 0
+TaskEnds input (Enforce json) shapes policy end = InputEnds input (Enforce json) end
+TaskEnds input (Serve json) shapes policy end = InputEnds input (Serve json) end
+TaskEnds input Check shapes policy end = end ≡ None
+TaskEnds input Format shapes policy end = end ≡ None
+TaskEnds input (Implicit subject) shapes policy end = end ≡ None
+TaskEnds input Report shapes policy end = ReportEnds shapes policy end
+
+abbrev AfterPolicy : Option (List ℕ) → Task → Shapes → Option Stop → PolicyState → Type 0
+AfterPolicy input task shapes end absent = end ≡ Some (CannotRead Policy)
+AfterPolicy input task shapes end long = end ≡ Some (TooLong Policy)
+AfterPolicy input task shapes end (bad fault) = end ≡ Some (NoPolicy fault)
+AfterPolicy input task shapes end (good policy) = TaskEnds input task shapes policy end
 
 abbrev PolicyEnds : Files → Option (List ℕ) → Job → ModelParts → Option Stop → Type 0
-PolicyEnds files input job model end = (state : PolicyState) × IsPolicyState (files job.files.policy) (shapes_with job.options model) state × AfterPolicy input job.task end state
+PolicyEnds files input job model end = (state : PolicyState) × IsPolicyState (files job.files.policy) (shapes_with job.options model) state × AfterPolicy input job.task (shapes_with job.options model) end state
 
 abbrev AfterOptions : Files → Option (List ℕ) → Job → ModelParts → Option Stop → Option ℕ → Type 0
 AfterOptions files input job model end None = PolicyEnds files input job model end
@@ -155,6 +170,8 @@ pub record SaysOnce : Type 0 where
   pub requests : (json : Bool) (bytes : List ℕ) (first second : List Said) → IsRequests json bytes first → IsRequests json bytes second → first ≡ second
   pub lines : (model : ModelParts) (shapes : Shapes) (opening : table.Policy) (items : List Said) (refused others : List (List (List ℕ))) (first second : List Line) → IsPlain model shapes opening items refused first → IsPlain model shapes opening items others second
       → all_refused refused ≡ [] → all_refused others ≡ [] → first ≡ second
+  pub implied : (model : ModelParts) (shapes : Shapes) (policy : table.Policy) (subject : SubjectName) (first second : List ℕ) → IsImplied model shapes policy subject first → IsImplied model shapes policy subject second → first ≡ second
+  pub reported : (shapes : Shapes) (policy : table.Policy) (first second : List ℕ) → IsReported shapes policy first → IsReported shapes policy second → first ≡ second
 
 module _ (once : SaysOnce) where
   model_is_one : IsOne IsModel IsModelFault
@@ -169,22 +186,36 @@ module _ (once : SaysOnce) where
   script_is_one : (json : Bool) → IsOne (SaysBytes (Serve json)) (HasFault (Serve json))
   script_is_one json = record { said = once.script json; fault = once.script_fault json; either = λ bytes x f p q. once.script_either json bytes f x q p }
 
-  input_once : (input : Option (List ℕ)) (task : Task) (a b : Option Stop) → InputEnds input task a → InputEnds input task b → a ≡ b
-  input_once input (Enforce json) a b (s, s-is, a-is) (t, t-is, b-is) = a-is ∙ ap input_end (one_state input (limit_of Input) _ _ (requests_are_one json) s t s-is t-is) ∙ sym b-is
-  input_once input (Serve json) a b (s, s-is, a-is) (t, t-is, b-is) = a-is ∙ ap input_end (one_state input (limit_of Input) _ _ (script_is_one json) s t s-is t-is) ∙ sym b-is
-  input_once input Check a b p q = p ∙ sym q
-  input_once input Format a b p q = p ∙ sym q
+  input_once : (input : Option (List ℕ)) (task : Task) → IsOne (SaysBytes task) (HasFault task) → (a b : Option Stop) → InputEnds input task a → InputEnds input task b → a ≡ b
+  input_once input task one a b (s, s-is, a-is) (t, t-is, b-is) = a-is ∙ ap input_end (one_state input (limit_of Input) _ _ one s t s-is t-is) ∙ sym b-is
 
-  after_policy_once : (input : Option (List ℕ)) (task : Task) (a b : Option Stop) (state : PolicyState) → AfterPolicy input task a state → AfterPolicy input task b state → a ≡ b
-  after_policy_once input task a b absent p q = p ∙ sym q
-  after_policy_once input task a b long p q = p ∙ sym q
-  after_policy_once input task a b (bad fault) p q = p ∙ sym q
-  after_policy_once input task a b (good policy) p q = input_once input task a b p q
+  long_or_short : {A : Type 0} (shapes : Shapes) (policy : table.Policy) → IsLong shapes policy → IsShort shapes policy → A
+  long_or_short shapes policy (text, is, wide) short = absurd (omega (arith, wide, short text is))
+
+  report_once : (shapes : Shapes) (policy : table.Policy) (a b : Option Stop) → ReportEnds shapes policy a → ReportEnds shapes policy b → a ≡ b
+  report_once shapes policy a b (inl wide) (inl other) = wide.1 ∙ sym other.1
+  report_once shapes policy a b (inl wide) (inr short) = long_or_short shapes policy wide.0 short.0
+  report_once shapes policy a b (inr short) (inl wide) = long_or_short shapes policy wide.0 short.0
+  report_once shapes policy a b (inr short) (inr other) = short.1 ∙ sym other.1
+
+  task_once : (input : Option (List ℕ)) (task : Task) (shapes : Shapes) (policy : table.Policy) (a b : Option Stop) → TaskEnds input task shapes policy a → TaskEnds input task shapes policy b → a ≡ b
+  task_once input (Enforce json) shapes policy a b p q = input_once input (Enforce json) (requests_are_one json) a b p q
+  task_once input (Serve json) shapes policy a b p q = input_once input (Serve json) (script_is_one json) a b p q
+  task_once input Check shapes policy a b p q = p ∙ sym q
+  task_once input Format shapes policy a b p q = p ∙ sym q
+  task_once input (Implicit subject) shapes policy a b p q = p ∙ sym q
+  task_once input Report shapes policy a b p q = report_once shapes policy a b p q
+
+  after_policy_once : (input : Option (List ℕ)) (task : Task) (shapes : Shapes) (a b : Option Stop) (state : PolicyState) → AfterPolicy input task shapes a state → AfterPolicy input task shapes b state → a ≡ b
+  after_policy_once input task shapes a b absent p q = p ∙ sym q
+  after_policy_once input task shapes a b long p q = p ∙ sym q
+  after_policy_once input task shapes a b (bad fault) p q = p ∙ sym q
+  after_policy_once input task shapes a b (good policy) p q = task_once input task shapes policy a b p q
 
   policy_once : (files : Files) (input : Option (List ℕ)) (job : Job) (model : ModelParts) (a b : Option Stop) → PolicyEnds files input job model a → PolicyEnds files input job model b → a ≡ b
   policy_once files input job model a b (s, s-is, p) (t, t-is, q) =
       let same : t ≡ s = one_state (files job.files.policy) (limit_of Policy) _ _ (policy_is_one (shapes_with job.options model)) t s t-is s-is in
-      after_policy_once input job.task a b s p (subst (AfterPolicy input job.task b) same q)
+      after_policy_once input job.task (shapes_with job.options model) a b s p (subst (AfterPolicy input job.task (shapes_with job.options model) b) same q)
 
   after_options_once : (files : Files) (input : Option (List ℕ)) (job : Job) (model : ModelParts) (a b : Option Stop) (absent : Option ℕ) → AfterOptions files input job model a absent → AfterOptions files input job model b absent → a ≡ b
   after_options_once files input job model a b None p q = policy_once files input job model a b p q
@@ -211,29 +242,40 @@ abbrev told : List (List ℕ) → Files → List ℕ → Given
 told words files input = record { words = words; files = Some files; input = Some input }
 
 -- behind the policy
-policy_behind : (words : List (List ℕ)) (files : Files) (input : List ℕ) (job : Job) (model : ModelParts) (policy : table.Policy) (end : Option Stop) → job_asked words ≡ Some job → AreFiles (Some files) job model policy → InputEnds (Some input) job.task end → EndsIn words files (Some input) end
+policy_behind : (words : List (List ℕ)) (files : Files) (input : List ℕ) (job : Job) (model : ModelParts) (policy : table.Policy) (end : Option Stop) → job_asked words ≡ Some job → AreFiles (Some files) job model policy → TaskEnds (Some input) job.task (shapes_with job.options model) policy end → EndsIn words files (Some input) end
 policy_behind words files input job model policy end asked are ends = (Some job, asked, (good model, are.fits.is_model, (None, are.fits.none_absent, (good policy, are.is_policy, ends))))
 
 options_behind : (words : List (List ℕ)) (files : Files) (input : List ℕ) (job : Job) (model : ModelParts) (end : Option Stop) → job_asked words ≡ Some job → Fits (Some files) job model → PolicyEnds files (Some input) job model end → EndsIn words files (Some input) end
 options_behind words files input job model end asked fits ends = (Some job, asked, (good model, fits.is_model, (None, fits.none_absent, ends)))
 
-long_input : (task : Task) (input : List ℕ) → reads_input task ≡ true → limit_of Input < length input → InputEnds (Some input) task (Some (TooLong Input))
-long_input (Enforce json) input reads wide = (long, (input, refl, wide), refl)
-long_input (Serve json) input reads wide = (long, (input, refl, wide), refl)
-long_input Check input reads wide = absurd cc
-long_input Format input reads wide = absurd cc
+module _ (shapes : Shapes) (policy : table.Policy) where
+  long_input : (task : Task) (input : List ℕ) → reads_input task ≡ true → limit_of Input < length input → TaskEnds (Some input) task shapes policy (Some (TooLong Input))
+  long_input (Enforce json) input reads wide = (long, (input, refl, wide), refl)
+  long_input (Serve json) input reads wide = (long, (input, refl, wide), refl)
+  long_input Check input reads wide = absurd cc
+  long_input Format input reads wide = absurd cc
+  long_input (Implicit subject) input reads wide = absurd cc
+  long_input Report input reads wide = absurd cc
 
-bad_input : (task : Task) (input bytes : List ℕ) (fault : ScriptFault) → reads_input task ≡ true → input ≡ bytes → length bytes ≤ limit_of Input → HasFault task bytes fault → InputEnds (Some input) task (Some (NoScript fault))
-bad_input (Enforce json) input bytes fault reads same within is = (bad fault, (bytes, ap (λ (b : List ℕ). Some b) same, within, is), refl)
-bad_input (Serve json) input bytes fault reads same within is = (bad fault, (bytes, ap (λ (b : List ℕ). Some b) same, within, is), refl)
-bad_input Check input bytes fault reads same within is = absurd is
-bad_input Format input bytes fault reads same within is = absurd is
+  bad_input : (task : Task) (input bytes : List ℕ) (fault : ScriptFault) → reads_input task ≡ true → input ≡ bytes → length bytes ≤ limit_of Input → HasFault task bytes fault → TaskEnds (Some input) task shapes policy (Some (NoScript fault))
+  bad_input (Enforce json) input bytes fault reads same within is = (bad fault, (bytes, ap (λ (b : List ℕ). Some b) same, within, is), refl)
+  bad_input (Serve json) input bytes fault reads same within is = (bad fault, (bytes, ap (λ (b : List ℕ). Some b) same, within, is), refl)
+  bad_input Check input bytes fault reads same within is = absurd is
+  bad_input Format input bytes fault reads same within is = absurd is
+  bad_input (Implicit subject) input bytes fault reads same within is = absurd is
+  bad_input Report input bytes fault reads same within is = absurd is
 
-good_input : (task : Task) (input : List ℕ) (items : List Said) → SaysItems task (Some input) items → InputEnds (Some input) task None
-good_input (Enforce json) input items (bytes, same, within, says) = (good items, (bytes, ap (λ (b : List ℕ). Some b) same, within, says), refl)
-good_input (Serve json) input items (bytes, same, within, says) = (good items, (bytes, ap (λ (b : List ℕ). Some b) same, within, says), refl)
-good_input Check input items says = refl
-good_input Format input items says = refl
+  long_report : (task : Task) (input : List ℕ) → IsTooLong task shapes policy → TaskEnds (Some input) task shapes policy (Some (TooLong part.Report))
+  long_report Report input wide = inl (wide, refl)
+  long_report _ input wide = absurd wide
+
+  good_task : (task : Task) (input : List ℕ) (items : List Said) → SaysItems task (Some input) items → HasRoom task shapes policy → TaskEnds (Some input) task shapes policy None
+  good_task (Enforce json) input items (bytes, same, within, says) room = (good items, (bytes, ap (λ (b : List ℕ). Some b) same, within, says), refl)
+  good_task (Serve json) input items (bytes, same, within, says) room = (good items, (bytes, ap (λ (b : List ℕ). Some b) same, within, says), refl)
+  good_task Check input items says room = refl
+  good_task Format input items says room = refl
+  good_task (Implicit subject) input items says room = refl
+  good_task Report input items says room = inr (room, refl)
 
 cause_at : (words : List (List ℕ)) (files : Files) (input : List ℕ) (stop : Stop) (reached : Reached) → IsReached (told words files input) reached → StopsAt (told words files input) reached stop → EndsIn words files (Some input) (Some stop)
 cause_at words files input Words at_words is none = (None, none, refl)
@@ -244,8 +286,9 @@ cause_at words files input (NoRelation relation) (at_options job model) (asked, 
 cause_at words files input (CannotRead Policy) (at_policy job model) (asked, fits) lacks = options_behind words files input job model (Some (CannotRead Policy)) asked fits (absent, lacks, refl)
 cause_at words files input (TooLong Policy) (at_policy job model) (asked, fits) wide = options_behind words files input job model (Some (TooLong Policy)) asked fits (long, wide, refl)
 cause_at words files input (NoPolicy fault) (at_policy job model) (asked, fits) is = options_behind words files input job model (Some (NoPolicy fault)) asked fits (bad fault, is, refl)
-cause_at words files input (TooLong Input) (at_task job model policy) (asked, are) (reads, wide) = policy_behind words files input job model policy (Some (TooLong Input)) asked are (long_input job.task input reads wide)
-cause_at words files input (NoScript fault) (at_task job model policy) (asked, are) (reads, (bytes, same, within, is)) = policy_behind words files input job model policy (Some (NoScript fault)) asked are (bad_input job.task input bytes fault reads same within is)
+cause_at words files input (TooLong Input) (at_task job model policy) (asked, are) (reads, wide) = policy_behind words files input job model policy (Some (TooLong Input)) asked are (long_input (shapes_with job.options model) policy job.task input reads wide)
+cause_at words files input (NoScript fault) (at_task job model policy) (asked, are) (reads, (bytes, same, within, is)) = policy_behind words files input job model policy (Some (NoScript fault)) asked are (bad_input (shapes_with job.options model) policy job.task input bytes fault reads same within is)
+cause_at words files input (TooLong part.Report) (at_task job model policy) (asked, are) wide = policy_behind words files input job model policy (Some (TooLong part.Report)) asked are (long_report (shapes_with job.options model) policy job.task input wide)
 cause_at words files input _ at_words is stops = absurd stops
 cause_at words files input _ (at_model job) is stops = absurd stops
 cause_at words files input _ (at_options job model) is stops = absurd stops
@@ -256,7 +299,7 @@ cause_ends : (words : List (List ℕ)) (files : Files) (input : List ℕ) (stop 
 cause_ends words files input stop (reached, is, stops) = cause_at words files input stop reached is stops
 
 in_order_ends : (words : List (List ℕ)) (files : Files) (input : List ℕ) → IsInOrder (told words files input) → EndsIn words files (Some input) None
-in_order_ends words files input is = policy_behind words files input is.job is.model is.policy None is.asked is.are_files (good_input is.job.task input is.items is.says)
+in_order_ends words files input is = policy_behind words files input is.job is.model is.policy None is.asked is.are_files (good_task (shapes_with is.job.options is.model) is.policy is.job.task input is.items is.says is.room)
 
 module _ (once : SaysOnce) (words : List (List ℕ)) (files : Files) (input : List ℕ) where
   told_one_cause : (first second : Stop) → Cause (told words files input) first → Cause (told words files input) second → first ≡ second
@@ -283,6 +326,20 @@ no_cause once g stop told-files told-input is cause = by g.files g.input told-fi
 
 -- ---- one text
 
+-- where nothing is refused, one text is written over what is read
+module _ (once : SaysOnce) (model : ModelParts) (shapes : Shapes) (policy : table.Policy) (items : List Said) where
+  lines_once : (refused others : List (List (List ℕ))) (pieces more : List (List ℕ)) (text written : List ℕ) → IsOfLines model shapes policy items refused pieces text → IsOfLines model shapes policy items others more written → all_refused refused ≡ [] → all_refused others ≡ [] → text ≡ written
+  lines_once refused others pieces more text written p q none nothing = p.text_is ∙ ap text_of_lines (once.lines model shapes policy items refused others p.lines q.lines p.plain q.plain none nothing) ∙ sym q.text_is
+
+  written_once : (task : Task) (refused others : List (List (List ℕ))) (pieces more : List (List ℕ)) (text written : List ℕ) → Writes task model shapes policy items refused pieces text → Writes task model shapes policy items others more written
+      → all_refused refused ≡ [] → all_refused others ≡ [] → text ≡ written
+  written_once (Enforce json) refused others pieces more text written p q none nothing = lines_once refused others pieces more text written p q none nothing
+  written_once (Serve json) refused others pieces more text written p q none nothing = lines_once refused others pieces more text written p q none nothing
+  written_once Check refused others pieces more text written p q none nothing = p.is ∙ sym q.is
+  written_once Format refused others pieces more text written p q none nothing = p.is ∙ sym q.is
+  written_once (Implicit subject) refused others pieces more text written p q none nothing = once.implied model shapes policy subject text written p.is q.is
+  written_once Report refused others pieces more text written p q none nothing = once.reported shapes policy text written p.is q.is
+
 module _ (once : SaysOnce) (files : Files) (input : List ℕ) where
   model_same : (job : Job) (model other : ModelParts) → ModelIs (Some files) job model → ModelIs (Some files) job other → model ≡ other
   model_same job model other (bytes, held, within, is) (others, there, few, as_well) =
@@ -297,38 +354,35 @@ module _ (once : SaysOnce) (files : Files) (input : List ℕ) where
   items_same (Serve json) items others (bytes, same, within, says) (more, told, few, say) = once.script json more items others (subst (λ (b : List ℕ). IsScript json b items) (sym same ∙ told) says) say
   items_same Check items others says say = says ∙ sym say
   items_same Format items others says say = says ∙ sym say
+  items_same (Implicit subject) items others says say = says ∙ sym say
+  items_same Report items others says say = says ∙ sym say
 
-  -- what is read and answered, apart from the words
-  record Reads (job : Job) (model : ModelParts) (policy : table.Policy) (items : List Said) (lines : List Line) : Type 0 where
+  -- what is read and written, apart from the words
+  record Reads (job : Job) (model : ModelParts) (policy : table.Policy) (items : List Said) (text : List ℕ) : Type 0 where
     are_files : AreFiles (Some files) job model policy
     says : SaysItems job.task (Some input) items
     refused : List (List (List ℕ))
-    plain : IsPlain model (shapes_with job.options model) policy items refused lines
+    pieces : List (List ℕ)
+    writes : Writes job.task model (shapes_with job.options model) policy items refused pieces text
     none : all_refused refused ≡ []
 
-  lines_same : (job : Job) (model : ModelParts) (policy : table.Policy) (items : List Said) (lines others : List Line) → Reads job model policy items lines → Reads job model policy items others → lines ≡ others
-  lines_same job model policy items lines others p q = once.lines model (shapes_with job.options model) policy items p.refused q.refused lines others p.plain q.plain p.none q.none
-
-  texts_same : (job : Job) (model : ModelParts) (policy : table.Policy) (items : List Said) (lines : List Line) (other : ModelParts) (second : table.Policy) (said : List Said) (others : List Line) → Reads job model policy items lines → Reads job other second said others
-      → text_of job.task model policy lines ≡ text_of job.task other second others
-  texts_same job model policy items lines other second said others p q =
+  texts_same : (job : Job) (model : ModelParts) (policy : table.Policy) (items : List Said) (text : List ℕ) (other : ModelParts) (second : table.Policy) (said : List Said) (written : List ℕ) → Reads job model policy items text → Reads job other second said written → text ≡ written
+  texts_same job model policy items text other second said written p q =
       let same_model : other ≡ model = model_same job other model q.are_files.fits.is_model p.are_files.fits.is_model in
-      let at_model : Reads job model second said others = subst (λ (m : ModelParts). Reads job m second said others) same_model q in
+      let at_model : Reads job model second said written = subst (λ (m : ModelParts). Reads job m second said written) same_model q in
       let same_policy : second ≡ policy = policy_same job (shapes_with job.options model) second policy at_model.are_files.is_policy p.are_files.is_policy in
-      let at_policy : Reads job model policy said others = subst (λ (t : table.Policy). Reads job model t said others) same_policy at_model in
+      let at_policy : Reads job model policy said written = subst (λ (t : table.Policy). Reads job model t said written) same_policy at_model in
       let same_items : said ≡ items = items_same job.task said items at_policy.says p.says in
-      let at_items : Reads job model policy items others = subst (λ (i : List Said). Reads job model policy i others) same_items at_policy in
-      ap (text_of job.task model policy) (lines_same job model policy items lines others p at_items)
-      ∙ sym (ap (λ (m : ModelParts). text_of job.task m second others) same_model ∙ ap (λ (t : table.Policy). text_of job.task model t others) same_policy)
+      let at_items : Reads job model policy items written = subst (λ (i : List Said). Reads job model policy i written) same_items at_policy in
+      written_once once model (shapes_with job.options model) policy items job.task p.refused at_items.refused p.pieces at_items.pieces text written p.writes at_items.writes p.none at_items.none
 
   told_one_text : (words : List (List ℕ)) (first second : List ℕ) → IsCalmlyAnswered (told words files input) first → IsCalmlyAnswered (told words files input) second → first ≡ second
   told_one_text words first second p q =
       let x = p.answered.in_order in
       let y = q.answered.in_order in
       let job : y.job ≡ x.job = same_job (sym y.asked ∙ x.asked) in
-      let reads : Reads y.job y.model y.policy y.items q.answered.lines = record { are_files = y.are_files; says = y.says; refused = q.refused; plain = q.answered.plain; none = q.none } in
-      let same = texts_same x.job x.model x.policy x.items p.answered.lines y.model y.policy y.items q.answered.lines (record { are_files = x.are_files; says = x.says; refused = p.refused; plain = p.answered.plain; none = p.none }) (subst (λ (j : Job). Reads j y.model y.policy y.items q.answered.lines) job reads) in
-      p.answered.spelled ∙ same ∙ sym (ap (λ (j : Job). text_of j.task y.model y.policy q.answered.lines) job) ∙ sym q.answered.spelled
+      let reads : Reads y.job y.model y.policy y.items second = record { are_files = y.are_files; says = y.says; refused = q.refused; pieces = q.answered.pieces; writes = q.answered.writes; none = q.none } in
+      texts_same x.job x.model x.policy x.items first y.model y.policy y.items second (record { are_files = x.are_files; says = x.says; refused = p.refused; pieces = p.answered.pieces; writes = p.answered.writes; none = p.none }) (subst (λ (j : Job). Reads j y.model y.policy y.items second) job reads)
     where
       same_job : {job other : Job} → Some job ≡ Some other → job ≡ other
       same_job e = cc

@@ -14,7 +14,7 @@ use Rattle.casbin_run.specs.Ends.{HasDone}
 use Rattle.casbin_run.specs.Given.{Given}
 use Rattle.casbin_run.specs.Jobs.{job_asked, shapes_with}
 use Rattle.casbin_run.specs.Shown.{ReadsBack, WroteModel, WrotePolicy}
-use Rattle.casbin_run.specs.Texts.{count_line, tables_of, text_of}
+use Rattle.casbin_run.specs.Texts.{Writes, count_line, tables_of}
 use Rattle.casbin_run.specs.Worlds.{World}
 use Rattle.casbin_run.specs.declared.job.Job.{Job}
 use Rattle.casbin_run.specs.declared.job.Task.{Task}
@@ -31,9 +31,10 @@ module _ (g : Given) (before now : World) (job : Job) (done : HasDone g before n
     task_is : done.all.answers.answered.in_order.job.task ≡ task
     task_is = ap (λ (j : Job). j.task) same ∙ is
 
-    took : now.out.bytes ≡ with_back before.out.bytes (text_of task done.all.answers.answered.in_order.model done.all.answers.answered.in_order.policy done.all.answers.answered.lines)
-    took = let answered = done.all.answers.answered in
-        done.all.took ∙ ap (with_back before.out.bytes) (answered.spelled ∙ ap (λ (t : Task). text_of t answered.in_order.model answered.in_order.policy answered.lines) task_is)
+    wrote : let answers = done.all.answers in let order = answers.answered.in_order in
+        Writes task order.model (shapes_with order.job.options order.model) order.policy order.items answers.refused answers.answered.pieces answers.text
+    wrote = let answers = done.all.answers in let order = answers.answered.in_order in
+        subst (λ (t : Task). Writes t order.model (shapes_with order.job.options order.model) order.policy order.items answers.refused answers.answered.pieces answers.text) task_is answers.answered.writes
 
     back : ReadsBack task done.all.answers.answered.in_order.model (shapes_with done.all.answers.answered.in_order.job.options done.all.answers.answered.in_order.model) done.all.answers.answered.in_order.policy
     back = let order = done.all.answers.answered.in_order in
@@ -42,7 +43,7 @@ module _ (g : Given) (before now : World) (job : Job) (done : HasDone g before n
   pub wrote_policy : job.task ≡ Format → WrotePolicy g job before.out.bytes now.out.bytes
   wrote_policy is = let order = done.all.answers.answered.in_order in
       subst (λ (j : Job). WrotePolicy g j before.out.bytes now.out.bytes) same
-      (record { model = order.model; policy = order.policy; are_files = order.are_files; text = policy_text.printed order.policy; took = took Format is; says = back Format is })
+      (record { model = order.model; policy = order.policy; are_files = order.are_files; text = policy_text.printed order.policy; took = done.all.took ∙ ap (with_back before.out.bytes) (wrote Format is).is; says = back Format is })
 
   pub wrote_model : job.task ≡ Check → WroteModel g job before.out.bytes now.out.bytes
   wrote_model is = let order = done.all.answers.answered.in_order in
@@ -53,7 +54,7 @@ module _ (g : Given) (before now : World) (job : Job) (done : HasDone g before n
         are_files = order.are_files;
         front = model_text.printed order.model;
         rest = flat_map (count_line order.policy) (tables_of order.model);
-        took = took Check is;
+        took = done.all.took ∙ ap (with_back before.out.bytes) (wrote Check is).is;
         says = back Check is;
       })
 

@@ -9,6 +9,7 @@ use Rattle.policy_csv.specs.Policy.{IsPolicy}
 use Rattle.policy_csv.specs.declared.fault.PolicyFault.{PolicyFault}
 use Rattle.policy_table.specs.Tables as table
 use Rattle.run_status.specs.Parts.{limit_of}
+use Rattle.run_status.specs.declared.part.Part.TheVariants as part
 use Rattle.run_status.specs.declared.part.Part.TheVariants.{Model, Policy, Input}
 use Rattle.run_status.specs.declared.stop.Stop.{Stop}
 use Rattle.run_status.specs.declared.stop.Stop.TheVariants.{Words, NoModel, NoRelation, NoPolicy, NoScript, CannotRead, TooLong}
@@ -20,9 +21,10 @@ use Rattle.casbin_run.specs.Causes.{Cause}
 use Rattle.casbin_run.specs.Given.{AreFiles, Fits, Given, IsInOrder, ModelIs}
 use Rattle.casbin_run.specs.Jobs.{absent_in, job_asked, shapes_with}
 use Rattle.casbin_run.specs.Reached.{at_words, at_model, at_options, at_policy, at_task}
+use Rattle.casbin_run.specs.Roles.{IsLong, IsShort}
 use Rattle.casbin_run.specs.declared.job.Job.{Job}
 use Rattle.casbin_run.specs.declared.job.Task.{Task}
-use Rattle.casbin_run.specs.declared.job.Task.TheVariants.{Enforce, Serve, Check, Format}
+use Rattle.casbin_run.specs.declared.job.Task.TheVariants.{Enforce, Serve, Check, Format, Implicit, Report}
 use Rattle.casbin_run.proofs.ModelLemmas.{SomeModel}
 
 -- each text says something or has a fault
@@ -31,6 +33,7 @@ pub record SaysSome : Type 0 where
   pub policy : (shapes : Shapes) (bytes : List ℕ) → ((policy : table.Policy) × IsPolicy shapes bytes policy) ⊎ ((f : PolicyFault) × IsPolicyFault shapes bytes f)
   pub script : (json : Bool) (bytes : List ℕ) → ((items : List Said) × IsScript json bytes items) ⊎ ((f : ScriptFault) × IsScriptFault json bytes f)
   pub requests : (json : Bool) (bytes : List ℕ) → ((items : List Said) × IsRequests json bytes items) ⊎ (¬ (IsUtf8 bytes))
+  pub report : (shapes : Shapes) (policy : table.Policy) → IsLong shapes policy ⊎ IsShort shapes policy
 
 -- what is given is in order or causes a stop
 abbrev pub Ended : Given → Type 0
@@ -55,20 +58,26 @@ module _ (law : SaysSome) (words : List (List ℕ)) (files : Files) (input : Lis
     module _ (model : ModelParts) where
       module _ (policy : table.Policy) (are : AreFiles (Some files) job model policy) where
         by_requests : (json : Bool) → job.task ≡ Enforce json → length input ≤ limit_of Input → ((items : List Said) × IsRequests json input items) ⊎ (¬ (IsUtf8 input)) → Ended told
-        by_requests json task within (inl said) = inl (record { job = job; model = model; policy = policy; items = said.0; asked = asked; are_files = are; says = rw task (input, refl, within, said.1) })
+        by_requests json task within (inl said) = inl (record { job = job; model = model; policy = policy; items = said.0; asked = asked; are_files = are; says = rw task (input, refl, within, said.1); room = rw task tt })
         by_requests json task within (inr none) = inr (NoScript NotUtf8, (at_task job model policy, (asked, are), (rw task refl, (input, refl, within, rw task (none, refl)))))
 
         by_script : (json : Bool) → job.task ≡ Serve json → length input ≤ limit_of Input → ((items : List Said) × IsScript json input items) ⊎ ((f : ScriptFault) × IsScriptFault json input f) → Ended told
-        by_script json task within (inl said) = inl (record { job = job; model = model; policy = policy; items = said.0; asked = asked; are_files = are; says = rw task (input, refl, within, said.1) })
+        by_script json task within (inl said) = inl (record { job = job; model = model; policy = policy; items = said.0; asked = asked; are_files = are; says = rw task (input, refl, within, said.1); room = rw task tt })
         by_script json task within (inr bad) = inr (NoScript bad.0, (at_task job model policy, (asked, are), (rw task refl, (input, refl, within, rw task bad.1))))
+
+        by_report : job.task ≡ Report → IsLong (shapes_with job.options model) policy ⊎ IsShort (shapes_with job.options model) policy → Ended told
+        by_report task (inl wide) = inr (TooLong part.Report, (at_task job model policy, (asked, are), rw task wide))
+        by_report task (inr short) = inl (record { job = job; model = model; policy = policy; items = []; asked = asked; are_files = are; says = rw task refl; room = rw task short })
 
         by_input : (task : Task) → job.task ≡ task → Sized input (limit_of Input) → Ended told
         by_input (Enforce json) task (inl wide) = inr (TooLong Input, (at_task job model policy, (asked, are), (rw task refl, wide)))
         by_input (Enforce json) task (inr within) = by_requests json task within (law.requests json input)
         by_input (Serve json) task (inl wide) = inr (TooLong Input, (at_task job model policy, (asked, are), (rw task refl, wide)))
         by_input (Serve json) task (inr within) = by_script json task within (law.script json input)
-        by_input Check task size = inl (record { job = job; model = model; policy = policy; items = []; asked = asked; are_files = are; says = rw task refl })
-        by_input Format task size = inl (record { job = job; model = model; policy = policy; items = []; asked = asked; are_files = are; says = rw task refl })
+        by_input Check task size = inl (record { job = job; model = model; policy = policy; items = []; asked = asked; are_files = are; says = rw task refl; room = rw task tt })
+        by_input Format task size = inl (record { job = job; model = model; policy = policy; items = []; asked = asked; are_files = are; says = rw task refl; room = rw task tt })
+        by_input (Implicit subject) task size = inl (record { job = job; model = model; policy = policy; items = []; asked = asked; are_files = are; says = rw task refl; room = rw task tt })
+        by_input Report task size = by_report task (law.report (shapes_with job.options model) policy)
 
       module _ (fits : Fits (Some files) job model) where
         by_policy : (bytes : List ℕ) → files job.files.policy ≡ Some bytes → length bytes ≤ limit_of Policy

@@ -1,8 +1,12 @@
 -- What a task comes to.
 use Rattle.std.proofs.Common.{◌≡◌, ℕ, ◌<◌, ◌≤◌, List, [], inl, inr, ⊎_elim, refl, sym, ap, subst, ◌∙◌, Bool, true, arith}
-use Rattle.std.specs.Prelude.{Option, Result, Err, IfErr, IfSome, OnOk, length, take}
+use Rattle.std.specs.Prelude.{Option, Result, Err, IfErr, IfSome, OnOk, length, map, take}
+use Rattle.std.proofs.lemmas.List.{take-map}
+use Rattle.std.proofs.lemmas.List.Folds.{flat_map-map}
 use Rattle.std.proofs.lemmas.Result.{IfErr-weaker, on_ok_weaker}
+use Rattle.answer_lines.specs.LineText.{line_text}
 use Rattle.answer_lines.specs.declared.answer.Line.{Line}
+use Rattle.command_words.specs.FileNames.{SubjectName}
 use Rattle.decision.proofs.CallerLemmas.{suits_columns}
 use Rattle.decision.specs.Programs.{Suits}
 use Rattle.live_round.specs.Scripts.{AreScriptLines}
@@ -10,25 +14,27 @@ use Rattle.model_conf.specs.ModelText.{ModelParts}
 use Rattle.outside.specs.Faults.{Rose}
 use Rattle.outside.specs.Told.{TookFront, with_back}
 use Rattle.perm_base.specs.declared.shapes.Shapes.{Shapes}
+use Rattle.policy_csv.specs.Printed.{printed}
 use Rattle.policy_table.specs.Tables as table
 use Rattle.regex_gate.specs.Refusals.{IsUsed, Refusals}
-use Rattle.run_status.specs.declared.part.Part.TheVariants.{Input}
+use Rattle.run_status.specs.declared.part.Part.TheVariants.{Input, Report}
 use Rattle.run_status.specs.declared.stop.Stop.{Stop}
 use Rattle.run_status.specs.declared.stop.Stop.TheVariants.{NoScript, CannotRead, CannotWrite, TooLong, NoMemory}
 use Rattle.script_read.specs.Said.{Said}
 use Rattle.script_read.specs.Script.{IsRequests}
 use Rattle.session_meaning.specs.Plain.{all_refused}
-use Rattle.session_meaning.proofs.CallerLemmas.{plain_none}
 use Rattle.casbin_run.specs.Finders.{HasRefused}
 use Rattle.casbin_run.specs.Given.{InputIs, SaysItems}
 use Rattle.casbin_run.specs.Helps.Loading.{BytesStop, InputStops}
-use Rattle.casbin_run.specs.Helps.Working.{AnswerStops, AreAnswered, DidAll, DidFirst, DidSome, Ground, IsQuiet, LinesOf, LinesStop, PrintedAll, PrintedSome, ShowStops, WorkStops, Worked, task_text}
+use Rattle.casbin_run.specs.Helps.Working.{AnswerStops, AreAnswered, DidAll, DidFirst, DidSome, Ground, IsQuiet, LinesOf, IsShortReport, LinesStop, PrintedAll, PrintedSome, ReportStops, ShowStops, Showed, TextStops, WorkStops, Worked, ground}
 use Rattle.casbin_run.specs.Jobs.{reads_input}
-use Rattle.casbin_run.specs.Texts.{text_of, text_of_lines}
+use Rattle.casbin_run.specs.Roles.{IsImplied}
+use Rattle.casbin_run.specs.Texts.{HasRoom, IsOfLines, Writes, check_text, joined, text_of_lines}
 use Rattle.casbin_run.specs.Worlds.{Taken}
 use Rattle.casbin_run.specs.declared.files.Loaded.{Loaded}
 use Rattle.casbin_run.specs.declared.job.Task.{Task}
-use Rattle.casbin_run.specs.declared.job.Task.TheVariants.{Enforce, Serve, Check, Format}
+use Rattle.casbin_run.specs.declared.job.Task.TheVariants as tasks
+use Rattle.casbin_run.specs.declared.job.Task.TheVariants.{Enforce, Serve, Check, Format, Implicit}
 
 -- ---- reading the input
 
@@ -87,15 +93,9 @@ out_of_memory IsSaid loaded before now out used = record { printed = tt; stopped
 
 -- ---- tasks that read the input
 
--- the text of such a task is its lines
-lines_alone : (on : Ground) (lines : List Line) → reads_input on.task ≡ true → text_of_lines lines ≡ task_text on lines
-lines_alone on lines reads = by on.task reads
-  where
-    by : (task : Task) → reads_input task ≡ true → text_of_lines lines ≡ text_of task on.model on.policy lines
-    by (Enforce json) reads = refl
-    by (Serve json) reads = refl
-    by Check reads = absurd cc
-    by Format reads = absurd cc
+-- the first lines, as pieces
+first_lines : (count : ℕ) (lines : List Line) → text_of_lines (take count lines) ≡ joined (take count (map line_text lines))
+first_lines count lines = sym (ap joined (take-map line_text count lines) ∙ flat_map-map (λ (piece : List ℕ). piece) line_text (take count lines))
 
 -- requests that a text says, or items that a script says, are what its task reads
 pub asked_says : (json : Bool) (input : Option (List ℕ)) (text : List ℕ) → InputIs input (λ bytes. bytes ≡ text) → (items : List Said) → IsRequests json text items → SaysItems (Enforce json) input items
@@ -104,16 +104,29 @@ asked_says json input text told items says = input_is input text (λ bytes. IsRe
 pub served_says : (json : Bool) (input : Option (List ℕ)) (script : List Said) → SaysItems (Serve json) input script → (items : List Said) → items ≡ script → SaysItems (Serve json) input items
 served_says json input script says items same = subst (λ (s : List Said). SaysItems (Serve json) input s) (sym same) says
 
-module _ (on : Ground) (reads : reads_input on.task ≡ true) (IsSaid : List Said → Type 0) (says : (items : List Said) → IsSaid items → SaysItems on.task on.input items) (before now : Refusals) (out out_now : Option (List ℕ)) where
+-- the text of the task is that of the lines of its items
+abbrev pub WritesLines : Ground → Type 0
+WritesLines on = (items : List Said) (refused : List (List (List ℕ))) (pieces : List (List ℕ)) (text : List ℕ) → IsOfLines on.model on.shapes on.policy items refused pieces text → Writes on.task on.model on.shapes on.policy items refused pieces text
+
+module _ (on : Ground) (writes : WritesLines on) (room : HasRoom on.task on.shapes on.policy) (IsSaid : List Said → Type 0) (says : (items : List Said) → IsSaid items → SaysItems on.task on.input items) (before now : Refusals) (out out_now : Option (List ℕ)) where
   abbrev worked : LinesOf IsSaid on.model on.shapes on.policy (HasRefused before now) → Worked on (HasRefused before now)
-  worked of = record { items = of.items; lines = of.lines; refused = of.refused; says = says of.items of.says; plain = of.plain; logged = of.logged }
+  worked of = record {
+    items = of.items;
+    refused = of.refused;
+    pieces = map line_text of.lines;
+    text = text_of_lines of.lines;
+    says = says of.items of.says;
+    room = room;
+    writes = writes of.items of.refused (map line_text of.lines) (text_of_lines of.lines) (record { lines = of.lines; plain = of.plain; pieces_are = refl; text_is = refl });
+    logged = of.logged;
+  }
 
   pub answered_all : PrintedAll IsSaid on.model on.shapes on.policy before now out out_now → DidAll on (HasRefused before now) out out_now
-  answered_all all = record { worked = worked all.printed; took = all.took ∙ ap (with_back out) (lines_alone on all.printed.lines reads) }
+  answered_all all = record { worked = worked all.printed; took = all.took }
 
   some_stops : (input_rose out_rose : Type 0) (stop : Stop) → PrintedSome IsSaid on.model on.shapes on.policy before now out out_now out_rose stop → WorkStops on (HasRefused before now) out out_now input_rose out_rose stop
-  some_stops input_rose out_rose CannotWrite some = (record { worked = worked some.printed; took = subst (TookFront out out_now) (lines_alone on some.printed.lines reads) some.stops.0 }, some.stops.1)
-  some_stops input_rose out_rose NoMemory some = inr (record { worked = worked some.printed; count = some.stops.0; took = some.stops.1 })
+  some_stops input_rose out_rose CannotWrite some = (record { worked = worked some.printed; took = some.stops.0 }, some.stops.1)
+  some_stops input_rose out_rose NoMemory some = inr (record { worked = worked some.printed; count = some.stops.0; took = some.stops.1 ∙ ap (with_back out) (first_lines some.stops.0 some.printed.lines) })
   some_stops input_rose out_rose _ some = absurd some.stops
 
   pub answered_stops : (input_rose out_rose : Type 0) (stop : Stop) → AnswerStops IsSaid on.model on.shapes on.policy before now out out_now out_rose stop → WorkStops on (HasRefused before now) out out_now input_rose out_rose stop
@@ -142,26 +155,71 @@ show_quiet out out_now text out_rose _ stops quiet = absurd stops
 
 -- ---- tasks that read no input
 
--- no lines
-no_lines : (on : Ground) (refusals : Refusals) → SaysItems on.task on.input [] → Worked on (HasRefused refusals refusals)
-no_lines on refusals says = record { items = []; lines = []; refused = []; says = says; plain = plain_none on.model on.shapes on.policy; logged = refl }
+-- a text that is written as a whole
+pub record Shows (on : Ground) (text : List ℕ) : Type 0 where
+  pub says : SaysItems on.task on.input []
+  pub room : HasRoom on.task on.shapes on.policy
+  pub writes : Writes on.task on.model on.shapes on.policy [] [] [] text
 
-module _ (on : Ground) (refusals : Refusals) (says : SaysItems on.task on.input []) (out out_now : Option (List ℕ)) where
-  pub shown_all : out_now ≡ with_back out (task_text on []) → DidAll on (HasRefused refusals refusals) out out_now
-  unfolding no_lines
-  shown_all took = record { worked = no_lines on refusals says; took = took }
+abbrev shown : (on : Ground) (refusals : Refusals) (text : List ℕ) → Shows on text → Worked on (HasRefused refusals refusals)
+shown on refusals text shows = record { items = []; refused = []; pieces = []; text = text; says = shows.says; room = shows.room; writes = shows.writes; logged = refl }
 
-  pub shown_stops : (input_rose out_rose : Type 0) (stop : Stop) → ShowStops out out_now (task_text on []) out_rose stop → WorkStops on (HasRefused refusals refusals) out out_now input_rose out_rose stop
-  unfolding no_lines
-  shown_stops input_rose out_rose CannotWrite stops = (record { worked = no_lines on refusals says; took = stops.0 }, stops.1)
+module _ (on : Ground) (refusals : Refusals) (text : List ℕ) (shows : Shows on text) (out out_now : Option (List ℕ)) where
+  pub shown_all : out_now ≡ with_back out text → DidAll on (HasRefused refusals refusals) out out_now
+  shown_all took = record { worked = shown on refusals text shows; took = took }
+
+  pub shown_stops : (input_rose out_rose : Type 0) (stop : Stop) → ShowStops out out_now text out_rose stop → WorkStops on (HasRefused refusals refusals) out out_now input_rose out_rose stop
+  shown_stops input_rose out_rose CannotWrite stops = (record { worked = shown on refusals text shows; took = stops.0 }, stops.1)
   shown_stops input_rose out_rose NoMemory stops = inl stops
   shown_stops input_rose out_rose _ stops = absurd stops
+
+-- a text that is told by what holds of it
+module _ (on : Ground) (refusals : Refusals) (Is : List ℕ → Type 0) (shows : (text : List ℕ) → Is text → Shows on text) (out out_now : Option (List ℕ)) where
+  pub showed_all : Showed Is out out_now → DidAll on (HasRefused refusals refusals) out out_now
+  showed_all all = record { worked = shown on refusals all.text (shows all.text all.is); took = all.took }
+
+  pub text_stops : (input_rose out_rose : Type 0) (stop : Stop) → TextStops Is out out_now out_rose stop → WorkStops on (HasRefused refusals refusals) out out_now input_rose out_rose stop
+  text_stops input_rose out_rose CannotWrite (some, rose) = (record { worked = shown on refusals some.text (shows some.text some.is); took = some.took }, rose)
+  text_stops input_rose out_rose NoMemory stops = inl stops
+  text_stops input_rose out_rose _ stops = absurd stops
+
+-- what the tasks that read no input write
+module _ (loaded : Loaded) (input : Option (List ℕ)) where
+  pub shows_check : Shows (ground Check loaded input) (check_text loaded.model loaded.tables.policy)
+  shows_check = record { says = refl; room = tt; writes = record { none_refused = refl; no_pieces = refl; is = refl } }
+
+  pub shows_format : Shows (ground Format loaded input) (printed loaded.tables.policy)
+  shows_format = record { says = refl; room = tt; writes = record { none_refused = refl; no_pieces = refl; is = refl } }
+
+  pub shows_implied : (subject : SubjectName) (text : List ℕ) → IsImplied loaded.model loaded.shapes loaded.tables.policy subject text → Shows (ground (Implicit subject) loaded input) text
+  shows_implied subject text is = record { says = refl; room = tt; writes = record { none_refused = refl; no_pieces = refl; is = is } }
+
+  pub shows_report : (text : List ℕ) → IsShortReport loaded.shapes loaded.tables.policy text → Shows (ground tasks.Report loaded input) text
+  shows_report text (is, short) = record { says = refl; room = short; writes = record { none_refused = refl; no_pieces = refl; is = is } }
+
+pub report_stops : (loaded : Loaded) (input : Option (List ℕ)) (refusals : Refusals) (out out_now : Option (List ℕ)) (input_rose out_rose : Type 0) (stop : Stop) → ReportStops loaded.shapes loaded.tables.policy out out_now out_rose stop
+    → WorkStops (ground tasks.Report loaded input) (HasRefused refusals refusals) out out_now input_rose out_rose stop
+report_stops loaded input refusals out out_now input_rose out_rose (TooLong Report) stops = stops.0
+report_stops loaded input refusals out out_now input_rose out_rose CannotWrite stops = text_stops (ground tasks.Report loaded input) refusals (IsShortReport loaded.shapes loaded.tables.policy) (shows_report loaded input) out out_now input_rose out_rose CannotWrite stops
+report_stops loaded input refusals out out_now input_rose out_rose NoMemory stops = inl stops
+report_stops loaded input refusals out out_now input_rose out_rose _ stops = absurd stops
+
+pub text_quiet : (Is : List ℕ → Type 0) (out out_now : Option (List ℕ)) (out_rose : Type 0) (stop : Stop) → TextStops Is out out_now out_rose stop → IsQuiet stop → out_now ≡ out
+text_quiet Is out out_now out_rose CannotWrite stops quiet = absurd cc
+text_quiet Is out out_now out_rose NoMemory stops quiet = stops
+text_quiet Is out out_now out_rose _ stops quiet = absurd stops
+
+pub report_quiet : (shapes : Shapes) (policy : table.Policy) (out out_now : Option (List ℕ)) (out_rose : Type 0) (stop : Stop) → ReportStops shapes policy out out_now out_rose stop → IsQuiet stop → out_now ≡ out
+report_quiet shapes policy out out_now out_rose (TooLong Report) stops quiet = stops.1
+report_quiet shapes policy out out_now out_rose CannotWrite stops quiet = absurd cc
+report_quiet shapes policy out out_now out_rose NoMemory stops quiet = stops
+report_quiet shapes policy out out_now out_rose _ stops quiet = absurd stops
 
 -- ---- with more finders
 
 module _ (on : Ground) (IsLogged AreLogged : List (List ℕ) → Type 0) (more : (patterns : List (List ℕ)) → IsLogged patterns → AreLogged patterns) where
   worked_more : Worked on IsLogged → Worked on AreLogged
-  worked_more of = record { items = of.items; lines = of.lines; refused = of.refused; says = of.says; plain = of.plain; logged = more (all_refused of.refused) of.logged }
+  worked_more of = record { items = of.items; refused = of.refused; pieces = of.pieces; text = of.text; says = of.says; room = of.room; writes = of.writes; logged = more (all_refused of.refused) of.logged }
 
   pub all_more : (out out_now : Option (List ℕ)) → DidAll on IsLogged out out_now → DidAll on AreLogged out out_now
   unfolding worked_more
@@ -171,6 +229,7 @@ module _ (on : Ground) (IsLogged AreLogged : List (List ℕ) → Type 0) (more :
   unfolding worked_more
   stops_more out out_now input_rose out_rose (CannotRead Input) stops = stops
   stops_more out out_now input_rose out_rose (TooLong Input) stops = stops
+  stops_more out out_now input_rose out_rose (TooLong Report) stops = stops
   stops_more out out_now input_rose out_rose (NoScript fault) stops = stops
   stops_more out out_now input_rose out_rose CannotWrite stops = (record { worked = worked_more stops.0.worked; took = stops.0.took }, stops.1)
   stops_more out out_now input_rose out_rose NoMemory stops = ⊎_elim (λ same. inl same) (λ first. inr (record { worked = worked_more first.worked; count = first.count; took = first.took })) stops

@@ -1,20 +1,18 @@
 -- What a run answers, and what of it was taken.
 use Rattle.std.specs.Prelude.{◌≡◌, ℕ, List, [], take}
 use Rattle.outside.specs.Told.{TookFront, with_back}
-use Rattle.answer_lines.specs.declared.answer.Line.{Line}
-use Rattle.session_meaning.specs.Plain.{IsPlain, all_refused}
+use Rattle.session_meaning.specs.Plain.{all_refused}
 use Rattle.casbin_run.specs.Finders.{HaveRefused}
 use Rattle.casbin_run.specs.Given.{Given, IsInOrder}
 use Rattle.casbin_run.specs.Jobs.{shapes_with}
-use Rattle.casbin_run.specs.Texts.{text_of, text_of_lines}
+use Rattle.casbin_run.specs.Texts.{Writes, joined}
 use Rattle.casbin_run.specs.Worlds.{World}
 
--- all is in order, and the text has the lines of the items, which are done one after the other on the model and the policy, where these patterns were refused for each of them
+-- all is in order, and this is the text of the task on the model, the policy and the items, where these patterns were refused for each of them
 pub record IsAnswered (g : Given) (refused : List (List (List ℕ))) (text : List ℕ) : Type 0 where
   pub in_order : IsInOrder g
-  pub lines : List Line
-  pub plain : IsPlain in_order.model (shapes_with in_order.job.options in_order.model) in_order.policy in_order.items refused lines
-  pub spelled : text ≡ text_of in_order.job.task in_order.model in_order.policy lines
+  pub pieces : List (List ℕ)
+  pub writes : Writes in_order.job.task in_order.model (shapes_with in_order.job.options in_order.model) in_order.policy in_order.items refused pieces text
 
 -- such a text, where nothing was refused
 pub record IsCalmlyAnswered (g : Given) (text : List ℕ) : Type 0 where
@@ -39,8 +37,8 @@ pub record TookSome (g : Given) (before now : World) : Type 0 where
   pub answers : Answers g before now
   pub took : TookFront before.out.bytes now.out.bytes answers.text
 
--- `out` took the whole lines of the first so many items
+-- `out` took the first so many pieces of it: the whole lines of the first items
 pub record TookFirst (g : Given) (before now : World) : Type 0 where
   pub answers : Answers g before now
   pub count : ℕ
-  pub took : now.out.bytes ≡ with_back before.out.bytes (text_of_lines (take count answers.answered.lines))
+  pub took : now.out.bytes ≡ with_back before.out.bytes (joined (take count answers.answered.pieces))

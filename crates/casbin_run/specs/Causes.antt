@@ -4,6 +4,7 @@ use Rattle.outside.specs.Files.{Lacks, OfFile}
 use Rattle.model_conf.specs.Faults.{IsModelFault}
 use Rattle.policy_csv.specs.Faults.{IsPolicyFault}
 use Rattle.run_status.specs.Parts.{limit_of}
+use Rattle.run_status.specs.declared.part.Part.TheVariants as part
 use Rattle.run_status.specs.declared.part.Part.TheVariants.{Model, Policy, Input}
 use Rattle.run_status.specs.declared.stop.Stop.{Stop}
 use Rattle.run_status.specs.declared.stop.Stop.TheVariants.{Words, NoModel, NoRelation, NoPolicy, NoScript, CannotRead, CannotWrite, TooLong, NoMemory}
@@ -11,11 +12,12 @@ use Rattle.script_read.specs.Script.{IsScriptFault}
 use Rattle.script_read.specs.declared.fault.ScriptFault.{ScriptFault}
 use Rattle.script_read.specs.declared.fault.ScriptFault.TheVariants.{NotUtf8}
 use Rattle.casbin_run.specs.declared.job.Task.{Task}
-use Rattle.casbin_run.specs.declared.job.Task.TheVariants.{Enforce, Serve, Check, Format}
+use Rattle.casbin_run.specs.declared.job.Task.TheVariants.{Enforce, Serve, Check, Format, Implicit, Report}
 use Rattle.casbin_run.specs.Answered.{TookFirst, TookSome}
 use Rattle.casbin_run.specs.Given.{FileIs, Given, InputIs}
 use Rattle.casbin_run.specs.Jobs.{absent_in, job_asked, reads_input, shapes_with}
 use Rattle.casbin_run.specs.Reached.{HasAsked, IsReached, Reached, at_words, at_model, at_options, at_policy, at_task}
+use Rattle.casbin_run.specs.Texts.{IsTooLong}
 use Rattle.casbin_run.specs.Worlds.{InputRose, OutRose, ShelfRose, World}
 
 -- the input that a task reads has this fault
@@ -24,6 +26,8 @@ HasFault (Enforce json) bytes fault = ¬ (IsUtf8 bytes) × (fault ≡ NotUtf8)
 HasFault (Serve json) bytes fault = IsScriptFault json bytes fault
 HasFault Check bytes fault = ⊥
 HasFault Format bytes fault = ⊥
+HasFault (Implicit subject) bytes fault = ⊥
+HasFault Report bytes fault = ⊥
 
 -- the task reads the input, of which the fact holds
 abbrev pub OfInput : Task → Type 0 → Type 0
@@ -41,9 +45,10 @@ StopsAt g (at_policy job model) (TooLong Policy) = OfFile g.files job.files.poli
 StopsAt g (at_policy job model) (NoPolicy fault) = FileIs g.files job.files.policy Policy (λ bytes. IsPolicyFault (shapes_with job.options model) bytes fault)
 StopsAt g (at_task job model policy) (TooLong Input) = OfInput job.task (IfSome g.input (λ bytes. limit_of Input < length bytes))
 StopsAt g (at_task job model policy) (NoScript fault) = OfInput job.task (InputIs g.input (λ bytes. HasFault job.task bytes fault))
+StopsAt g (at_task job model policy) (TooLong part.Report) = IsTooLong job.task (shapes_with job.options model) policy
 StopsAt g _ _ = ⊥
 
--- the outside stops it: the shelf or the input failed; `out` failed, after it took a front of the text; or memory ran out, before anything was pushed, or after whole lines of the first items were
+-- the outside stops it: the shelf or the input failed; `out` failed, after it took a front of the text; or memory ran out, before anything was pushed, or after the first pieces of the text were
 abbrev pub FailsAt : Given → World → World → Reached → Stop → Type 0
 FailsAt g before now (at_model job) (CannotRead Model) = ShelfRose before now
 FailsAt g before now (at_policy job model) (CannotRead Policy) = ShelfRose before now

@@ -12,8 +12,9 @@ use Rattle.script_read.specs.Said.{Said}
 use Rattle.script_read.specs.Script.{IsRequests, IsScript}
 use Rattle.casbin_run.specs.declared.job.Job.{Job}
 use Rattle.casbin_run.specs.declared.job.Task.{Task}
-use Rattle.casbin_run.specs.declared.job.Task.TheVariants.{Enforce, Serve, Check, Format}
+use Rattle.casbin_run.specs.declared.job.Task.TheVariants.{Enforce, Serve, Check, Format, Implicit, Report}
 use Rattle.casbin_run.specs.Jobs.{absent_in, job_asked, shapes_with}
+use Rattle.casbin_run.specs.Texts.{HasRoom}
 
 -- the words, and the files and the input where they are told
 pub record Given : Type 0 where
@@ -57,8 +58,10 @@ SaysItems (Enforce json) input items = InputIs input (λ bytes. IsRequests json 
 SaysItems (Serve json) input items = InputIs input (λ bytes. IsScript json bytes items)
 SaysItems Check input items = items ≡ []
 SaysItems Format input items = items ≡ []
+SaysItems (Implicit subject) input items = items ≡ []
+SaysItems Report input items = items ≡ []
 
--- the words ask for this, and files and input are in order
+-- the words ask for this, files and input are in order, and what is written is not too long
 pub record IsInOrder (g : Given) : Type 0 where
   pub job : Job
   pub model : ModelParts
@@ -67,3 +70,4 @@ pub record IsInOrder (g : Given) : Type 0 where
   pub asked : job_asked g.words ≡ Some job
   pub are_files : AreFiles g.files job model policy
   pub says : SaysItems job.task g.input items
+  pub room : HasRoom job.task (shapes_with job.options model) policy

@@ -11,7 +11,7 @@ use Rattle.perm_base.specs.declared.shapes.Fit.{Fit}
 use Rattle.perm_base.specs.declared.shapes.Shapes.{Shapes}
 use Rattle.casbin_run.specs.declared.job.Job.{Job}
 use Rattle.casbin_run.specs.declared.job.Task.{Task}
-use Rattle.casbin_run.specs.declared.job.Task.TheVariants.{Enforce, Serve, Check, Format}
+use Rattle.casbin_run.specs.declared.job.Task.TheVariants.{Enforce, Serve, Check, Format, Implicit, Report}
 
 -- what a command is done on
 abbrev pub job_of : Command → Option Job
@@ -19,18 +19,22 @@ job_of (command.Enforce files options json) = Some (record { files = files; opti
 job_of (command.Session files options json workers) = if workers == 0 then Some (record { files = files; options = Some options; task = Serve json }) else None
 job_of (command.Check files) = Some (record { files = files; options = None; task = Check })
 job_of (command.Format files) = Some (record { files = files; options = None; task = Format })
+job_of (command.Implicit files subject options) = Some (record { files = files; options = Some options; task = Implicit subject })
+job_of (command.Report files options) = Some (record { files = files; options = Some options; task = Report })
 job_of (command.Demo count workers) = None
 
 -- what the words ask for, where they are a command that is done
 abbrev pub job_asked : List (List ℕ) → Option Job
 job_asked words = option_and_then job_of (command_of words)
 
--- the input is read by all but `check` and `format`
+-- the input is read by the commands that answer its items
 abbrev pub reads_input : Task → Bool
 reads_input (Enforce json) = true
 reads_input (Serve json) = true
 reads_input Check = false
 reads_input Format = false
+reads_input (Implicit subject) = false
+reads_input Report = false
 
 -- the words ask for a command that reads the input
 abbrev pub ask_for_input : List (List ℕ) → Bool

@@ -1,5 +1,6 @@
 pub mod Jobs
 pub mod Given
+pub mod Roles
 pub mod Texts
 pub mod Finders
 pub mod Worlds

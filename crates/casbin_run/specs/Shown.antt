@@ -11,12 +11,14 @@ use Rattle.casbin_run.specs.Given.{AreFiles, Given}
 use Rattle.casbin_run.specs.Jobs.{shapes_with}
 use Rattle.casbin_run.specs.declared.job.Job.{Job}
 use Rattle.casbin_run.specs.declared.job.Task.{Task}
-use Rattle.casbin_run.specs.declared.job.Task.TheVariants.{Enforce, Serve, Check, Format}
+use Rattle.casbin_run.specs.declared.job.Task.TheVariants.{Enforce, Serve, Check, Format, Implicit, Report}
 
 -- the model that `check` prints is read back, unless its text is longer than a model may be; the policy that `format` prints is
 abbrev pub ReadsBack : Task → ModelParts → Shapes → table.Policy → Type 0
 ReadsBack (Enforce json) parts shapes tables = ⊤
 ReadsBack (Serve json) parts shapes tables = ⊤
+ReadsBack (Implicit subject) parts shapes tables = ⊤
+ReadsBack Report parts shapes tables = ⊤
 ReadsBack Check parts shapes tables = length (model_text.printed parts) ≤ most_bytes → IsModel (model_text.printed parts) parts
 ReadsBack Format parts shapes tables = IsPolicy shapes (policy_text.printed tables) tables
 

@@ -3,11 +3,11 @@ ghost use Rattle.command_words.specs.Items.{texts};
 ghost use Rattle.casbin_run.specs.Helps.Running.{job_on};
 ghost use Rattle.casbin_run.specs.Jobs.{job_asked, job_of, limit_in};
 
-use command_words::{Command, Files, Options, read_words};
+use command_words::{Command, Files, Options, Subject, read_words};
 
 /// What is done with the model, the policy and the input.
-#[derive(Clone, Copy)]
-pub(crate) enum Task {
+#[derive(Drop)]
+pub(crate) enum Task<'a> {
     /// The requests of the input are answered; with `json` they are JSON.
     Enforce { json: bool },
     /// The items of a script are done one after the other.
@@ -16,6 +16,10 @@ pub(crate) enum Task {
     Check,
     /// The policy is printed.
     Format,
+    /// The implied roles, users and permissions of a name are told.
+    Implicit { subject: Subject<'a> },
+    /// The implied roles of all names are reported.
+    Report,
 }
 
 /// What a command is done on: its files, what it says of roles, where it may, and its task.
@@ -23,7 +27,7 @@ pub(crate) enum Task {
 pub(crate) struct Job<'a> {
     pub files: Files<'a>,
     pub options: Option<Options>,
-    pub task: Task,
+    pub task: Task<'a>,
 }
 
 /// What the words ask for, where they are a command that is done. It takes no memory.
@@ -59,13 +63,19 @@ fn job_of(command: Command<'_>) -> Option<Job<'_>>
         }
         Command::Check(files) => Some(job_on(files, None, Task::Check)),
         Command::Format(files) => Some(job_on(files, None, Task::Format)),
+        Command::Implicit {
+            files,
+            subject,
+            options,
+        } => Some(job_on(files, Some(options), Task::Implicit { subject })),
+        Command::Report { files, options } => Some(job_on(files, Some(options), Task::Report)),
         Command::Demo { .. } => None,
     }
 }
 
 // A task on these files.
-fn job_on<'a>(files: Files<'a>, options: Option<Options>, task: Task) -> Job<'a>
-    ensures { result ≡ job_on files.entry options task }
+fn job_on<'a>(files: Files<'a>, options: Option<Options>, task: Task<'a>) -> Job<'a>
+    ensures { result ≡ job_on files.entry options task.entry }
 {
     Job {
         files,

@@ -20,6 +20,8 @@ use policy_csv::{
     every_text_is_a_policy_or_at_fault, faulty_text_is_no_policy, text_has_one_policy_fault,
     text_says_one_policy,
 };
+use rbac_query::{permissions_are_one, relation_has_one_report};
+use role_meaning::{implied_roles_are_one, implied_users_are_one};
 use script_read::{
     every_input_is_requests_or_at_fault, every_text_is_a_script_or_at_fault,
     faulty_text_is_no_script, input_says_one_list_of_requests, text_has_one_script_fault,
@@ -54,6 +56,10 @@ pub fn one_end()
     faulty_text_is_no_script();
     input_says_one_list_of_requests();
     lines_are_one();
+    implied_roles_are_one();
+    implied_users_are_one();
+    permissions_are_one();
+    relation_has_one_report();
 }
 
 /// The law that a run ends as what is given says, where it is told. A cause gives its own status, unless memory ran out or a

@@ -4,10 +4,12 @@
 mod enforce;
 mod files;
 mod gather;
+mod implied;
 mod input;
 mod job;
 mod law;
 mod opening;
+mod report;
 mod run;
 mod session;
 mod showing;

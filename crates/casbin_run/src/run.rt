@@ -14,8 +14,10 @@ ghost use Rattle.casbin_run.specs.Worlds.{fetched, pulled, taken, world};
 
 use crate::enforce::enforce;
 use crate::files::{Loaded, load};
+use crate::implied::implicit;
 use crate::input::{read_items, read_text};
 use crate::job::{Task, read_job};
+use crate::report::report;
 use crate::session::serve;
 use crate::showing::{check, format};
 use perm_base::{Shelf, Sink, Source};
@@ -30,8 +32,11 @@ use std::alloc::Global;
 /// - `session MODEL POLICY` does the items of a script one after the other, each by a line.
 /// - `check MODEL POLICY` prints the model, an empty line, and a line `TABLE ROWS` for p and each role relation.
 /// - `format MODEL POLICY` prints the policy.
+/// - `implicit MODEL POLICY NAME [DOMAIN]` tells the implied roles of a name in g, the users that have it as a role, and the rules of
+///   p that count for it.
+/// - `report MODEL POLICY` writes a record for each implied role of each user in g.
 ///
-/// The last two read no input. `command_words` says which options there are. A session is run on one thread: `--workers` with
+/// The last four read no input. `command_words` says which options there are. A session is run on one thread: `--workers` with
 /// another number than 0, and `demo`, are no command here. Of the finders the first is asked. Exactly where a cause is said to
 /// come, want of memory may come instead.
 pub fn run_casbin<F: Shelf, S: Source, K: Sink, E: Sink, P: Finder>(
@@ -121,30 +126,30 @@ fn answer<F: Shelf, S: Source, K: Sink, P: Finder>(
 // Does a task over a model and a policy.
 fn do_task<S: Source, K: Sink, P: Finder>(
     alloc: Global,
-    task: Task,
+    task: Task<'_>,
     loaded: Loaded,
     input: &mut S,
     out: &mut K,
     finder: &mut P,
 ) -> Result<(), Stop>
     requires { IsReady loaded }
-    ensures done { OnOk result (DidAll (ground task loaded (S.left input.old))
+    ensures done { OnOk result (DidAll (ground task.entry loaded (S.left input.old))
         (HasRefused (P.refusals finder.old) (P.refusals finder.new))
         (K.taken out.old) (K.taken out.new)) }
     ensures reads_back { OnOk result
-        (ReadsBack task loaded.model loaded.shapes loaded.tables.policy) }
-    ensures stopped { IfErr result (WorkStops (ground task loaded (S.left input.old))
+        (ReadsBack task.entry loaded.model loaded.shapes loaded.tables.policy) }
+    ensures stopped { IfErr result (WorkStops (ground task.entry loaded (S.left input.old))
         (HasRefused (P.refusals finder.old) (P.refusals finder.new))
         (K.taken out.old) (K.taken out.new)
         (Rose (S.faults input.old) (S.faults input.new))
         (Rose (K.faults out.old) (K.faults out.new))) }
     ensures quiet { IfErr result (λ stop. IsQuiet stop → K.taken out.new ≡ K.taken out.old) }
-    ensures read_to_end { OnOk result (reads_input task ≡ true
+    ensures read_to_end { OnOk result (reads_input task.entry ≡ true
         → IfSome (S.left input.new) (λ rest. rest ≡ [])) }
-    ensures ended { OnOk result (reads_input task ≡ true
+    ensures ended { OnOk result (reads_input task.entry ≡ true
         → S.ends input.new ≡ ends_after (S.ends input.old) true) }
     ensures no_further { IsEndedOnce (S.ends input.old) (S.ends input.new) }
-    ensures unread { reads_input task ≡ false
+    ensures unread { reads_input task.entry ≡ false
         → pulled (S.left input.new) (S.ends input.new) (S.faults input.new)
         ≡ pulled (S.left input.old) (S.ends input.old) (S.faults input.old) }
     ensures input_counted { S.faults input.old ≤ S.faults input.new }
@@ -163,5 +168,7 @@ fn do_task<S: Source, K: Sink, P: Finder>(
         }
         Task::Check => check(alloc, &loaded, out),
         Task::Format => format(alloc, &loaded, out),
+        Task::Implicit { subject } => implicit(alloc, loaded, &subject, out),
+        Task::Report => report(alloc, loaded, out),
     }
 }

@@ -5,12 +5,13 @@ use Rattle.std.proofs.lemmas.Option.{option_and_then_some}
 use Rattle.std.specs.List.{after_first, before_first}
 use Rattle.std.specs.Str.Parse.{digits_value}
 use Rattle.perm_base.specs.declared.shapes.Fit.{Fit}
-use Rattle.command_words.specs.Commands.{command_of, command_with, count_of, enforcing, kind_named, limit_in, options_with, serving, showing, value_or, workers_in}
-use Rattle.command_words.specs.FileNames.{FileNames}
+use Rattle.command_words.specs.Commands.{command_of, command_with, count_of, enforcing, implying, kind_named, limit_in, on_files, options_with, serving, showing, value_or, workers_in}
+use Rattle.command_words.specs.FileNames.{FileNames, SubjectName}
 use Rattle.command_words.specs.Items.{Item, is_dashes, items, operands, value_of}
 use Rattle.command_words.specs.Values.{is_numeral, is_within, number_between}
 use Rattle.command_words.specs.declared.command.Command.{Command}
-use Rattle.command_words.specs.declared.command.Command.TheVariants.{Enforce, Session, Check, Format, Demo}
+use Rattle.command_words.specs.declared.command.Options.{Options}
+use Rattle.command_words.specs.declared.command.Command.TheVariants.{Enforce, Session, Check, Format, Implicit, Report, Demo}
 use Rattle.command_words.specs.declared.kind.Kind.{Kind}
 use Rattle.command_words.specs.declared.kind.Kind.TheVariants as kind
 
@@ -20,6 +21,8 @@ HasRanges (Enforce files options json) = (0 < options.limit) × (options.limit �
 HasRanges (Session files options json workers) = (0 < options.limit) × (options.limit ≤ 250) × (workers ≤ 8)
 HasRanges (Check files) = Unit {0}
 HasRanges (Format files) = Unit {0}
+HasRanges (Implicit files subject options) = (0 < options.limit) × (options.limit ≤ 250)
+HasRanges (Report files options) = (0 < options.limit) × (options.limit ≤ 250)
 HasRanges (Demo count workers) = (0 < count) × (count ≤ 100000) × (workers ≤ 8)
 
 number_within : (digits least most : ℕ) (text : List ℕ) (number : ℕ) → number_between digits least most text ≡ Some number → (least ≤ number) × (number ≤ most)
@@ -66,6 +69,21 @@ session_within json (Some files) (Some limit) (Some names) (Some domains) (Some 
     subst HasRanges same (within.0, within.1, few workers refl)
 session_within _ _ _ _ _ _ _ _ _ is = absurd cc
 
+implicit_within : (files : Option FileNames) (subject : Option SubjectName) (limit : Option ℕ) (names domains : Option (List (ℕ × Fit))) (command : Command) → ((n : ℕ) → limit ≡ Some n → (0 < n) × (n ≤ 250)) → implying files subject (options_with limit names domains) ≡ Some command → HasRanges command
+implicit_within (Some files) (Some subject) (Some limit) (Some names) (Some domains) command small is =
+    let same : Implicit files subject (record { limit = limit; names = names; domains = domains }) ≡ command = cc in
+    subst HasRanges same (small limit refl)
+implicit_within _ _ _ _ _ _ _ is = absurd cc
+
+-- a command that is its files and its options
+files_within : (make : FileNames → Options → Command) → ((files : FileNames) (options : Options) → (0 < options.limit) × (options.limit ≤ 250) → HasRanges (make files options))
+    → (files : Option FileNames) (limit : Option ℕ) (names domains : Option (List (ℕ × Fit))) (command : Command) → ((n : ℕ) → limit ≡ Some n → (0 < n) × (n ≤ 250)) → on_files make files (options_with limit names domains) ≡ Some command → HasRanges command
+files_within make has (Some files) (Some limit) (Some names) (Some domains) command small is =
+    let options : Options = record { limit = limit; names = names; domains = domains } in
+    let same : make files options ≡ command = cc in
+    subst HasRanges same (has files options (small limit refl))
+files_within make has _ _ _ _ _ _ is = absurd cc
+
 demo_within : (count workers : Option ℕ) (command : Command) → ((n : ℕ) → count ≡ Some n → (0 < n) × (n ≤ 100000)) → ((n : ℕ) → workers ≡ Some n → n ≤ 8) → showing count workers ≡ Some command → HasRanges command
 demo_within (Some count) (Some workers) command small few is =
     let same : Demo count workers ≡ command = cc in
@@ -86,6 +104,8 @@ command_within kind.Enforce items words command is = enforce_within _ _ (limit_i
 command_within kind.Session items words command is = session_within _ _ (limit_in items) _ _ (workers_in items) command (limit_within items) (workers_within items) is
 command_within kind.Check items words command is = check_within _ command is
 command_within kind.Format items words command is = format_within _ command is
+command_within kind.Implicit items words command is = implicit_within _ _ (limit_in items) _ _ command (limit_within items) is
+command_within kind.Report items words command is = files_within Report (λ files options has. has) _ (limit_in items) _ _ command (limit_within items) is
 command_within kind.Demo items words command is = demo_within (count_of words) (workers_in items) command (count_within words) (workers_within items) is
 
 taken_within : (which : Kind) (items : List Item) (others : List (List ℕ)) (command : Command) (taken : Bool) → cond taken (command_with which items (operands items ++ others)) None ≡ Some command → HasRanges command

@@ -4,13 +4,13 @@ use Rattle.std.specs.List.{after_first, before_first, list_all, list_any}
 use Rattle.std.specs.Option.{option_and_then}
 use Rattle.perm_base.specs.declared.shapes.Fit.{Fit}
 use Rattle.command_words.specs.Items.{Item, operand, flag, option, stray, are_different, is_dashes, is_same, items, operands, value_of}
-use Rattle.command_words.specs.FileNames.{FileNames}
+use Rattle.command_words.specs.FileNames.{FileNames, SubjectName}
 use Rattle.command_words.specs.Values.{fits_of, number_between}
 use Rattle.command_words.specs.declared.command.Command.{Command}
 use Rattle.command_words.specs.declared.command.Command.TheVariants as asked
 use Rattle.command_words.specs.declared.command.Options.{Options}
 use Rattle.command_words.specs.declared.kind.Kind.{Kind}
-use Rattle.command_words.specs.declared.kind.Kind.TheVariants.{Enforce, Session, Check, Format, Demo}
+use Rattle.command_words.specs.declared.kind.Kind.TheVariants.{Enforce, Session, Check, Format, Implicit, Report, Demo}
 
 -- the command of that name
 abbrev pub kind_named : List ℕ → Option Kind
@@ -19,15 +19,23 @@ kind_named name =
     else if bytes_eq name (codes "session") then Some Session
     else if bytes_eq name (codes "check") then Some Check
     else if bytes_eq name (codes "format") then Some Format
+    else if bytes_eq name (codes "implicit") then Some Implicit
+    else if bytes_eq name (codes "report") then Some Report
     else if bytes_eq name (codes "demo") then Some Demo
     else None
 
+-- the options that say something of roles
+abbrev pub role_options : List (List ℕ)
+role_options = codes "limit" ∷ codes "match" ∷ codes "domain-match" ∷ []
+
 -- the options that a command has
 abbrev pub options_of : Kind → List (List ℕ)
-options_of Enforce = codes "limit" ∷ codes "match" ∷ codes "domain-match" ∷ []
-options_of Session = codes "workers" ∷ codes "limit" ∷ codes "match" ∷ codes "domain-match" ∷ []
+options_of Enforce = role_options
+options_of Session = codes "workers" ∷ role_options
 options_of Check = []
 options_of Format = []
+options_of Implicit = role_options
+options_of Report = role_options
 options_of Demo = codes "workers" ∷ []
 
 -- whether it has the flag
@@ -36,6 +44,8 @@ has_json Enforce = true
 has_json Session = true
 has_json Check = false
 has_json Format = false
+has_json Implicit = false
+has_json Report = false
 has_json Demo = false
 
 -- whether it takes the item
@@ -76,6 +86,17 @@ abbrev pub files_of : List (List ℕ) → Option FileNames
 files_of (model ∷ policy ∷ []) = Some (record { model = model; policy = policy })
 files_of _ = None
 
+-- the first two operands name the files
+abbrev pub first_files : List (List ℕ) → Option FileNames
+first_files (model ∷ policy ∷ others) = Some (record { model = model; policy = policy })
+first_files _ = None
+
+-- a third operand is a name, and a fourth is its domain
+abbrev pub subject_of : List (List ℕ) → Option SubjectName
+subject_of (model ∷ policy ∷ name ∷ []) = Some (record { name = name; domain = None })
+subject_of (model ∷ policy ∷ name ∷ domain ∷ []) = Some (record { name = name; domain = Some domain })
+subject_of _ = None
+
 -- one operand is the size, from 1 to 100,000
 abbrev pub count_of : List (List ℕ) → Option ℕ
 count_of (count ∷ []) = number_between 6 1 100000 count
@@ -90,16 +111,26 @@ abbrev pub serving : Bool → Option FileNames → Option Options → Option ℕ
 serving json (Some files) (Some options) (Some workers) = Some (asked.Session files options json workers)
 serving _ _ _ _ = None
 
+abbrev pub implying : Option FileNames → Option SubjectName → Option Options → Option Command
+implying (Some files) (Some subject) (Some options) = Some (asked.Implicit files subject options)
+implying _ _ _ = None
+
+abbrev pub on_files : (FileNames → Options → Command) → Option FileNames → Option Options → Option Command
+on_files make (Some files) (Some options) = Some (make files options)
+on_files make _ _ = None
+
 abbrev pub showing : Option ℕ → Option ℕ → Option Command
 showing (Some count) (Some workers) = Some (asked.Demo count workers)
 showing _ _ = None
 
--- `enforce MODEL POLICY`, `session MODEL POLICY`, `check MODEL POLICY`, `format MODEL POLICY` or `demo N`, with its options
+-- the command's operands are files, but for `implicit MODEL POLICY NAME [DOMAIN]` and `demo N`; its options stand among the items
 abbrev pub command_with : Kind → List Item → List (List ℕ) → Option Command
 command_with Enforce items operands = enforcing (list_any (is_same flag) items) (files_of operands) (options_in items)
 command_with Session items operands = serving (list_any (is_same flag) items) (files_of operands) (options_in items) (workers_in items)
 command_with Check items operands = option_map asked.Check (files_of operands)
 command_with Format items operands = option_map asked.Format (files_of operands)
+command_with Implicit items operands = implying (first_files operands) (subject_of operands) (options_in items)
+command_with Report items operands = on_files asked.Report (files_of operands) (options_in items)
 command_with Demo items operands = showing (count_of operands) (workers_in items)
 
 -- by the items before the first `--` and the words behind it: the command takes each item, and none stands twice

@@ -18,6 +18,26 @@ impl<'a> Model for Files<'a> {
     ghost view = { λ f. record { model = f.model.now; policy = f.policy.now } };
 }
 
+/// The name that a command asks about. Contracts see it, and its domain, as bytes.
+#[derive(Drop)]
+pub struct Subject<'a> {
+    pub name: &'a str,
+    /// The domain, where one is told.
+    pub domain: Option<&'a str>,
+}
+
+impl<'a> Model for Subject<'a> {
+    ghost use Rattle.std.specs.Prelude.{option_map};
+    ghost use Rattle.command_words.specs.FileNames.{SubjectName};
+
+    ghost Value = { SubjectName };
+
+    ghost view = { λ s. record {
+      name = s.name.now;
+      domain = option_map (λ domain. domain.now) s.domain;
+    } };
+}
+
 /// What a command says of roles.
 #[derive(Drop)]
 pub struct Options {
@@ -49,6 +69,17 @@ pub enum Command<'a> {
     Check(Files<'a>),
     /// A model and a policy are printed.
     Format(Files<'a>),
+    /// The implied roles, users and permissions of a name are told.
+    Implicit {
+        files: Files<'a>,
+        subject: Subject<'a>,
+        options: Options,
+    },
+    /// The implied roles of all names are reported.
+    Report {
+        files: Files<'a>,
+        options: Options,
+    },
     /// A demonstration of a size from 1 to 100,000, with 0 to 8 workers; 0 unless it is told.
     Demo {
         count: u32,

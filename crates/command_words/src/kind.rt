@@ -1,7 +1,7 @@
 ghost use Rattle.std.specs.Prelude.{◌≡◌};
 ghost use Rattle.std.specs.List.{list_any};
 ghost use Rattle.std.specs.Str.{bytes_eq};
-ghost use Rattle.command_words.specs.Commands.{has_json, kind_named, options_of, takes};
+ghost use Rattle.command_words.specs.Commands.{has_json, kind_named, options_of, role_options, takes};
 ghost use Rattle.command_words.specs.Helps.Seen.{item_seen};
 
 use crate::items::Item;
@@ -13,6 +13,8 @@ pub(crate) enum Kind {
     Session,
     Check,
     Format,
+    Implicit,
+    Report,
     Demo,
 }
 
@@ -26,6 +28,8 @@ impl Kind {
             "session" => Some(Kind::Session),
             "check" => Some(Kind::Check),
             "format" => Some(Kind::Format),
+            "implicit" => Some(Kind::Implicit),
+            "report" => Some(Kind::Report),
             "demo" => Some(Kind::Demo),
             _ => None,
         }
@@ -48,7 +52,7 @@ impl Kind {
     {
         match self {
             Kind::Enforce | Kind::Session => true,
-            Kind::Check | Kind::Format | Kind::Demo => false,
+            Kind::Check | Kind::Format | Kind::Implicit | Kind::Report | Kind::Demo => false,
         }
     }
 
@@ -56,7 +60,7 @@ impl Kind {
         ensures { result ≡ list_any (bytes_eq name.now) (options_of self) }
     {
         match self {
-            Kind::Enforce => is_of_roles(name),
+            Kind::Enforce | Kind::Implicit | Kind::Report => is_of_roles(name),
             Kind::Session => name == "workers" || is_of_roles(name),
             Kind::Check | Kind::Format => false,
             Kind::Demo => name == "workers",
@@ -65,7 +69,7 @@ impl Kind {
 }
 
 fn is_of_roles(name: &str) -> bool
-    ensures { result ≡ list_any (bytes_eq name.now) (options_of Kind.Enforce) }
+    ensures { result ≡ list_any (bytes_eq name.now) role_options }
 {
     name == "limit" || name == "match" || name == "domain-match"
 }

@@ -10,6 +10,6 @@ mod numbers;
 mod options;
 mod words;
 
-pub use command::{Command, Files, Options};
+pub use command::{Command, Files, Options, Subject};
 pub use fits::Fits;
 pub use words::read_words;

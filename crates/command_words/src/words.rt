@@ -1,9 +1,9 @@
 ghost use Rattle.std.specs.Prelude.{◌≡◌, ◌≤◌, ◌++◌, ◌+◌, ◌&&◌, drop, length};
 ghost use Rattle.std.specs.List.{list_all, position_or_len};
-ghost use Rattle.command_words.specs.Commands.{command_from, command_of, command_with, count_of, files_of, takes};
+ghost use Rattle.command_words.specs.Commands.{command_from, command_of, command_with, count_of, files_of, first_files, subject_of, takes};
 ghost use Rattle.command_words.specs.Items.{are_different, is_dashes, items, operands, texts};
 
-use crate::command::{Command, Files};
+use crate::command::{Command, Files, Subject};
 use crate::items::{Item, first_item, operand, stands};
 use crate::kind::Kind;
 use crate::numbers::number_between;
@@ -21,6 +21,8 @@ const MOST_COUNT: u32 = 100_000;
 /// - `session MODEL POLICY [--workers W] [--limit L] [--match LIST] [--domain-match LIST] [--json]`
 /// - `check MODEL POLICY`
 /// - `format MODEL POLICY`
+/// - `implicit MODEL POLICY NAME [DOMAIN] [--limit L] [--match LIST] [--domain-match LIST]`
+/// - `report MODEL POLICY [--limit L] [--match LIST] [--domain-match LIST]`
 /// - `demo N [--workers W]`
 ///
 /// `L` is a number from 1 to 250 and `W` one from 0 to 8, each in one to three decimal digits; `N` is one from 1 to 100,000, in
@@ -47,6 +49,8 @@ fn command_from<'a>(kind: Kind, before: &'a [String], behind: &'a [String]) -> O
         Kind::Session => session(before, behind),
         Kind::Check => check(before, behind),
         Kind::Format => format(before, behind),
+        Kind::Implicit => implicit(before, behind),
+        Kind::Report => report(before, behind),
         Kind::Demo => demo(before, behind),
     }
 }
@@ -113,6 +117,29 @@ fn format<'a>(before: &'a [String], behind: &'a [String]) -> Option<Command<'a>>
     Some(Command::Format(files))
 }
 
+fn implicit<'a>(before: &'a [String], behind: &'a [String]) -> Option<Command<'a>>
+    ensures { let given = items (texts before.now) in
+        result ≡ command_with Kind.Implicit given (operands given ++ texts behind.now) }
+{
+    let files = first_files(before, behind)?;
+    let subject = subject_of(before, behind)?;
+    let options = options_in(before)?;
+    Some(Command::Implicit {
+        files,
+        subject,
+        options,
+    })
+}
+
+fn report<'a>(before: &'a [String], behind: &'a [String]) -> Option<Command<'a>>
+    ensures { let given = items (texts before.now) in
+        result ≡ command_with Kind.Report given (operands given ++ texts behind.now) }
+{
+    let files = files_of(before, behind)?;
+    let options = options_in(before)?;
+    Some(Command::Report { files, options })
+}
+
 fn demo<'a>(before: &'a [String], behind: &'a [String]) -> Option<Command<'a>>
     ensures { let given = items (texts before.now) in
         result ≡ command_with Kind.Demo given (operands given ++ texts behind.now) }
@@ -132,6 +159,27 @@ fn files_of<'a>(before: &'a [String], behind: &'a [String]) -> Option<Files<'a>>
         return None;
     };
     Some(Files { model, policy })
+}
+
+// The files that the first two operands name.
+fn first_files<'a>(before: &'a [String], behind: &'a [String]) -> Option<Files<'a>>
+    ensures { result ≡ first_files (operands (items (texts before.now)) ++ texts behind.now) }
+{
+    let model = operand(before, behind, 0)?;
+    let policy = operand(before, behind, 1)?;
+    Some(Files { model, policy })
+}
+
+// The name that the third operand is, with the fourth as its domain.
+fn subject_of<'a>(before: &'a [String], behind: &'a [String]) -> Option<Subject<'a>>
+    ensures { result ≡ subject_of (operands (items (texts before.now)) ++ texts behind.now) }
+{
+    let name = operand(before, behind, 2)?;
+    let domain = operand(before, behind, 3);
+    let None = operand(before, behind, 4) else {
+        return None;
+    };
+    Some(Subject { name, domain })
 }
 
 // The number that one operand is.

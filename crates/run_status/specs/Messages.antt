@@ -39,7 +39,7 @@ in_script line what = at_place (codes "script: line ") line what
 abbrev pub relation_name : ℕ → List ℕ
 relation_name relation = unwrap_or (name_of (G relation)) []
 
--- a part that is longer than its limit
+-- what is longer than its limit
 abbrev pub limit_message : Part → List ℕ
 limit_message part = codes "too long: " ++ part_name part ++ (codes ", limit " ++ decimal (limit_of part))
 

@@ -23,6 +23,8 @@ pub fn lines_in_full()
     ensures unreadable { line_of (Stop.CannotRead Part.Model) ≡ codes "cannot read: model\n" }
     ensures too_long { line_of (Stop.TooLong Part.Input)
         ≡ codes "too long: input, limit 16777216\n" }
+    ensures report { line_of (Stop.TooLong Part.Report)
+        ≡ codes "too long: report, limit 16777216\n" }
     ensures missing { line_of (Stop.NoModel (ModelFault.Missing Key.M))
         ≡ codes "model: missing m\n" }
     ensures shape { line_of (Stop.NoModel (ModelFault.RoleShape 2))

@@ -1,7 +1,7 @@
 ghost use Rattle.std.specs.Prelude.{◌≡◌};
 ghost use Rattle.run_status.specs.Parts.{limit_of, part_name};
 
-/// What a run reads, in this order.
+/// What of a run has a limit: what it reads, in this order, and the report that it writes.
 #[derive(Clone, Copy, Debug, PartialEq, Eq)]
 pub enum Part {
     /// The model's file.
@@ -10,6 +10,8 @@ pub enum Part {
     Policy,
     /// Standard input.
     Input,
+    /// The text of a report.
+    Report,
 }
 
 impl Part {
@@ -19,7 +21,7 @@ impl Part {
     {
         match self {
             Part::Model => 65_536,
-            Part::Policy | Part::Input => 16_777_216,
+            Part::Policy | Part::Input | Part::Report => 16_777_216,
         }
     }
 
@@ -31,6 +33,7 @@ impl Part {
             Part::Model => "model",
             Part::Policy => "policy",
             Part::Input => "input",
+            Part::Report => "report",
         }
     }
 }

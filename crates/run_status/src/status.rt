@@ -18,7 +18,7 @@ pub enum Status {
     ReadFault,
     /// The output could not be written.
     WriteFault,
-    /// A file or the input is longer than its limit.
+    /// A file, the input or a report is longer than its limit.
     TooLong,
     /// Memory ran out.
     NoMemory,

@@ -28,7 +28,7 @@ pub enum Stop {
     CannotRead(Part),
     /// The output could not be written.
     CannotWrite,
-    /// A file or the input is longer than its limit.
+    /// A file, the input or a report is longer than its limit.
     TooLong(Part),
     /// Memory ran out.
     NoMemory,

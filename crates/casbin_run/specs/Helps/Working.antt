@@ -1,5 +1,5 @@
 -- What a task comes to over what was read of its files, with one finder or with all.
-use Rattle.std.specs.Prelude.{◌≡◌, ◌⊎◌, ℕ, ◌<◌, ◌≤◌, Bool, false, true, List, Option, Result, IfErr, IfSome, OnOk, String, length, take}
+use Rattle.std.specs.Prelude.{◌≡◌, ◌⊎◌, ℕ, ◌<◌, ◌≤◌, Bool, false, true, List, Option, Result, IfErr, IfSome, OnOk, String, length, take, ⊤}
 use Rattle.std.specs.declared.alloc.Global.{Global}
 use Rattle.answer_lines.specs.declared.answer.Line.{Line}
 use Rattle.decision.specs.Programs.{Suits}
@@ -15,7 +15,7 @@ use Rattle.policy_table.specs.Tables as table
 use Rattle.regex_gate.specs.Refusals.{IsUsed, Refusals}
 use Rattle.run_status.specs.Parts.{limit_of}
 use Rattle.run_status.specs.Statuses.{status_of}
-use Rattle.run_status.specs.declared.part.Part.TheVariants.{Input}
+use Rattle.run_status.specs.declared.part.Part.TheVariants.{Input, Report}
 use Rattle.run_status.specs.declared.stop.Stop.{Stop}
 use Rattle.run_status.specs.declared.stop.Stop.TheVariants.{NoScript, CannotRead, CannotWrite, TooLong, NoMemory}
 use Rattle.script_read.specs.Reads.{Says}
@@ -28,7 +28,8 @@ use Rattle.casbin_run.specs.Causes.{HasFault, OfInput}
 use Rattle.casbin_run.specs.Ends.{may_write}
 use Rattle.casbin_run.specs.Finders.{HasRefused}
 use Rattle.casbin_run.specs.Given.{InputIs, SaysItems}
-use Rattle.casbin_run.specs.Texts.{text_of, text_of_lines}
+use Rattle.casbin_run.specs.Roles.{IsLong, IsReported, IsShort}
+use Rattle.casbin_run.specs.Texts.{HasRoom, IsTooLong, Writes, joined, text_of_lines}
 use Rattle.casbin_run.specs.Worlds.{Taken}
 
 -- what was loaded can be worked with
@@ -43,6 +44,12 @@ pub record IsOpened (loaded : Loaded) (program : ModelParts) (state : State) : T
   pub shapes_are : state.shapes ≡ loaded.shapes
   pub policy_is : tables state ≡ loaded.tables.policy
   pub suits : Suits program state.shapes
+  pub opening : versions state.log ≡ 0
+
+-- the state is the policy's, with no edit yet
+pub record IsFirst (shapes : Shapes) (policy : table.Policy) (state : State) : Type 0 where
+  pub shapes_are : state.shapes ≡ shapes
+  pub policy_is : tables state ≡ policy
   pub opening : versions state.log ≡ 0
 
 -- what a task is done on
@@ -65,32 +72,36 @@ pub record LinesOf (IsSaid : List Said → Type 0) (model : ModelParts) (shapes 
   pub plain : IsPlain model shapes policy items refused lines
   pub logged : IsLogged (all_refused refused)
 
--- the lines of a task
-abbrev pub Worked : Ground → (List (List ℕ) → Type 0) → Type 0
-Worked on IsLogged = LinesOf (SaysItems on.task on.input) on.model on.shapes on.policy IsLogged
+-- the text of a task, and what of all that was refused for it, one after the other, holds
+pub record Worked (on : Ground) (IsLogged : List (List ℕ) → Type 0) : Type 0 where
+  pub items : List Said
+  pub refused : List (List (List ℕ))
+  pub pieces : List (List ℕ)
+  pub text : List ℕ
+  pub says : SaysItems on.task on.input items
+  pub room : HasRoom on.task on.shapes on.policy
+  pub writes : Writes on.task on.model on.shapes on.policy items refused pieces text
+  pub logged : IsLogged (all_refused refused)
 
--- its text with these lines
-abbrev pub task_text : Ground → List Line → List ℕ
-task_text on lines = text_of on.task on.model on.policy lines
-
--- the sink took the task's text, a front of it, or whole lines of the first so many items
+-- the sink took the task's text, a front of it, or the first so many of its pieces
 pub record DidAll (on : Ground) (IsLogged : List (List ℕ) → Type 0) (out out_now : Option (List ℕ)) : Type 0 where
   pub worked : Worked on IsLogged
-  pub took : out_now ≡ with_back out (task_text on worked.lines)
+  pub took : out_now ≡ with_back out worked.text
 
 pub record DidSome (on : Ground) (IsLogged : List (List ℕ) → Type 0) (out out_now : Option (List ℕ)) : Type 0 where
   pub worked : Worked on IsLogged
-  pub took : TookFront out out_now (task_text on worked.lines)
+  pub took : TookFront out out_now worked.text
 
 pub record DidFirst (on : Ground) (IsLogged : List (List ℕ) → Type 0) (out out_now : Option (List ℕ)) : Type 0 where
   pub worked : Worked on IsLogged
   pub count : ℕ
-  pub took : out_now ≡ with_back out (text_of_lines (take count worked.lines))
+  pub took : out_now ≡ with_back out (joined (take count worked.pieces))
 
 -- why the task was not done, by cases on the stop
 abbrev pub WorkStops : Ground → (List (List ℕ) → Type 0) → Option (List ℕ) → Option (List ℕ) → (input_rose out_rose : Type 0) → Stop → Type 0
 WorkStops on IsLogged out out_now input_rose out_rose (CannotRead Input) = OfInput on.task input_rose
 WorkStops on IsLogged out out_now input_rose out_rose (TooLong Input) = OfInput on.task (IfSome on.input (λ bytes. limit_of Input < length bytes))
+WorkStops on IsLogged out out_now input_rose out_rose (TooLong Report) = IsTooLong on.task on.shapes on.policy
 WorkStops on IsLogged out out_now input_rose out_rose (NoScript fault) = OfInput on.task (InputIs on.input (λ bytes. HasFault on.task bytes fault))
 WorkStops on IsLogged out out_now input_rose out_rose CannotWrite = DidSome on IsLogged out out_now × out_rose
 WorkStops on IsLogged out out_now input_rose out_rose NoMemory = (out_now ≡ out) ⊎ DidFirst on IsLogged out out_now
@@ -143,3 +154,38 @@ abbrev pub ShowStops : Option (List ℕ) → Option (List ℕ) → List ℕ → 
 ShowStops out out_now text out_rose CannotWrite = TookFront out out_now text × out_rose
 ShowStops out out_now text out_rose NoMemory = out_now ≡ out
 ShowStops out out_now text out_rose _ = ⊥
+
+-- the sink took a text of which this holds
+pub record Showed (Is : List ℕ → Type 0) (out out_now : Option (List ℕ)) : Type 0 where
+  pub text : List ℕ
+  pub is : Is text
+  pub took : out_now ≡ with_back out text
+
+-- it took a front of such a text
+pub record ShowedSome (Is : List ℕ → Type 0) (out out_now : Option (List ℕ)) : Type 0 where
+  pub text : List ℕ
+  pub is : Is text
+  pub took : TookFront out out_now text
+
+-- why such a text was not pushed
+abbrev pub TextStops : (List ℕ → Type 0) → Option (List ℕ) → Option (List ℕ) → (out_rose : Type 0) → Stop → Type 0
+TextStops Is out out_now out_rose CannotWrite = ShowedSome Is out out_now × out_rose
+TextStops Is out out_now out_rose NoMemory = out_now ≡ out
+TextStops Is out out_now out_rose _ = ⊥
+
+-- a report, or what stands in its place, that is not too long
+abbrev pub IsShortReport : Shapes → table.Policy → List ℕ → Type 0
+IsShortReport shapes policy text = IsReported shapes policy text × IsShort shapes policy
+
+-- why there is none
+abbrev pub NotReported : Shapes → table.Policy → Stop → Type 0
+NotReported shapes policy (TooLong Report) = IsLong shapes policy
+NotReported shapes policy NoMemory = ⊤
+NotReported shapes policy _ = ⊥
+
+-- why it was not pushed
+abbrev pub ReportStops : Shapes → table.Policy → Option (List ℕ) → Option (List ℕ) → (out_rose : Type 0) → Stop → Type 0
+ReportStops shapes policy out out_now out_rose (TooLong Report) = IsLong shapes policy × (out_now ≡ out)
+ReportStops shapes policy out out_now out_rose CannotWrite = ShowedSome (IsShortReport shapes policy) out out_now × out_rose
+ReportStops shapes policy out out_now out_rose NoMemory = out_now ≡ out
+ReportStops shapes policy out out_now out_rose _ = ⊥

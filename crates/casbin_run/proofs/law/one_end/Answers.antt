@@ -2,11 +2,21 @@ use Rattle.std.proofs.Common.{false, inl, inr, ⊎_elim}
 use Rattle.casbin_run.proofs.ModelLemmas.{HasMatchers, some_model}
 use Rattle.casbin_run.proofs.SomeEnd.{SaysSome, some_end}
 use Rattle.casbin_run.proofs.OneEnd.{SaysOnce, no_cause, one_cause, one_text}
+use Rattle.casbin_run.proofs.RolesLemmas.{ImpliesOnce, implied_once, long_or_short, reported_once}
 use Rattle.casbin_run.proofs.law.one_end.Goals as goal
-use Rattle.casbin_run.proofs.law.one_end.Goals.{After-lines_are_one}
+use Rattle.casbin_run.proofs.law.one_end.Goals.{After-relation_has_one_report}
+
+-- what is asked of roles has one answer
+implies : After-relation_has_one_report → ImpliesOnce
+implies c = record {
+  roles = c.implied_roles_are_one.ensures;
+  users = c.implied_users_are_one.ensures;
+  rules = c.permissions_are_one.ensures;
+  report = c.relation_has_one_report.ensures.unique;
+}
 
 -- what the laws of the crates below say of texts
-once : After-lines_are_one → SaysOnce
+once : After-relation_has_one_report → SaysOnce
 once c = record {
   model = c.text_says_one_model.ensures;
   model_fault = c.text_has_one_model_fault.ensures;
@@ -19,16 +29,18 @@ once c = record {
   script_either = c.faulty_text_is_no_script.ensures;
   requests = c.input_says_one_list_of_requests.ensures;
   lines = c.lines_are_one.ensures;
+  implied = implied_once (implies c);
+  reported = reported_once (implies c);
 }
 
 pub returns-clause-one_cause : goal.returns-clause-one_cause
-returns-clause-one_cause c = one_cause (once (goal.at.returns-clause-one_cause c).After-lines_are_one)
+returns-clause-one_cause c = one_cause (once (goal.at.returns-clause-one_cause c).After-relation_has_one_report)
 
 pub returns-clause-no_cause : goal.returns-clause-no_cause
-returns-clause-no_cause c = no_cause (once (goal.at.returns-clause-no_cause c).After-lines_are_one)
+returns-clause-no_cause c = no_cause (once (goal.at.returns-clause-no_cause c).After-relation_has_one_report)
 
 pub returns-clause-one_text : goal.returns-clause-one_text
-returns-clause-one_text c = one_text (once (goal.at.returns-clause-one_text c).After-lines_are_one)
+returns-clause-one_text c = one_text (once (goal.at.returns-clause-one_text c).After-relation_has_one_report)
 
 pub returns-clause-there : goal.returns-clause-there
 returns-clause-there c =
@@ -41,5 +53,6 @@ returns-clause-there c =
       policy = c.every_text_is_a_policy_or_at_fault.ensures;
       script = c.every_text_is_a_script_or_at_fault.ensures;
       requests = c.every_input_is_requests_or_at_fault.ensures.always;
+      report = long_or_short (implies (goal.at.returns-clause-there c).After-relation_has_one_report) c.relation_has_one_report.ensures.there;
     } in
     some_end some

@@ -4,8 +4,8 @@ use Rattle.std.proofs.lemmas.Result.{IfErr-weaker, on_ok_weaker}
 use Rattle.script_read.specs.Said.{Said, seen}
 use Rattle.script_read.specs.Script.{IsRequests}
 use Rattle.casbin_run.specs.Helps.Working.{ground}
-use Rattle.casbin_run.specs.declared.job.Task.TheVariants.{Enforce, Serve, Check, Format}
-use Rattle.casbin_run.proofs.WorkLemmas.{answered_all, answered_stops, asked_says, input_stops, served_says, shown_all, shown_stops}
+use Rattle.casbin_run.specs.declared.job.Task.TheVariants.{Enforce, Serve, Check, Format, Implicit, Report}
+use Rattle.casbin_run.proofs.WorkLemmas.{answered_all, answered_stops, asked_says, input_stops, report_quiet, report_stops, served_says, showed_all, shown_all, shown_stops, shows_check, shows_format, shows_implied, shows_report, text_quiet, text_stops}
 use Rattle.casbin_run.proofs.run.do_task.Goals as goal
 
 pub returns-in_err-text-in-Enforce-clause-stopped : goal.returns-in_err-text-in-Enforce-clause-stopped
@@ -17,39 +17,75 @@ pub returns-in_ok-text-in-Enforce-clause-done : goal.returns-in_ok-text-in-Enfor
 returns-in_ok-text-in-Enforce-clause-done g c =
     let json = c.in-Enforce.json in
     let left = g.S.Source.left c.args.input.now in
-    rw c.in-Enforce.is (on_ok_weaker c.enforce.result (answered_all (ground (Enforce json) c.args.loaded left) refl (IsRequests json c.as_str.result.now) (asked_says json left c.as_str.result.now (rw c.as_str.ensures.value c.in_ok-text-in-Enforce.ensures.read)) _ _ _ _) c.enforce.ensures.printed)
+    rw c.in-Enforce.is (on_ok_weaker c.enforce.result (answered_all (ground (Enforce json) c.args.loaded left) (λ items refused pieces text lines. lines) tt (IsRequests json c.as_str.result.now) (asked_says json left c.as_str.result.now (rw c.as_str.ensures.value c.in_ok-text-in-Enforce.ensures.read)) _ _ _ _) c.enforce.ensures.printed)
 
 pub returns-in_ok-text-in-Enforce-clause-stopped : goal.returns-in_ok-text-in-Enforce-clause-stopped
 returns-in_ok-text-in-Enforce-clause-stopped g c =
     let json = c.in-Enforce.json in
     let left = g.S.Source.left c.args.input.now in
-    rw c.in-Enforce.is (IfErr-weaker c.enforce.result _ _ (answered_stops (ground (Enforce json) c.args.loaded left) refl (IsRequests json c.as_str.result.now) (asked_says json left c.as_str.result.now (rw c.as_str.ensures.value c.in_ok-text-in-Enforce.ensures.read)) _ _ _ _ _ _) c.enforce.ensures.stopped)
+    rw c.in-Enforce.is (IfErr-weaker c.enforce.result _ _ (answered_stops (ground (Enforce json) c.args.loaded left) (λ items refused pieces text lines. lines) tt (IsRequests json c.as_str.result.now) (asked_says json left c.as_str.result.now (rw c.as_str.ensures.value c.in_ok-text-in-Enforce.ensures.read)) _ _ _ _ _ _) c.enforce.ensures.stopped)
 
 pub returns-in_ok-script-in-Serve-clause-done : goal.returns-in_ok-script-in-Serve-clause-done
 returns-in_ok-script-in-Serve-clause-done g c =
     let json = c.in-Serve.json in
     let left = g.S.Source.left c.args.input.now in
     let script = map seen c.in_ok-script-in-Serve.script in
-    rw c.in-Serve.is (on_ok_weaker c.serve.result (answered_all (ground (Serve json) c.args.loaded left) refl (λ (items : List Said). items ≡ script) (served_says json left script c.in_ok-script-in-Serve.ensures.read) _ _ _ _) c.serve.ensures.printed)
+    rw c.in-Serve.is (on_ok_weaker c.serve.result (answered_all (ground (Serve json) c.args.loaded left) (λ items refused pieces text lines. lines) tt (λ (items : List Said). items ≡ script) (served_says json left script c.in_ok-script-in-Serve.ensures.read) _ _ _ _) c.serve.ensures.printed)
 
 pub returns-in_ok-script-in-Serve-clause-stopped : goal.returns-in_ok-script-in-Serve-clause-stopped
 returns-in_ok-script-in-Serve-clause-stopped g c =
     let json = c.in-Serve.json in
     let left = g.S.Source.left c.args.input.now in
     let script = map seen c.in_ok-script-in-Serve.script in
-    rw c.in-Serve.is (IfErr-weaker c.serve.result _ _ (answered_stops (ground (Serve json) c.args.loaded left) refl (λ (items : List Said). items ≡ script) (served_says json left script c.in_ok-script-in-Serve.ensures.read) _ _ _ _ _ _) c.serve.ensures.stopped)
+    rw c.in-Serve.is (IfErr-weaker c.serve.result _ _ (answered_stops (ground (Serve json) c.args.loaded left) (λ items refused pieces text lines. lines) tt (λ (items : List Said). items ≡ script) (served_says json left script c.in_ok-script-in-Serve.ensures.read) _ _ _ _ _ _) c.serve.ensures.stopped)
 
 pub returns-in-Check-clause-done : goal.returns-in-Check-clause-done
-returns-in-Check-clause-done g c = rw c.in-Check.is (on_ok_weaker c.check.result (shown_all (ground Check c.args.loaded (g.S.Source.left c.args.input.now)) (g.P.Finder.refusals c.args.finder.now) refl _ _) c.check.ensures.shown)
+returns-in-Check-clause-done g c =
+    let left = g.S.Source.left c.args.input.now in
+    rw c.in-Check.is (on_ok_weaker c.check.result (shown_all (ground Check c.args.loaded left) (g.P.Finder.refusals c.args.finder.now) _ (shows_check c.args.loaded left) _ _) c.check.ensures.shown)
 
 pub returns-in-Check-clause-stopped : goal.returns-in-Check-clause-stopped
-returns-in-Check-clause-stopped g c = rw c.in-Check.is (IfErr-weaker c.check.result _ _ (shown_stops (ground Check c.args.loaded (g.S.Source.left c.args.input.now)) (g.P.Finder.refusals c.args.finder.now) refl _ _ _ _) c.check.ensures.stopped)
+returns-in-Check-clause-stopped g c =
+    let left = g.S.Source.left c.args.input.now in
+    rw c.in-Check.is (IfErr-weaker c.check.result _ _ (shown_stops (ground Check c.args.loaded left) (g.P.Finder.refusals c.args.finder.now) _ (shows_check c.args.loaded left) _ _ _ _) c.check.ensures.stopped)
 
 pub returns-in-Format-clause-done : goal.returns-in-Format-clause-done
-returns-in-Format-clause-done g c = rw c.in-Format.is (on_ok_weaker c.format.result (shown_all (ground Format c.args.loaded (g.S.Source.left c.args.input.now)) (g.P.Finder.refusals c.args.finder.now) refl _ _) c.format.ensures.shown)
+returns-in-Format-clause-done g c =
+    let left = g.S.Source.left c.args.input.now in
+    rw c.in-Format.is (on_ok_weaker c.format.result (shown_all (ground Format c.args.loaded left) (g.P.Finder.refusals c.args.finder.now) _ (shows_format c.args.loaded left) _ _) c.format.ensures.shown)
 
 pub returns-in-Format-clause-stopped : goal.returns-in-Format-clause-stopped
-returns-in-Format-clause-stopped g c = rw c.in-Format.is (IfErr-weaker c.format.result _ _ (shown_stops (ground Format c.args.loaded (g.S.Source.left c.args.input.now)) (g.P.Finder.refusals c.args.finder.now) refl _ _ _ _) c.format.ensures.stopped)
+returns-in-Format-clause-stopped g c =
+    let left = g.S.Source.left c.args.input.now in
+    rw c.in-Format.is (IfErr-weaker c.format.result _ _ (shown_stops (ground Format c.args.loaded left) (g.P.Finder.refusals c.args.finder.now) _ (shows_format c.args.loaded left) _ _ _ _) c.format.ensures.stopped)
+
+pub returns-in-Implicit-clause-done : goal.returns-in-Implicit-clause-done
+returns-in-Implicit-clause-done g c =
+    let left = g.S.Source.left c.args.input.now in
+    let subject = c.in-Implicit.subject in
+    rw c.in-Implicit.is (on_ok_weaker c.implicit.result (showed_all (ground (Implicit subject) c.args.loaded left) (g.P.Finder.refusals c.args.finder.now) _ (shows_implied c.args.loaded left subject) _ _) c.implicit.ensures.shown)
+
+pub returns-in-Implicit-clause-stopped : goal.returns-in-Implicit-clause-stopped
+returns-in-Implicit-clause-stopped g c =
+    let left = g.S.Source.left c.args.input.now in
+    let subject = c.in-Implicit.subject in
+    rw c.in-Implicit.is (IfErr-weaker c.implicit.result _ _ (text_stops (ground (Implicit subject) c.args.loaded left) (g.P.Finder.refusals c.args.finder.now) _ (shows_implied c.args.loaded left subject) _ _ _ _) c.implicit.ensures.stopped)
+
+pub returns-in-Implicit-clause-quiet : goal.returns-in-Implicit-clause-quiet
+returns-in-Implicit-clause-quiet g c = IfErr-weaker c.implicit.result _ _ (text_quiet _ _ _ _) c.implicit.ensures.stopped
+
+pub returns-in-Report-clause-done : goal.returns-in-Report-clause-done
+returns-in-Report-clause-done g c =
+    let left = g.S.Source.left c.args.input.now in
+    rw c.in-Report.is (on_ok_weaker c.report.result (showed_all (ground Report c.args.loaded left) (g.P.Finder.refusals c.args.finder.now) _ (shows_report c.args.loaded left) _ _) c.report.ensures.shown)
+
+pub returns-in-Report-clause-stopped : goal.returns-in-Report-clause-stopped
+returns-in-Report-clause-stopped g c =
+    let left = g.S.Source.left c.args.input.now in
+    rw c.in-Report.is (IfErr-weaker c.report.result _ _ (report_stops c.args.loaded left (g.P.Finder.refusals c.args.finder.now) _ _ _ _) c.report.ensures.stopped)
+
+pub returns-in-Report-clause-quiet : goal.returns-in-Report-clause-quiet
+returns-in-Report-clause-quiet g c = IfErr-weaker c.report.result _ _ (report_quiet _ _ _ _ _) c.report.ensures.stopped
 
 -- what is printed reads back
 pub returns-in_ok-text-in-Enforce-clause-reads_back : goal.returns-in_ok-text-in-Enforce-clause-reads_back
@@ -63,3 +99,9 @@ returns-in-Check-clause-reads_back g c = rw c.in-Check.is c.check.ensures.reads_
 
 pub returns-in-Format-clause-reads_back : goal.returns-in-Format-clause-reads_back
 returns-in-Format-clause-reads_back g c = rw c.in-Format.is c.format.ensures.reads_back
+
+pub returns-in-Implicit-clause-reads_back : goal.returns-in-Implicit-clause-reads_back
+returns-in-Implicit-clause-reads_back g c = rw c.in-Implicit.is (on_ok_weaker c.implicit.result (λ all. tt) c.implicit.ensures.shown)
+
+pub returns-in-Report-clause-reads_back : goal.returns-in-Report-clause-reads_back
+returns-in-Report-clause-reads_back g c = rw c.in-Report.is (on_ok_weaker c.report.result (λ all. tt) c.report.ensures.shown)

@@ -1,0 +1,6 @@
+mod EntryLemmas
+mod CacheLemmas
+mod GoodLemmas
+mod AnswerLemmas
+mod SeatLemmas
+pub mod CallerLemmas

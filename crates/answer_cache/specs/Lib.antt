@@ -1,0 +1,4 @@
+pub mod Cached
+pub mod Answered
+pub mod Good
+pub mod Seats

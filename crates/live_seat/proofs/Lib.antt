@@ -1,0 +1,2 @@
+pub mod DecidedLemmas
+pub mod CallerLemmas

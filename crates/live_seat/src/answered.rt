@@ -1,0 +1,29 @@
+use effect_fold::Verdict;
+use perm_base::NoMemory;
+
+/// The verdict on a request, and the version of the policy by which it was judged.
+#[derive(Clone, Copy, Debug, PartialEq, Eq)]
+pub struct Answered {
+    pub version: u32,
+    pub verdict: Verdict,
+}
+
+/// Why a request was not decided at a seat.
+#[derive(Clone, Copy, Debug, PartialEq, Eq)]
+pub enum SeatStop {
+    /// The entry was refused, and the seat counted it.
+    Shut,
+    /// Memory ran out.
+    NoMemory,
+}
+
+impl From<NoMemory> for SeatStop {
+    ghost use Rattle.std.specs.Prelude.{◌≡◌};
+    ghost use Rattle.live_seat.specs.declared.answered.SeatStop.TheVariants as stops;
+
+    ghost from_gives = { λ _ stop. stop ≡ stops.NoMemory };
+
+    fn from(_: NoMemory) -> SeatStop {
+        SeatStop::NoMemory
+    }
+}

@@ -1,0 +1,11 @@
+mod PartLemmas
+mod ReadLemmas
+mod WaitLemmas
+mod AcceptLemmas
+mod AppendLemmas
+mod TakeLemmas
+mod HonestLemmas
+mod HistoryLemmas
+mod LawLemmas
+mod ShipLemmas
+pub mod CallerLemmas

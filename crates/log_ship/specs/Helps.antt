@@ -1,0 +1,4 @@
+-- What only private functions and proofs say.
+pub mod Looks
+pub mod Reads
+pub mod Waits

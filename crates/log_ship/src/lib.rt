@@ -1,0 +1,27 @@
+//! Followers: a leader's edits as packets of text, and a policy that takes them lost, repeated or in any order and always holds a
+//! front of the leader's edits.
+#![tactic(auto)]
+
+mod appending;
+mod follower;
+mod laws;
+mod packet;
+mod packet_fault;
+mod packet_read;
+mod ship_refused;
+mod shipping;
+mod taken;
+mod taking;
+mod waiting;
+
+pub use follower::Follower;
+pub use laws::{
+    bytes_say_packets_once, followers_hold_a_front, packets_are_applied_to_the_least_gap,
+    texts_read_in_one_way,
+};
+pub use packet::{Packet, Packets};
+pub use packet_fault::PacketFault;
+pub use packet_read::read_packets;
+pub use ship_refused::ShipRefused;
+pub use shipping::{packet_of, print_packet, print_packets};
+pub use taken::{TakeRefused, Taken};

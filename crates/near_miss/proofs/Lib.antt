@@ -1,0 +1,6 @@
+mod ListLemmas
+mod StandingLemmas
+mod RowLemmas
+mod MissLemmas
+mod PartLemmas
+mod LineLemmas

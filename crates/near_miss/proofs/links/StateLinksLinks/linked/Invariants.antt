@@ -1,0 +1,4 @@
+use Rattle.near_miss.proofs.links.StateLinksLinks.linked.Given as goal
+
+abbrev pub ghosts-linked : goal.ghosts-linked
+ghosts-linked a = record { name = a.blank.name; parts = a.blank.parts }

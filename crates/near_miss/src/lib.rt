@@ -1,0 +1,16 @@
+//! Near misses: the rules of p that fit a request in all parts of the matcher's conjunction but one.
+#![tactic(auto)]
+
+mod explainer;
+mod lines;
+mod links;
+mod making;
+mod misses;
+mod part;
+mod printing;
+mod row;
+mod words;
+
+pub use explainer::{Explainer, make_explainer};
+pub use lines::push_near_misses;
+pub use misses::{NearMiss, near_misses};

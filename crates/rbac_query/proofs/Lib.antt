@@ -1,0 +1,6 @@
+mod AskLemmas
+mod SortedLemmas
+mod CountLemmas
+mod SubjectLemmas
+mod EntryLemmas
+mod ReportLemmas

@@ -1,0 +1,5 @@
+-- What only private functions and proofs say.
+pub mod Tests
+pub mod Subjects
+pub mod Entries
+pub mod Stops

@@ -1,0 +1,4 @@
+pub mod Asked
+pub mod Permissions
+pub mod Report
+pub mod Helps
