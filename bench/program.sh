@@ -18,12 +18,13 @@ make_program() {
 
 # Copies crates and those below them.
 copy_crates() {
-  local name below
+  local name below folder
   for name in "$@"; do
     if [ ! -d "$crates/$name" ] || [ -d "$work/crates/$name" ]; then continue; fi
     mkdir -p "$work/crates/$name"
-    cp -r "$crates/$name/src" "$crates/$name/proofs" "$work/crates/$name"
-    if [ -d "$crates/$name/specs" ]; then cp -r "$crates/$name/specs" "$work/crates/$name"; fi
+    for folder in src specs proofs; do
+      if [ -d "$crates/$name/$folder" ]; then cp -r "$crates/$name/$folder" "$work/crates/$name"; fi
+    done
     grep "^$name:" "$crates/../crates.txt" >> "$work/crates.txt"
     read -ra below <<< "$(sed -n "s/^$name://p" "$crates/../crates.txt")"
     copy_crates "${below[@]}"

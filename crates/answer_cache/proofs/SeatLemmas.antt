@@ -9,7 +9,6 @@ use Rattle.policy_table.specs.Changes.{replay}
 use Rattle.policy_table.specs.Tables.{Policy}
 use Rattle.policy_table.specs.declared.change.Change.{Change}
 use Rattle.version_log.specs.Log.{versions}
-use Rattle.version_log.proofs.CallerLemmas.{tables_after}
 use Rattle.answer_cache.specs.Cached.{Cached, entries_of}
 use Rattle.answer_cache.specs.Good.{AreJudged, Serves}
 use Rattle.answer_cache.specs.Seats.{AreOfOneSeat}
@@ -24,13 +23,13 @@ whole (x ∷ xs) (y ∷ ys) begun same =
 
 pub same_edits : (opening : Policy) (older newer : List (List Change)) (before now : State) → AreOfOneSeat opening older newer before now → versions before.log ≡ versions now.log → older ≡ newer
 same_edits opening older newer before now seat same =
-    whole older newer seat.begun (sym (version_stands before.log opening older seat.stood) ∙ same ∙ version_stands now.log opening newer seat.stands)
+    whole older newer seat.begun (sym (version_stands before.log older seat.stood.log) ∙ same ∙ version_stands now.log newer seat.stands.log)
 
 pub same_tables : (opening : Policy) (older newer : List (List Change)) (before now : State) → AreOfOneSeat opening older newer before now → versions before.log ≡ versions now.log → tables before ≡ tables now
 same_tables opening older newer before now seat same =
-    tables_after before.log opening older seat.stood
+    seat.stood.tables
     ∙ ap (λ (edits : List (List Change)). replay edits opening) (same_edits opening older newer before now seat same)
-    ∙ sym (tables_after now.log opening newer seat.stands)
+    ∙ sym seat.stands.tables
 
 -- edits that begin others are no more
 no_more : {A : Type 0} (xs ys : List A) → IsPrefix xs ys → length xs ≤ length ys
@@ -38,7 +37,7 @@ no_more xs ys begun = omega (arith, sym (ap length begun.1), length-append xs be
 
 pub no_later : (opening : Policy) (older newer : List (List Change)) (before now : State) → AreOfOneSeat opening older newer before now → versions before.log ≤ versions now.log
 no_later opening older newer before now seat =
-    omega (arith, version_stands before.log opening older seat.stood, version_stands now.log opening newer seat.stands, no_more older newer seat.begun)
+    omega (arith, version_stands before.log older seat.stood.log, version_stands now.log newer seat.stands.log, no_more older newer seat.begun)
 
 pub serves_later : (opening : Policy) (older newer : List (List Change)) (before now : State) (model : ModelParts) (cache : Cached) → AreOfOneSeat opening older newer before now
     → Serves model before cache → Serves model now cache

@@ -1,5 +1,5 @@
 -- How the stops of the parts of a run are stops of the run.
-use Rattle.std.proofs.Common.{◌≡◌, ◌≤◌, Bool, true, false, List, [], ◌∷◌, inl, inr, ⊎_elim, refl, sym, ap, subst, arith}
+use Rattle.std.proofs.Common.{◌≡◌, ℕ, ◌≤◌, Bool, true, false, List, [], ◌∷◌, inl, inr, ⊎_elim, refl, sym, ap, subst, arith}
 use Rattle.std.specs.Prelude.{◌⊎◌, Some, None, Result, Ok, Err, OnOk}
 use Rattle.outside.specs.Files.{Lacks}
 use Rattle.outside.specs.Log.{Adds, call}
@@ -16,7 +16,7 @@ use Rattle.run_status.specs.declared.stop.Stop.{Stop}
 use Rattle.run_status.specs.declared.stop.Stop.TheVariants.{Words, NoModel, NoRelation, NoPolicy, NoScript, CannotRead, CannotWrite, TooLong, NoMemory}
 use Rattle.casbin_run.specs.Answered.{Answers, TookAll, TookFirst, TookSome}
 use Rattle.casbin_run.specs.Causes.{EndsBy, FailsAt, StopsAt, is_of_shelf}
-use Rattle.casbin_run.specs.Ends.{Ends, HasDone}
+use Rattle.casbin_run.specs.Ends.{Ends, IsDone}
 use Rattle.casbin_run.specs.Finders.{AreUsed, HaveRefused}
 use Rattle.casbin_run.specs.Given.{Given}
 use Rattle.casbin_run.specs.Helps.Loading.{IsLoaded, LoadStops}
@@ -25,7 +25,7 @@ use Rattle.casbin_run.specs.Helps.Working.{DidAll, DidFirst, DidSome, WorkStops,
 use Rattle.casbin_run.specs.Jobs.{job_asked, reads_input}
 use Rattle.casbin_run.specs.Shown.{ReadsBack}
 use Rattle.casbin_run.specs.Reached.{HasAsked, IsReached, Reached, at_words, at_model, at_options, at_policy, at_task, fetches_to}
-use Rattle.casbin_run.specs.Texts.{HasRoom, IsTooLong, Writes}
+use Rattle.casbin_run.specs.Texts.{HasRoom, IsTooLong, Tells, Writes}
 use Rattle.casbin_run.specs.Worlds.{InputRose, OutRose, Pulled, ShelfRose, Taken, World}
 use Rattle.casbin_run.specs.declared.files.Loaded.{Loaded}
 use Rattle.casbin_run.specs.declared.job.Job.{Job}
@@ -100,9 +100,9 @@ module _ (g : Given) (before now : World) (job : Job) (asked : job_asked g.words
     unfolding answers_of
     took_first first = record { answers = answers_of first.worked; count = first.count; took = first.took }
 
-    took_all : DidAll (ground job.task loaded g.input) (HaveRefused before.finders now.finders) before.out.bytes now.out.bytes → TookAll g before now
+    took_all : (err err_now : Taken) → DidAll (ground job.task loaded g.input) (HaveRefused before.finders now.finders) before.out.bytes now.out.bytes err err_now → TookAll g before now
     unfolding answers_of
-    took_all all = record { answers = answers_of all.worked; took = all.took }
+    took_all err err_now all = record { answers = answers_of all.worked; took = all.took }
 
     module _ (told : Adds before.shelf.calls now.shelf.calls (call job.files.model false ∷ call job.files.policy false ∷ [])) (unread : reads_input job.task ≡ false → now.input ≡ before.input) where
       abbrev here : Reached
@@ -111,12 +111,15 @@ module _ (g : Given) (before now : World) (job : Job) (asked : job_asked g.words
       task_asked : HasAsked before now here false
       task_asked = record { fetched = told; unread = unread }
 
-      pub all_done : DidAll (ground job.task loaded g.input) (HaveRefused before.finders now.finders) before.out.bytes now.out.bytes → ReadsBack job.task loaded.model loaded.shapes loaded.tables.policy → HasDone g before now
+      pub all_done : (err err_now : Taken) → DidAll (ground job.task loaded g.input) (HaveRefused before.finders now.finders) before.out.bytes now.out.bytes err err_now → ReadsBack job.task loaded.model loaded.shapes loaded.tables.policy → IsDone g before now err err_now
       unfolding took_all answers_of
-      all_done all back = record {
-        all = took_all all;
-        fetched = (job, asked, told);
-        back = subst (λ (shapes : Shapes). ReadsBack job.task loaded.model shapes loaded.tables.policy) is.shapes_are back;
+      all_done err err_now all back = record {
+        done = record {
+          all = took_all err err_now all;
+          fetched = (job, asked, told);
+          back = subst (λ (shapes : Shapes). ReadsBack job.task loaded.model shapes loaded.tables.policy) is.shapes_are back;
+        };
+        told = subst (λ (shapes : Shapes). Tells job.task loaded.model shapes loaded.tables.policy all.worked.items all.worked.refused all.worked.text err err_now) is.shapes_are all.told;
       }
 
       pub work_ends : (stop : Stop) → WorkStops (ground job.task loaded g.input) (HaveRefused before.finders now.finders) before.out.bytes now.out.bytes (InputRose before now) (OutRose before now) stop → EndsBy g before now stop
@@ -133,14 +136,20 @@ pub stopped_ends : (g : Given) (before now : World) (err err_now : Taken) (statu
 stopped_ends g before now err err_now statuses.Done stop is by told = absurd (is_never_done stop (sym is))
 stopped_ends g before now err err_now other stop is by told = record { stop = stop; status_is = is; cause = by; told = told }
 
+-- a line that is told to a sink which took nothing meanwhile
+pub told_since : (err mid err_now : Taken) (line : List ℕ) → mid ≡ err → IsTold mid.bytes err_now.bytes mid.faults err_now.faults line → IsTold err.bytes err_now.bytes err.faults err_now.faults line
+told_since err mid err_now line same told = subst (λ (e : Taken). IsTold e.bytes err_now.bytes e.faults err_now.faults line) same told
+
 -- two facts of a run that is done
 pub on_both : (A B : Type 0) (result : Result (Unit {0}) Stop) → OnOk result A → OnOk result B → OnOk result (A × B)
 on_both A B (Ok u) one other = (one, other)
 on_both A B (Err e) one other = tt
 
 -- a stop before the task: the input was not read, nothing went to `out`, and no finder was asked
-pub nothing_done : (g : Given) (before now : World) (stop : Stop) → EndsBy g before now stop → before.shelf.faults ≤ now.shelf.faults → now.input ≡ before.input → now.out ≡ before.out → now.finders ≡ before.finders → ComesTo g before now (Err stop)
-nothing_done g before now stop ends counted same-input same-out same-finders = record {
+pub nothing_done : (g : Given) (before now : World) (err : Taken) (stop : Stop) → EndsBy g before now stop → before.shelf.faults ≤ now.shelf.faults → now.input ≡ before.input → now.out ≡ before.out → now.finders ≡ before.finders → ComesTo g before now err err (Err stop)
+nothing_done g before now err stop ends counted same-input same-out same-finders = record {
+  silent = refl;
+  err_counted = omega arith;
   done = tt;
   stopped = ends;
   quiet = λ quiet. ap (λ (out : Taken). out.bytes) same-out;

@@ -6,7 +6,7 @@ use Rattle.command_words.specs.Commands.{command_of}
 use Rattle.command_words.specs.declared.command.Command.{Command}
 use Rattle.command_words.specs.declared.command.Command.TheVariants as command
 use Rattle.command_words.proofs.CallerLemmas.{HasRanges, command_of-ranges}
-use Rattle.casbin_run.specs.Jobs.{job_asked, job_of, limit_in}
+use Rattle.casbin_run.specs.Jobs.{HasSize, job_asked, job_of, limit_in}
 use Rattle.casbin_run.specs.declared.job.Job.{Job}
 use Rattle.casbin_run.specs.declared.job.Task.TheVariants.{Serve}
 
@@ -20,7 +20,8 @@ JobHas (Some job) = IsLimit (limit_in job.options)
 
 -- what a command is done on has the command's limit, or 10
 job_has : (asked : Command) → HasRanges asked → JobHas (job_of asked)
-job_has (command.Enforce files options json) has = has
+job_has (command.Enforce files options json None) has = (has.0, has.1)
+job_has (command.Enforce files options json (Some capacity)) has = (has.0, has.1)
 job_has (command.Session files options json workers) has = by (workers == 0)
   where
     by : (test : Bool) → JobHas (if test then Some (record { files = files; options = Some options; task = Serve json }) else None)
@@ -39,3 +40,29 @@ job_limit words job asked = option_and_then_some job_of (command_of words) job a
 pub job_limits : (words : List (List ℕ)) (result : Option Job) → result ≡ job_asked words → IfSome result (λ job. IsLimit (limit_in job.options))
 job_limits words None asked = tt
 job_limits words (Some job) asked = job_limit words job (sym asked)
+
+-- the size of a cache that words ask for
+abbrev Sized : Option Job → Type 0
+Sized None = Unit {0}
+Sized (Some job) = HasSize job.task
+
+job_sized : (asked : Command) → HasRanges asked → Sized (job_of asked)
+job_sized (command.Enforce files options json None) has = tt
+job_sized (command.Enforce files options json (Some capacity)) has = has.2
+job_sized (command.Session files options json workers) has = by (workers == 0)
+  where
+    by : (test : Bool) → Sized (if test then Some (record { files = files; options = Some options; task = Serve json }) else None)
+    by false = tt
+    by true = tt
+job_sized (command.Check files) has = tt
+job_sized (command.Format files) has = tt
+job_sized (command.Implicit files subject options) has = tt
+job_sized (command.Report files options) has = tt
+job_sized (command.Demo count workers) has = tt
+
+pub job_size : (words : List (List ℕ)) (job : Job) → job_asked words ≡ Some job → HasSize job.task
+job_size words job asked = option_and_then_some job_of (command_of words) job asked (λ found told made. subst Sized made (job_sized found (command_of-ranges words found told)))
+
+pub job_sizes : (words : List (List ℕ)) (result : Option Job) → result ≡ job_asked words → IfSome result (λ job. HasSize job.task)
+job_sizes words None asked = tt
+job_sizes words (Some job) asked = job_size words job (sym asked)

@@ -4,8 +4,10 @@ pub mod AskLemmas
 pub mod PrintLemmas
 pub mod FinderLemmas
 pub mod LoadLemmas
+pub mod CachedLemmas
 pub mod RolesLemmas
 pub mod WorkLemmas
+pub mod CachedWork
 pub mod EndLemmas
 pub mod ReadingLemmas
 pub mod OneEnd

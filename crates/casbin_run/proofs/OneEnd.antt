@@ -30,7 +30,7 @@ use Rattle.casbin_run.specs.Roles.{IsImplied, IsLong, IsReported, IsShort}
 use Rattle.casbin_run.specs.Texts.{HasRoom, IsOfLines, IsTooLong, Writes, text_of_lines}
 use Rattle.casbin_run.specs.declared.job.Job.{Job}
 use Rattle.casbin_run.specs.declared.job.Task.{Task}
-use Rattle.casbin_run.specs.declared.job.Task.TheVariants.{Enforce, Serve, Check, Format, Implicit, Report}
+use Rattle.casbin_run.specs.declared.job.Task.TheVariants.{Enforce, Cached, Serve, Check, Format, Implicit, Report}
 
 -- what reading a part comes to
 data State (X F : Type 0) : Type 0 where
@@ -97,6 +97,7 @@ IsPolicyState content shapes state = IsState content (limit_of Policy) (IsPolicy
 -- what the bytes of an input that a task reads say
 abbrev SaysBytes : Task → List ℕ → List Said → Type 0
 SaysBytes (Enforce json) bytes items = IsRequests json bytes items
+SaysBytes (Cached json capacity) bytes items = IsRequests json bytes items
 SaysBytes (Serve json) bytes items = IsScript json bytes items
 SaysBytes Check bytes items = ⊥
 SaysBytes Format bytes items = ⊥
@@ -123,6 +124,7 @@ ReportEnds shapes policy end = (IsLong shapes policy × (end ≡ Some (TooLong p
 -- the end that a task gives
 abbrev TaskEnds : Option (List ℕ) → Task → Shapes → table.Policy → Option Stop → Type 0
 TaskEnds input (Enforce json) shapes policy end = InputEnds input (Enforce json) end
+TaskEnds input (Cached json capacity) shapes policy end = InputEnds input (Cached json capacity) end
 TaskEnds input (Serve json) shapes policy end = InputEnds input (Serve json) end
 TaskEnds input Check shapes policy end = end ≡ None
 TaskEnds input Format shapes policy end = end ≡ None
@@ -183,6 +185,9 @@ module _ (once : SaysOnce) where
   requests_are_one : (json : Bool) → IsOne (SaysBytes (Enforce json)) (HasFault (Enforce json))
   requests_are_one json = record { said = once.requests json; fault = λ bytes f g p q. p.1 ∙ sym q.1; either = λ bytes x f p q. q.0 p.utf8 }
 
+  cached_are_one : (json : Bool) (capacity : ℕ) → IsOne (SaysBytes (Cached json capacity)) (HasFault (Cached json capacity))
+  cached_are_one json capacity = record { said = once.requests json; fault = λ bytes f g p q. p.1 ∙ sym q.1; either = λ bytes x f p q. q.0 p.utf8 }
+
   script_is_one : (json : Bool) → IsOne (SaysBytes (Serve json)) (HasFault (Serve json))
   script_is_one json = record { said = once.script json; fault = once.script_fault json; either = λ bytes x f p q. once.script_either json bytes f x q p }
 
@@ -200,6 +205,7 @@ module _ (once : SaysOnce) where
 
   task_once : (input : Option (List ℕ)) (task : Task) (shapes : Shapes) (policy : table.Policy) (a b : Option Stop) → TaskEnds input task shapes policy a → TaskEnds input task shapes policy b → a ≡ b
   task_once input (Enforce json) shapes policy a b p q = input_once input (Enforce json) (requests_are_one json) a b p q
+  task_once input (Cached json capacity) shapes policy a b p q = input_once input (Cached json capacity) (cached_are_one json capacity) a b p q
   task_once input (Serve json) shapes policy a b p q = input_once input (Serve json) (script_is_one json) a b p q
   task_once input Check shapes policy a b p q = p ∙ sym q
   task_once input Format shapes policy a b p q = p ∙ sym q
@@ -251,6 +257,7 @@ options_behind words files input job model end asked fits ends = (Some job, aske
 module _ (shapes : Shapes) (policy : table.Policy) where
   long_input : (task : Task) (input : List ℕ) → reads_input task ≡ true → limit_of Input < length input → TaskEnds (Some input) task shapes policy (Some (TooLong Input))
   long_input (Enforce json) input reads wide = (long, (input, refl, wide), refl)
+  long_input (Cached json capacity) input reads wide = (long, (input, refl, wide), refl)
   long_input (Serve json) input reads wide = (long, (input, refl, wide), refl)
   long_input Check input reads wide = absurd cc
   long_input Format input reads wide = absurd cc
@@ -259,6 +266,7 @@ module _ (shapes : Shapes) (policy : table.Policy) where
 
   bad_input : (task : Task) (input bytes : List ℕ) (fault : ScriptFault) → reads_input task ≡ true → input ≡ bytes → length bytes ≤ limit_of Input → HasFault task bytes fault → TaskEnds (Some input) task shapes policy (Some (NoScript fault))
   bad_input (Enforce json) input bytes fault reads same within is = (bad fault, (bytes, ap (λ (b : List ℕ). Some b) same, within, is), refl)
+  bad_input (Cached json capacity) input bytes fault reads same within is = (bad fault, (bytes, ap (λ (b : List ℕ). Some b) same, within, is), refl)
   bad_input (Serve json) input bytes fault reads same within is = (bad fault, (bytes, ap (λ (b : List ℕ). Some b) same, within, is), refl)
   bad_input Check input bytes fault reads same within is = absurd is
   bad_input Format input bytes fault reads same within is = absurd is
@@ -271,6 +279,7 @@ module _ (shapes : Shapes) (policy : table.Policy) where
 
   good_task : (task : Task) (input : List ℕ) (items : List Said) → SaysItems task (Some input) items → HasRoom task shapes policy → TaskEnds (Some input) task shapes policy None
   good_task (Enforce json) input items (bytes, same, within, says) room = (good items, (bytes, ap (λ (b : List ℕ). Some b) same, within, says), refl)
+  good_task (Cached json capacity) input items (bytes, same, within, says) room = (good items, (bytes, ap (λ (b : List ℕ). Some b) same, within, says), refl)
   good_task (Serve json) input items (bytes, same, within, says) room = (good items, (bytes, ap (λ (b : List ℕ). Some b) same, within, says), refl)
   good_task Check input items says room = refl
   good_task Format input items says room = refl
@@ -334,6 +343,7 @@ module _ (once : SaysOnce) (model : ModelParts) (shapes : Shapes) (policy : tabl
   written_once : (task : Task) (refused others : List (List (List ℕ))) (pieces more : List (List ℕ)) (text written : List ℕ) → Writes task model shapes policy items refused pieces text → Writes task model shapes policy items others more written
       → all_refused refused ≡ [] → all_refused others ≡ [] → text ≡ written
   written_once (Enforce json) refused others pieces more text written p q none nothing = lines_once refused others pieces more text written p q none nothing
+  written_once (Cached json capacity) refused others pieces more text written p q none nothing = lines_once refused others pieces more text written p q none nothing
   written_once (Serve json) refused others pieces more text written p q none nothing = lines_once refused others pieces more text written p q none nothing
   written_once Check refused others pieces more text written p q none nothing = p.is ∙ sym q.is
   written_once Format refused others pieces more text written p q none nothing = p.is ∙ sym q.is
@@ -351,6 +361,7 @@ module _ (once : SaysOnce) (files : Files) (input : List ℕ) where
 
   items_same : (task : Task) (items others : List Said) → SaysItems task (Some input) items → SaysItems task (Some input) others → items ≡ others
   items_same (Enforce json) items others (bytes, same, within, says) (more, told, few, say) = once.requests json more items others (subst (λ (b : List ℕ). IsRequests json b items) (sym same ∙ told) says) say
+  items_same (Cached json capacity) items others (bytes, same, within, says) (more, told, few, say) = once.requests json more items others (subst (λ (b : List ℕ). IsRequests json b items) (sym same ∙ told) says) say
   items_same (Serve json) items others (bytes, same, within, says) (more, told, few, say) = once.script json more items others (subst (λ (b : List ℕ). IsScript json b items) (sym same ∙ told) says) say
   items_same Check items others says say = says ∙ sym say
   items_same Format items others says say = says ∙ sym say

@@ -62,7 +62,7 @@ pub record IsPrinted {json : Bool} (run : Run json) (left : List (List ℕ)) (nu
 abbrev pub seen_first : Option (List ℕ) → ℕ → Refusals → Seen
 seen_first out faults before = seen_between out out faults faults before before
 
-pub printed_none : {json : Bool} (run : Run json) (gathered : List ℕ) (out : Option (List ℕ)) (faults : ℕ) (before : Refusals) → versions run.state.log ≡ 0 → gathered ≡ []
+unfoldable pub printed_none : {json : Bool} (run : Run json) (gathered : List ℕ) (out : Option (List ℕ)) (faults : ℕ) (before : Refusals) → versions run.state.log ≡ 0 → gathered ≡ []
     → IsPrinted run run.all 0 gathered (seen_first out faults before)
 printed_none run gathered out faults before none empty = record {
   read = [];
@@ -77,7 +77,7 @@ abbrev pub seen_later : Seen → Refusals → Seen
 seen_later seen later = record seen { now = later }
 
 -- one line more is answered and gathered
-pub printed_more : {json : Bool} (run : Run json) (law : OneWay json) (left rest : List (List ℕ)) (number next : ℕ) (line : List ℕ) (old new : String Global) (seen : Seen) (later : Refusals) → IsPrinted run left number (string_bytes old) seen
+unfoldable pub printed_more : {json : Bool} (run : Run json) (law : OneWay json) (left rest : List (List ℕ)) (number next : ℕ) (line : List ℕ) (old new : String Global) (seen : Seen) (later : Refusals) → IsPrinted run left number (string_bytes old) seen
     → left ≡ line ∷ rest → next ≡ min (number + 1) most_number → AnswersLine run.model run.state json seen.now later line next old new → IsPrinted run rest next (string_bytes new) (seen_later seen later)
 printed_more {json} run law left rest number next line old new seen later so begins next-is answers =
     let one : Line = record { number = next; answer = answers.told.reply } in
@@ -107,7 +107,7 @@ stopped_used run left number gathered seen later line so stops = record {
 abbrev pub seen_pushed : Seen → Option (List ℕ) → ℕ → Seen
 seen_pushed seen out_now faults_now = record seen { out_now = out_now; faults_now = faults_now }
 
-pub printed_moved : {json : Bool} (run : Run json) (left : List (List ℕ)) (number : ℕ) (gathered still : List ℕ) (seen : Seen) (now : Option (List ℕ)) (faults : ℕ) → IsPrinted run left number gathered seen → Moves seen.out_now now gathered still → seen.faults_now ≤ faults
+unfoldable pub printed_moved : {json : Bool} (run : Run json) (left : List (List ℕ)) (number : ℕ) (gathered still : List ℕ) (seen : Seen) (now : Option (List ℕ)) (faults : ℕ) → IsPrinted run left number gathered seen → Moves seen.out_now now gathered still → seen.faults_now ≤ faults
     → IsPrinted run left number still (seen_pushed seen now faults)
 printed_moved run left number gathered still seen now faults so moved counted = record {
   read = so.read;
@@ -120,11 +120,11 @@ printed_moved run left number gathered still seen now faults so moved counted = 
 -- ---- the ends
 
 -- the input says what all its lines ask
-says_all : {json : Bool} (run : Run json) (text : List ℕ) → IsUtf8 text → run.all ≡ requests_of text → IsRequests json text (asked run.reader run.all)
+pub says_all : {json : Bool} (run : Run json) (text : List ℕ) → IsUtf8 text → run.all ≡ requests_of text → IsRequests json text (asked run.reader run.all)
 says_all run text utf8 all = record { utf8 = utf8; reader = run.reader; asked = ap (λ (lines : List (List ℕ)). asked run.reader lines) all }
 
 -- all lines are answered and pushed
-pub printed_all : {json : Bool} (run : Run json) (text : List ℕ) (left : List (List ℕ)) (number : ℕ) (gathered : List ℕ) (seen : Seen) (now : Option (List ℕ)) → IsUtf8 text → run.all ≡ requests_of text → IsPrinted run left number gathered seen → left ≡ [] → now ≡ with_back seen.out_now gathered
+unfoldable pub printed_all : {json : Bool} (run : Run json) (text : List ℕ) (left : List (List ℕ)) (number : ℕ) (gathered : List ℕ) (seen : Seen) (now : Option (List ℕ)) → IsUtf8 text → run.all ≡ requests_of text → IsPrinted run left number gathered seen → left ≡ [] → now ≡ with_back seen.out_now gathered
     → PrintedAll (IsRequests json text) run.model run.state.shapes (tables run.state) seen.before seen.now seen.out now
 printed_all run text left number gathered seen now utf8 all so none took =
     let whole : so.read ≡ run.all = sym (so.parts ∙ ap (λ (l : List (List ℕ)). so.read ++ l) none ∙ append-nil so.read) in

@@ -24,7 +24,7 @@ use Rattle.casbin_run.specs.Reached.{at_words, at_model, at_options, at_policy, 
 use Rattle.casbin_run.specs.Roles.{IsLong, IsShort}
 use Rattle.casbin_run.specs.declared.job.Job.{Job}
 use Rattle.casbin_run.specs.declared.job.Task.{Task}
-use Rattle.casbin_run.specs.declared.job.Task.TheVariants.{Enforce, Serve, Check, Format, Implicit, Report}
+use Rattle.casbin_run.specs.declared.job.Task.TheVariants.{Enforce, Cached, Serve, Check, Format, Implicit, Report}
 use Rattle.casbin_run.proofs.ModelLemmas.{SomeModel}
 
 -- each text says something or has a fault
@@ -61,6 +61,10 @@ module _ (law : SaysSome) (words : List (List ℕ)) (files : Files) (input : Lis
         by_requests json task within (inl said) = inl (record { job = job; model = model; policy = policy; items = said.0; asked = asked; are_files = are; says = rw task (input, refl, within, said.1); room = rw task tt })
         by_requests json task within (inr none) = inr (NoScript NotUtf8, (at_task job model policy, (asked, are), (rw task refl, (input, refl, within, rw task (none, refl)))))
 
+        by_cached : (json : Bool) (capacity : ℕ) → job.task ≡ Cached json capacity → length input ≤ limit_of Input → ((items : List Said) × IsRequests json input items) ⊎ (¬ (IsUtf8 input)) → Ended told
+        by_cached json capacity task within (inl said) = inl (record { job = job; model = model; policy = policy; items = said.0; asked = asked; are_files = are; says = rw task (input, refl, within, said.1); room = rw task tt })
+        by_cached json capacity task within (inr none) = inr (NoScript NotUtf8, (at_task job model policy, (asked, are), (rw task refl, (input, refl, within, rw task (none, refl)))))
+
         by_script : (json : Bool) → job.task ≡ Serve json → length input ≤ limit_of Input → ((items : List Said) × IsScript json input items) ⊎ ((f : ScriptFault) × IsScriptFault json input f) → Ended told
         by_script json task within (inl said) = inl (record { job = job; model = model; policy = policy; items = said.0; asked = asked; are_files = are; says = rw task (input, refl, within, said.1); room = rw task tt })
         by_script json task within (inr bad) = inr (NoScript bad.0, (at_task job model policy, (asked, are), (rw task refl, (input, refl, within, rw task bad.1))))
@@ -72,6 +76,8 @@ module _ (law : SaysSome) (words : List (List ℕ)) (files : Files) (input : Lis
         by_input : (task : Task) → job.task ≡ task → Sized input (limit_of Input) → Ended told
         by_input (Enforce json) task (inl wide) = inr (TooLong Input, (at_task job model policy, (asked, are), (rw task refl, wide)))
         by_input (Enforce json) task (inr within) = by_requests json task within (law.requests json input)
+        by_input (Cached json capacity) task (inl wide) = inr (TooLong Input, (at_task job model policy, (asked, are), (rw task refl, wide)))
+        by_input (Cached json capacity) task (inr within) = by_cached json capacity task within (law.requests json input)
         by_input (Serve json) task (inl wide) = inr (TooLong Input, (at_task job model policy, (asked, are), (rw task refl, wide)))
         by_input (Serve json) task (inr within) = by_script json task within (law.script json input)
         by_input Check task size = inl (record { job = job; model = model; policy = policy; items = []; asked = asked; are_files = are; says = rw task refl; room = rw task tt })

@@ -29,7 +29,7 @@ use Rattle.casbin_run.specs.Helps.Loading.{BytesStop, InputStops}
 use Rattle.casbin_run.specs.Helps.Working.{AnswerStops, AreAnswered, DidAll, DidFirst, DidSome, Ground, IsQuiet, LinesOf, IsShortReport, LinesStop, PrintedAll, PrintedSome, ReportStops, ShowStops, Showed, TextStops, WorkStops, Worked, ground}
 use Rattle.casbin_run.specs.Jobs.{reads_input}
 use Rattle.casbin_run.specs.Roles.{IsImplied}
-use Rattle.casbin_run.specs.Texts.{HasRoom, IsOfLines, Writes, check_text, joined, text_of_lines}
+use Rattle.casbin_run.specs.Texts.{HasRoom, IsOfLines, Tells, Writes, check_text, joined, text_of_lines}
 use Rattle.casbin_run.specs.Worlds.{Taken}
 use Rattle.casbin_run.specs.declared.files.Loaded.{Loaded}
 use Rattle.casbin_run.specs.declared.job.Task.{Task}
@@ -59,7 +59,7 @@ input_is input text fact (bytes, told, within, same) is = (bytes, told, within, 
 -- ---- lines
 
 -- what holds over equal models, shapes and policies
-over_equal : (Holds : ModelParts → Shapes → table.Policy → Type 0) (model other : ModelParts) (shapes others : Shapes) (policy second : table.Policy) → other ≡ model → others ≡ shapes → second ≡ policy → Holds other others second → Holds model shapes policy
+pub over_equal : (Holds : ModelParts → Shapes → table.Policy → Type 0) (model other : ModelParts) (shapes others : Shapes) (policy second : table.Policy) → other ≡ model → others ≡ shapes → second ≡ policy → Holds other others second → Holds model shapes policy
 over_equal Holds model other shapes others policy second same-model same-shapes same-policy holds =
     subst (λ (m : ModelParts). Holds m shapes policy) same-model
     (subst (λ (s : Shapes). Holds other s policy) same-shapes (subst (λ (p : table.Policy). Holds other others p) same-policy holds))
@@ -121,8 +121,8 @@ module _ (on : Ground) (writes : WritesLines on) (room : HasRoom on.task on.shap
     logged = of.logged;
   }
 
-  pub answered_all : PrintedAll IsSaid on.model on.shapes on.policy before now out out_now → DidAll on (HasRefused before now) out out_now
-  answered_all all = record { worked = worked all.printed; took = all.took }
+  pub answered_all : (err err_now : Taken) (all : PrintedAll IsSaid on.model on.shapes on.policy before now out out_now) → Tells on.task on.model on.shapes on.policy all.printed.items all.printed.refused (text_of_lines all.printed.lines) err err_now → DidAll on (HasRefused before now) out out_now err err_now
+  answered_all err err_now all told = record { worked = worked all.printed; took = all.took; told = told }
 
   some_stops : (input_rose out_rose : Type 0) (stop : Stop) → PrintedSome IsSaid on.model on.shapes on.policy before now out out_now out_rose stop → WorkStops on (HasRefused before now) out out_now input_rose out_rose stop
   some_stops input_rose out_rose CannotWrite some = (record { worked = worked some.printed; took = some.stops.0 }, some.stops.1)
@@ -160,13 +160,14 @@ pub record Shows (on : Ground) (text : List ℕ) : Type 0 where
   pub says : SaysItems on.task on.input []
   pub room : HasRoom on.task on.shapes on.policy
   pub writes : Writes on.task on.model on.shapes on.policy [] [] [] text
+  pub silent : (err : Taken) → Tells on.task on.model on.shapes on.policy [] [] text err err
 
 abbrev shown : (on : Ground) (refusals : Refusals) (text : List ℕ) → Shows on text → Worked on (HasRefused refusals refusals)
 shown on refusals text shows = record { items = []; refused = []; pieces = []; text = text; says = shows.says; room = shows.room; writes = shows.writes; logged = refl }
 
 module _ (on : Ground) (refusals : Refusals) (text : List ℕ) (shows : Shows on text) (out out_now : Option (List ℕ)) where
-  pub shown_all : out_now ≡ with_back out text → DidAll on (HasRefused refusals refusals) out out_now
-  shown_all took = record { worked = shown on refusals text shows; took = took }
+  pub shown_all : (err : Taken) → out_now ≡ with_back out text → DidAll on (HasRefused refusals refusals) out out_now err err
+  shown_all err took = record { worked = shown on refusals text shows; took = took; told = shows.silent err }
 
   pub shown_stops : (input_rose out_rose : Type 0) (stop : Stop) → ShowStops out out_now text out_rose stop → WorkStops on (HasRefused refusals refusals) out out_now input_rose out_rose stop
   shown_stops input_rose out_rose CannotWrite stops = (record { worked = shown on refusals text shows; took = stops.0 }, stops.1)
@@ -175,8 +176,8 @@ module _ (on : Ground) (refusals : Refusals) (text : List ℕ) (shows : Shows on
 
 -- a text that is told by what holds of it
 module _ (on : Ground) (refusals : Refusals) (Is : List ℕ → Type 0) (shows : (text : List ℕ) → Is text → Shows on text) (out out_now : Option (List ℕ)) where
-  pub showed_all : Showed Is out out_now → DidAll on (HasRefused refusals refusals) out out_now
-  showed_all all = record { worked = shown on refusals all.text (shows all.text all.is); took = all.took }
+  pub showed_all : (err : Taken) → Showed Is out out_now → DidAll on (HasRefused refusals refusals) out out_now err err
+  showed_all err all = record { worked = shown on refusals all.text (shows all.text all.is); took = all.took; told = (shows all.text all.is).silent err }
 
   pub text_stops : (input_rose out_rose : Type 0) (stop : Stop) → TextStops Is out out_now out_rose stop → WorkStops on (HasRefused refusals refusals) out out_now input_rose out_rose stop
   text_stops input_rose out_rose CannotWrite (some, rose) = (record { worked = shown on refusals some.text (shows some.text some.is); took = some.took }, rose)
@@ -186,16 +187,16 @@ module _ (on : Ground) (refusals : Refusals) (Is : List ℕ → Type 0) (shows :
 -- what the tasks that read no input write
 module _ (loaded : Loaded) (input : Option (List ℕ)) where
   pub shows_check : Shows (ground Check loaded input) (check_text loaded.model loaded.tables.policy)
-  shows_check = record { says = refl; room = tt; writes = record { none_refused = refl; no_pieces = refl; is = refl } }
+  shows_check = record { says = refl; room = tt; writes = record { none_refused = refl; no_pieces = refl; is = refl }; silent = λ err. refl }
 
   pub shows_format : Shows (ground Format loaded input) (printed loaded.tables.policy)
-  shows_format = record { says = refl; room = tt; writes = record { none_refused = refl; no_pieces = refl; is = refl } }
+  shows_format = record { says = refl; room = tt; writes = record { none_refused = refl; no_pieces = refl; is = refl }; silent = λ err. refl }
 
   pub shows_implied : (subject : SubjectName) (text : List ℕ) → IsImplied loaded.model loaded.shapes loaded.tables.policy subject text → Shows (ground (Implicit subject) loaded input) text
-  shows_implied subject text is = record { says = refl; room = tt; writes = record { none_refused = refl; no_pieces = refl; is = is } }
+  shows_implied subject text is = record { says = refl; room = tt; writes = record { none_refused = refl; no_pieces = refl; is = is }; silent = λ err. refl }
 
   pub shows_report : (text : List ℕ) → IsShortReport loaded.shapes loaded.tables.policy text → Shows (ground tasks.Report loaded input) text
-  shows_report text (is, short) = record { says = refl; room = short; writes = record { none_refused = refl; no_pieces = refl; is = is } }
+  shows_report text (is, short) = record { says = refl; room = short; writes = record { none_refused = refl; no_pieces = refl; is = is }; silent = λ err. refl }
 
 pub report_stops : (loaded : Loaded) (input : Option (List ℕ)) (refusals : Refusals) (out out_now : Option (List ℕ)) (input_rose out_rose : Type 0) (stop : Stop) → ReportStops loaded.shapes loaded.tables.policy out out_now out_rose stop
     → WorkStops (ground tasks.Report loaded input) (HasRefused refusals refusals) out out_now input_rose out_rose stop
@@ -221,9 +222,9 @@ module _ (on : Ground) (IsLogged AreLogged : List (List ℕ) → Type 0) (more :
   worked_more : Worked on IsLogged → Worked on AreLogged
   worked_more of = record { items = of.items; refused = of.refused; pieces = of.pieces; text = of.text; says = of.says; room = of.room; writes = of.writes; logged = more (all_refused of.refused) of.logged }
 
-  pub all_more : (out out_now : Option (List ℕ)) → DidAll on IsLogged out out_now → DidAll on AreLogged out out_now
+  pub all_more : (out out_now : Option (List ℕ)) (err err_now : Taken) → DidAll on IsLogged out out_now err err_now → DidAll on AreLogged out out_now err err_now
   unfolding worked_more
-  all_more out out_now all = record { worked = worked_more all.worked; took = all.took }
+  all_more out out_now err err_now all = record { worked = worked_more all.worked; took = all.took; told = all.told }
 
   pub stops_more : (out out_now : Option (List ℕ)) (input_rose out_rose : Type 0) (stop : Stop) → WorkStops on IsLogged out out_now input_rose out_rose stop → WorkStops on AreLogged out out_now input_rose out_rose stop
   unfolding worked_more

@@ -12,7 +12,7 @@ use Rattle.script_read.specs.Script.{IsScriptFault}
 use Rattle.script_read.specs.declared.fault.ScriptFault.{ScriptFault}
 use Rattle.script_read.specs.declared.fault.ScriptFault.TheVariants.{NotUtf8}
 use Rattle.casbin_run.specs.declared.job.Task.{Task}
-use Rattle.casbin_run.specs.declared.job.Task.TheVariants.{Enforce, Serve, Check, Format, Implicit, Report}
+use Rattle.casbin_run.specs.declared.job.Task.TheVariants.{Enforce, Cached, Serve, Check, Format, Implicit, Report}
 use Rattle.casbin_run.specs.Answered.{TookFirst, TookSome}
 use Rattle.casbin_run.specs.Given.{FileIs, Given, InputIs}
 use Rattle.casbin_run.specs.Jobs.{absent_in, job_asked, reads_input, shapes_with}
@@ -23,6 +23,7 @@ use Rattle.casbin_run.specs.Worlds.{InputRose, OutRose, ShelfRose, World}
 -- the input that a task reads has this fault
 abbrev pub HasFault : Task → List ℕ → ScriptFault → Type 0
 HasFault (Enforce json) bytes fault = ¬ (IsUtf8 bytes) × (fault ≡ NotUtf8)
+HasFault (Cached json capacity) bytes fault = ¬ (IsUtf8 bytes) × (fault ≡ NotUtf8)
 HasFault (Serve json) bytes fault = IsScriptFault json bytes fault
 HasFault Check bytes fault = ⊥
 HasFault Format bytes fault = ⊥

@@ -12,6 +12,7 @@ use Rattle.casbin_run.specs.Given.{Given}
 use Rattle.casbin_run.specs.Jobs.{shapes_with}
 use Rattle.casbin_run.specs.Shown.{ReadsBack}
 use Rattle.casbin_run.specs.Reached.{FetchedBoth}
+use Rattle.casbin_run.specs.Texts.{Tells}
 use Rattle.casbin_run.specs.Worlds.{Taken, World}
 
 -- `out` took the text that answers what is given, each file was fetched once, and what was printed of the files reads back
@@ -20,10 +21,11 @@ pub record HasDone (g : Given) (before now : World) : Type 0 where
   pub fetched : FetchedBoth g before now
   pub back : let order = all.answers.answered.in_order in ReadsBack order.job.task order.model (shapes_with order.job.options order.model) order.policy
 
--- the run was done, and `err` took nothing
+-- the run was done, and `err` took what is told of it
 pub record IsDone (g : Given) (before now : World) (err err_now : Taken) : Type 0 where
   pub done : HasDone g before now
-  pub silent : err_now.bytes ≡ err.bytes
+  pub told : let answers = done.all.answers in let order = answers.answered.in_order in
+      Tells order.job.task order.model (shapes_with order.job.options order.model) order.policy order.items answers.refused answers.text err err_now
 
 -- the run stopped: its status and the line that `err` took are those of a stop that had its cause
 pub record HasStopped (g : Given) (before now : World) (err err_now : Taken) (status : Status) : Type 0 where

@@ -12,7 +12,7 @@ use Rattle.script_read.specs.Said.{Said}
 use Rattle.script_read.specs.Script.{IsRequests, IsScript}
 use Rattle.casbin_run.specs.declared.job.Job.{Job}
 use Rattle.casbin_run.specs.declared.job.Task.{Task}
-use Rattle.casbin_run.specs.declared.job.Task.TheVariants.{Enforce, Serve, Check, Format, Implicit, Report}
+use Rattle.casbin_run.specs.declared.job.Task.TheVariants.{Enforce, Cached, Serve, Check, Format, Implicit, Report}
 use Rattle.casbin_run.specs.Jobs.{absent_in, job_asked, shapes_with}
 use Rattle.casbin_run.specs.Texts.{HasRoom}
 
@@ -55,6 +55,7 @@ pub record AreFiles (files : Option Files) (job : Job) (model : ModelParts) (pol
 -- the input says these items: requests alone, or a script; none where it is not read
 abbrev pub SaysItems : Task → Option (List ℕ) → List Said → Type 0
 SaysItems (Enforce json) input items = InputIs input (λ bytes. IsRequests json bytes items)
+SaysItems (Cached json capacity) input items = InputIs input (λ bytes. IsRequests json bytes items)
 SaysItems (Serve json) input items = InputIs input (λ bytes. IsScript json bytes items)
 SaysItems Check input items = items ≡ []
 SaysItems Format input items = items ≡ []

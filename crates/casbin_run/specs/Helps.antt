@@ -1,5 +1,6 @@
 -- What the steps of a run read, gather and push: helps for proofs, which no public clause cites.
 pub mod Loading
 pub mod Working
+pub mod Caching
 pub mod Gathering
 pub mod Running

@@ -1,5 +1,5 @@
 -- What a command is done on. A session is done on one thread, and a demonstration is none of these.
-use Rattle.std.specs.Prelude.{ℕ, ◌==◌, Bool, true, false, List, [], Option, Some, None, if◌then◌else◌}
+use Rattle.std.specs.Prelude.{ℕ, ◌<◌, ◌≤◌, ⊤, ◌==◌, Bool, true, false, List, [], Option, Some, None, if◌then◌else◌}
 use Rattle.std.specs.Option.{option_and_then, option_map_or}
 use Rattle.command_words.specs.Commands.{command_of}
 use Rattle.command_words.specs.declared.command.Command.{Command}
@@ -11,11 +11,16 @@ use Rattle.perm_base.specs.declared.shapes.Fit.{Fit}
 use Rattle.perm_base.specs.declared.shapes.Shapes.{Shapes}
 use Rattle.casbin_run.specs.declared.job.Job.{Job}
 use Rattle.casbin_run.specs.declared.job.Task.{Task}
-use Rattle.casbin_run.specs.declared.job.Task.TheVariants.{Enforce, Serve, Check, Format, Implicit, Report}
+use Rattle.casbin_run.specs.declared.job.Task.TheVariants.{Enforce, Cached, Serve, Check, Format, Implicit, Report}
+
+-- requests are answered by way of a cache where its size is told
+abbrev pub enforcing : Bool → Option ℕ → Task
+enforcing json None = Enforce json
+enforcing json (Some capacity) = Cached json capacity
 
 -- what a command is done on
 abbrev pub job_of : Command → Option Job
-job_of (command.Enforce files options json) = Some (record { files = files; options = Some options; task = Enforce json })
+job_of (command.Enforce files options json cache) = Some (record { files = files; options = Some options; task = enforcing json cache })
 job_of (command.Session files options json workers) = if workers == 0 then Some (record { files = files; options = Some options; task = Serve json }) else None
 job_of (command.Check files) = Some (record { files = files; options = None; task = Check })
 job_of (command.Format files) = Some (record { files = files; options = None; task = Format })
@@ -30,11 +35,17 @@ job_asked words = option_and_then job_of (command_of words)
 -- the input is read by the commands that answer its items
 abbrev pub reads_input : Task → Bool
 reads_input (Enforce json) = true
+reads_input (Cached json capacity) = true
 reads_input (Serve json) = true
 reads_input Check = false
 reads_input Format = false
 reads_input (Implicit subject) = false
 reads_input Report = false
+
+-- a cache has a size from 1 to 10,000
+abbrev pub HasSize : Task → Type 0
+HasSize (Cached json capacity) = (0 < capacity) × (capacity ≤ 10000)
+HasSize _ = ⊤
 
 -- the words ask for a command that reads the input
 abbrev pub ask_for_input : List (List ℕ) → Bool

@@ -1,6 +1,7 @@
 pub mod Jobs
 pub mod Given
 pub mod Roles
+pub mod Caching
 pub mod Texts
 pub mod Finders
 pub mod Worlds

@@ -93,8 +93,8 @@ fn print_answers<K: Sink, P: Finder>(
     Ok(())
 }
 
-// The number behind this one, as far as numbers go.
-fn next_number(number: u32) -> u32
+/// The number behind this one, as far as numbers go.
+pub(crate) fn next_number(number: u32) -> u32
     ensures { result ≡ min (number + 1) 4294967295 }
 {
     number.saturating_add(1)
@@ -130,8 +130,8 @@ fn push_answer<P: Finder>(
     )
 }
 
-// What a line asks, or why it is no request.
-fn ask(alloc: Global, json: bool, line: &str) -> Result<Asked, NoMemory>
+/// What a line asks, or why it is no request.
+pub(crate) fn ask(alloc: Global, json: bool, line: &str) -> Result<Asked, NoMemory>
     ensures says { IfOk result (λ asked. Says json line.now (reading asked)) }
     ensures named { IfOk result (λ asked. is_named (asks (reading asked)) ≡ true) }
 {

@@ -1,7 +1,7 @@
 ghost use Rattle.std.specs.Prelude.{◌≡◌, ◌<◌, ◌≤◌, IfSome};
 ghost use Rattle.command_words.specs.Items.{texts};
 ghost use Rattle.casbin_run.specs.Helps.Running.{job_on};
-ghost use Rattle.casbin_run.specs.Jobs.{job_asked, job_of, limit_in};
+ghost use Rattle.casbin_run.specs.Jobs.{HasSize, enforcing, job_asked, job_of, limit_in};
 
 use command_words::{Command, Files, Options, Subject, read_words};
 
@@ -10,6 +10,8 @@ use command_words::{Command, Files, Options, Subject, read_words};
 pub(crate) enum Task<'a> {
     /// The requests of the input are answered; with `json` they are JSON.
     Enforce { json: bool },
+    /// The requests of the input are answered by way of a cache of so many answers.
+    Cached { json: bool, capacity: u32 },
     /// The items of a script are done one after the other.
     Serve { json: bool },
     /// The model is printed, and the rules of its tables are counted.
@@ -33,6 +35,7 @@ pub(crate) struct Job<'a> {
 /// What the words ask for, where they are a command that is done. It takes no memory.
 pub(crate) fn read_job(words: &[String]) -> Option<Job<'_>>
     ensures asked { result ≡ job_asked (texts words.now) }
+    ensures sized { IfSome result (λ job. HasSize job.task) }
     ensures limit { IfSome result (λ job.
         (0 < limit_in job.options) × (limit_in job.options ≤ 250)) }
 {
@@ -48,7 +51,8 @@ fn job_of(command: Command<'_>) -> Option<Job<'_>>
             files,
             options,
             json,
-        } => Some(job_on(files, Some(options), Task::Enforce { json })),
+            cache,
+        } => Some(job_on(files, Some(options), enforcing(json, cache))),
         Command::Session {
             files,
             options,
@@ -70,6 +74,16 @@ fn job_of(command: Command<'_>) -> Option<Job<'_>>
         } => Some(job_on(files, Some(options), Task::Implicit { subject })),
         Command::Report { files, options } => Some(job_on(files, Some(options), Task::Report)),
         Command::Demo { .. } => None,
+    }
+}
+
+// How requests are answered.
+fn enforcing<'a>(json: bool, cache: Option<u32>) -> Task<'a>
+    ensures { result ≡ enforcing json cache }
+{
+    match cache {
+        None => Task::Enforce { json },
+        Some(capacity) => Task::Cached { json, capacity },
     }
 }
 

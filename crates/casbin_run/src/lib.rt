@@ -1,6 +1,7 @@
 //! The program's run, from words and bytes to bytes: requests and scripts are answered, models and policies shown.
 #![tactic(auto)]
 
+mod cached;
 mod enforce;
 mod files;
 mod gather;

@@ -1,4 +1,4 @@
-ghost use Rattle.std.specs.Prelude.{◌≡◌, ◌≤◌, [], IfErr, IfSome, OnOk, drop, false, length, map, true};
+ghost use Rattle.std.specs.Prelude.{◌≡◌, ◌≤◌, [], IfErr, IfSome, OnErr, OnOk, drop, false, length, map, true};
 ghost use Rattle.command_words.specs.Items.{texts};
 ghost use Rattle.outside.specs.Ends.{IsEndedOnce, ends_after};
 ghost use Rattle.outside.specs.Faults.{Rose};
@@ -8,10 +8,11 @@ ghost use Rattle.casbin_run.specs.Finders.{AreUsed, HasRefused};
 ghost use Rattle.casbin_run.specs.Given.{given};
 ghost use Rattle.casbin_run.specs.Helps.Running.{ComesTo};
 ghost use Rattle.casbin_run.specs.Helps.Working.{DidAll, IsQuiet, IsReady, WorkStops, ground};
-ghost use Rattle.casbin_run.specs.Jobs.{ask_for_input, reads_input};
+ghost use Rattle.casbin_run.specs.Jobs.{HasSize, ask_for_input, reads_input};
 ghost use Rattle.casbin_run.specs.Shown.{ReadsBack};
 ghost use Rattle.casbin_run.specs.Worlds.{fetched, pulled, taken, world};
 
+use crate::cached::enforce_cached;
 use crate::enforce::enforce;
 use crate::files::{Loaded, load};
 use crate::implied::implicit;
@@ -28,7 +29,7 @@ use std::alloc::Global;
 /// Runs what the words ask for, and tells on `err` why it stopped where it did. Files come from the shelf, the model first;
 /// the options are tried against it before the policy is fetched, and the input is read last, to its end.
 ///
-/// - `enforce MODEL POLICY` answers each request of the input by a line.
+/// - `enforce MODEL POLICY` answers each request of the input by a line; with a cache it tells on `err` how many were answered from it.
 /// - `session MODEL POLICY` does the items of a script one after the other, each by a line.
 /// - `check MODEL POLICY` prints the model, an empty line, and a line `TABLE ROWS` for p and each role relation.
 /// - `format MODEL POLICY` prints the policy.
@@ -36,7 +37,7 @@ use std::alloc::Global;
 ///   p that count for it.
 /// - `report MODEL POLICY` writes a record for each implied role of each user in g.
 ///
-/// The last four read no input. `command_words` says which options there are. A session is run on one thread: `--workers` with
+/// `check`, `format`, `implicit` and `report` read no input. `command_words` says which options there are. A session is run on one thread: `--workers` with
 /// another number than 0, and `demo`, are no command here. Of the finders the first is asked. Exactly where a cause is said to
 /// come, want of memory may come instead.
 pub fn run_casbin<F: Shelf, S: Source, K: Sink, E: Sink, P: Finder>(
@@ -50,9 +51,9 @@ pub fn run_casbin<F: Shelf, S: Source, K: Sink, E: Sink, P: Finder>(
 ) -> Status
     requires nine { length finders.old.items ≡ 9 }
 
-    // How the run ends, by its status: with Done `out` took the text that answers what was given, and with another it had its
-    // cause, and `err` took its line. Each file is fetched once at most, the model's first; where the run stops before its
-    // task, nothing was asked of the input.
+    // How the run ends, by its status: with Done `out` took the text that answers what was given, and `err` nothing but, with a
+    // cache, the line of its hits; with another it had its cause, and `err` took its line. Each file is fetched once at most, the
+    // model's first; where the run stops before its task, nothing was asked of the input.
     ensures ends { Ends (given (texts words.now) (F.files shelf.old) (S.left input.old))
         (world (fetched (F.calls shelf.old) (F.faults shelf.old))
         (pulled (S.left input.old) (S.ends input.old) (S.faults input.old))
@@ -87,19 +88,20 @@ pub fn run_casbin<F: Shelf, S: Source, K: Sink, E: Sink, P: Finder>(
     ensures others { drop 1 finders.new.items ≡ drop 1 finders.old.items }
     ensures idle { may_write result ≡ false → finders.new.items ≡ finders.old.items }
 {
-    match answer(alloc, words, shelf, input, out, finders) {
+    match answer(alloc, words, shelf, input, out, err, finders) {
         Ok(()) => Status::Done,
         Err(stop) => tell_stop(err, stop),
     }
 }
 
 // Does what the words ask for with the first finder, or stops at the first cause.
-fn answer<F: Shelf, S: Source, K: Sink, P: Finder>(
+fn answer<F: Shelf, S: Source, K: Sink, E: Sink, P: Finder>(
     alloc: Global,
     words: &[String],
     shelf: &mut F,
     input: &mut S,
     out: &mut K,
+    err: &mut E,
     finders: &mut Vec<P>,
 ) -> Result<(), Stop>
     requires { length finders.old.items ≡ 9 }
@@ -110,6 +112,7 @@ fn answer<F: Shelf, S: Source, K: Sink, P: Finder>(
         (world (fetched (F.calls shelf.new) (F.faults shelf.new))
         (pulled (S.left input.new) (S.ends input.new) (S.faults input.new))
         (taken (K.taken out.new) (K.faults out.new)) (map P.refusals finders.new.items))
+        (taken (E.taken err.old) (E.faults err.old)) (taken (E.taken err.new) (E.faults err.new))
         result }
     ensures same_files { F.files shelf.new ≡ F.files shelf.old }
     ensures others { drop 1 finders.new.items ≡ drop 1 finders.old.items }
@@ -120,22 +123,28 @@ fn answer<F: Shelf, S: Source, K: Sink, P: Finder>(
         return Err(Stop::Words);
     };
     let loaded = load(alloc, shelf, &job)?;
-    do_task(alloc, job.task, loaded, input, out, &mut finders[0])
+    do_task(alloc, job.task, loaded, input, out, err, &mut finders[0])
 }
 
 // Does a task over a model and a policy.
-fn do_task<S: Source, K: Sink, P: Finder>(
+fn do_task<S: Source, K: Sink, E: Sink, P: Finder>(
     alloc: Global,
     task: Task<'_>,
     loaded: Loaded,
     input: &mut S,
     out: &mut K,
+    err: &mut E,
     finder: &mut P,
 ) -> Result<(), Stop>
-    requires { IsReady loaded }
+    requires ready { IsReady loaded }
+    requires sized { HasSize task }
     ensures done { OnOk result (DidAll (ground task.entry loaded (S.left input.old))
         (HasRefused (P.refusals finder.old) (P.refusals finder.new))
-        (K.taken out.old) (K.taken out.new)) }
+        (K.taken out.old) (K.taken out.new)
+        (taken (E.taken err.old) (E.faults err.old)) (taken (E.taken err.new) (E.faults err.new))) }
+    ensures silent { OnErr result (taken (E.taken err.new) (E.faults err.new)
+        ≡ taken (E.taken err.old) (E.faults err.old)) }
+    ensures err_counted { E.faults err.old ≤ E.faults err.new }
     ensures reads_back { OnOk result
         (ReadsBack task.entry loaded.model loaded.shapes loaded.tables.policy) }
     ensures stopped { IfErr result (WorkStops (ground task.entry loaded (S.left input.old))
@@ -161,6 +170,19 @@ fn do_task<S: Source, K: Sink, P: Finder>(
         Task::Enforce { json } => {
             let text = read_text(alloc, input, json)?;
             enforce(alloc, loaded, json, text.as_str(), out, finder)
+        }
+        Task::Cached { json, capacity } => {
+            let text = read_text(alloc, input, json)?;
+            enforce_cached(
+                alloc,
+                loaded,
+                json,
+                capacity,
+                text.as_str(),
+                out,
+                err,
+                finder,
+            )
         }
         Task::Serve { json } => {
             let script = read_items(alloc, input, json)?;

@@ -8,8 +8,8 @@ use crate::words::{call, edits};
 use anyhow::{Context, Result};
 use case_list::{Case, cut};
 use case_tables::{empty_tables, shapes_of};
-use edit_calls::{Call, CallRefused, admits, admitted_front, resolve};
-use perm_base::Shapes;
+use edit_calls::{Call, CallRefused, admits, make_front, resolve};
+use perm_base::{NoMemory, Shapes};
 use policy_table::{Edit, Tables, copy_edit, edits_keep_order, tables_within_limits_are_lists};
 use std::alloc::Global;
 use std::io::Write;
@@ -71,10 +71,23 @@ fn front(alloc: Global, tables: &Tables, shapes: &Shapes, text: &str) -> Result<
     requires { AreSound shapes.now tables.now.policy }
 {
     let edits = edits(alloc, text).context(format_args!("no such edits: {text}"))?;
-    let count = admitted_front(alloc, &edits, tables, shapes)
+    let count = count_front(alloc, &edits, tables, shapes)
         .ok()
         .context("memory ran out")?;
     Ok(format!(in alloc; "{count}")?)
+}
+
+// How many of these edits a copy of the tables takes.
+fn count_front(
+    alloc: Global,
+    edits: &[Edit],
+    tables: &Tables,
+    shapes: &Shapes,
+) -> Result<usize, NoMemory>
+    requires { AreSound shapes.now tables.now.policy }
+{
+    let mut drafts = tables.copy(alloc)?;
+    make_front(alloc, edits, &mut drafts, shapes)
 }
 
 // Makes the edit of a call, where there is one.

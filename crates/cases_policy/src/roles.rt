@@ -1,6 +1,10 @@
 //! A role relation, changed row by row and asked.
 
-ghost use Rattle.std.specs.Prelude.{◌≡◌, ◌<◌, is_some};
+ghost use Rattle.std.specs.Prelude.{◌≡◌, ◌<◌, IfOk, is_some};
+ghost use Rattle.perm_base.specs.declared.shapes.TableId.TheVariants.{G};
+ghost use Rattle.policy_state.specs.States.{tables};
+ghost use Rattle.policy_table.specs.Tables.{rows};
+ghost use Rattle.role_domain.specs.Sections.{IsSectionOf};
 
 use crate::orders::every_order;
 use crate::shapes::desk_of;
@@ -77,6 +81,7 @@ fn chain(alloc: Global, links: u32) -> Result<Rules> {
 // What the relation answers. Where its rows have a domain, the last field is one.
 fn asked(alloc: Global, state: &PolicyState, word: &str, fields: &[Text]) -> Result<String> {
     let section = section_of(state)?;
+    let rows = state.tables().rows(TableId::G(RELATION));
     let (names, domain) = parted(section, fields)?;
     ensure!(
         domain.is_some() == section.shape().with_domain,
@@ -95,7 +100,7 @@ fn asked(alloc: Global, state: &PolicyState, word: &str, fields: &[Text]) -> Res
             let kept = section.is_kept(domain);
             Ok(format!(in alloc; "{kept}")?)
         }
-        (_, [x]) => asked_of(alloc, section, word, x.bytes(), domain),
+        (_, [x]) => asked_of(alloc, section, rows, word, x.bytes(), domain),
         _ => bail!("no question has these names"),
     }
 }
@@ -104,11 +109,13 @@ fn asked(alloc: Global, state: &PolicyState, word: &str, fields: &[Text]) -> Res
 fn asked_of(
     alloc: Global,
     section: &RoleSection,
+    rows: &[Rule],
     word: &str,
     x: &[u8],
     domain: Option<&[u8]>,
 ) -> Result<String>
-    requires { is_some domain ≡ section.now.shape.with_domain }
+    requires asked { is_some domain ≡ section.now.shape.with_domain }
+    requires rows { IsSectionOf section.now rows.now }
 {
     match word {
         "roles" => {
@@ -116,7 +123,7 @@ fn asked_of(
             shown(alloc, &roles.ok().context("memory ran out")?)
         }
         "users" => {
-            let users = section.users_within(alloc, x, domain);
+            let users = section.users_within(alloc, x, domain, rows);
             shown(alloc, &users.ok().context("memory ran out")?)
         }
         "has" => {
@@ -132,7 +139,10 @@ fn asked_of(
 }
 
 /// The section of the relation.
-pub fn section_of(state: &PolicyState) -> Result<&RoleSection> {
+pub fn section_of(state: &PolicyState) -> Result<&RoleSection>
+    ensures { IfOk result (λ section.
+        IsSectionOf section.now (rows (tables state.now) (G RELATION))) }
+{
     ensure!(
         state.shapes().roles.find(RELATION).is_some(),
         "the shapes have no relation"

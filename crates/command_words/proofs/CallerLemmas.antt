@@ -1,2 +1,2 @@
 -- What callers cite.
-pub use Rattle.command_words.proofs.RangeLemmas.{HasRanges, command_of-ranges}
+pub use Rattle.command_words.proofs.RangeLemmas.{CacheHas, HasRanges, command_of-ranges}

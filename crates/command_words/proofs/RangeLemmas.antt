@@ -5,7 +5,7 @@ use Rattle.std.proofs.lemmas.Option.{option_and_then_some}
 use Rattle.std.specs.List.{after_first, before_first}
 use Rattle.std.specs.Str.Parse.{digits_value}
 use Rattle.perm_base.specs.declared.shapes.Fit.{Fit}
-use Rattle.command_words.specs.Commands.{command_of, command_with, count_of, enforcing, implying, kind_named, limit_in, on_files, options_with, serving, showing, value_or, workers_in}
+use Rattle.command_words.specs.Commands.{cache_in, command_of, command_with, count_of, enforcing, implying, kind_named, limit_in, on_files, options_with, serving, showing, value_or, workers_in}
 use Rattle.command_words.specs.FileNames.{FileNames, SubjectName}
 use Rattle.command_words.specs.Items.{Item, is_dashes, items, operands, value_of}
 use Rattle.command_words.specs.Values.{is_numeral, is_within, number_between}
@@ -15,9 +15,14 @@ use Rattle.command_words.specs.declared.command.Command.TheVariants.{Enforce, Se
 use Rattle.command_words.specs.declared.kind.Kind.{Kind}
 use Rattle.command_words.specs.declared.kind.Kind.TheVariants as kind
 
+-- the size of a cache is from 1 to 10,000, where it is told
+abbrev pub CacheHas : Option ℕ → Type 0
+CacheHas None = Unit {0}
+CacheHas (Some size) = (0 < size) × (size ≤ 10000)
+
 -- a limit is from 1 to 250, workers are at most 8, and a count is from 1 to 100,000
 abbrev pub HasRanges : Command → Type 0
-HasRanges (Enforce files options json) = (0 < options.limit) × (options.limit ≤ 250)
+HasRanges (Enforce files options json cache) = (0 < options.limit) × (options.limit ≤ 250) × CacheHas cache
 HasRanges (Session files options json workers) = (0 < options.limit) × (options.limit ≤ 250) × (workers ≤ 8)
 HasRanges (Check files) = Unit {0}
 HasRanges (Format files) = Unit {0}
@@ -55,11 +60,28 @@ count_within (word ∷ []) count is =
     (omega (arith, within.0), within.1)
 count_within (word ∷ next ∷ words) count is = absurd cc
 
-enforce_within : (json : Bool) (files : Option FileNames) (limit : Option ℕ) (names domains : Option (List (ℕ × Fit))) (command : Command) → ((n : ℕ) → limit ≡ Some n → (0 < n) × (n ≤ 250)) → enforcing json files (options_with limit names domains) ≡ Some command → HasRanges command
-enforce_within json (Some files) (Some limit) (Some names) (Some domains) command small is =
-    let same : Enforce files (record { limit = limit; names = names; domains = domains }) json ≡ command = cc in
-    subst HasRanges same (small limit refl)
-enforce_within _ _ _ _ _ _ _ is = absurd cc
+-- the size that a value tells, and none where there is no value
+cached_within : (value : Option (List ℕ)) (cache : Option ℕ) → value_or None (λ text. option_map (λ count. Some count) (number_between 5 1 10000 text)) value ≡ Some cache → CacheHas cache
+cached_within None cache is = let same : ◌≡◌ {A = Option ℕ} None cache = cc in subst CacheHas same tt
+cached_within (Some text) cache is = by (number_between 5 1 10000 text) refl is
+  where
+    by : (number : Option ℕ) → number_between 5 1 10000 text ≡ number → option_map (λ count. Some count) number ≡ Some cache → CacheHas cache
+    by None e found = absurd cc
+    by (Some size) e found =
+        let same : ◌≡◌ {A = Option ℕ} (Some size) cache = cc in
+        let within = number_within 5 1 10000 text size e in
+        subst CacheHas same (omega (arith, within.0), within.1)
+
+cache_within : (items : List Item) (cache : Option ℕ) → cache_in items ≡ Some cache → CacheHas cache
+cache_within items cache is = cached_within (value_of (codes "cache") items) cache is
+
+enforce_within : (json : Bool) (files : Option FileNames) (limit : Option ℕ) (names domains : Option (List (ℕ × Fit))) (cache : Option (Option ℕ)) (command : Command) → ((n : ℕ) → limit ≡ Some n → (0 < n) × (n ≤ 250)) → ((c : Option ℕ) → cache ≡ Some c → CacheHas c)
+    → enforcing json files (options_with limit names domains) cache ≡ Some command → HasRanges command
+enforce_within json (Some files) (Some limit) (Some names) (Some domains) (Some cache) command small few is =
+    let same : Enforce files (record { limit = limit; names = names; domains = domains }) json cache ≡ command = cc in
+    let within = small limit refl in
+    subst HasRanges same (within.0, within.1, few cache refl)
+enforce_within _ _ _ _ _ _ _ _ _ is = absurd cc
 
 session_within : (json : Bool) (files : Option FileNames) (limit : Option ℕ) (names domains : Option (List (ℕ × Fit))) (workers : Option ℕ) (command : Command) → ((n : ℕ) → limit ≡ Some n → (0 < n) × (n ≤ 250)) → ((n : ℕ) → workers ≡ Some n → n ≤ 8)
     → serving json files (options_with limit names domains) workers ≡ Some command → HasRanges command
@@ -100,7 +122,7 @@ format_within None command is = absurd cc
 format_within (Some files) command is = let same : Format files ≡ command = cc in subst HasRanges same tt
 
 command_within : (which : Kind) (items : List Item) (words : List (List ℕ)) (command : Command) → command_with which items words ≡ Some command → HasRanges command
-command_within kind.Enforce items words command is = enforce_within _ _ (limit_in items) _ _ command (limit_within items) is
+command_within kind.Enforce items words command is = enforce_within _ _ (limit_in items) _ _ (cache_in items) command (limit_within items) (cache_within items) is
 command_within kind.Session items words command is = session_within _ _ (limit_in items) _ _ (workers_in items) command (limit_within items) (workers_within items) is
 command_within kind.Check items words command is = check_within _ command is
 command_within kind.Format items words command is = format_within _ command is

@@ -30,7 +30,7 @@ role_options = codes "limit" ∷ codes "match" ∷ codes "domain-match" ∷ []
 
 -- the options that a command has
 abbrev pub options_of : Kind → List (List ℕ)
-options_of Enforce = role_options
+options_of Enforce = codes "cache" ∷ role_options
 options_of Session = codes "workers" ∷ role_options
 options_of Check = []
 options_of Format = []
@@ -63,6 +63,10 @@ value_or default says (Some value) = says value
 -- `--workers`: 0 to 8, and 0 unless it is told
 abbrev pub workers_in : List Item → Option ℕ
 workers_in items = value_or 0 (number_between 3 0 8) (value_of (codes "workers") items)
+
+-- `--cache`: 1 to 10,000, and none unless it is told
+abbrev pub cache_in : List Item → Option (Option ℕ)
+cache_in items = value_or None (λ text. option_map (λ count. Some count) (number_between 5 1 10000 text)) (value_of (codes "cache") items)
 
 -- `--limit`: 1 to 250, and 10 unless it is told
 abbrev pub limit_in : List Item → Option ℕ
@@ -103,9 +107,9 @@ count_of (count ∷ []) = number_between 6 1 100000 count
 count_of _ = None
 
 -- the commands, where all that they hold is there
-abbrev pub enforcing : Bool → Option FileNames → Option Options → Option Command
-enforcing json (Some files) (Some options) = Some (asked.Enforce files options json)
-enforcing _ _ _ = None
+abbrev pub enforcing : Bool → Option FileNames → Option Options → Option (Option ℕ) → Option Command
+enforcing json (Some files) (Some options) (Some cache) = Some (asked.Enforce files options json cache)
+enforcing _ _ _ _ = None
 
 abbrev pub serving : Bool → Option FileNames → Option Options → Option ℕ → Option Command
 serving json (Some files) (Some options) (Some workers) = Some (asked.Session files options json workers)
@@ -125,7 +129,7 @@ showing _ _ = None
 
 -- the command's operands are files, but for `implicit MODEL POLICY NAME [DOMAIN]` and `demo N`; its options stand among the items
 abbrev pub command_with : Kind → List Item → List (List ℕ) → Option Command
-command_with Enforce items operands = enforcing (list_any (is_same flag) items) (files_of operands) (options_in items)
+command_with Enforce items operands = enforcing (list_any (is_same flag) items) (files_of operands) (options_in items) (cache_in items)
 command_with Session items operands = serving (list_any (is_same flag) items) (files_of operands) (options_in items) (workers_in items)
 command_with Check items operands = option_map asked.Check (files_of operands)
 command_with Format items operands = option_map asked.Format (files_of operands)

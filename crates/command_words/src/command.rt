@@ -1,4 +1,4 @@
-use crate::fits::Fits;
+use crate::fits::RelationFits;
 use std::marker::Model;
 
 /// The files that a command names. Contracts see their names as bytes.
@@ -44,19 +44,20 @@ pub struct Options {
     /// The greatest number of links by which a name has a role, from 1 to 250; 10 unless it is told.
     pub limit: u8,
     /// The relations whose names are compared by a function.
-    pub names: Fits,
+    pub names: RelationFits,
     /// The relations whose domains are compared by a function.
-    pub domains: Fits,
+    pub domains: RelationFits,
 }
 
 /// What the words behind the program's name ask for.
 #[derive(Drop)]
 pub enum Command<'a> {
-    /// Requests are answered by one policy.
+    /// Requests are answered by one policy; with a cache of so many answers, from 1 to 10,000, where it is told.
     Enforce {
         files: Files<'a>,
         options: Options,
         json: bool,
+        cache: Option<u32>,
     },
     /// A script of requests and edits is answered, with 0 to 8 workers; 0 unless it is told.
     Session {

@@ -7,12 +7,12 @@ use std::marker::Model;
 /// Role relations by their numbers, 1 for `g` and 2 to 8 for `g2` to `g8`, each with the function by which its names or
 /// its domains are compared, none of them twice. Contracts see the list of these, in the order given. It takes no memory.
 #[derive(Drop)]
-pub struct Fits {
+pub struct RelationFits {
     slots: [(u8, Fit); 8],
     count: usize,
 }
 
-impl Model for Fits {
+impl Model for RelationFits {
     ghost use Rattle.std.specs.Prelude.{◌≤◌, ℕ, List, take};
     ghost use Rattle.command_words.specs.Fits.{AreNamedOnce, AreRelations};
     ghost use Rattle.perm_base.specs.declared.shapes.Fit.{Fit};
@@ -25,12 +25,12 @@ impl Model for Fits {
         × AreRelations (take f.count f.slots) };
 }
 
-impl Fits {
+impl RelationFits {
     // No relation.
-    pub(crate) fn new() -> Fits
+    pub(crate) fn new() -> RelationFits
         ensures { result ≡ [] }
     {
-        Fits {
+        RelationFits {
             slots: [(0, Fit::Exact); 8],
             count: 0,
         }

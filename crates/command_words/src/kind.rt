@@ -60,7 +60,8 @@ impl Kind {
         ensures { result ≡ list_any (bytes_eq name.now) (options_of self) }
     {
         match self {
-            Kind::Enforce | Kind::Implicit | Kind::Report => is_of_roles(name),
+            Kind::Enforce => name == "cache" || is_of_roles(name),
+            Kind::Implicit | Kind::Report => is_of_roles(name),
             Kind::Session => name == "workers" || is_of_roles(name),
             Kind::Check | Kind::Format => false,
             Kind::Demo => name == "workers",

@@ -11,5 +11,5 @@ mod options;
 mod words;
 
 pub use command::{Command, Files, Options, Subject};
-pub use fits::Fits;
+pub use fits::RelationFits;
 pub use words::read_words;

@@ -4,14 +4,14 @@ ghost use Rattle.command_words.specs.Helps.Seen.{entries_of};
 ghost use Rattle.command_words.specs.Values.{entry_of, fit_named, fits_of, is_comma, relation_of};
 ghost use Rattle.perm_base.specs.TableNames.{table_named};
 
-use crate::fits::Fits;
+use crate::fits::RelationFits;
 use perm_base::{Fit, TableId};
 
 /// The role relations of a list of `RELATION=FUNCTION`, with their functions.
-pub(crate) fn fits_of(list: &str) -> Option<Fits>
+pub(crate) fn fits_of(list: &str) -> Option<RelationFits>
     ensures { result ≡ fits_of list.now }
 {
-    let mut fits = Fits::new();
+    let mut fits = RelationFits::new();
     let mut rest = Some(list);
     while let Some(list) = rest {
         let (text, behind) = first_entry(list);

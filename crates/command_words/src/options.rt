@@ -1,9 +1,9 @@
 ghost use Rattle.std.specs.Prelude.{◌≡◌};
-ghost use Rattle.command_words.specs.Commands.{fits_at, limit_in, options_in, workers_in};
+ghost use Rattle.command_words.specs.Commands.{cache_in, fits_at, limit_in, options_in, workers_in};
 ghost use Rattle.command_words.specs.Items.{items, texts};
 
 use crate::command::Options;
-use crate::fits::Fits;
+use crate::fits::RelationFits;
 use crate::items::value_of;
 use crate::lists::fits_of;
 use crate::numbers::number_between;
@@ -11,6 +11,8 @@ use crate::numbers::number_between;
 const MOST_WORKERS: u32 = 8;
 
 const MOST_LIMIT: u32 = 250;
+
+const MOST_CACHED: u32 = 10_000;
 
 /// What the words say of roles.
 pub(crate) fn options_in(words: &[String]) -> Option<Options>
@@ -37,6 +39,17 @@ pub(crate) fn workers_in(words: &[String]) -> Option<u8>
     Some(number as u8)
 }
 
+/// How many answers are kept, where it is told.
+pub(crate) fn cache_in(words: &[String]) -> Option<Option<u32>>
+    ensures { result ≡ cache_in (items (texts words.now)) }
+{
+    let Some(text) = value_of(words, "cache") else {
+        return Some(None);
+    };
+    let number = number_between(text, 5, 1, MOST_CACHED)?;
+    Some(Some(number))
+}
+
 // The greatest number of links, 10 unless it is told.
 fn limit_in(words: &[String]) -> Option<u8>
     ensures { result ≡ limit_in (items (texts words.now)) }
@@ -49,11 +62,11 @@ fn limit_in(words: &[String]) -> Option<u8>
 }
 
 // The relations that the option of that name lists, none unless it is told.
-fn fits_at(words: &[String], name: &str) -> Option<Fits>
+fn fits_at(words: &[String], name: &str) -> Option<RelationFits>
     ensures { result ≡ fits_at name.now (items (texts words.now)) }
 {
     let Some(list) = value_of(words, name) else {
-        return Some(Fits::new());
+        return Some(RelationFits::new());
     };
     fits_of(list)
 }

@@ -7,7 +7,7 @@ use crate::command::{Command, Files, Subject};
 use crate::items::{Item, first_item, operand, stands};
 use crate::kind::Kind;
 use crate::numbers::number_between;
-use crate::options::{options_in, workers_in};
+use crate::options::{cache_in, options_in, workers_in};
 
 const MOST_COUNT: u32 = 100_000;
 
@@ -17,7 +17,7 @@ const MOST_COUNT: u32 = 100_000;
 /// and an operand is `-` or a word that does not begin with `-`; behind it all words are operands. They come in any order, and
 /// neither the flag nor an option stands twice. A value in a word of its own does not begin with `-`.
 ///
-/// - `enforce MODEL POLICY [--limit L] [--match LIST] [--domain-match LIST] [--json]`
+/// - `enforce MODEL POLICY [--limit L] [--match LIST] [--domain-match LIST] [--cache C] [--json]`
 /// - `session MODEL POLICY [--workers W] [--limit L] [--match LIST] [--domain-match LIST] [--json]`
 /// - `check MODEL POLICY`
 /// - `format MODEL POLICY`
@@ -25,8 +25,8 @@ const MOST_COUNT: u32 = 100_000;
 /// - `report MODEL POLICY [--limit L] [--match LIST] [--domain-match LIST]`
 /// - `demo N [--workers W]`
 ///
-/// `L` is a number from 1 to 250 and `W` one from 0 to 8, each in one to three decimal digits; `N` is one from 1 to 100,000, in
-/// one to six. `LIST` is one `RELATION=FUNCTION` or more, joined by `,`, where the relations are `g` and `g2` to `g8`, none of
+/// `L` is a number from 1 to 250 and `W` one from 0 to 8, each in one to three decimal digits; `C` is one from 1 to 10,000, in one
+/// to five, and `N` one from 1 to 100,000, in one to six. `LIST` is one `RELATION=FUNCTION` or more, joined by `,`, where the relations are `g` and `g2` to `g8`, none of
 /// them twice, and the functions are Casbin's `keyMatch`, `keyMatch2`, `keyMatch3` and `globMatch`.
 pub fn read_words(words: &[String]) -> Option<Command<'_>>
     ensures { result ≡ command_of (texts words.now) }
@@ -79,10 +79,12 @@ fn enforce<'a>(before: &'a [String], behind: &'a [String]) -> Option<Command<'a>
 {
     let files = files_of(before, behind)?;
     let options = options_in(before)?;
+    let cache = cache_in(before)?;
     Some(Command::Enforce {
         files,
         options,
         json: stands(&Item::Flag, before),
+        cache,
     })
 }
 

@@ -4,24 +4,19 @@ use Rattle.std.specs.Prelude.{codes, position, slice_get, unwrap_or}
 use Rattle.std.specs.Option.{option_and_then}
 use Rattle.std.proofs.lemmas.Option.{unwrap_or-slice_get}
 use Rattle.std.specs.Str.{bytes_eq}
-use Rattle.perm_base.proofs.CallerLemmas.{found_number}
 use Rattle.perm_base.specs.RoleShapes.{shape_of}
 use Rattle.perm_base.specs.declared.shapes.RoleShape.{RoleShape}
-use Rattle.perm_base.specs.declared.shapes.TableId.TheVariants.{G}
-use Rattle.policy_table.specs.Tables.{Fields, Policy, rows}
+use Rattle.policy_table.specs.Tables.{Fields}
 use Rattle.role_meaning.specs.Depths.{IsDepth}
 use Rattle.matcher_meaning.specs.Cases.{Case}
 use Rattle.matcher_meaning.specs.Order.{domain_of_row}
 
 -- the depth that the section of the relation gives
-pub depth_in_section : (roles : List RoleShape) (shape own : RoleShape) (policy held : Policy) (limit own_limit : ℕ) (domain : Option (List ℕ)) (subject : List ℕ) (depth : ℕ) → shape_of roles 1 ≡ Some own → own_limit ≡ limit → held ≡ policy
-    → IsDepth own (rows held (G own.number)) own_limit domain subject depth → shape_of roles 1 ≡ Some shape → IsDepth shape (rows policy (G 1)) limit domain subject depth
-depth_in_section roles shape own policy held limit own_limit domain subject depth own_there limit_is policy_is is there =
+pub depth_in_section : (roles : List RoleShape) (shape own : RoleShape) (table : List Fields) (limit own_limit : ℕ) (domain : Option (List ℕ)) (subject : List ℕ) (depth : ℕ) → shape_of roles 1 ≡ Some own → own_limit ≡ limit
+    → IsDepth own table own_limit domain subject depth → shape_of roles 1 ≡ Some shape → IsDepth shape table limit domain subject depth
+depth_in_section roles shape own table limit own_limit domain subject depth own_there limit_is is there =
     let same : own ≡ shape = let e : Some own ≡ Some shape = sym own_there ∙ there in cc in
-    let table : rows held (G own.number) ≡ rows policy (G 1) = ap (λ (p : Policy). rows p (G own.number)) policy_is ∙ ap (λ (n : ℕ). rows policy (G n)) (found_number roles 1 own own_there) in
-    subst (λ (s : RoleShape). IsDepth s (rows policy (G 1)) limit domain subject depth) same
-    (subst (λ (n : ℕ). IsDepth own (rows policy (G 1)) n domain subject depth) limit_is
-    (subst (λ (table : List Fields). IsDepth own table own_limit domain subject depth) table is))
+    subst (λ (s : RoleShape). IsDepth s table limit domain subject depth) same (subst (λ (n : ℕ). IsDepth own table n domain subject depth) limit_is is)
 
 -- the domain of a row is its field at the place of the column `dom`
 pub domain_in_column : (case : Case) (shape : RoleShape) (fields : Fields) (at : ℕ) (text : List ℕ) → position (bytes_eq (codes "dom")) case.model.policy ≡ Some at → shape.with_domain ≡ true → text ≡ get_or fields at [] → Some text ≡ domain_of_row case shape fields

@@ -19,7 +19,7 @@ use Rattle.matcher_read.specs.declared.tree.Operator.TheVariants as op
 use Rattle.model_conf.specs.ModelText.{ModelParts}
 use Rattle.model_conf.specs.Uses.{Use, of_request, is_declared, uses}
 use Rattle.matcher_meaning.specs.Answers as answers
-use Rattle.matcher_meaning.specs.Answers.{Answer, After, Unless}
+use Rattle.matcher_meaning.specs.Answers.{Evaluation, After, Unless}
 use Rattle.matcher_meaning.specs.Calls.{text_before, texts_of}
 use Rattle.matcher_meaning.specs.CaseCalls.{GivesForTexts}
 use Rattle.matcher_meaning.specs.Cases.{Case, asked_value, row_text}
@@ -57,7 +57,7 @@ each_parts P (x ∷ xs) ys each = let rest = each_parts P xs ys each.1 in ((each
 
 -- ---- columns and operands
 
-column_comes : (case : Case) (e : Expression) (column : List ℕ) (d : Datum) → asked_column e ≡ Some column → asked_value case column ≡ Some d → (r : Answer) → ComesTo case e r → r ≡ Ok d
+column_comes : (case : Case) (e : Expression) (column : List ℕ) (d : Datum) → asked_column e ≡ Some column → asked_value case column ≡ Some d → (r : Evaluation) → ComesTo case e r → r ≡ Ok d
 column_comes case (request at own []) column d is value r comes =
     let same : own ≡ column = cc in
     comes ∙ ap (λ (c : List ℕ). along at (asked_value case c) []) same ∙ ap (λ (v : Option Datum). along at v []) value
@@ -73,7 +73,7 @@ column_comes case (binary at o e f) column d is value r comes = absurd cc
 column_comes case (among at e es) column d is value r comes = absurd cc
 column_comes case (call at callee es) column d is value r comes = absurd cc
 
-field_comes : (case : Case) (e : Expression) (column : List ℕ) → policy_column e ≡ Some column → (r : Answer) → ComesTo case e r → r ≡ Ok (datum.text (row_text case column))
+field_comes : (case : Case) (e : Expression) (column : List ℕ) → policy_column e ≡ Some column → (r : Evaluation) → ComesTo case e r → r ≡ Ok (datum.text (row_text case column))
 field_comes case (policy at own) column is r comes =
     let same : own ≡ column = cc in
     comes ∙ ap (λ (c : List ℕ). Ok (datum.text (row_text case c))) same
@@ -92,7 +92,7 @@ never : {P : Type 0} → ◌≡◌ {A = Bool} false true → P
 never e = absurd (true≢false (sym e))
 
 -- an operand comes to a value
-operand_comes : (case : Case) (e : Expression) → HasValues case → is_operand e ≡ true → are_declared case.model (uses e) ≡ true → (r : Answer) → ComesTo case e r → (d : Datum) × (r ≡ Ok d)
+operand_comes : (case : Case) (e : Expression) → HasValues case → is_operand e ≡ true → are_declared case.model (uses e) ≡ true → (r : Evaluation) → ComesTo case e r → (d : Datum) × (r ≡ Ok d)
 operand_comes case (text at bytes) has is declared r comes = (datum.text bytes, comes)
 operand_comes case (whole at n) has is declared r comes = (datum.whole n, comes)
 operand_comes case (truth at b) has is declared r comes = (datum.truth b, comes)
@@ -109,7 +109,7 @@ operand_comes case (among at e es) has is declared r comes = never is
 operand_comes case (call at callee es) has is declared r comes = never is
 
 -- a name comes to a text
-name_comes : (case : Case) (e : Expression) (rest : List (List ℕ)) → is_name e ≡ true → AllByRecursion (HoldsText case) (column_before (asked_column e) rest) → (r : Answer) → ComesTo case e r
+name_comes : (case : Case) (e : Expression) (rest : List (List ℕ)) → is_name e ≡ true → AllByRecursion (HoldsText case) (column_before (asked_column e) rest) → (r : Evaluation) → ComesTo case e r
     → ((t : List ℕ) × (r ≡ Ok (datum.text t))) × AllByRecursion (HoldsText case) rest
 name_comes case (text at bytes) rest is texts r comes = ((bytes, comes), texts)
 name_comes case (policy at column) rest is texts r comes = ((row_text case column, comes), texts)
@@ -127,39 +127,39 @@ name_comes case (call at callee es) rest is texts r comes = never is
 -- ---- an equality
 
 -- what is said of an answer whose one side is known
-side_is : {Y : Type 0} (x : Answer) (d : Datum) (next : Datum → Result Y Fault → Type 0) (r : Result Y Fault) → x ≡ Ok d → After x (λ v. next v r) r → next d r
-side_is {Y} x d next r is after = subst (λ (a : Answer). After a (λ v. next v r) r) is after
+side_is : {Y : Type 0} (x : Evaluation) (d : Datum) (next : Datum → Result Y Fault → Type 0) (r : Result Y Fault) → x ≡ Ok d → After x (λ v. next v r) r → next d r
+side_is {Y} x d next r is after = subst (λ (a : Evaluation). After a (λ v. next v r) r) is after
 
-equality_comes : (case : Case) (at : ℕ) (e f : Expression) (d c : Datum) → ((x : Answer) → ComesTo case e x → x ≡ Ok d) → ((y : Answer) → ComesTo case f y → y ≡ Ok c) → (r : Answer) → ComesTo case (binary at op.Equal e f) r → r ≡ Ok (datum.truth (datum_eq d c))
+equality_comes : (case : Case) (at : ℕ) (e f : Expression) (d c : Datum) → ((x : Evaluation) → ComesTo case e x → x ≡ Ok d) → ((y : Evaluation) → ComesTo case f y → y ≡ Ok c) → (r : Evaluation) → ComesTo case (binary at op.Equal e f) r → r ≡ Ok (datum.truth (datum_eq d c))
 equality_comes case at e f d c left right r (x, p, after) =
-    let second : (y : Answer) × ComesTo case f y × (r ≡ answers.then y (joined at op.Equal d)) =
-    side_is x d (λ v s. Unless (settled at op.Equal v) ((y : Answer) × ComesTo case f y × (s ≡ answers.then y (joined at op.Equal v))) s) r (left x p) after in
-    second.2 ∙ ap (λ (y : Answer). answers.then y (joined at op.Equal d)) (right second.0 second.1)
+    let second : (y : Evaluation) × ComesTo case f y × (r ≡ answers.then y (joined at op.Equal d)) =
+    side_is x d (λ v s. Unless (settled at op.Equal v) ((y : Evaluation) × ComesTo case f y × (s ≡ answers.then y (joined at op.Equal v))) s) r (left x p) after in
+    second.2 ∙ ap (λ (y : Evaluation). answers.then y (joined at op.Equal d)) (right second.0 second.1)
 
 -- an equality of operands comes to a truth
 quiet_equality : (case : Case) (at : ℕ) (e f : Expression) → HasValues case → (is_operand e && is_operand f) ≡ true → are_declared case.model (uses e ++ uses f) ≡ true
-    → (r : Answer) → ComesTo case (binary at op.Equal e f) r → (b : Bool) × (r ≡ Ok (datum.truth b))
+    → (r : Evaluation) → ComesTo case (binary at op.Equal e f) r → (b : Bool) × (r ≡ Ok (datum.truth b))
 quiet_equality case at e f has quiet_is declared r (x, p, after) =
     let are = and_parts (is_operand e) (is_operand f) quiet_is in
     let named = declared_parts case.model (uses e) (uses f) declared in
     let left = operand_comes case e has are.0 named.0 x p in
-    let second : (y : Answer) × ComesTo case f y × (r ≡ answers.then y (joined at op.Equal left.0)) =
-    side_is x left.0 (λ v s. Unless (settled at op.Equal v) ((y : Answer) × ComesTo case f y × (s ≡ answers.then y (joined at op.Equal v))) s) r left.1 after in
+    let second : (y : Evaluation) × ComesTo case f y × (r ≡ answers.then y (joined at op.Equal left.0)) =
+    side_is x left.0 (λ v s. Unless (settled at op.Equal v) ((y : Evaluation) × ComesTo case f y × (s ≡ answers.then y (joined at op.Equal v))) s) r left.1 after in
     let right = operand_comes case f has are.1 named.1 second.0 second.1 in
-    (datum_eq left.0 right.0, second.2 ∙ ap (λ (y : Answer). answers.then y (joined at op.Equal left.0)) right.1)
+    (datum_eq left.0 right.0, second.2 ∙ ap (λ (y : Evaluation). answers.then y (joined at op.Equal left.0)) right.1)
 
 other_datum : (d c : Datum) → (d ≡ c → ⊥) → datum_eq d c ≡ false
 other_datum d c differs = false_from_ne_true (datum_eq d c) (λ e. differs ((datum_eq-Decides d c).0 e))
 
 -- a column of the request that is not the policy's column of the row equals it neither way
 differing : (case : Case) (at : ℕ) (e f : Expression) (asked column : List ℕ) → Differs case asked column → asked_column e ≡ Some asked → policy_column f ≡ Some column
-    → (r : Answer) → ComesTo case (binary at op.Equal e f) r → r ≡ Ok (datum.truth false)
+    → (r : Evaluation) → ComesTo case (binary at op.Equal e f) r → r ≡ Ok (datum.truth false)
 differing case at e f asked column (d, value, differs) is field r comes =
     equality_comes case at e f d (datum.text (row_text case column)) (column_comes case e asked d is value) (field_comes case f column field) r comes
     ∙ ap (λ (b : Bool). Ok (datum.truth b)) (other_datum d (datum.text (row_text case column)) differs)
 
 differing_back : (case : Case) (at : ℕ) (e f : Expression) (asked column : List ℕ) → Differs case asked column → asked_column f ≡ Some asked → policy_column e ≡ Some column
-    → (r : Answer) → ComesTo case (binary at op.Equal e f) r → r ≡ Ok (datum.truth false)
+    → (r : Evaluation) → ComesTo case (binary at op.Equal e f) r → r ≡ Ok (datum.truth false)
 differing_back case at e f asked column (d, value, differs) is field r comes =
     equality_comes case at e f (datum.text (row_text case column)) d (field_comes case e column field) (column_comes case f asked d is value) r comes
     ∙ ap (λ (b : Bool). Ok (datum.truth b)) (other_datum (datum.text (row_text case column)) d (λ same. differs (sym same)))
@@ -176,7 +176,7 @@ either : {X : Type 0} (first second : Option X) (x : X) → option_or first seco
 either (Some a) second x is = inl is
 either None second x is = inr is
 
-compared_comes : (case : Case) (e : Expression) (asked column : List ℕ) → compared e ≡ Some (asked, column) → Differs case asked column → (r : Answer) → ComesTo case e r → r ≡ Ok (datum.truth false)
+compared_comes : (case : Case) (e : Expression) (asked column : List ℕ) → compared e ≡ Some (asked, column) → Differs case asked column → (r : Evaluation) → ComesTo case e r → r ≡ Ok (datum.truth false)
 compared_comes case (binary at op.Equal e f) asked column is differs r comes = by (either (both_columns e f) (both_columns f e) (asked, column) is)
   where
     by : (both_columns e f ≡ Some (asked, column)) ⊎ (both_columns f e ≡ Some (asked, column)) → r ≡ Ok (datum.truth false)
@@ -207,7 +207,7 @@ names_come case (one_more e es) are texts r (x, p, after) =
     (t ∷ rest.0, behind.2 ∙ ap (answers.with_first (datum.text t)) rest.1, one_longer t rest.0 (count es) rest.2)
 
 -- a role question of two or three texts comes to a truth
-question_gives : (case : Case) (at number : ℕ) (ts : List (List ℕ)) → (length ts == 2 || length ts == 3) ≡ true → (r : Answer) → GivesForTexts case at (relation number) (Some ts) r → (b : Bool) × (r ≡ Ok (datum.truth b))
+question_gives : (case : Case) (at number : ℕ) (ts : List (List ℕ)) → (length ts == 2 || length ts == 3) ≡ true → (r : Evaluation) → GivesForTexts case at (relation number) (Some ts) r → (b : Bool) × (r ≡ Ok (datum.truth b))
 question_gives case at number [] are r gives = never are
 question_gives case at number (s ∷ []) are r gives = never are
 question_gives case at number (s ∷ t ∷ []) are r (b, whether, is) = (b, is)
@@ -215,7 +215,7 @@ question_gives case at number (s ∷ t ∷ u ∷ []) are r (b, whether, is) = (b
 question_gives case at number (s ∷ t ∷ u ∷ v ∷ more) are r gives = absurd (grind (arith, nat_tests))
 
 quiet_question : (case : Case) (at number : ℕ) (es : Expressions) → are_asked es ≡ true → AllByRecursion (HoldsText case) (asked_among es)
-    → (r : Answer) → ComesTo case (call at (relation number) es) r → (b : Bool) × (r ≡ Ok (datum.truth b))
+    → (r : Evaluation) → ComesTo case (call at (relation number) es) r → (b : Bool) × (r ≡ Ok (datum.truth b))
 quiet_question case at number es quiet_is texts r (x, come, after) =
     let are = and_parts (count es == 2 || count es == 3) (are_names es) quiet_is in
     let names = names_come case es are.1 texts x come in
@@ -227,18 +227,18 @@ quiet_question case at number es quiet_is texts r (x, come, after) =
 -- ---- a conjunct
 
 quiet_comes : (case : Case) (e : Expression) → HasValues case → is_quiet e ≡ true → are_declared case.model (uses e) ≡ true → AllByRecursion (HoldsText case) (asked_of e)
-    → (r : Answer) → ComesTo case e r → (b : Bool) × (r ≡ Ok (datum.truth b))
+    → (r : Evaluation) → ComesTo case e r → (b : Bool) × (r ≡ Ok (datum.truth b))
 quiet_comes case (binary at op.Equal e f) has is declared texts r comes = quiet_equality case at e f has is declared r comes
 quiet_comes case (call at (relation number) es) has is declared texts r comes = quiet_question case at number es is texts r comes
 quiet_comes case _ has is declared texts r comes = never is
 
 -- what an expression comes to, by what its conjuncts are
-abbrev Says : Case → Part → Answer → Type 0
+abbrev Says : Case → Part → Evaluation → Type 0
 Says case quiet r = (b : Bool) × (r ≡ Ok (datum.truth b))
 Says case (equality asked column) r = Differs case asked column → r ≡ Ok (datum.truth false)
 Says case other r = Unit {0}
 
-conjunct_says : (case : Case) (e : Expression) → HasValues case → are_declared case.model (uses e) ≡ true → AllByRecursion (HoldsText case) (where_quiet (part_of e) (asked_of e ++ [])) → (r : Answer) → ComesTo case e r → Says case (part_of e) r
+conjunct_says : (case : Case) (e : Expression) → HasValues case → are_declared case.model (uses e) ≡ true → AllByRecursion (HoldsText case) (where_quiet (part_of e) (asked_of e ++ [])) → (r : Evaluation) → ComesTo case e r → Says case (part_of e) r
 conjunct_says case e has declared texts r comes = by (compared e) refl (is_quiet e) refl texts
   where
     by : (columns : Option (List ℕ × List ℕ)) → compared e ≡ columns → (silent : Bool) → is_quiet e ≡ silent → AllByRecursion (HoldsText case) (where_quiet (part_by columns silent) (asked_of e ++ [])) → Says case (part_by columns silent) r
@@ -306,32 +306,32 @@ equality_is other asked column is = absurd cc
 
 -- ---- an expression
 
-false_says : (case : Case) (part : Part) (r : Answer) → r ≡ Ok (datum.truth false) → Says case part r
+false_says : (case : Case) (part : Part) (r : Evaluation) → r ≡ Ok (datum.truth false) → Says case part r
 false_says case quiet r is = (false, is)
 false_says case (equality asked column) r is = λ differs. is
 false_says case other r is = tt
 
 -- the answer of the right side is that of `&&`
-next_says : (case : Case) (part : Part) (at : ℕ) (y r : Answer) → Says case part y → r ≡ answers.then y (joined at op.And (datum.truth true)) → Says case part r
-next_says case quiet at y r (b, is) e = (b, e ∙ ap (λ (a : Answer). answers.then a (joined at op.And (datum.truth true))) is)
-next_says case (equality asked column) at y r says e = λ differs. e ∙ ap (λ (a : Answer). answers.then a (joined at op.And (datum.truth true))) (says differs)
+next_says : (case : Case) (part : Part) (at : ℕ) (y r : Evaluation) → Says case part y → r ≡ answers.then y (joined at op.And (datum.truth true)) → Says case part r
+next_says case quiet at y r (b, is) e = (b, e ∙ ap (λ (a : Evaluation). answers.then a (joined at op.And (datum.truth true))) is)
+next_says case (equality asked column) at y r says e = λ differs. e ∙ ap (λ (a : Evaluation). answers.then a (joined at op.And (datum.truth true))) (says differs)
 next_says case other at y r says e = tt
 
 -- what is said of `&&` behind its left side
-abbrev Behind : Case → ℕ → Expression → Datum → Answer → Type 0
-Behind case at f d r = Unless (settled at op.And d) ((y : Answer) × ComesTo case f y × (r ≡ answers.then y (joined at op.And d))) r
+abbrev Behind : Case → ℕ → Expression → Datum → Evaluation → Type 0
+Behind case at f d r = Unless (settled at op.And d) ((y : Evaluation) × ComesTo case f y × (r ≡ answers.then y (joined at op.And d))) r
 
-truth_ends : (case : Case) (at : ℕ) (f : Expression) (part : Part) (b : Bool) (r : Answer) → Behind case at f (datum.truth b) r → ((y : Answer) → ComesTo case f y → Says case part y) → Says case part r
+truth_ends : (case : Case) (at : ℕ) (f : Expression) (part : Part) (b : Bool) (r : Evaluation) → Behind case at f (datum.truth b) r → ((y : Evaluation) → ComesTo case f y → Says case part y) → Says case part r
 truth_ends case at f part false r is says = false_says case part r is
 truth_ends case at f part true r (y, comes, e) says = next_says case part at y r (says y comes) e
 
-both_say : (case : Case) (at : ℕ) (f : Expression) (first second : Part) (columns : List (List ℕ)) (x r : Answer) → Says case first x → After x (λ d. Behind case at f d r) r
-    → AllByRecursion (HoldsText case) (where_quiet first columns) → (AllByRecursion (HoldsText case) columns → (y : Answer) → ComesTo case f y → Says case second y) → Says case (onto first second) r
+both_say : (case : Case) (at : ℕ) (f : Expression) (first second : Part) (columns : List (List ℕ)) (x r : Evaluation) → Says case first x → After x (λ d. Behind case at f d r) r
+    → AllByRecursion (HoldsText case) (where_quiet first columns) → (AllByRecursion (HoldsText case) columns → (y : Evaluation) → ComesTo case f y → Says case second y) → Says case (onto first second) r
 both_say case at f quiet second columns x r (b, is) after texts says = truth_ends case at f second b r (side_is x (datum.truth b) (Behind case at f) r is after) (says texts)
 both_say case at f (equality asked column) second columns x r left after texts says = λ differs. side_is x (datum.truth false) (Behind case at f) r (left differs) after
 both_say case at f other second columns x r left after texts says = tt
 
-pub expression_says : (case : Case) (e : Expression) → HasValues case → are_declared case.model (uses e) ≡ true → AllByRecursion (HoldsText case) (asked_before (conjuncts e)) → (r : Answer) → ComesTo case e r → Says case (parts_in (conjuncts e)) r
+pub expression_says : (case : Case) (e : Expression) → HasValues case → are_declared case.model (uses e) ≡ true → AllByRecursion (HoldsText case) (asked_before (conjuncts e)) → (r : Evaluation) → ComesTo case e r → Says case (parts_in (conjuncts e)) r
 expression_says case (binary at op.And e f) has declared texts r (x, comes, after) =
     let named = declared_parts case.model (uses e) (uses f) declared in
     let held = each_parts (HoldsText case) (asked_before (conjuncts e)) (where_quiet (parts_in (conjuncts e)) (asked_before (conjuncts f))) (subst (AllByRecursion (HoldsText case)) (asked_append (conjuncts e) (conjuncts f)) texts) in
@@ -345,4 +345,4 @@ pub left_out : (case : Case) (e : Expression) (asked column : List ℕ) → HasV
 left_out case e asked column has declared texts first differs (t, (x, comes, is)) =
     let part : parts_in (conjuncts e) ≡ equality asked column = equality_is (parts_in (conjuncts e)) asked column (sym (first_is (conjuncts e)) ∙ first) in
     let answer : x ≡ Ok (datum.truth false) = subst (λ (p : Part). Says case p x) part (expression_says case e has declared texts x comes) differs in
-    (x, comes, sym (ap (λ (a : Answer). answers.then a (truth_at (place e))) answer))
+    (x, comes, sym (ap (λ (a : Evaluation). answers.then a (truth_at (place e))) answer))

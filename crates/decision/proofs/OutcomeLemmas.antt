@@ -12,7 +12,7 @@ use Rattle.perm_value.specs.declared.value.View.TheVariants as view
 use Rattle.policy_table.specs.Tables.{Fields}
 use Rattle.regex_gate.specs.Refusals.{Refusals, RefusedOnly, IsUsed}
 use Rattle.regex_gate.proofs.CallerLemmas.{used_one, used_same}
-use Rattle.matcher_meaning.specs.Answers.{Answer}
+use Rattle.matcher_meaning.specs.Answers.{Evaluation}
 use Rattle.matcher_meaning.specs.Cases.{Case, at_row, where_refused}
 use Rattle.matcher_meaning.specs.Perm.{outcome_of}
 use Rattle.matcher_code.specs.Compiled.{as_answer}
@@ -26,7 +26,7 @@ use Rattle.decision.specs.Helps.Parts.{IsProgram}
 use Rattle.decision.specs.declared.index.Index.{Index}
 
 -- an answer of which more is known
-answer_weaker : {X : Type 0} (Says SaysToo : Option (ℕ × List ℕ) → Answer → Type 0) (value : X → Datum) (Refused : Option (List ℕ) → Type 0) → ((refused : Option (ℕ × List ℕ)) (answer : Answer) → Says refused answer → SaysToo refused answer) → (r : Result X Stop)
+answer_weaker : {X : Type 0} (Says SaysToo : Option (ℕ × List ℕ) → Evaluation → Type 0) (value : X → Datum) (Refused : Option (List ℕ) → Type 0) → ((refused : Option (ℕ × List ℕ)) (answer : Evaluation) → Says refused answer → SaysToo refused answer) → (r : Result X Stop)
     → IsAnswer Says value Refused r → IsAnswer SaysToo value Refused r
 answer_weaker Says SaysToo value Refused weaker (Ok x) (none, is) = (none, weaker None (Ok (value x)) is)
 answer_weaker Says SaysToo value Refused weaker (Err (stop.Fault failed)) (inl (none, is)) = inl (none, weaker None (Err failed) is)
@@ -102,7 +102,7 @@ comes_for_more case Refused RefusedToo row o more (inl (none, is)) = inl (more N
 comes_for_more case Refused RefusedToo row o more (inr (at, pattern, bad, failed, is)) = inr (at, pattern, more (Some pattern) bad, failed, is)
 
 -- what the finder refused in an evaluation
-pub answer_used : {X : Type 0} (Says : Option (ℕ × List ℕ) → Answer → Type 0) (value : X → Datum) (before now : Refusals) (r : Result X Stop) → IsAnswer Says value (RefusedOnly before now) r → IsUsed before now
+pub answer_used : {X : Type 0} (Says : Option (ℕ × List ℕ) → Evaluation → Type 0) (value : X → Datum) (before now : Refusals) (r : Result X Stop) → IsAnswer Says value (RefusedOnly before now) r → IsUsed before now
 answer_used Says value before now (Ok x) is = used_same before now is.0
 answer_used Says value before now (Err (stop.Fault failed)) (inl is) = used_same before now is.0
 answer_used Says value before now (Err (stop.Fault failed)) (inr is) = used_one before now (Some is.0) is.1

@@ -110,11 +110,5 @@ fn depth_in<L: Ledger>(
         (option_copied domain.entry) subject.now result }
 {
     let mut steps = Steps::<L>::new(blank);
-    depth(
-        state.tables(),
-        state.section(HIERARCHY),
-        subject,
-        domain,
-        &mut steps,
-    )
+    depth(state.section(HIERARCHY), subject, domain, &mut steps)
 }

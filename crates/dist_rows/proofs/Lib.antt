@@ -6,4 +6,5 @@ mod LimitLemmas
 mod SquareLemmas
 mod SeenLemmas
 mod CellLemmas
+mod CopyLemmas
 pub mod CallerLemmas

@@ -2,6 +2,7 @@
 #![tactic(auto)]
 
 mod changing;
+mod copying;
 mod lanes;
 mod limits;
 mod relaxing;

@@ -46,6 +46,16 @@ impl Row {
         Ok(self.cells.reserve_exact(more)?)
     }
 
+    /// The same cells once more, with room for no more.
+    pub(crate) fn copy(&self, alloc: Global) -> Result<Row, NoMemory>
+        ensures cells { IfOk result (λ copy. copy.cells ≡ self.now.cells) }
+        ensures room { IfOk result (λ copy. length self.now.cells ≤ copy.room) }
+    {
+        Ok(Row {
+            cells: Vec::from_slice(alloc, &self.cells)?,
+        })
+    }
+
     pub(crate) fn as_slice(&self) -> &[u8]
         ensures { result.now ≡ self.now.cells }
     {

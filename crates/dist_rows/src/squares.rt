@@ -1,7 +1,8 @@
-ghost use Rattle.std.specs.Prelude.{◌≡◌, ◌+◌, ◌-◌, ◌<◌, ◌≤◌, [], OnOk, length};
+ghost use Rattle.std.specs.Prelude.{◌≡◌, ◌+◌, ◌-◌, ◌<◌, ◌≤◌, [], IfOk, OnOk, length};
 ghost use Rattle.dist_rows.specs.Squares.{IsSquare, are_within, cell_of, cleared, dropped, groups, most_nodes, relaxed, row_of, widened, with_cell};
 
 use crate::changing::{drop_cells, push_cells};
+use crate::copying::copy_all;
 use crate::limits::mark_within;
 use crate::relaxing;
 use crate::reserving::{add_free, reserve_all};
@@ -44,6 +45,15 @@ impl DistRows {
             rows: Vec::new(alloc),
             free: Vec::new(alloc),
         }
+    }
+
+    /// The same distances once more, with room for no further node.
+    pub fn copy(&self, alloc: Global) -> Result<DistRows, NoMemory>
+        ensures { IfOk result (λ copy. copy.cells ≡ self.now.cells) }
+    {
+        let rows = copy_all(alloc, &self.rows)?;
+        let free = Vec::new(alloc);
+        Ok(DistRows { alloc, rows, free })
     }
 
     /// How many nodes there are.

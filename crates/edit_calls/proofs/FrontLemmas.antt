@@ -1,5 +1,5 @@
 -- Lists of edits that are admitted one after the other.
-use Rattle.std.proofs.Common.{◌≡◌, ℕ, zero, suc, ◌+◌, ◌<◌, ◌≤◌, Bool, true, false, List, [], ◌∷◌, ◌++◌, length, take, slice_get, Option, Some, refl, sym, ap, subst, ◌∙◌, true≢false, arith}
+use Rattle.std.proofs.Common.{◌≡◌, ℕ, zero, suc, ◌+◌, ◌≤◌, Bool, true, false, List, [], ◌∷◌, ◌++◌, length, take, slice_get, Some, refl, sym, ap, subst, ◌∙◌, true≢false, arith}
 use Rattle.std.proofs.lemmas.List.{append-nil}
 use Rattle.std.proofs.lemmas.Option.{same_Some, slice_get_within}
 use Rattle.perm_base.specs.declared.shapes.Shapes.{Shapes}
@@ -76,10 +76,6 @@ module _ (shapes : Shapes) (policy : Policy) (edits : List (List Change)) (at : 
 -- no edit stands behind the last
 pub none_behind : (edits : List (List Change)) (edit : List Change) → slice_get edits (length edits) ≡ Some edit → ⊥
 none_behind edits edit here = omega (arith, slice_get_within edits (length edits) edit here)
-
--- tables that stay are sound as before
-pub still_sound : (shapes : Shapes) (old new : Policy) → AreSound shapes old → new ≡ old → AreSound shapes new
-still_sound shapes old new sound same = subst (AreSound shapes) (sym same) sound
 
 -- the changes of an edit alone
 pub flat_alone : (edit : List Change) → flat (edit ∷ []) ≡ edit

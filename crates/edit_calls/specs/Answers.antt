@@ -14,20 +14,20 @@ use Rattle.edit_calls.specs.declared.call.Call.{Call}
 use Rattle.edit_calls.specs.declared.refused.CallRefused.{CallRefused}
 use Rattle.edit_calls.specs.declared.refused.CallRefused.TheVariants.{Full}
 
-abbrev pub Answer : Type 0
-Answer = Result (Option (List Change)) CallRefused
+abbrev pub CallAnswer : Type 0
+CallAnswer = Result (Option (List Change)) CallRefused
 
 -- the edit, unless the tables after it pass a limit
-abbrev pub within : Shapes → Policy → List Change → Answer
+abbrev pub within : Shapes → Policy → List Change → CallAnswer
 within shapes policy edit = option_map_or (λ (limit : Limit). Err (Full limit)) (passed shapes (edited edit policy)) (Ok (Some edit))
 
 -- a refusal; else the edit, where there is one
-abbrev pub answer : Shapes → Policy → Call → Answer
+abbrev pub answer : Shapes → Policy → Call → CallAnswer
 answer shapes policy call = option_map_or (λ (refused : CallRefused). Err refused) (refusal shapes call)
     (option_map_or (λ (edit : List Change). within shapes policy edit) (edit_by shapes policy call) (Ok None))
 
 -- an answer behind so many edits, of which there may be so many at most: one edit more is refused where there are as many
-abbrev pub while_few : (most count : ℕ) → Answer → Answer
+abbrev pub while_few : (most count : ℕ) → CallAnswer → CallAnswer
 while_few most count (Ok (Some edit)) = if count == most then Err (Full Edits) else Ok (Some edit)
 while_few most count (Ok None) = Ok None
 while_few most count (Err refused) = Err refused

@@ -9,34 +9,9 @@ use perm_base::{NoMemory, Shapes};
 use policy_table::{Edit, Tables};
 use std::alloc::Global;
 
-/// How many of these edits are admitted one after the other, each in the tables after those before it: the greatest number
-/// such that the first so many are, limits being asked after each. The tables stay as they are: it is `make_front` on a
-/// copy of them.
-pub fn admitted_front(
-    alloc: Global,
-    edits: &[Edit],
-    tables: &Tables,
-    shapes: &Shapes,
-) -> Result<usize, NoMemory>
-    requires { AreSound shapes.now tables.now.policy }
-    ensures few { IfOk result (λ count. count ≤ length edits.now) }
-    // The first so many edits are admitted.
-    ensures front { IfOk result (λ count.
-        AreAdmitted shapes.now tables.now.policy (take count edits.now)) }
-    // No longer front is.
-    ensures most { IfOk result (λ count. (other : ℕ) → other ≤ length edits.now
-        → AreAdmitted shapes.now tables.now.policy (take other edits.now) → other ≤ count) }
-    // Where it ends before the last edit, the next one is not admitted.
-    ensures next { IfOk result (λ count. (edit : List Change)
-        → slice_get edits.now count ≡ Some edit
-        → admits shapes.now (replay (take count edits.now) tables.now.policy) edit ≡ false) }
-{
-    let mut drafts = tables.copy(alloc)?;
-    make_front(alloc, edits, &mut drafts, shapes)
-}
-
-/// Makes edits in tables one after the other, up to the first that these do not admit as they then stand; how many it made.
-/// Each edit is looked at once, so the time is that of making them. Where memory runs out some of them are made, each whole.
+/// Makes edits in tables one after the other, up to the first that these do not admit as they then stand; how many it made:
+/// the greatest number such that the first so many are admitted, limits being asked after each. Each edit is looked at once,
+/// so the time is that of making them. Where memory runs out some of them are made, each whole.
 pub fn make_front(
     alloc: Global,
     edits: &[Edit],
@@ -45,10 +20,13 @@ pub fn make_front(
 ) -> Result<usize, NoMemory>
     requires { AreSound shapes.now tables.old.policy }
     ensures few { IfOk result (λ count. count ≤ length edits.now) }
+    // The first so many edits are admitted.
     ensures front { IfOk result (λ count.
         AreAdmitted shapes.now tables.old.policy (take count edits.now)) }
+    // No longer front is.
     ensures most { IfOk result (λ count. (other : ℕ) → other ≤ length edits.now
         → AreAdmitted shapes.now tables.old.policy (take other edits.now) → other ≤ count) }
+    // Where it ends before the last edit, the next one is not admitted.
     ensures next { IfOk result (λ count. (edit : List Change)
         → slice_get edits.now count ≡ Some edit
         → admits shapes.now (replay (take count edits.now) tables.old.policy) edit ≡ false) }

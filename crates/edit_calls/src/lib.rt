@@ -16,7 +16,7 @@ mod standing;
 
 pub use admitted::{admits, may_stand};
 pub use call::{Call, Pairs};
-pub use front::{admitted_front, make_front};
+pub use front::make_front;
 pub use laws::{
     admitted_edits_compose, admitted_edits_keep_sound, edits_apply, edits_are_admitted,
     edits_keep_shapes, edits_keep_sound,

@@ -9,7 +9,7 @@ use Rattle.std.proofs.lemmas.Slice.Eq.{bytes_eq-Decides}
 use Rattle.key_match.specs.Pieces.{ByteSet, Piece, One, Segment, Stretch, Rest, StandsFor, Divides}
 use Rattle.key_match.specs.Divisions.{has_name}
 use Rattle.key_match.specs.Names.{EachNamed, NamesAgree, CoversAlike}
-use Rattle.key_match.specs.Helps.Fits.{fits, pieces_from}
+use Rattle.key_match.specs.Helps.Fits.{pieces_fit, pieces_from}
 use Rattle.key_match.specs.Helps.Parts.{part_between}
 use Rattle.key_match.specs.Helps.Given.{given_part, given_to, repeats, is_free_of, AreParts, GivenAgree, CoversGiven, CutsAlike, IsNameless, PassesTo}
 use Rattle.key_match.specs.Helps.Tokens.{pieces_at}
@@ -73,13 +73,13 @@ free-agrees given (piece ∷ pieces) (part ∷ parts) h =
     let alone = not-true_false (repeats piece pieces) (and_second new _ front) in
     ((λ name named. EachNamed-none name part pieces parts (repeats-named name piece pieces named alone), after.0), (λ wanted e. absurd (none_given given piece wanted fresh e), after.1))
 
-pub CoversGiven-free : (given : Given) (pieces : List Piece) (text : List ℕ) → is_free_of given pieces ≡ true → fits pieces text ≡ true → CoversGiven given pieces text
+pub CoversGiven-free : (given : Given) (pieces : List Piece) (text : List ℕ) → is_free_of given pieces ≡ true → pieces_fit pieces text ≡ true → CoversGiven given pieces text
 CoversGiven-free given pieces text free h =
     let covers = Covers-from_fits pieces text h in
     let agrees = free-agrees given pieces covers.0 free in
     record { parts = covers.0; divides = covers.1; names = agrees.0; agree = agrees.1 }
 
-pub fits-from_CoversGiven : (given : Given) (pieces : List Piece) (text : List ℕ) → CoversGiven given pieces text → fits pieces text ≡ true
+pub fits-from_CoversGiven : (given : Given) (pieces : List Piece) (text : List ℕ) → CoversGiven given pieces text → pieces_fit pieces text ≡ true
 fits-from_CoversGiven given pieces text h = fits-from_Covers pieces text (h.parts, h.divides)
 
 -- with no part given
@@ -233,19 +233,19 @@ byte-forward given bytes pieces key from within h =
     let same : cut.0 ≡ from + 1 = omega (arith, ends.0, ends.1) in
     subst (λ (k : ℕ). CoversGiven given pieces (drop k key)) same (CoversGiven-after given (One bytes) pieces key from cut.0 cut.4)
 
-pub byte-backward : (given : Given) (bytes : ByteSet) (pieces : List Piece) (key : List ℕ) (from : ℕ) → from ≤ length key → fits (One bytes ∷ pieces) (drop from key) ≡ true → CoversGiven given pieces (drop (from + 1) key) → CoversGiven given (One bytes ∷ pieces) (drop from key)
+pub byte-backward : (given : Given) (bytes : ByteSet) (pieces : List Piece) (key : List ℕ) (from : ℕ) → from ≤ length key → pieces_fit (One bytes ∷ pieces) (drop from key) ≡ true → CoversGiven given pieces (drop (from + 1) key) → CoversGiven given (One bytes ∷ pieces) (drop from key)
 byte-backward given bytes pieces key from within h covers =
     let fit = HasFit-from (One bytes) pieces key from within h in
     let ends = AreEnds-one bytes key from (fit.0, fit.1, fit.2, fit.3) in
     CoversGiven-cut given (One bytes) pieces key from (from + 1) (omega arith) (ends.all (from + 1) (omega arith) (omega arith))
     (CutsAlike-nameless given (One bytes) pieces key from (from + 1) (nameless-one bytes) covers)
 
-pub byte-fits : (bytes : ByteSet) (pieces : List Piece) (key : List ℕ) (from : ℕ) → from ≤ length key → fits (One bytes ∷ pieces) (drop from key) ≡ true → (from + 1 ≤ length key) × (fits pieces (drop (from + 1) key) ≡ true)
+pub byte-fits : (bytes : ByteSet) (pieces : List Piece) (key : List ℕ) (from : ℕ) → from ≤ length key → pieces_fit (One bytes ∷ pieces) (drop from key) ≡ true → (from + 1 ≤ length key) × (pieces_fit pieces (drop (from + 1) key) ≡ true)
 byte-fits bytes pieces key from within h =
     let fit = HasFit-from (One bytes) pieces key from within h in
     let ends = (AreEnds-one bytes key from (fit.0, fit.1, fit.2, fit.3)).only fit.0 fit.1 fit.2 fit.3 in
     let same : fit.0 ≡ from + 1 = omega (arith, ends.0, ends.1) in
-    (omega (arith, fit.2), ap (λ k. fits pieces (drop k key)) (sym same) ∙ fit.4)
+    (omega (arith, fit.2), ap (λ k. pieces_fit pieces (drop k key)) (sym same) ∙ fit.4)
 
 -- ---- passing over the part that a name was given
 

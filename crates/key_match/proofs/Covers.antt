@@ -3,7 +3,7 @@ use Rattle.std.proofs.Common.{◌≡◌, ◌≢◌, ℕ, Bool, true, List, [], �
 use Rattle.std.specs.List.{concat, list_all}
 use Rattle.std.proofs.lemmas.Bool.{false≢true}
 use Rattle.key_match.specs.Pieces.{Piece, One, Segment, Stretch, Rest, has, not_slash, is_one, StandsFor, EachStandsFor, Covers}
-use Rattle.key_match.specs.Helps.Fits.{byte_fits, stretch_fits, end_fits, piece_fits, fits}
+use Rattle.key_match.specs.Helps.Fits.{byte_fits, stretch_fits, end_fits, piece_fits, pieces_fit}
 use Rattle.key_match.proofs.Bools.{or_second, or_cases, and_both, and_first, and_second}
 use Rattle.key_match.proofs.Leads.{stretch-here, end-here}
 
@@ -37,14 +37,14 @@ piece_fits-part (Segment name) f part rest h k = segment_fits-part f part rest h
 piece_fits-part Stretch f part rest h k = stretch_fits-part f part rest h k
 piece_fits-part Rest f part rest h k = end_fits-part f part rest k
 
-pub fits-each : (pieces : List Piece) (parts : List (List ℕ)) → EachStandsFor pieces parts → fits pieces (concat parts) ≡ true
+pub fits-each : (pieces : List Piece) (parts : List (List ℕ)) → EachStandsFor pieces parts → pieces_fit pieces (concat parts) ≡ true
 fits-each [] [] h = refl
 fits-each [] (part ∷ parts) h = absurd h
 fits-each (piece ∷ pieces) [] h = absurd h
-fits-each (piece ∷ pieces) (part ∷ parts) h = piece_fits-part piece (fits pieces) part (concat parts) h.0 (fits-each pieces parts h.1)
+fits-each (piece ∷ pieces) (part ∷ parts) h = piece_fits-part piece (pieces_fit pieces) part (concat parts) h.0 (fits-each pieces parts h.1)
 
-pub fits-from_Covers : (pieces : List Piece) (text : List ℕ) → Covers pieces text → fits pieces text ≡ true
-fits-from_Covers pieces text h = ap (fits pieces) (sym h.1.whole) ∙ fits-each pieces h.0 h.1.each
+pub fits-from_Covers : (pieces : List Piece) (text : List ℕ) → Covers pieces text → pieces_fit pieces text ≡ true
+fits-from_Covers pieces text h = ap (pieces_fit pieces) (sym h.1.whole) ∙ fits-each pieces h.0 h.1.each
 
 -- ---- a text that passes is divided
 
@@ -84,10 +84,10 @@ split-piece (Segment name) f text h = split-segment f text h
 split-piece Stretch f text h = split-stretch f text h
 split-piece Rest f text h = split-end f text h
 
-pub Covers-from_fits : (pieces : List Piece) (text : List ℕ) → fits pieces text ≡ true → Covers pieces text
+pub Covers-from_fits : (pieces : List Piece) (text : List ℕ) → pieces_fit pieces text ≡ true → Covers pieces text
 Covers-from_fits [] [] h = ([], record { whole = refl; each = tt })
 Covers-from_fits [] (b ∷ text) h = absurd (false≢true h)
 Covers-from_fits (piece ∷ pieces) text h =
-    let s = split-piece piece (fits pieces) text h in
+    let s = split-piece piece (pieces_fit pieces) text h in
     let after = Covers-from_fits pieces s.1 s.4 in
     (s.0 ∷ after.0, record { whole = ap (λ xs. s.0 ++ xs) after.1.whole ∙ sym s.2; each = (s.3, after.1.each) })

@@ -7,7 +7,7 @@ use Rattle.key_match.specs.Pieces.{Piece, One, Segment, Stretch, Rest, StandsFor
 use Rattle.key_match.specs.Stars.{AgreesToStar, star_of}
 use Rattle.key_match.specs.Divisions.{has_name}
 use Rattle.key_match.specs.Names.{EachNamed, NamesAgree, CoversAlike}
-use Rattle.key_match.specs.Helps.Fits.{fits}
+use Rattle.key_match.specs.Helps.Fits.{pieces_fit}
 use Rattle.key_match.proofs.Covers.{Covers-from_fits, fits-from_Covers}
 use Rattle.key_match.proofs.First.{stands, stands-from, from-stands}
 use Rattle.key_match.proofs.Decided.{Decided, decided_by, decided_true, decided_false, decided_and, decided_where, same_text, HasHalves, halves_decided}
@@ -20,7 +20,7 @@ star_decided key pattern = go (star_of pattern)
     go (Some star) = same_text (take star pattern) (take star key)
 
 pub covers_decided : (pieces : List Piece) (text : List ℕ) → Decided (Covers pieces text)
-covers_decided pieces text = (fits pieces text, (Covers-from_fits pieces text, fits-from_Covers pieces text))
+covers_decided pieces text = (pieces_fit pieces text, (Covers-from_fits pieces text, fits-from_Covers pieces text))
 
 -- ---- a division of a kind
 

@@ -5,7 +5,7 @@ use Rattle.std.proofs.lemmas.Bool.{false≢true}
 use Rattle.key_match.specs.Pieces.{Piece, One, Segment, Stretch, Rest, has, not_slash, is_one, StandsFor}
 use Rattle.key_match.specs.Patterns.{is_some_text}
 use Rattle.key_match.specs.Divisions.{IsFirstDivision}
-use Rattle.key_match.specs.Helps.Fits.{fits}
+use Rattle.key_match.specs.Helps.Fits.{pieces_fit}
 use Rattle.key_match.specs.Helps.Parts.{order_of, part_between, IsChosen}
 use Rattle.key_match.specs.declared.part.Choice.{Choice}
 use Rattle.key_match.specs.declared.part.Choice.TheVariants.{Longest, Shortest}
@@ -82,15 +82,15 @@ order_kind Shortest Rest = inr (λ one other h. h)
 
 -- a part of this length stands for the piece, and the rest fits
 cuts : Piece → List Piece → List ℕ → ℕ → ℕ → Bool
-cuts piece pieces key from n = stands piece (part_between key from (from + n)) && fits pieces (drop (from + n) key)
+cuts piece pieces key from n = stands piece (part_between key from (from + n)) && pieces_fit pieces (drop (from + n) key)
 
-cuts-at : (piece : Piece) (pieces : List Piece) (key : List ℕ) (from end : ℕ) → from ≤ end → StandsFor piece (part_between key from end) → fits pieces (drop end key) ≡ true → cuts piece pieces key from (end - from) ≡ true
+cuts-at : (piece : Piece) (pieces : List Piece) (key : List ℕ) (from end : ℕ) → from ≤ end → StandsFor piece (part_between key from end) → pieces_fit pieces (drop end key) ≡ true → cuts piece pieces key from (end - from) ≡ true
 unfolding cuts
 cuts-at piece pieces key from end le h k =
     let same : from + (end - from) ≡ end = omega arith in
     rw same (and_both (stands piece (part_between key from end)) _ (stands-from piece (part_between key from end) h) k)
 
-chosen : (segments : Choice) (piece : Piece) (pieces : List Piece) (key : List ℕ) (from n : ℕ) → from + n ≤ length key → cuts piece pieces key from n ≡ true → ((other : ℕ) → from ≤ other → other ≤ length key → StandsFor piece (part_between key from other) → fits pieces (drop other key) ≡ true → ¬ order_of segments piece (other - from) (from + n - from)) → IsChosen (order_of segments) piece pieces key from (from + n)
+chosen : (segments : Choice) (piece : Piece) (pieces : List Piece) (key : List ℕ) (from n : ℕ) → from + n ≤ length key → cuts piece pieces key from n ≡ true → ((other : ℕ) → from ≤ other → other ≤ length key → StandsFor piece (part_between key from other) → pieces_fit pieces (drop other key) ≡ true → ¬ order_of segments piece (other - from) (from + n - from)) → IsChosen (order_of segments) piece pieces key from (from + n)
 unfolding cuts
 chosen segments piece pieces key from n top h none = record {
   after_from = omega arith;
@@ -100,7 +100,7 @@ chosen segments piece pieces key from n top h none = record {
   first = none;
 }
 
-pub chosen_exists : (segments : Choice) (piece : Piece) (pieces : List Piece) (key : List ℕ) (from : ℕ) → from ≤ length key → fits (piece ∷ pieces) (drop from key) ≡ true → (end : ℕ) × IsChosen (order_of segments) piece pieces key from end
+pub chosen_exists : (segments : Choice) (piece : Piece) (pieces : List Piece) (key : List ℕ) (from : ℕ) → from ≤ length key → pieces_fit (piece ∷ pieces) (drop from key) ≡ true → (end : ℕ) × IsChosen (order_of segments) piece pieces key from end
 chosen_exists segments piece pieces key from within h =
     let fit = HasFit-from piece pieces key from within h in
     let some : cuts piece pieces key from (fit.0 - from) ≡ true = cuts-at piece pieces key from fit.0 fit.1 fit.3 fit.4 in
@@ -125,10 +125,10 @@ chosen_exists segments piece pieces key from within h =
     ))
     (order_kind segments piece)
 
-pub first_exists : (segments : Choice) (pieces : List Piece) (key : List ℕ) (from : ℕ) → from ≤ length key → fits pieces (drop from key) ≡ true → (parts : List (List ℕ)) × IsFirstDivision (order_of segments) pieces (drop from key) parts
+pub first_exists : (segments : Choice) (pieces : List Piece) (key : List ℕ) (from : ℕ) → from ≤ length key → pieces_fit pieces (drop from key) ≡ true → (parts : List (List ℕ)) × IsFirstDivision (order_of segments) pieces (drop from key) parts
 first_exists segments [] key from within h = ([], IsFirstDivision-none segments (drop from key) h)
   where
-    IsFirstDivision-none : (segments : Choice) (text : List ℕ) → fits [] text ≡ true → IsFirstDivision (order_of segments) [] text []
+    IsFirstDivision-none : (segments : Choice) (text : List ℕ) → pieces_fit [] text ≡ true → IsFirstDivision (order_of segments) [] text []
     IsFirstDivision-none segments [] h = record { divides = record { whole = refl; each = tt }; first = λ others divides before. before }
     IsFirstDivision-none segments (b ∷ text) h = absurd (false≢true h)
 first_exists segments (piece ∷ pieces) key from within h =

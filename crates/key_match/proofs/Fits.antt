@@ -1,7 +1,7 @@
 -- What the matcher's loops keep.
 use Rattle.std.proofs.Common.{◌≡◌, ◌≤◌, ℕ, List, ◌∷◌, length, drop}
 use Rattle.key_match.specs.Pieces.{Stretch, Rest}
-use Rattle.key_match.specs.Helps.Fits.{LeadsTo, pieces_from, fits}
+use Rattle.key_match.specs.Helps.Fits.{LeadsTo, pieces_from, pieces_fit}
 use Rattle.key_match.specs.declared.token.Dialect.{Dialect}
 use Rattle.key_match.specs.declared.fit.Place.{Place}
 
@@ -21,5 +21,5 @@ pub record IsOnStretch (dialect : Dialect) (pattern key : List ℕ) (from at : P
 
 -- tried again from the latest rest
 pub record IsOnRest (dialect : Dialect) (pattern key : List ℕ) (from at : Place) : Type 0 where
-  pub same : fits (Rest ∷ pieces_from dialect pattern from) (drop from.key key) ≡ fits (Rest ∷ pieces_from dialect pattern at) (drop at.key key)
+  pub same : pieces_fit (Rest ∷ pieces_from dialect pattern from) (drop from.key key) ≡ pieces_fit (Rest ∷ pieces_from dialect pattern at) (drop at.key key)
   pub key_within : at.key ≤ length key

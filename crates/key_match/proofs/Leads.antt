@@ -5,7 +5,7 @@ use Rattle.std.proofs.lemmas.Bool.Decides.{eqb_tells}
 use Rattle.std.specs.List.{prefix_len}
 use Rattle.std.proofs.lemmas.List.{drop-drop}
 use Rattle.key_match.specs.Pieces.{ByteSet, Only, NotSlash, Class, Piece, One, Segment, Stretch, Rest, has, not_slash}
-use Rattle.key_match.specs.Helps.Fits.{byte_fits, stretch_fits, end_fits, fits, LeadsTo}
+use Rattle.key_match.specs.Helps.Fits.{byte_fits, stretch_fits, end_fits, pieces_fit, LeadsTo}
 use Rattle.key_match.proofs.Bools.{or_first, or_second, or_cases, and_both, and_first, and_second, and_true, or_false, or-false_first, or-false_second, same_test}
 
 abbrev Test : Type 0
@@ -112,8 +112,8 @@ LeadsTo-byte ps later next t key k bytes h e lt passes =
     let g = LeadsTo-alike ps later (One bytes ∷ next) t (drop k key) (b ∷ rest) h e (open_at key k lt) in
     record {
       same = g.same ∙ and_true (has bytes b) _ passes;
-      in_stretch = λ x. stretch-byte (has bytes) (fits next) b rest (KnowsSlash-has bytes) passes (g.in_stretch x);
-      anywhere = λ x. end-byte (has bytes) (fits next) b rest (g.anywhere x);
+      in_stretch = λ x. stretch-byte (has bytes) (pieces_fit next) b rest (KnowsSlash-has bytes) passes (g.in_stretch x);
+      anywhere = λ x. end-byte (has bytes) (pieces_fit next) b rest (g.anywhere x);
     }
 
 pub LeadsTo-segment : (ps later next : List Piece) (t key : List ℕ) (k : ℕ) (name : List ℕ) → LeadsTo ps t later (drop k key) → later ≡ Segment name ∷ next → k < length key → not_slash (get_or key k 0) ≡ true → LeadsTo ps t (Stretch ∷ next) (drop (k + 1) key)
@@ -123,38 +123,38 @@ LeadsTo-segment ps later next t key k name h e lt passes =
     let g = LeadsTo-alike ps later (Segment name ∷ next) t (drop k key) (b ∷ rest) h e (open_at key k lt) in
     record {
       same = g.same ∙ and_true (not_slash b) _ passes;
-      in_stretch = λ x. stretch-byte not_slash (stretch_fits (fits next)) b rest (KnowsSlash-has NotSlash) passes (g.in_stretch x);
-      anywhere = λ x. end-byte not_slash (stretch_fits (fits next)) b rest (g.anywhere x);
+      in_stretch = λ x. stretch-byte not_slash (stretch_fits (pieces_fit next)) b rest (KnowsSlash-has NotSlash) passes (g.in_stretch x);
+      anywhere = λ x. end-byte not_slash (stretch_fits (pieces_fit next)) b rest (g.anywhere x);
     }
 
-pub pattern_ended : (ps later : List Piece) (t key : List ℕ) (k : ℕ) → LeadsTo ps t later (drop k key) → later ≡ [] → k < length key → fits ps t ≡ false
+pub pattern_ended : (ps later : List Piece) (t key : List ℕ) (k : ℕ) → LeadsTo ps t later (drop k key) → later ≡ [] → k < length key → pieces_fit ps t ≡ false
 pattern_ended ps later t key k h e lt =
     (LeadsTo-alike ps later [] t (drop k key) (get_or key k 0 ∷ drop (k + 1) key) h e (open_at key k lt)).same
 
 -- ---- within a stretch
 
 -- pieces that lose nothing by leaving out bytes before `/`, as those that begin with a stretch or a rest
-LeadsTo-stretch : (ps later : List Piece) (t left : List ℕ) → LeadsTo ps t later left → (stretch_fits (fits later) left ≡ true → fits later left ≡ true) → LeadsTo (Stretch ∷ ps) t later left
+LeadsTo-stretch : (ps later : List Piece) (t left : List ℕ) → LeadsTo ps t later left → (stretch_fits (pieces_fit later) left ≡ true → pieces_fit later left ≡ true) → LeadsTo (Stretch ∷ ps) t later left
 LeadsTo-stretch ps later t left h keeps = record {
-  same = same_test (stretch_fits (fits ps) t) (fits later left) (λ x. keeps (h.in_stretch x)) (λ x. stretch-here (fits ps) t (h.same ∙ x));
-  in_stretch = λ x. h.in_stretch (stretch-stretch (fits ps) t x);
-  anywhere = λ x. h.anywhere (end-stretch (fits ps) t x);
+  same = same_test (stretch_fits (pieces_fit ps) t) (pieces_fit later left) (λ x. keeps (h.in_stretch x)) (λ x. stretch-here (pieces_fit ps) t (h.same ∙ x));
+  in_stretch = λ x. h.in_stretch (stretch-stretch (pieces_fit ps) t x);
+  anywhere = λ x. h.anywhere (end-stretch (pieces_fit ps) t x);
 }
 
-pub keeps-stretch : (qs : List Piece) (u : List ℕ) → stretch_fits (fits (Stretch ∷ qs)) u ≡ true → fits (Stretch ∷ qs) u ≡ true
-keeps-stretch qs u h = stretch-stretch (fits qs) u h
+pub keeps-stretch : (qs : List Piece) (u : List ℕ) → stretch_fits (pieces_fit (Stretch ∷ qs)) u ≡ true → pieces_fit (Stretch ∷ qs) u ≡ true
+keeps-stretch qs u h = stretch-stretch (pieces_fit qs) u h
 
-pub keeps-rest : (qs : List Piece) (u : List ℕ) → stretch_fits (fits (Rest ∷ qs)) u ≡ true → fits (Rest ∷ qs) u ≡ true
-keeps-rest qs u h = end-end (fits qs) u (end-from_stretch (end_fits (fits qs)) u h)
+pub keeps-rest : (qs : List Piece) (u : List ℕ) → stretch_fits (pieces_fit (Rest ∷ qs)) u ≡ true → pieces_fit (Rest ∷ qs) u ≡ true
+keeps-rest qs u h = end-end (pieces_fit qs) u (end-from_stretch (end_fits (pieces_fit qs)) u h)
 
 -- what leads to a stretch leads on to where the pieces behind it lead
 pub LeadsTo-behind : (whole ps later : List Piece) (piece : Piece) (text t left : List ℕ) → LeadsTo whole text (Stretch ∷ ps) t → LeadsTo ps t (piece ∷ later) left
-    → ((qs : List Piece) (u : List ℕ) → stretch_fits (fits (piece ∷ qs)) u ≡ true → fits (piece ∷ qs) u ≡ true) → LeadsTo whole text (piece ∷ later) left
+    → ((qs : List Piece) (u : List ℕ) → stretch_fits (pieces_fit (piece ∷ qs)) u ≡ true → pieces_fit (piece ∷ qs) u ≡ true) → LeadsTo whole text (piece ∷ later) left
 LeadsTo-behind whole ps later piece text t left here behind keeps = LeadsTo-trans _ _ _ _ _ _ here (LeadsTo-stretch ps (piece ∷ later) t left behind (keeps later left))
 
-pub LeadsTo-past : (ps : List Piece) (b : ℕ) (t : List ℕ) → fits ps (b ∷ t) ≡ false → not_slash b ≡ true → LeadsTo (Stretch ∷ ps) (b ∷ t) (Stretch ∷ ps) t
+pub LeadsTo-past : (ps : List Piece) (b : ℕ) (t : List ℕ) → pieces_fit ps (b ∷ t) ≡ false → not_slash b ≡ true → LeadsTo (Stretch ∷ ps) (b ∷ t) (Stretch ∷ ps) t
 LeadsTo-past ps b t misses plain =
-    let f = fits ps in
+    let f = pieces_fit ps in
     let e : stretch_fits f (b ∷ t) ≡ stretch_fits f t = or_false (f (b ∷ t)) _ misses ∙ and_true (not_slash b) _ plain in
     record {
       same = e;
@@ -162,12 +162,12 @@ LeadsTo-past ps b t misses plain =
       anywhere = λ x. ⊎_elim (λ k. end-here (stretch_fits f) t (sym e ∙ k)) (λ k. k) (or_cases (stretch_fits f (b ∷ t)) _ x);
     }
 
-pub LeadsTo-past_at : (ps : List Piece) (key : List ℕ) (k : ℕ) → fits ps (drop k key) ≡ false → k < length key → not_slash (get_or key k 0) ≡ true → LeadsTo (Stretch ∷ ps) (drop k key) (Stretch ∷ ps) (drop (k + 1) key)
+pub LeadsTo-past_at : (ps : List Piece) (key : List ℕ) (k : ℕ) → pieces_fit ps (drop k key) ≡ false → k < length key → not_slash (get_or key k 0) ≡ true → LeadsTo (Stretch ∷ ps) (drop k key) (Stretch ∷ ps) (drop (k + 1) key)
 LeadsTo-past_at ps key k misses lt plain =
     let e = open_at key k lt in
     let left = drop (k + 1) key in
     subst (λ (x : List ℕ). LeadsTo (Stretch ∷ ps) x (Stretch ∷ ps) left) (sym e)
-    (LeadsTo-past ps (get_or key k 0) left (ap (fits ps) (sym e) ∙ misses) plain)
+    (LeadsTo-past ps (get_or key k 0) left (ap (pieces_fit ps) (sym e) ∙ misses) plain)
 
 -- ---- within a rest
 

@@ -4,7 +4,7 @@ use Rattle.std.specs.List.{concat}
 use Rattle.std.proofs.lemmas.Bool.{false≢true, cases_lt}
 use Rattle.key_match.specs.Pieces.{Piece, One, Segment, Stretch, Rest, EachStandsFor}
 use Rattle.key_match.specs.Divisions.{IsFirstDivision, IsNamedPart, GoesBefore, part_named}
-use Rattle.key_match.specs.Helps.Fits.{fits}
+use Rattle.key_match.specs.Helps.Fits.{pieces_fit}
 use Rattle.key_match.specs.Helps.Parts.{order_of}
 use Rattle.key_match.specs.declared.part.Choice.{Choice}
 use Rattle.key_match.specs.declared.part.Choice.TheVariants.{Longest, Shortest}
@@ -13,9 +13,9 @@ use Rattle.key_match.proofs.First.{first_exists}
 
 -- a part is there
 pub named_there : (segments : Choice) (pieces : List Piece) (key name : List ℕ) → (found : List ℕ) × IsNamedPart (order_of segments) pieces key name found
-named_there segments pieces key name = go (fits pieces key) refl
+named_there segments pieces key name = go (pieces_fit pieces key) refl
   where
-    go : (b : Bool) → fits pieces key ≡ b → (found : List ℕ) × IsNamedPart (order_of segments) pieces key name found
+    go : (b : Bool) → pieces_fit pieces key ≡ b → (found : List ℕ) × IsNamedPart (order_of segments) pieces key name found
     go true h =
         let first = first_exists segments pieces key 0 (omega arith) h in
         (part_named name pieces first.0, inl (first.0, first.1, refl))

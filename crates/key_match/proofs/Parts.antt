@@ -6,7 +6,7 @@ use Rattle.std.proofs.lemmas.List.{drop-drop, take_all, take-append-le, take-app
 use Rattle.std.proofs.Math.Seq.{drop-append_seam}
 use Rattle.key_match.specs.Pieces.{ByteSet, Piece, One, Segment, Stretch, has, not_slash, is_one, StandsFor, Divides}
 use Rattle.key_match.specs.Divisions.{Order, GoesBefore, IsFirstDivision}
-use Rattle.key_match.specs.Helps.Fits.{fits}
+use Rattle.key_match.specs.Helps.Fits.{pieces_fit}
 use Rattle.key_match.specs.Helps.Parts.{part_between, HasPart, AreEnds, NoneLater, NoneEarlier, IsChosen}
 use Rattle.key_match.specs.declared.part.Ends.{Ends}
 use Rattle.key_match.proofs.Bools.{and_both, and_first, and_second}
@@ -106,7 +106,7 @@ AreEnds-stretch key from most e within =
 
 -- a part for the piece with which the rest fits
 abbrev pub HasFit : Piece → List Piece → List ℕ → ℕ → Type 0
-HasFit piece pieces key from = (end : ℕ) × (from ≤ end) × (end ≤ length key) × StandsFor piece (part_between key from end) × (fits pieces (drop end key) ≡ true)
+HasFit piece pieces key from = (end : ℕ) × (from ≤ end) × (end ≤ length key) × StandsFor piece (part_between key from end) × (pieces_fit pieces (drop end key) ≡ true)
 
 -- a division of what begins at a place, by places
 pub record IsCut (key : List ℕ) (from : ℕ) (part rest : List ℕ) (end : ℕ) : Type 0 where
@@ -126,21 +126,21 @@ IsCut-from key from part rest within e =
       rest_is = sym (drop-drop (length part) from key) ∙ ap (drop (length part)) e ∙ drop-append_seam part rest;
     }
 
-pub HasFit-from : (piece : Piece) (pieces : List Piece) (key : List ℕ) (from : ℕ) → from ≤ length key → fits (piece ∷ pieces) (drop from key) ≡ true → HasFit piece pieces key from
+pub HasFit-from : (piece : Piece) (pieces : List Piece) (key : List ℕ) (from : ℕ) → from ≤ length key → pieces_fit (piece ∷ pieces) (drop from key) ≡ true → HasFit piece pieces key from
 HasFit-from piece pieces key from within h =
-    let s = split-piece piece (fits pieces) (drop from key) h in
+    let s = split-piece piece (pieces_fit pieces) (drop from key) h in
     let cut = IsCut-from key from s.0 s.1 within s.2 in
-    (from + length s.0, cut.after_from, cut.within, subst (StandsFor piece) (sym cut.part_is) s.3, ap (fits pieces) cut.rest_is ∙ s.4)
+    (from + length s.0, cut.after_from, cut.within, subst (StandsFor piece) (sym cut.part_is) s.3, ap (pieces_fit pieces) cut.rest_is ∙ s.4)
 
-pub HasPart-from : (piece : Piece) (pieces : List Piece) (key : List ℕ) (from : ℕ) → from ≤ length key → fits (piece ∷ pieces) (drop from key) ≡ true → HasPart piece key from
+pub HasPart-from : (piece : Piece) (pieces : List Piece) (key : List ℕ) (from : ℕ) → from ≤ length key → pieces_fit (piece ∷ pieces) (drop from key) ≡ true → HasPart piece key from
 HasPart-from piece pieces key from within h =
     let fit = HasFit-from piece pieces key from within h in
     (fit.0, fit.1, fit.2, fit.3)
 
 -- an end with which the rest fits, if it does with some end, and before which no other goes with which it does
-chosen_among : (order : Order) (piece : Piece) (pieces : List Piece) (key : List ℕ) (from found : ℕ) (ends : Ends) → from ≤ length key → fits (piece ∷ pieces) (drop from key) ≡ true → AreEnds piece key from ends → ends.least ≤ found → found ≤ ends.most
-    → ((end : ℕ) → ends.least ≤ end → end ≤ ends.most → fits pieces (drop end key) ≡ true → fits pieces (drop found key) ≡ true)
-    → ((other : ℕ) → from ≤ other → ends.least ≤ other → other ≤ ends.most → order piece (other - from) (found - from) → fits pieces (drop other key) ≡ false)
+chosen_among : (order : Order) (piece : Piece) (pieces : List Piece) (key : List ℕ) (from found : ℕ) (ends : Ends) → from ≤ length key → pieces_fit (piece ∷ pieces) (drop from key) ≡ true → AreEnds piece key from ends → ends.least ≤ found → found ≤ ends.most
+    → ((end : ℕ) → ends.least ≤ end → end ≤ ends.most → pieces_fit pieces (drop end key) ≡ true → pieces_fit pieces (drop found key) ≡ true)
+    → ((other : ℕ) → from ≤ other → ends.least ≤ other → other ≤ ends.most → order piece (other - from) (found - from) → pieces_fit pieces (drop other key) ≡ false)
     → IsChosen order piece pieces key from found
 chosen_among order piece pieces key from found ends within h are low high fitting others =
     let fit = HasFit-from piece pieces key from within h in
@@ -157,14 +157,14 @@ chosen_among order piece pieces key from found ends within h are low high fittin
           false≢true (sym (others other above inside.0 inside.1 before) ∙ rest);
     }
 
-pub IsChosen-last : (order : Order) (piece : Piece) (pieces : List Piece) (key : List ℕ) (from found : ℕ) (ends : Ends) → ((one other : ℕ) → order piece one other → other < one) → from ≤ length key → fits (piece ∷ pieces) (drop from key) ≡ true → AreEnds piece key from ends → NoneLater pieces key ends.least ends.most found → (ends.least < found → fits pieces (drop found key) ≡ true) → IsChosen order piece pieces key from found
+pub IsChosen-last : (order : Order) (piece : Piece) (pieces : List Piece) (key : List ℕ) (from found : ℕ) (ends : Ends) → ((one other : ℕ) → order piece one other → other < one) → from ≤ length key → pieces_fit (piece ∷ pieces) (drop from key) ≡ true → AreEnds piece key from ends → NoneLater pieces key ends.least ends.most found → (ends.least < found → pieces_fit pieces (drop found key) ≡ true) → IsChosen order piece pieces key from found
 IsChosen-last order piece pieces key from found ends longer within h are last fitting =
     chosen_among order piece pieces key from found ends within h are last.from_least last.to_most
     (λ end low high fits_there.
     ⊎_elim fitting
     (λ here.
     ⊎_elim (λ beyond. absurd (false≢true (sym (last.later end beyond high) ∙ fits_there)))
-    (λ before. let same : end ≡ found = omega arith in ap (λ k. fits pieces (drop k key)) (sym same) ∙ fits_there)
+    (λ before. let same : end ≡ found = omega arith in ap (λ k. pieces_fit pieces (drop k key)) (sym same) ∙ fits_there)
     (cases_lt found end))
     (cases_lt ends.least found))
     (λ other above low high before.
@@ -173,13 +173,13 @@ IsChosen-last order piece pieces key from found ends longer within h are last fi
     let start = last.from_least in
     last.later other (omega arith) high)
 
-pub IsChosen-first : (order : Order) (piece : Piece) (pieces : List Piece) (key : List ℕ) (from found : ℕ) (ends : Ends) → ((one other : ℕ) → order piece one other → one < other) → from ≤ length key → fits (piece ∷ pieces) (drop from key) ≡ true → AreEnds piece key from ends → NoneEarlier pieces key ends.least ends.most found → (found < ends.most → fits pieces (drop found key) ≡ true) → IsChosen order piece pieces key from found
+pub IsChosen-first : (order : Order) (piece : Piece) (pieces : List Piece) (key : List ℕ) (from found : ℕ) (ends : Ends) → ((one other : ℕ) → order piece one other → one < other) → from ≤ length key → pieces_fit (piece ∷ pieces) (drop from key) ≡ true → AreEnds piece key from ends → NoneEarlier pieces key ends.least ends.most found → (found < ends.most → pieces_fit pieces (drop found key) ≡ true) → IsChosen order piece pieces key from found
 IsChosen-first order piece pieces key from found ends shorter within h are none fitting =
     chosen_among order piece pieces key from found ends within h are none.from_least none.to_most
     (λ end low high fits_there.
     ⊎_elim (λ before. absurd (false≢true (sym (none.earlier end low before) ∙ fits_there)))
     (λ after. ⊎_elim fitting
-    (λ top. let limit = none.to_most in let same : end ≡ found = omega arith in ap (λ k. fits pieces (drop k key)) (sym same) ∙ fits_there)
+    (λ top. let limit = none.to_most in let same : end ≡ found = omega arith in ap (λ k. pieces_fit pieces (drop k key)) (sym same) ∙ fits_there)
     (cases_lt found ends.most))
     (cases_lt end found))
     (λ other above low high before. let h = shorter (other - from) (found - from) before in none.earlier other low (omega arith))
@@ -209,7 +209,7 @@ IsFirstDivision-cons order piece pieces key from end parts within chosen after =
         let cut = IsCut-from key from other (concat others) within (sym divides.whole) in
         let place = from + length other in
         let le = chosen.after_from in
-        let rest : fits pieces (drop place key) ≡ true = ap (fits pieces) cut.rest_is ∙ fits-each pieces others divides.each.1 in
+        let rest : pieces_fit pieces (drop place key) ≡ true = ap (pieces_fit pieces) cut.rest_is ∙ fits-each pieces others divides.each.1 in
         let stands = subst (StandsFor piece) (sym cut.part_is) divides.each.0 in
         ⊎_elim
         (λ goes.

@@ -2,7 +2,7 @@
 use Rattle.std.proofs.Common.{◌≡◌, ◌≤◌, ℕ, true, false, List, [], ◌∷◌, length, drop, cond, inl, ap, sym, ◌∙◌, subst, arith}
 use Rattle.key_match.specs.Pieces.{Piece}
 use Rattle.key_match.specs.Helps.Tokens.{pieces_at, pieces_of}
-use Rattle.key_match.specs.Helps.Fits.{fits, pieces_from}
+use Rattle.key_match.specs.Helps.Fits.{pieces_fit, pieces_from}
 use Rattle.key_match.specs.Divisions.{Order, IsFirstDivision, IsNamedPart, part_named, has_name}
 use Rattle.key_match.specs.Helps.Parts.{order_of, part_between, IsChosen}
 use Rattle.key_match.specs.declared.token.Dialect.{Dialect}
@@ -15,10 +15,10 @@ use Rattle.key_match.proofs.First.{first_exists}
 -- the first division of what is left tells the part of the name
 pub record IsSettled (order : Order) (whole : List Piece) (dialect : Dialect) (pattern key name : List ℕ) (at : Place) : Type 0 where
   pub within : at.key ≤ length key
-  pub fitting : fits (pieces_from dialect pattern at) (drop at.key key) ≡ true
+  pub fitting : pieces_fit (pieces_from dialect pattern at) (drop at.key key) ≡ true
   pub tells : (parts : List (List ℕ)) → IsFirstDivision order (pieces_from dialect pattern at) (drop at.key key) parts → IsNamedPart order whole key name (part_named name (pieces_from dialect pattern at) parts)
 
-pub settled_start : (order : Order) (dialect : Dialect) (pattern key name : List ℕ) → fits (pieces_at dialect pattern 0) key ≡ true → IsSettled order (pieces_of dialect pattern) dialect pattern key name (record { pattern = 0; key = 0 })
+pub settled_start : (order : Order) (dialect : Dialect) (pattern key name : List ℕ) → pieces_fit (pieces_at dialect pattern 0) key ≡ true → IsSettled order (pieces_of dialect pattern) dialect pattern key name (record { pattern = 0; key = 0 })
 settled_start order dialect pattern key name h =
     let e = pieces_at-start dialect pattern in
     record {

@@ -7,7 +7,7 @@ ghost use Rattle.key_match.specs.Patterns.{brace_pieces};
 ghost use Rattle.key_match.specs.Helps.Tokens.{piece_of, pieces_at};
 ghost use Rattle.key_match.specs.Names.{CoversAlike};
 ghost use Rattle.key_match.specs.Helps.Parts.{AreEnds};
-ghost use Rattle.key_match.specs.Helps.Fits.{fits, pieces_from};
+ghost use Rattle.key_match.specs.Helps.Fits.{pieces_fit, pieces_from};
 ghost use Rattle.key_match.specs.Divisions.{has_name};
 ghost use Rattle.key_match.specs.Helps.Given.{given_part, is_free_of, AreParts, CoversGiven, IsNameless, PassesTo};
 
@@ -207,7 +207,7 @@ fn is_free(pattern: &[u8], from: usize, given: &Given) -> bool
 // Passes over what stands for itself, where the key fits.
 fn pass_bytes(pattern: &[u8], key: &[u8], from: Place) -> Place
     requires within { from.key ≤ length key.now }
-    requires fitting { fits
+    requires fitting { pieces_fit
         (pieces_from Dialect.Brace pattern.now from) (drop from.key key.now) ≡ true }
     ensures { PassesTo pattern.now key.now from result }
 {

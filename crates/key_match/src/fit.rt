@@ -3,7 +3,7 @@
 
 ghost use Rattle.std.specs.Prelude.{◌≡◌, ◌≤◌, ◌∷◌, drop, length};
 ghost use Rattle.key_match.specs.Pieces.{Stretch, Rest};
-ghost use Rattle.key_match.specs.Helps.Fits.{fits, pieces_from, StopsAt, Reaches};
+ghost use Rattle.key_match.specs.Helps.Fits.{pieces_fit, pieces_from, StopsAt, Reaches};
 
 use crate::bytes::place_from;
 use crate::token::{Dialect, Token, passes, token_at};
@@ -133,7 +133,7 @@ fn reach_rest(dialect: Dialect, pattern: &[u8], key: &[u8], from: Place) -> Reac
 // Whether the key fits from within a rest.
 fn fits_rest(dialect: Dialect, pattern: &[u8], key: &[u8], from: Place) -> bool
     requires { from.key ≤ length key.now }
-    ensures { result ≡ fits (Rest ∷ pieces_from dialect pattern.now from) (drop from.key key.now) }
+    ensures { result ≡ pieces_fit (Rest ∷ pieces_from dialect pattern.now from) (drop from.key key.now) }
 {
     let mut mark = from;
     loop {
@@ -161,7 +161,7 @@ fn fits_rest(dialect: Dialect, pattern: &[u8], key: &[u8], from: Place) -> bool
 /// Whether the key fits from a place on.
 pub(crate) fn fits_from(dialect: Dialect, pattern: &[u8], key: &[u8], from: Place) -> bool
     requires { from.key ≤ length key.now }
-    ensures { result ≡ fits (pieces_from dialect pattern.now from) (drop from.key key.now) }
+    ensures { result ≡ pieces_fit (pieces_from dialect pattern.now from) (drop from.key key.now) }
 {
     match reach_rest(dialect, pattern, key, from) {
         Reach::Fits => true,

@@ -3,7 +3,7 @@
 ghost use Rattle.std.specs.Prelude.{◌≡◌, ◌≤◌, ◌<◌, ◌∷◌, ℕ, drop, length, true, MatchBool};
 ghost use Rattle.key_match.specs.Patterns.{colon_pieces, brace_pieces};
 ghost use Rattle.key_match.specs.Helps.Tokens.{piece_of, pieces_of, pieces_at};
-ghost use Rattle.key_match.specs.Helps.Fits.{fits};
+ghost use Rattle.key_match.specs.Helps.Fits.{pieces_fit};
 ghost use Rattle.key_match.specs.Divisions.{
   LongerFirst,
   ShorterSegmentFirst,
@@ -103,7 +103,7 @@ fn part_end(
     reading: Reading,
 ) -> usize
     requires within { from ≤ length key.now }
-    requires fitting { fits
+    requires fitting { pieces_fit
         (piece_of reading.token ∷ pieces_at dialect pattern.now reading.next) (drop from key.now)
         ≡ true }
     ensures { IsChosen (order_of segments) (piece_of reading.entry.token)
@@ -161,7 +161,7 @@ fn last_fit(dialect: Dialect, pattern: &[u8], key: &[u8], next: usize, ends: End
     ensures last { NoneLater
         (pieces_at dialect pattern.now next) key.now ends.least ends.most result }
     ensures fitting { ends.least < result
-        → fits (pieces_at dialect pattern.now next) (drop result key.now) ≡ true }
+        → pieces_fit (pieces_at dialect pattern.now next) (drop result key.now) ≡ true }
 {
     let mut end = ends.most;
     while end > ends.least && !fits_behind(dialect, pattern, key, next, end) {
@@ -178,7 +178,7 @@ fn first_fit(dialect: Dialect, pattern: &[u8], key: &[u8], next: usize, ends: En
     ensures first { NoneEarlier
         (pieces_at dialect pattern.now next) key.now ends.least ends.most result }
     ensures fitting { result < ends.most
-        → fits (pieces_at dialect pattern.now next) (drop result key.now) ≡ true }
+        → pieces_fit (pieces_at dialect pattern.now next) (drop result key.now) ≡ true }
 {
     let mut end = ends.least;
     while end < ends.most && !fits_behind(dialect, pattern, key, next, end) {
@@ -190,7 +190,7 @@ fn first_fit(dialect: Dialect, pattern: &[u8], key: &[u8], next: usize, ends: En
 // Whether the key from a place on fits the pattern from `next` on.
 fn fits_behind(dialect: Dialect, pattern: &[u8], key: &[u8], next: usize, end: usize) -> bool
     requires { end ≤ length key.now }
-    ensures { result ≡ fits (pieces_at dialect pattern.now next) (drop end key.now) }
+    ensures { result ≡ pieces_fit (pieces_at dialect pattern.now next) (drop end key.now) }
 {
     let from = Place {
         pattern: next,

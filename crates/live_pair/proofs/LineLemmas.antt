@@ -2,7 +2,7 @@
 use Rattle.std.proofs.Common.{◌≡◌, ℕ, ◌+◌, ◌≤◌, List, [], ◌∷◌, ◌++◌, length, refl, ap, sym, subst, ◌∙◌, arith, length-append, drop, Bool, Some, None, Result, Ok, Err, IfOk, OnErr}
 use Rattle.std.proofs.lemmas.List.{append-nil}
 use mathlib.Core.List.{IsPrefix}
-use Rattle.edit_calls.specs.Answers.{Answer}
+use Rattle.edit_calls.specs.Answers.{CallAnswer}
 use Rattle.edit_calls.specs.declared.call.Call.{Call}
 use Rattle.edit_calls.specs.declared.refused.CallRefused.{CallRefused}
 use Rattle.live_pair.proofs.FrontLemmas.{prefix_self, prefix_trans, rest_all}
@@ -23,7 +23,7 @@ use Rattle.policy_state.specs.States.{State, StandsFor, tables}
 use Rattle.policy_table.specs.Changes.{replay}
 use Rattle.policy_table.specs.Tables.{Policy}
 use Rattle.policy_table.specs.declared.change.Change.{Change}
-use Rattle.version_log.proofs.CallerLemmas.{replay_both, tables_after}
+use Rattle.version_log.proofs.CallerLemmas.{replay_both}
 use Rattle.version_log.specs.Log.{most_versions}
 
 -- edits that come behind a history are admitted there, and there are no more than there may be
@@ -42,10 +42,10 @@ can_stage shapes opening first log desk es w kept same stands begun count is =
     let here : AreAdmitted shapes (tables desk.state) (rest ++ es)
     = subst (λ (s : Shapes). AreAdmitted s (tables desk.state) (rest ++ es)) same (subst (AreAdmitted desk.state.shapes (tables desk.state)) (sym all) kept.admitted) in
     let base : replay rest (tables desk.state) ≡ replay (history first log) opening
-    = ap (replay rest) (tables_after desk.state.log opening done stands) ∙ sym (replay_both done rest opening) ∙ ap (λ (l : List (List Change)). replay l opening) (all_edits first log) in
+    = ap (replay rest) stands.tables ∙ sym (replay_both done rest opening) ∙ ap (λ (l : List (List Change)). replay l opening) (all_edits first log) in
     record {
       admitted = subst (λ (p : Policy). AreAdmitted shapes p es) base (admitted_rest shapes rest es (tables desk.state) here);
-      few = omega (arith, kept.few, version_stands desk.state.log opening done stands, ap (λ (l : List (List Change)). length l) all, length-append rest es, ap (λ (l : List (List Change)). length l) (all_edits first log), length-append done rest);
+      few = omega (arith, kept.few, version_stands desk.state.log done stands.log, ap (λ (l : List (List Change)). length l) all, length-append rest es, ap (λ (l : List (List Change)). length l) (all_edits first log), length-append done rest);
     }
 
 -- the desk's policy behind one publish more
@@ -56,7 +56,7 @@ stands_more opening list es state new stands made = subst (StandsFor new opening
 -- ---- what an administrator keeps behind a call
 
 -- the pending edits behind a call begin with those before
-pending_grows : (answered : Answer) (pending : List (List Change)) → IsPrefix pending (pending_after answered pending)
+pending_grows : (answered : CallAnswer) (pending : List (List Change)) → IsPrefix pending (pending_after answered pending)
 pending_grows (Ok (Some edit)) pending = (edit ∷ [], refl)
 pending_grows (Ok None) pending = prefix_self pending
 pending_grows (Err refused) pending = prefix_self pending

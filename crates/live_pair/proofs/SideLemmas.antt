@@ -1,5 +1,5 @@
 -- What a copy stands for behind one event more, and which edits it can take.
-use Rattle.std.proofs.Common.{◌≡◌, ℕ, ◌+◌, ◌-◌, ◌≤◌, List, [], ◌∷◌, ◌++◌, length, ap, sym, subst, ◌∙◌, arith, append_assoc, length-append, length-drop, Bool, true, false, MatchBool, drop, take}
+use Rattle.std.proofs.Common.{◌≡◌, ◌+◌, ◌≤◌, List, [], ◌∷◌, ◌++◌, length, ap, sym, subst, ◌∙◌, arith, append_assoc, length-append, Bool, true, false, MatchBool}
 use Rattle.std.proofs.lemmas.List.{append-nil}
 use Rattle.live_pair.proofs.StoryLemmas.{all_edits, handed_both}
 use Rattle.live_pair.specs.Helps.Sides.{AreGiven, IsUpTo, handed, history}
@@ -10,11 +10,11 @@ use Rattle.perm_base.specs.declared.shapes.Shapes.{Shapes}
 use Rattle.policy_state.proofs.CallerLemmas.{admitted_both, admitted_rest, version_stands}
 use Rattle.edit_calls.specs.Admitted.{AreAdmitted}
 use Rattle.policy_state.specs.States.{State, StandsFor, tables}
-use Rattle.policy_table.specs.Changes.{edited, replay}
+use Rattle.policy_table.specs.Changes.{replay}
 use Rattle.policy_table.specs.Tables.{Policy}
 use Rattle.policy_table.specs.declared.change.Change.{Change}
-use Rattle.version_log.proofs.CallerLemmas.{replay_both, tables_after}
-use Rattle.version_log.specs.Log.{Logged, Stands, most_versions, versions}
+use Rattle.version_log.proofs.CallerLemmas.{replay_both}
+use Rattle.version_log.specs.Log.{most_versions, versions}
 
 -- ---- all edits of a history behind one event more
 
@@ -56,18 +56,10 @@ given_published shapes opening first log next more given =
 
 -- ---- what a policy stands for
 
--- a log that starts at 0 stands for its edits
-pub stands_opened : (log : Logged) (opening : Policy) (first : List (List Change)) → log.start ≡ 0 → log.base ≡ opening → log.tail ≡ first → Stands log opening first
-stands_opened log opening first start base tail = record {
-  within = omega (arith, start);
-  base = base ∙ ap (λ (n : ℕ). replay (take n first) opening) (sym start);
-  tail = tail ∙ ap (λ (n : ℕ). drop n first) (sym start);
-}
-
-pub up_to_opened : (shapes : Shapes) (opening : Policy) (first : List (List Change)) (state : State) → state.shapes ≡ shapes → state.log.start ≡ 0 → state.log.base ≡ opening → state.log.tail ≡ first → IsUpTo shapes opening first [] state
-up_to_opened shapes opening first state same start base tail = record {
+pub up_to_opened : (shapes : Shapes) (opening : Policy) (first : List (List Change)) (state : State) → state.shapes ≡ shapes → StandsFor state opening first → IsUpTo shapes opening first [] state
+up_to_opened shapes opening first state same stands = record {
   shapes_are = same;
-  stands = subst (StandsFor state opening) (sym (append-nil first)) (stands_opened state.log opening first start base tail);
+  stands = subst (StandsFor state opening) (sym (append-nil first)) stands;
 }
 
 -- ---- the edits that come next can be made in a copy
@@ -81,10 +73,10 @@ pub can_make : (shapes : Shapes) (opening : Policy) (first : List (List Change))
 can_make shapes opening first log next es state more given up =
     let new : handed next ≡ handed log ++ es = ap handed more ∙ handed_both log (Staged es ∷ []) ∙ ap (λ (l : List (List Change)). handed log ++ l) (append-nil es) in
     let rest : AreAdmitted shapes (replay (handed log) (replay first opening)) es = admitted_rest shapes (handed log) es (replay first opening) (subst (AreAdmitted shapes (replay first opening)) new given.admitted) in
-    let here : replay (handed log) (replay first opening) ≡ tables state = sym (replay_both first (handed log) opening) ∙ sym (tables_after state.log opening (history first log) up.stands) in
+    let here : replay (handed log) (replay first opening) ≡ tables state = sym (replay_both first (handed log) opening) ∙ sym up.stands.tables in
     record {
       admitted = subst (λ (s : Shapes). AreAdmitted s (tables state) es) (sym up.shapes_are) (subst (λ (p : Policy). AreAdmitted shapes p es) here rest);
-      few = omega (arith, given.few, version_stands state.log opening (history first log) up.stands, ap (λ (l : List (List Change)). length l) (history_staged first log next es more), length-append (history first log) es);
+      few = omega (arith, given.few, version_stands state.log (history first log) up.stands.log, ap (λ (l : List (List Change)). length l) (history_staged first log next es more), length-append (history first log) es);
     }
 
 -- and leave one that stands for them too

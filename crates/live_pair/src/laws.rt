@@ -60,7 +60,6 @@ pub fn fronts_begin_each_other()
     ensures version { (state other : State) (opening : Policy) (front : List (List (List Change)))
         → StandsFor state opening (edits_in front)
         → other.log.start ≡ state.log.start
-        → other.log.base ≡ state.log.base
         → other.log.tail ≡ state.log.tail
         → versions other.log ≡ version_of front }
 {}

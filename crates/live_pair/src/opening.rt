@@ -2,6 +2,7 @@ ghost use Rattle.std.specs.Prelude.{◌≡◌, ◌∷◌, ◌<◌, ◌≤◌, []
 ghost use Rattle.live_pair.specs.Helps.Sides.{IsUpTo};
 ghost use Rattle.live_pair.specs.Seats.{IsNew};
 ghost use Rattle.outside.specs.Faults.{Rose};
+ghost use Rattle.policy_state.specs.States.{StandsFor};
 
 use crate::admin::{Admin, AdminOver};
 use crate::book::{Head, Opened};
@@ -32,9 +33,7 @@ pub fn open_pair<J: Naming, R: Wait, H: Places>(
 ) -> Result<(Admin<J>, Vec<Seat<J>>), NoMemory>
     requires book { opened ≡ J.book }
     requires shapes { desk.state.shapes ≡ J.shapes }
-    requires start { desk.state.log.start ≡ 0 }
-    requires base { desk.state.log.base ≡ J.opening }
-    requires tail { desk.state.log.tail ≡ J.first }
+    requires stands { StandsFor desk.state J.opening J.first }
     requires pending { desk.pending ≡ [] }
     requires some { 0 < seats }
     requires few { seats ≤ 8 }

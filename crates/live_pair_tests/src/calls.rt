@@ -1,5 +1,7 @@
 //! A desk without rules, and what its administrator does.
-ghost use Rattle.std.specs.Prelude.{◌≡◌, [], IfOk};
+ghost use Rattle.std.specs.Prelude.{◌≡◌, [], IfOk, false};
+ghost use Rattle.policy_state.specs.States.{StandsFor};
+ghost use Rattle.policy_table.specs.Tables.{without_rules};
 
 use edit_calls::Call;
 use live_pair::{Admin, Front, Naming};
@@ -12,7 +14,7 @@ use std::sync::Wait;
 
 /// A desk over a policy without rules, whose p has a subject, an object and an action.
 pub fn desk(alloc: Global) -> Result<Desk, NoMemory>
-    ensures start { IfOk result (λ desk. desk.state.log.start ≡ 0) }
+    ensures stands { IfOk result (λ desk. StandsFor desk.state (without_rules false) []) }
     ensures pending { IfOk result (λ desk. desk.pending ≡ []) }
 {
     let shapes = Shapes {

@@ -1,5 +1,6 @@
 //! The pair that is tried.
 ghost use Rattle.std.specs.Prelude.{◌≡◌, ◌<◌, ◌≤◌, []};
+ghost use Rattle.policy_state.specs.States.{StandsFor};
 
 use crate::beside::{publishes_again, sees_whole_publishes};
 use crate::calls::desk;
@@ -51,9 +52,7 @@ fn tried_over<J: Naming + Send + Sync, R: Threads + Wait + Abort + Sync, H: Plac
 ) -> Result<(), Fail>
     requires book { opened ≡ J.book }
     requires shapes { desk.state.shapes ≡ J.shapes }
-    requires start { desk.state.log.start ≡ 0 }
-    requires base { desk.state.log.base ≡ J.opening }
-    requires tail { desk.state.log.tail ≡ J.first }
+    requires stands { StandsFor desk.state J.opening J.first }
     requires pending { desk.pending ≡ [] }
     requires some { 0 < seats }
     requires few { seats ≤ 8 }

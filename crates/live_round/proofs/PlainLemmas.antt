@@ -9,7 +9,6 @@ use Rattle.model_conf.specs.ModelText.{ModelParts}
 use Rattle.perm_base.specs.declared.shapes.Shapes.{Shapes}
 use Rattle.policy_desk.specs.Desks.{IsDesk, Work}
 use Rattle.policy_state.specs.States.{State, tables}
-use Rattle.policy_table.specs.Changes.{replay}
 use Rattle.policy_table.specs.Tables.{Policy}
 use Rattle.policy_table.specs.declared.change.Change.{Change}
 use Rattle.regex_gate.proofs.CallerLemmas.{used_then}
@@ -21,7 +20,7 @@ use Rattle.session_meaning.proofs.CallerLemmas.{RowsAreMoved, behind_none, plain
 use Rattle.session_meaning.specs.Desks.{IsBehind}
 use Rattle.session_meaning.specs.Plain.{IsLine, IsPlain, all_refused, most_number}
 use Rattle.session_meaning.specs.Replies.{IsReply}
-use Rattle.version_log.specs.Log.{Logged, Stands, tables_of, versions}
+use Rattle.version_log.specs.Log.{Logged, Stands, versions}
 use Rattle.live_round.specs.Desks.{HasEditsOf, StandsAmid, StandsBehind}
 use Rattle.live_round.specs.Requests.{Refuses}
 use Rattle.live_round.specs.Scripts.{AreScriptLines}
@@ -34,23 +33,22 @@ no_items : {X : Type 0} (xs : List X) → length xs ≡ 0 → xs ≡ []
 no_items [] is = refl
 no_items (x ∷ xs) is = absurd (omega (arith, is))
 
--- a log of version 0 stands for no edits from its own tables
-stands_alone : (log : Logged) → versions log ≡ 0 → Stands log (tables_of log) []
+-- a log of version 0 stands for no edits
+stands_alone : (log : Logged) → versions log ≡ 0 → Stands log []
 stands_alone log none =
     let start : log.start ≡ 0 = omega (arith, none) in
     let tail : log.tail ≡ [] = no_items log.tail (omega (arith, none)) in
     record {
       within = omega (arith, none);
-      base = sym (λ j. replay (take (start j) []) (replay (tail j) log.base));
       tail = tail ∙ sym (λ j. drop (start j) []);
     }
 
 -- a desk at version 0 with nothing pending stands before all items
 pub stands_before : (desk : Work) → IsDesk desk → versions desk.state.log ≡ 0 → desk.pending ≡ [] → desk.kept ≡ None → StandsBehind (tables desk.state) [] desk
 stands_before desk is none no_pending keeps_all = record {
-  edits = subst (λ (p : List (List Change)). IsBehind desk.state.shapes (tables desk.state) [] desk.state.log p desk.kept) (sym no_pending)
-      (subst (λ (k : Option ℕ). IsBehind desk.state.shapes (tables desk.state) [] desk.state.log [] k) (sym keeps_all)
-      (behind_none desk.state.shapes (tables desk.state) desk.state.log (stands_alone desk.state.log none)));
+  edits = subst (λ (p : List (List Change)). IsBehind desk.state.shapes (tables desk.state) [] desk.state.log (tables desk.state) p desk.kept) (sym no_pending)
+      (subst (λ (k : Option ℕ). IsBehind desk.state.shapes (tables desk.state) [] desk.state.log (tables desk.state) [] k) (sym keeps_all)
+      (behind_none desk.state.shapes (tables desk.state) desk.state.log (tables desk.state) (stands_alone desk.state.log none) refl));
   floor = omega (arith, none, is.from, is.until);
 }
 
@@ -60,7 +58,7 @@ alone state = record { state = state; pending = []; drafts = tables state; kept 
 
 -- at version 0 it stands before all items
 pub alone_before : (state : State) → versions state.log ≡ 0 → StandsBehind (tables state) [] (alone state)
-alone_before state none = record { edits = behind_none state.shapes (tables state) state.log (stands_alone state.log none); floor = refl }
+alone_before state none = record { edits = behind_none state.shapes (tables state) state.log (tables state) (stands_alone state.log none) refl; floor = refl }
 
 -- ---- a script under way
 

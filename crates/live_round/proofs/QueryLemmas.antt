@@ -45,7 +45,7 @@ query_step : {T : Type 0} (item : Said) (desk : Work) (told : ℕ → T → Answ
 query_step item desk told answer_in asks replies version version-is answered answered-is reply is model refusals =
     quiet_step model refusals item desk reply asks
     (λ opening items stands. replies model opening items reply
-    (out_at_desk desk.state.shapes opening items desk.state.log desk.pending desk.kept stands.edits (λ (n : ℕ) (policy : Policy). reply ≡ query_reply (told n) (answer_in policy)) whole))
+    (out_at_desk desk.state.shapes opening items desk.state.log (tables desk.state) desk.pending desk.kept stands.edits (λ (n : ℕ) (policy : Policy). reply ≡ query_reply (told n) (answer_in policy)) whole))
   where
     whole : reply ≡ query_reply (told (versions desk.state.log)) (answer_in (tables desk.state))
     whole = is ∙ (λ j. query_reply (told (version-is j)) (sym answered-is j))
@@ -87,12 +87,12 @@ module _ (desk : Work) (state : State) (state-is : state ≡ desk.state) (versio
   recorded_step number edit copy is same model refusals =
       let here : IsEdit desk.state.log number copy = subst (λ (s : State). IsEdit s.log number copy) state-is (subst (IsEdit state.log number) (sym same) is) in
       quiet_step model refusals (recalls number) desk (answer.Recorded version number copy) refl
-      (λ opening items stands. ap (λ (n : ℕ). answer.Recorded n number copy) (same_version ∙ desk_version desk.state.shapes opening items desk.state.log desk.pending desk.kept stands.edits)
-      ∙ sym (ap (query_reply (answer.Recorded (out desk.state.shapes opening items) number)) (desk_recalled desk.state.shapes opening items desk.state.log desk.pending desk.kept stands.edits number copy here)))
+      (λ opening items stands. ap (λ (n : ℕ). answer.Recorded n number copy) (same_version ∙ desk_version desk.state.shapes opening items desk.state.log (tables desk.state) desk.pending desk.kept stands.edits)
+      ∙ sym (ap (query_reply (answer.Recorded (out desk.state.shapes opening items) number)) (desk_recalled desk.state.shapes opening items desk.state.log (tables desk.state) desk.pending desk.kept stands.edits number copy here)))
 
   -- why there is none
   pub not_recorded_step : (number : ℕ) (refused : QueryRefused) → edit_refusal state.log number ≡ Some refused → (reply : Answer) → reply ≡ answer.Query refused → IsPlainStep (recalls number) desk desk reply
   not_recorded_step number refused is reply reply-is model refusals =
       let here : edit_refusal desk.state.log number ≡ Some refused = subst (λ (s : State). edit_refusal s.log number ≡ Some refused) state-is is in
       quiet_step model refusals (recalls number) desk reply refl
-      (λ opening items stands. reply-is ∙ sym (ap (query_reply (answer.Recorded (out desk.state.shapes opening items) number)) (desk_not_recalled desk.state.shapes opening items desk.state.log desk.pending desk.kept stands.edits number refused here)))
+      (λ opening items stands. reply-is ∙ sym (ap (query_reply (answer.Recorded (out desk.state.shapes opening items) number)) (desk_not_recalled desk.state.shapes opening items desk.state.log (tables desk.state) desk.pending desk.kept stands.edits number refused here)))

@@ -1,6 +1,5 @@
 -- Requests and other items that leave a desk as it is.
-use Rattle.std.proofs.Common.{◌≡◌, ℕ, Bool, true, List, [], ◌∷◌, ◌++◌, ap, subst, ◌∙◌, refl}
-use Rattle.std.specs.Prelude.{IfOk, Result}
+use Rattle.std.proofs.Common.{◌≡◌, ℕ, true, List, [], ◌∷◌, ◌++◌, ap, subst, ◌∙◌, refl}
 use Rattle.answer_lines.specs.declared.answer.Answer.{Answer}
 use Rattle.answer_lines.specs.declared.answer.Answer.TheVariants as answer
 use Rattle.model_conf.specs.ModelText.{ModelParts}
@@ -22,12 +21,12 @@ use Rattle.live_round.proofs.LogLemmas.{none_asked}
 request_reply : (model : ModelParts) (refused : List (List ℕ)) (opening : Policy) (items : List Said) (desk : Work) → HasEditsOf opening items desk → (reading : Reading) (reply : Answer)
     → IsAnswerTo model desk.state.shapes refused (versions desk.state.log) (tables desk.state) reading reply → IsReply model desk.state.shapes opening refused items (asks reading) reply
 request_reply model refused opening items desk has reading reply is =
-    out_at_desk desk.state.shapes opening items desk.state.log desk.pending desk.kept has (λ (version : ℕ) (policy : Policy). IsAnswerTo model desk.state.shapes refused version policy reading reply) is
+    out_at_desk desk.state.shapes opening items desk.state.log (tables desk.state) desk.pending desk.kept has (λ (version : ℕ) (policy : Policy). IsAnswerTo model desk.state.shapes refused version policy reading reply) is
 
 -- an item that asks leaves the desk behind it
 asked_behind : (opening : Policy) (items : List Said) (item : Said) (desk : Work) → only_asks item ≡ true → StandsBehind opening items desk → StandsBehind opening (items ++ item ∷ []) desk
 asked_behind opening items item desk calm stands = record {
-  edits = behind_other desk.state.shapes opening items desk.state.log desk.pending desk.kept stands.edits item calm;
+  edits = behind_other desk.state.shapes opening items desk.state.log (tables desk.state) desk.pending desk.kept stands.edits item calm;
   floor = stands.floor;
 }
 
@@ -55,4 +54,4 @@ module _ (model : ModelParts) where
 -- the version that is out
 pub sync_step : (desk : Work) (state : State) → state ≡ desk.state → (version : ℕ) → version ≡ versions state.log → IsPlainStep syncs desk desk (answer.Synced version)
 sync_step desk state state-is version is model refusals = quiet_step model refusals syncs desk (answer.Synced version) refl
-    (λ opening items stands. ap answer.Synced (is ∙ ap (λ (s : State). versions s.log) state-is ∙ desk_version desk.state.shapes opening items desk.state.log desk.pending desk.kept stands.edits))
+    (λ opening items stands. ap answer.Synced (is ∙ ap (λ (s : State). versions s.log) state-is ∙ desk_version desk.state.shapes opening items desk.state.log (tables desk.state) desk.pending desk.kept stands.edits))

@@ -14,13 +14,12 @@ use Rattle.policy_table.specs.Tables.{Fields, Policy}
 use Rattle.policy_table.specs.declared.change.Change.{Change}
 use Rattle.regex_gate.specs.Refusals.{IsRefused, Refusals}
 use Rattle.session_meaning.specs.Replies.{rule_of}
-use Rattle.version_log.proofs.CallerLemmas.{tables_after}
 
 -- what holds of a state's shapes and tables holds of the pair's shapes and the tables behind the front that it stands for
 pub at_front : (shapes : Shapes) (opening : Policy) (front : List (List (List Change))) (state : State) → state.shapes ≡ shapes → StandsFor state opening (edits_in front) → (Holds : Shapes → Policy → Type 0) → Holds state.shapes (tables state)
     → Holds shapes (tables_behind opening front)
 at_front shapes opening front state shapes-is stands Holds is =
-    subst (λ (s : Shapes). Holds s (tables_behind opening front)) shapes-is (subst (Holds state.shapes) (tables_after state.log opening (edits_in front) stands) is)
+    subst (λ (s : Shapes). Holds s (tables_behind opening front)) shapes-is (subst (Holds state.shapes) stands.tables is)
 
 module _ (model : ModelParts) (shapes : Shapes) (opening : Policy) (values : List Datum) (before now : Refusals) (old inside new : SeatSeen) (state : State) (entered : IsEntered old inside) (left : new ≡ inside)
     (shapes-is : state.shapes ≡ shapes) (stands : StandsFor state opening (edits_in inside.front)) where

@@ -4,7 +4,7 @@ use Rattle.std.specs.Prelude.{nat_lt}
 use Rattle.std.specs.List.{AllByRecursion}
 use Rattle.std.proofs.lemmas.Bool.{eqb-false, eqb-true, le-leb}
 use Rattle.std.proofs.lemmas.Bool.Decides.{Decides-eqb}
-use Rattle.std.proofs.lemmas.List.{drop-append-le, take-append-drop, take-append-le}
+use Rattle.std.proofs.lemmas.List.{drop-append-le, take-append-drop}
 use Rattle.std.proofs.Math.Seq.{take-add}
 use Rattle.edit_calls.proofs.CallerLemmas.{back_admitted, front_admitted}
 use Rattle.edit_calls.specs.Admitted.{AreAdmitted, admits}
@@ -22,7 +22,7 @@ use Rattle.policy_table.specs.Changes.{replay}
 use Rattle.policy_table.specs.Tables.{Policy}
 use Rattle.policy_table.specs.declared.change.Change.{Change}
 use Rattle.version_log.specs.Log.{most_versions}
-use Rattle.version_log.proofs.CallerLemmas.{tables_after}
+use Rattle.version_log.proofs.CallerLemmas.{replay_both}
 
 -- ---- what an answer to an edit says of it
 
@@ -104,11 +104,11 @@ module _ (shapes : Shapes) (opening : Policy) (history : List (List Change)) (ar
 
   module _ (before : Following) (same_shapes : before.state.shapes ≡ shapes) (holds : Follows opening history before) where
     pub tables_are : tables before.state ≡ replay (take (version_of before) history) opening
-    tables_are = tables_after before.state.log opening (take (version_of before) history) holds.stands
+    tables_are = holds.stands.tables
 
     pub version_few : version_of before ≤ length history
     version_few =
-        let size : version_of before ≡ length (take (version_of before) history) = version_stands before.state.log opening (take (version_of before) history) holds.stands in
+        let size : version_of before ≡ length (take (version_of before) history) = version_stands before.state.log (take (version_of before) history) holds.stands.log in
         omega (arith, size, length-take (version_of before) history)
 
     -- an edit of the history may come
@@ -172,7 +172,9 @@ follows_same opening history before now same holds =
 -- a policy that stands for edits stands, with more, for more
 pub more_stands : (state : State) (opening : Policy) (front edits : List (List Change)) → StandsFor state opening front → StandsFor (with_edits edits state) opening (front ++ edits)
 more_stands state opening front edits stands = record {
-  within = omega (arith, stands.within, length-append front edits);
-  base = stands.base ∙ ap (λ (l : List (List Change)). replay l opening) (sym (take-append-le state.log.start front edits stands.within));
-  tail = ap (λ (l : List (List Change)). l ++ edits) stands.tail ∙ sym (drop-append-le state.log.start front edits stands.within);
+  log = record {
+    within = omega (arith, stands.log.within, length-append front edits);
+    tail = ap (λ (l : List (List Change)). l ++ edits) stands.log.tail ∙ sym (drop-append-le state.log.start front edits stands.log.within);
+  };
+  tables = ap (replay edits) stands.tables ∙ sym (replay_both front edits opening);
 }

@@ -17,7 +17,7 @@ use Rattle.log_ship.specs.declared.taken.Taken.TheVariants.{Repeated, Waiting, A
 use Rattle.log_ship.specs.declared.taken.TakeRefused.{TakeRefused}
 use Rattle.log_ship.specs.declared.taken.TakeRefused.TheVariants.{TooFar, Malformed, Misfit}
 use Rattle.policy_state.specs.States.{State, tables}
-use Rattle.policy_table.specs.Changes.{edited}
+use Rattle.policy_table.specs.Changes.{edited, replay}
 use Rattle.policy_table.specs.declared.change.Change.{Change}
 use Rattle.version_log.specs.EditText.{IsEditFault, IsEditText}
 use Rattle.version_log.specs.Log.{most_versions, versions}
@@ -255,8 +255,8 @@ module _ (before : Following) (edit : List Change) (count : ℕ) (state : State)
           shapes = done.state_is.shapes;
           column = done.state_is.column;
           start = done.state_is.start;
-          base = done.state_is.base;
           tail = done.state_is.tail ∙ ap (λ (l : List (List Change)). before.state.log.tail ++ l) empty ∙ append-nil before.state.log.tail;
+          tables_are = done.state_is.tables_are ∙ ap (λ (l : List (List Change)). replay l (tables before.state)) empty;
         };
         waiting = done.waiting_is ∙ ap (λ (n : ℕ). drop n before.waiting) gone;
       }

@@ -1,7 +1,7 @@
 -- What contracts see of a follower: its policy, and the edits that wait for those before them, by rising number.
 use Rattle.std.specs.Prelude.{◌≡◌, ℕ, ◌+◌, ◌<◌, ◌≤◌, List, [], ◌∷◌, ⊤}
 use Rattle.std.specs.List.{AllByRecursion}
-use Rattle.policy_state.specs.States.{State}
+use Rattle.policy_state.specs.States.{State, tables}
 use Rattle.policy_table.specs.declared.change.Change.{Change}
 use Rattle.version_log.specs.Log.{most_versions, versions}
 
@@ -34,8 +34,8 @@ pub record IsSameState (before now : State) : Type 0 where
   pub shapes : now.shapes ≡ before.shapes
   pub column : now.column ≡ before.column
   pub start : now.log.start ≡ before.log.start
-  pub base : now.log.base ≡ before.log.base
   pub tail : now.log.tail ≡ before.log.tail
+  pub tables_are : tables now ≡ tables before
 
 -- the follower is as it was, the room of its policy aside
 pub record IsSame (before now : Following) : Type 0 where

@@ -10,7 +10,7 @@ use Rattle.log_ship.specs.declared.taken.TakeRefused.{TakeRefused}
 use Rattle.log_ship.specs.declared.taken.TakeRefused.TheVariants.{TooFar, Malformed, Misfit, NoMemory}
 use Rattle.perm_base.specs.declared.shapes.Shapes.{Shapes}
 use Rattle.policy_state.specs.States.{State, tables}
-use Rattle.policy_table.specs.Changes.{edited}
+use Rattle.policy_table.specs.Changes.{edited, replay}
 use Rattle.policy_table.specs.Tables.{Policy}
 use Rattle.policy_table.specs.declared.change.Change.{Change}
 use Rattle.policy_table.specs.declared.change.Change.TheVariants.{Insert, Remove, Replace}
@@ -98,9 +98,12 @@ put held (other ∷ others) = if nat_lt held.number other.number then held ∷ o
 abbrev pub left_behind : Following → List Change → List Held
 left_behind follower edit = drop (min (length (appended follower edit)) (length (behind_next follower))) follower.waiting
 
--- the policy with edits behind the others
+-- the policy with edits behind the others, which are made in its tables
 abbrev pub with_edits : List (List Change) → State → State
-with_edits edits state = record state { log = record state.log { tail = state.log.tail ++ edits } }
+with_edits edits state = record state {
+  log = record state.log { tail = state.log.tail ++ edits };
+  parts = record state.parts { held = record state.parts.held { policy = replay edits state.parts.held.policy } };
+}
 
 -- the follower after an answer to the packet with this edit: one that waits is kept, one that is applied is appended, with those
 -- behind it

@@ -6,7 +6,7 @@ use Rattle.matcher_read.specs.Matcher.{is_sound}
 use Rattle.model_conf.specs.Kept.{IsKept}
 use Rattle.model_conf.specs.ModelText.{ModelParts}
 use Rattle.model_conf.specs.Uses.{first_undeclared, uses}
-use Rattle.matcher_meaning.specs.Answers.{Answer}
+use Rattle.matcher_meaning.specs.Answers.{Evaluation}
 use Rattle.matcher_meaning.specs.Cases.{Case}
 use Rattle.matcher_meaning.specs.Comes.{RuleComesTo, TruthIs, all_at}
 use Rattle.matcher_meaning.proofs.CallerLemmas.{placed_nodes}
@@ -31,10 +31,10 @@ code_keeps model (Some at) e ops kept sound declared is =
 
 -- what it comes to in a case of the model
 module _ (model : ModelParts) (kept : IsKept model) (e : Expression) (same : e ≡ model.matcher) (ops : List Op) (is : ops ≡ code_of model e) (case : Case) (of_model : case.model ≡ model) where
-  comes_so : (r : Answer) → CodeComesTo case ops r → CodeComesTo case (code_of case.model model.matcher) r
+  comes_so : (r : Evaluation) → CodeComesTo case ops r → CodeComesTo case (code_of case.model model.matcher) r
   comes_so r comes = subst (λ (l : List Op). CodeComesTo case l r) (is ∙ ap (code_of model) same ∙ ap (λ (m : ModelParts). code_of m model.matcher) (sym of_model)) comes
 
-  pub matcher_truth : (r : Answer) → CodeComesTo case ops r → (t : Result Bool Fault) × (r ≡ as_answer t) × TruthIs case model.matcher t
+  pub matcher_truth : (r : Evaluation) → CodeComesTo case ops r → (t : Result Bool Fault) × (r ≡ as_answer t) × TruthIs case model.matcher t
   matcher_truth r comes =
       whole_truth case model.matcher r kept.matcher.sound (subst (λ (m : ModelParts). are_named m (uses model.matcher) ≡ true) (sym of_model) (all_named model (uses model.matcher) kept.declared)) (comes_so r comes)
 
@@ -42,7 +42,7 @@ module _ (model : ModelParts) (kept : IsKept model) (e : Expression) (same : e �
   matcher_means t comes =
       whole_means case model.matcher t kept.matcher.sound (subst (λ (m : ModelParts). are_named m (uses model.matcher) ≡ true) (sym of_model) (all_named model (uses model.matcher) kept.declared)) (comes_so (as_answer t) comes)
 
-pub rule_comes : (model : ModelParts) (rule : Expression) (at : ℕ) (ops : List Op) → IsRule model rule → ops ≡ code_of model (all_at at rule) → (case : Case) (r : Answer) → case.model ≡ model → CodeComesTo case ops r → RuleComesTo case at rule r
+pub rule_comes : (model : ModelParts) (rule : Expression) (at : ℕ) (ops : List Op) → IsRule model rule → ops ≡ code_of model (all_at at rule) → (case : Case) (r : Evaluation) → case.model ≡ model → CodeComesTo case ops r → RuleComesTo case at rule r
 rule_comes model rule at ops (bytes, said) is case r of_model comes =
     let named = placed_named model at rule ∙ all_named model (uses rule) said.declared in
     rule_means case at rule r (placed_sound at rule ∙ said.matcher.sound) (subst (λ (m : ModelParts). are_named m (uses (all_at at rule)) ≡ true) (sym of_model) named) said.no_eval

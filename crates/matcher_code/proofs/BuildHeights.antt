@@ -14,7 +14,7 @@ use Rattle.perm_base.specs.declared.shapes.RoleShape.{RoleShape}
 use Rattle.model_conf.specs.Kept.{AreRelations, IsRelation}
 use Rattle.model_conf.specs.ModelText.{ModelParts}
 use Rattle.model_conf.specs.Uses.{of_request, of_policy, of_relation, uses, all_uses, names_of, called as called_uses}
-use Rattle.matcher_code.specs.Compiled.{op_at, number_of, attributes, skip, op_or_none, right_begins, joins, names_asked, calls, behind, behind_members, behind_all, compiled, members, arguments}
+use Rattle.matcher_code.specs.Compiled.{op_at, column_number, attributes, skip, op_or_none, right_begins, joins, names_asked, calls, behind, behind_members, behind_all, compiled, members, arguments}
 use Rattle.matcher_code.specs.Rules.{finds, leaves, height_behind, height_at, jump, height_landing, names_rightly, lies_behind}
 use Rattle.matcher_code.specs.declared.op.Op.{Op}
 use Rattle.matcher_code.specs.declared.op.Instruction.{Instruction}
@@ -239,16 +239,16 @@ mutual
   code_right s (whole at n) start height stand sound named high low = plain_right s start at (i.Whole n) height height (height + 1) stand.0 high (omega arith) (omega arith) refl refl refl
   code_right s (truth at b) start height stand sound named high low = plain_right s start at (i.Truth b) height height (height + 1) stand.0 high (omega arith) (omega arith) refl refl refl
   code_right s (request at column path) start height stand sound named high low =
-      let number = number_of s.model.request column in
+      let number = column_number s.model.request column in
       let within = number_within s.model.request column (named_one s.model (of_request at column) named) in
       let one = plain_right s start at (i.Request number) height height (height + 1) stand.0 high (omega arith) (omega arith) refl (lt-ltb number (length s.model.request) within) refl in
       both_right s start (start + 1) (start + 1 + length path) (height + 1) (height + 1) one (path_right s (start + 1) at path height stand.1 one.high low)
   code_right s (policy at column) start height stand sound named high low =
-      let number = number_of s.model.policy column in
+      let number = column_number s.model.policy column in
       let within = number_within s.model.policy column (named_one s.model (of_policy at column) named) in
       plain_right s start at (i.Policy number) height height (height + 1) stand.0 high (omega arith) (omega arith) refl (lt-ltb number (length s.model.policy) within) refl
   code_right s (evaluated at column) start height stand sound named high low =
-      let number = number_of s.model.policy column in
+      let number = column_number s.model.policy column in
       let within = number_within s.model.policy column (named_one s.model (of_policy at column) named) in
       plain_right s start at (i.Eval number) height height (height + 1) stand.0 high (omega arith) (omega arith) refl (lt-ltb number (length s.model.policy) within) refl
   code_right s (negation at e) start height stand sound named high low =

@@ -5,7 +5,7 @@ use Rattle.matcher_read.specs.Expression.{Callee, function, relation, unknown, E
 use Rattle.matcher_read.specs.declared.tree.Operator.{Operator}
 use Rattle.matcher_read.specs.declared.tree.Operator.TheVariants as operators
 use Rattle.model_conf.specs.ModelText.{ModelParts}
-use Rattle.matcher_code.specs.Compiled.{op_at, number_of, attributes, skip, op_or_none, right_begins, joins, calls, behind, compiled, members, arguments}
+use Rattle.matcher_code.specs.Compiled.{op_at, column_number, attributes, skip, op_or_none, right_begins, joins, calls, behind, compiled, members, arguments}
 use Rattle.matcher_code.specs.Helps.Landing.{landed}
 use Rattle.matcher_code.specs.declared.op.Op.{Op}
 use Rattle.matcher_code.specs.declared.op.Instruction.TheVariants as i
@@ -48,7 +48,7 @@ mutual
   code_landed model to start (text at bytes) = refl
   code_landed model to start (whole at n) = refl
   code_landed model to start (truth at b) = refl
-  code_landed model to start (request at column path) = ap (λ (l : List Op). op_at at (i.Request (number_of model.request column)) ∷ l) (path_landed to at path)
+  code_landed model to start (request at column path) = ap (λ (l : List Op). op_at at (i.Request (column_number model.request column)) ∷ l) (path_landed to at path)
   code_landed model to start (policy at column) = refl
   code_landed model to start (evaluated at column) = refl
   code_landed model to start (negation at e) = both_landed to (compiled model start e) (op_at at i.Not ∷ []) (code_landed model to start e) refl

@@ -11,7 +11,7 @@ use Rattle.model_conf.specs.ModelText.{ModelParts}
 use Rattle.model_conf.specs.RuleText.{has_eval}
 use Rattle.matcher_meaning.specs.Comes.{all_at, each_at, is_taker, takes_memory}
 use Rattle.matcher_meaning.specs.Meaning.{is_search, is_search_call, searches, some_searches}
-use Rattle.matcher_code.specs.Compiled.{op_at, number_of, attributes, skip, op_or_none, right_begins, joins, calls, behind, compiled, members, arguments, code_of, has_eval_op, has_search_op}
+use Rattle.matcher_code.specs.Compiled.{op_at, column_number, attributes, skip, op_or_none, right_begins, joins, calls, behind, compiled, members, arguments, code_of, has_eval_op, has_search_op}
 use Rattle.matcher_code.specs.Running as code
 use Rattle.matcher_code.specs.declared.op.Op.{Op}
 use Rattle.matcher_code.specs.declared.op.Instruction.{Instruction}
@@ -86,10 +86,10 @@ mutual
   code_tells op_test node_test tells model start (whole at n) = one_op op_test at (i.Whole n) (node_test (whole at n)) (tells.whole_is at n)
   code_tells op_test node_test tells model start (truth at b) = one_op op_test at (i.Truth b) (node_test (truth at b)) (tells.truth_is at b)
   code_tells op_test node_test tells model start (request at column path) =
-      let number = number_of model.request column in
+      let number = column_number model.request column in
       ap (λ (x : Bool). op_test (i.Request number) || x) (path_none op_test at path tells.attribute) ∙ or_false (op_test (i.Request number)) ∙ tells.request_is at column path number
-  code_tells op_test node_test tells model start (policy at column) = one_op op_test at (i.Policy (number_of model.policy column)) (node_test (policy at column)) (tells.policy_is at column (number_of model.policy column))
-  code_tells op_test node_test tells model start (evaluated at column) = one_op op_test at (i.Eval (number_of model.policy column)) (node_test (evaluated at column)) (tells.evaluated_is at column (number_of model.policy column))
+  code_tells op_test node_test tells model start (policy at column) = one_op op_test at (i.Policy (column_number model.policy column)) (node_test (policy at column)) (tells.policy_is at column (column_number model.policy column))
+  code_tells op_test node_test tells model start (evaluated at column) = one_op op_test at (i.Eval (column_number model.policy column)) (node_test (evaluated at column)) (tells.evaluated_is at column (column_number model.policy column))
   code_tells op_test node_test tells model start (negation at e) = last_op op_test (compiled model start e) at i.Not (some_node node_test e) (node_test (negation at e)) (code_tells op_test node_test tells model start e) (tells.negation_is at e)
   code_tells op_test node_test tells model start (opposite at e) = last_op op_test (compiled model start e) at i.Negate (some_node node_test e) (node_test (opposite at e)) (code_tells op_test node_test tells model start e) (tells.opposite_is at e)
   code_tells op_test node_test tells model start (binary at op e f) =

@@ -11,7 +11,7 @@ use Rattle.matcher_read.specs.declared.tree.Tree.TheVariants as t
 use Rattle.model_conf.specs.ModelText.{ModelParts}
 use Rattle.matcher_meaning.specs.Comes.{each_at}
 use Rattle.outside.specs.declared.fault.NoMemory.{NoMemory}
-use Rattle.matcher_code.specs.Compiled.{op_at, number_of, attributes, skip, op_or_none, right_begins, joins, names_asked, behind, behind_members, compiled, members, arguments}
+use Rattle.matcher_code.specs.Compiled.{op_at, column_number, attributes, skip, op_or_none, right_begins, joins, names_asked, behind, behind_members, compiled, members, arguments}
 use Rattle.matcher_code.specs.Helps.Landing.{landed}
 use Rattle.matcher_code.specs.Helps.Placing.{placed, each_placed}
 use Rattle.matcher_code.specs.declared.op.Op.{Op}
@@ -135,7 +135,7 @@ module _ (model : ModelParts) (from : Option ℕ) (tree : Tree) (at own : ℕ) (
   abbrev pub IsPushed : List Op → Type 0
   IsPushed new = new ≡ old ++ compiled model (length old) (placed from (expression tree))
 
-  pub request_pushed : (column : List ℕ) (path : Vec (List ℕ) Global) (number : ℕ) (middle new : List Op) → tree ≡ t.Request own column path → number ≡ number_of model.request column
+  pub request_pushed : (column : List ℕ) (path : Vec (List ℕ) Global) (number : ℕ) (middle new : List Op) → tree ≡ t.Request own column path → number ≡ column_number model.request column
       → middle ≡ old ++ op_at at (i.Request number) ∷ [] → new ≡ middle ++ attributes at path.items → IsPushed new
   request_pushed column path number middle new is number_is first second =
       let seen = ap expression is ∙ ap expression (sym (t.rolls-Request own column path)) ∙ fold-roll-Tree Expression expression_step (Tree-F.Request own column path) in

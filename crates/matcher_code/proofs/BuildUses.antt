@@ -13,7 +13,7 @@ use Rattle.policy_table.specs.Tables.{Fields}
 use Rattle.model_conf.specs.ModelText.{ModelParts}
 use Rattle.model_conf.specs.Uses.{Use, is_declared, sooner, first_by_place, first_undeclared}
 use Rattle.matcher_meaning.specs.Cases.{at_column, field_of}
-use Rattle.matcher_code.specs.Compiled.{number_of}
+use Rattle.matcher_code.specs.Compiled.{column_number}
 use Rattle.matcher_code.specs.Machine.{field_at}
 
 -- each of these uses is declared by the model
@@ -45,19 +45,19 @@ by_place : {P : ℕ → Type 0} (columns : List (List ℕ)) (name : List ℕ) (f
 by_place columns name (Some place) is any then_ = then_ place is
 by_place columns name None is any then_ = absurd (true≢false (sym any ∙ position-None (bytes_eq name) columns is))
 
-pub value_there : {X : Type 0} (columns : List (List ℕ)) (values : List X) (name : List ℕ) → list_any (bytes_eq name) columns ≡ true → at_column columns values name ≡ slice_get values (number_of columns name)
+pub value_there : {X : Type 0} (columns : List (List ℕ)) (values : List X) (name : List ℕ) → list_any (bytes_eq name) columns ≡ true → at_column columns values name ≡ slice_get values (column_number columns name)
 value_there {X} columns values name any =
     by_place {P = λ place. at_column columns values name ≡ slice_get values place} columns name (position (bytes_eq name) columns) refl any (λ place is. ap (λ (found : Option ℕ). option_and_then (λ n. slice_get values n) found) is)
 
-pub field_there : (columns : List (List ℕ)) (row : Option Fields) (name : List ℕ) → list_any (bytes_eq name) columns ≡ true → field_of columns row name ≡ field_at row (number_of columns name)
+pub field_there : (columns : List (List ℕ)) (row : Option Fields) (name : List ℕ) → list_any (bytes_eq name) columns ≡ true → field_of columns row name ≡ field_at row (column_number columns name)
 field_there columns None name any = refl
-field_there columns (Some row) name any = ap (λ (found : Option (List ℕ)). unwrap_or found []) (value_there columns row name any) ∙ unwrap_or-slice_get row (number_of columns name) []
+field_there columns (Some row) name any = ap (λ (found : Option (List ℕ)). unwrap_or found []) (value_there columns row name any) ∙ unwrap_or-slice_get row (column_number columns name) []
 
-pub column_there : (columns : List (List ℕ)) (name : List ℕ) → list_any (bytes_eq name) columns ≡ true → get_or columns (number_of columns name) [] ≡ name
+pub column_there : (columns : List (List ℕ)) (name : List ℕ) → list_any (bytes_eq name) columns ≡ true → get_or columns (column_number columns name) [] ≡ name
 column_there columns name any =
     by_place {P = λ place. get_or columns place [] ≡ name} columns name (position (bytes_eq name) columns) refl any
     (λ place is. sym ((bytes_eq-Decides name (get_or columns place [])).0 (position-Some (bytes_eq name) columns place [] is).1))
 
-pub number_within : (columns : List (List ℕ)) (name : List ℕ) → list_any (bytes_eq name) columns ≡ true → number_of columns name < length columns
+pub number_within : (columns : List (List ℕ)) (name : List ℕ) → list_any (bytes_eq name) columns ≡ true → column_number columns name < length columns
 number_within columns name any =
     by_place {P = λ place. place < length columns} columns name (position (bytes_eq name) columns) refl any (λ place is. (position-Some (bytes_eq name) columns place [] is).0)

@@ -4,7 +4,6 @@ use Rattle.std.specs.Prelude.{nat_le, option_map, slice_get}
 use Rattle.std.proofs.lemmas.Bool.{and_from, cases_lt, le-leb}
 use Rattle.std.proofs.lemmas.Option.{slice_get_past, slice_get_within}
 use Rattle.effect_fold.specs.declared.fault.Fault.{Fault}
-use Rattle.perm_value.specs.Datum.{Datum}
 use Rattle.perm_value.specs.Datum as datum
 use Rattle.matcher_read.specs.Expression.{Expression, nodes, place}
 use Rattle.matcher_read.specs.Matcher.{is_sound}
@@ -13,7 +12,7 @@ use Rattle.model_conf.specs.ModelText.{ModelParts}
 use Rattle.model_conf.specs.RuleText.{has_eval}
 use Rattle.model_conf.specs.Uses.{uses}
 use Rattle.matcher_meaning.specs.Answers as answers
-use Rattle.matcher_meaning.specs.Answers.{Answer, fails, After}
+use Rattle.matcher_meaning.specs.Answers.{Evaluation, After}
 use Rattle.matcher_meaning.specs.Cases.{Case}
 use Rattle.matcher_meaning.specs.Comes.{ComesTo, Evaluates, ReadsNone, RuleComesTo, TruthIs, all_at}
 use Rattle.matcher_meaning.specs.Meaning.{truth_at}
@@ -38,7 +37,7 @@ whole_stands model e = stand_first model (code_of model e) 0 e (op_at (place e) 
 -- ---- what it comes to
 
 -- behind the root, its value has to be a truth
-ended : (case : Case) (e : Expression) (x r : Answer) → After x (λ d. Ends case (code_of case.model e) (behind 0 e) (d ∷ []) r) r → r ≡ answers.then x (as_truth (place e))
+ended : (case : Case) (e : Expression) (x r : Evaluation) → After x (λ d. Ends case (code_of case.model e) (behind 0 e) (d ∷ []) r) r → r ≡ answers.then x (as_truth (place e))
 ended case e (Err fault) r failed_ = failed_
 ended case e (Ok d) r ends = by_answer (as_truth (place e) d) (after_onward case ops (behind 0 e) [] (as_truth (place e) d) r
     (moved case ops (behind 0 e) (d ∷ []) r (op_at (place e) i.NeedTruth) (onward (behind 0 e) [] (as_truth (place e) d)) (whole_stands case.model e).1.0 (λ next is. is) ends))
@@ -46,26 +45,26 @@ ended case e (Ok d) r ends = by_answer (as_truth (place e) d) (after_onward case
     ops : List Op
     ops = code_of case.model e
 
-    by_answer : (a : Answer) → After a (λ v. Ends case (code_of case.model e) (behind 0 e + 1) (v ∷ []) r) r → r ≡ a
+    by_answer : (a : Evaluation) → After a (λ v. Ends case (code_of case.model e) (behind 0 e + 1) (v ∷ []) r) r → r ≡ a
     by_answer (Err fault) is = is
     by_answer (Ok v) ends =
         let past : length (code_of case.model e) ≤ behind 0 e + 1 = omega (arith, whole_long case.model e) in
-        let same : ◌≡◌ {A = Option Answer} (Some r) (Some (Ok v)) = at_end case (code_of case.model e) (behind 0 e + 1) (v ∷ []) r (slice_get_past (code_of case.model e) (behind 0 e + 1) past) ends in
+        let same : ◌≡◌ {A = Option Evaluation} (Some r) (Some (Ok v)) = at_end case (code_of case.model e) (behind 0 e + 1) (v ∷ []) r (slice_get_past (code_of case.model e) (behind 0 e + 1) past) ends in
         cc
 
-pub whole_comes : (case : Case) (e : Expression) (r : Answer) → is_sound e ≡ true → are_named case.model (uses e) ≡ true → CodeComesTo case (code_of case.model e) r
-    → (x : Answer) × ComesTo case e x × (r ≡ answers.then x (as_truth (place e)))
+pub whole_comes : (case : Case) (e : Expression) (r : Evaluation) → is_sound e ≡ true → are_named case.model (uses e) ≡ true → CodeComesTo case (code_of case.model e) r
+    → (x : Evaluation) × ComesTo case e x × (r ≡ answers.then x (as_truth (place e)))
 whole_comes case e r sound named comes =
     let first = leads case (code_of case.model e) e 0 [] r (whole_stands case.model e).0 sound named (length (code_of case.model e), comes) in
     (first.0, first.1, ended case e first.0 r first.2)
 
 -- the truth or the fault that an answer is
-truth_of : (at : ℕ) (x : Answer) → answers.then x (as_truth at) ≡ as_answer (answers.then x (truth_at at))
+truth_of : (at : ℕ) (x : Evaluation) → answers.then x (as_truth at) ≡ as_answer (answers.then x (truth_at at))
 truth_of at (Ok (datum.truth b)) = refl
 truth_of at (Ok d) = refl
 truth_of at (Err fault) = refl
 
-pub whole_truth : (case : Case) (e : Expression) (r : Answer) → is_sound e ≡ true → are_named case.model (uses e) ≡ true → CodeComesTo case (code_of case.model e) r
+pub whole_truth : (case : Case) (e : Expression) (r : Evaluation) → is_sound e ≡ true → are_named case.model (uses e) ≡ true → CodeComesTo case (code_of case.model e) r
     → (t : Result Bool Fault) × (r ≡ as_answer t) × TruthIs case e t
 whole_truth case e r sound named comes =
     let on = whole_comes case e r sound named comes in
@@ -74,8 +73,8 @@ whole_truth case e r sound named comes =
 same_truth : (s t : Result Bool Fault) → as_answer s ≡ as_answer t → s ≡ t
 same_truth (Ok a) (Ok b) same = let inner : a ≡ b = cc in ap (λ (x : Bool). Ok x) inner
 same_truth (Err a) (Err b) same = let inner : a ≡ b = cc in ap (λ (x : Fault). Err x) inner
-same_truth (Ok a) (Err b) same = let differ : ◌≡◌ {A = Answer} (Ok (datum.truth a)) (Err b) = same in absurd cc
-same_truth (Err a) (Ok b) same = let differ : ◌≡◌ {A = Answer} (Err a) (Ok (datum.truth b)) = same in absurd cc
+same_truth (Ok a) (Err b) same = let differ : ◌≡◌ {A = Evaluation} (Ok (datum.truth a)) (Err b) = same in absurd cc
+same_truth (Err a) (Ok b) same = let differ : ◌≡◌ {A = Evaluation} (Err a) (Ok (datum.truth b)) = same in absurd cc
 
 pub whole_means : (case : Case) (e : Expression) (t : Result Bool Fault) → is_sound e ≡ true → are_named case.model (uses e) ≡ true → CodeComesTo case (code_of case.model e) (as_answer t) → TruthIs case e t
 whole_means case e t sound named comes =
@@ -83,7 +82,7 @@ whole_means case e t sound named comes =
     subst (λ (s : Result Bool Fault). TruthIs case e s) (same_truth on.0 t (sym on.1)) on.2
 
 -- a rule with each node at one place
-pub rule_means : (case : Case) (at : ℕ) (e : Expression) (r : Answer) → is_sound (all_at at e) ≡ true → are_named case.model (uses (all_at at e)) ≡ true → has_eval e ≡ false
+pub rule_means : (case : Case) (at : ℕ) (e : Expression) (r : Evaluation) → is_sound (all_at at e) ≡ true → are_named case.model (uses (all_at at e)) ≡ true → has_eval e ≡ false
     → CodeComesTo case (code_of case.model (all_at at e)) r → RuleComesTo case at e r
 rule_means case at e r sound named none comes =
     let on = whole_comes case (all_at at e) r sound named comes in (

@@ -21,11 +21,11 @@ use Rattle.perm_value.specs.declared.value.View.TheVariants as views
 use Rattle.regex_gate.specs.Refusals.{Refusals, RefusedOnly}
 use Rattle.regex_gate.proofs.CallerLemmas.{only_since}
 use Rattle.matcher_meaning.specs.Answers as answers
-use Rattle.matcher_meaning.specs.Answers.{Answer, fails}
+use Rattle.matcher_meaning.specs.Answers.{Evaluation, fails}
 use Rattle.matcher_meaning.specs.Cases.{Case, row_text, where_refused}
 use Rattle.matcher_meaning.specs.Comes.{Evaluates, RuleComesTo}
 use Rattle.matcher_meaning.specs.Operators.{as_truth}
-use Rattle.matcher_code.specs.Compiled.{has_eval_op, number_of}
+use Rattle.matcher_code.specs.Compiled.{has_eval_op, column_number}
 use Rattle.matcher_code.specs.Helps.Ends.{refused_by, stop_of}
 use Rattle.matcher_code.specs.Helps.Runs.{ComesFrom, IsAt, LeadsOn, RunEnds, StandsAt, some_searches}
 use Rattle.matcher_code.specs.Machine.{CodeComesTo, Executes, field_at, goes}
@@ -84,19 +84,19 @@ search_takes (op ∷ ops) some = go (or_cases (searches op.instruction) (some_se
 
 -- ---- evals
 
-number_here : (columns : List (List ℕ)) (column : ℕ) → AreColumns columns → column < length columns → list_any (bytes_eq (get_or columns column [])) columns ≡ true → number_of columns (get_or columns column []) ≡ column
-number_here columns column are within any = go (cases_order (number_of columns name) column)
+number_here : (columns : List (List ℕ)) (column : ℕ) → AreColumns columns → column < length columns → list_any (bytes_eq (get_or columns column [])) columns ≡ true → column_number columns (get_or columns column []) ≡ column
+number_here columns column are within any = go (cases_order (column_number columns name) column)
   where
     name : List ℕ
     name = get_or columns column []
 
-    same : get_or columns (number_of columns (get_or columns column [])) [] ≡ get_or columns column []
+    same : get_or columns (column_number columns (get_or columns column [])) [] ≡ get_or columns column []
     same = column_there columns (get_or columns column []) any
 
-    go : (number_of columns (get_or columns column []) ≡ column) ⊎ ((number_of columns (get_or columns column []) < column) ⊎ (column < number_of columns (get_or columns column []))) → number_of columns (get_or columns column []) ≡ column
+    go : (column_number columns (get_or columns column []) ≡ column) ⊎ ((column_number columns (get_or columns column []) < column) ⊎ (column < column_number columns (get_or columns column []))) → column_number columns (get_or columns column []) ≡ column
     go (inl equal) = equal
-    go (inr (inl less)) = absurd (are.distinct (number_of columns (get_or columns column [])) column [] less within same)
-    go (inr (inr more)) = absurd (are.distinct column (number_of columns (get_or columns column [])) [] more (number_within columns (get_or columns column []) any) (sym same))
+    go (inr (inl less)) = absurd (are.distinct (column_number columns (get_or columns column [])) column [] less within same)
+    go (inr (inr more)) = absurd (are.distinct column (column_number columns (get_or columns column [])) [] more (number_within columns (get_or columns column []) any) (sym same))
 
 -- the text of a row in a column, by its number and by its name
 text_there : (case : Case) (column : ℕ) → AreColumns case.model.policy → column < length case.model.policy → row_text case (get_or case.model.policy column []) ≡ field_at case.row column
@@ -111,19 +111,19 @@ pub eval_none : (case : Case) (at column : ℕ) (bytes : List ℕ) → AreColumn
 eval_none case at column bytes are within is none = inl (subst (IsNoRuleText case.model) (is ∙ sym (text_there case column are within)) none, refl)
 
 -- it says this one
-pub eval_rule : (case : Case) (at column : ℕ) (bytes : List ℕ) (rule : Expression) (r : Answer) → AreColumns case.model.policy → column < length case.model.policy → bytes ≡ field_at case.row column → IsRuleText case.model bytes rule
+pub eval_rule : (case : Case) (at column : ℕ) (bytes : List ℕ) (rule : Expression) (r : Evaluation) → AreColumns case.model.policy → column < length case.model.policy → bytes ≡ field_at case.row column → IsRuleText case.model bytes rule
     → RuleComesTo case at rule r → Evaluates case at (get_or case.model.policy column []) r
 eval_rule case at column bytes rule r are within is says comes = inr (rule, subst (λ (text : List ℕ). IsRuleText case.model text rule) (is ∙ sym (text_there case column are within)) says, comes)
 
 -- what is said of each answer is said of a stop
-pub stop_says : {X Y : Type 0} (Says Other : Option (ℕ × List ℕ) → Answer → Type 0) (value : X → Datum) (other : Y → Datum) (Refused : Option (List ℕ) → Type 0) (why : Stop) → ((refused : Option (ℕ × List ℕ)) (r : Answer) → Says refused r → Other refused r)
+pub stop_says : {X Y : Type 0} (Says Other : Option (ℕ × List ℕ) → Evaluation → Type 0) (value : X → Datum) (other : Y → Datum) (Refused : Option (List ℕ) → Type 0) (why : Stop) → ((refused : Option (ℕ × List ℕ)) (r : Evaluation) → Says refused r → Other refused r)
     → IsAnswer Says value Refused (Err why) → IsAnswer Other other Refused (Err why)
 stop_says Says Other value other Refused (stop.Fault failed_) says (inl (none, is)) = inl (none, says None (Err failed_) is)
 stop_says Says Other value other Refused (stop.Fault failed_) says (inr (pattern, refused, cause, is)) = inr (pattern, refused, cause, says (Some (failed_.at, pattern)) (Err failed_) is)
 stop_says Says Other value other Refused stop.NoMemory says none = none
 
 -- what is said of each answer is said of an end
-pub answer_says : {X : Type 0} (Says Other : Option (ℕ × List ℕ) → Answer → Type 0) (value : X → Datum) (Refused : Option (List ℕ) → Type 0) (r : Result X Stop) → ((refused : Option (ℕ × List ℕ)) (answer : Answer) → Says refused answer → Other refused answer)
+pub answer_says : {X : Type 0} (Says Other : Option (ℕ × List ℕ) → Evaluation → Type 0) (value : X → Datum) (Refused : Option (List ℕ) → Type 0) (r : Result X Stop) → ((refused : Option (ℕ × List ℕ)) (answer : Evaluation) → Says refused answer → Other refused answer)
     → IsAnswer Says value Refused r → IsAnswer Other value Refused r
 answer_says Says Other value Refused (Ok x) says (none, is) = (none, says None (Ok (value x)) is)
 answer_says Says Other value Refused (Err why) says is = stop_says Says Other value value Refused why says is
@@ -140,7 +140,7 @@ rule_is_truth case at rule v (x, comes, is) = go x is
     shown (views.Object ms) b same = absurd cc
     shown views.Nothing b same = absurd cc
 
-    go : (y : Answer) → Ok (datum_of_view v) ≡ answers.then y (as_truth at) → (b : Bool) × (v ≡ views.Truth b)
+    go : (y : Evaluation) → Ok (datum_of_view v) ≡ answers.then y (as_truth at) → (b : Bool) × (v ≡ views.Truth b)
     go (Ok (datum.truth b)) same = shown v b cc
     go (Ok datum.nothing) same = absurd cc
     go (Ok (datum.whole n)) same = absurd cc

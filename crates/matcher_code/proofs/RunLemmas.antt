@@ -8,7 +8,7 @@ use Rattle.matcher_read.specs.Calls.{arity}
 use Rattle.matcher_read.specs.Expression.{Callee, function, relation}
 use Rattle.perm_value.specs.Datum.{Datum}
 use Rattle.perm_value.specs.Datum as datum
-use Rattle.matcher_meaning.specs.Answers.{Answer, fails}
+use Rattle.matcher_meaning.specs.Answers.{Evaluation, fails}
 use Rattle.matcher_meaning.specs.CaseCalls.{Gives}
 use Rattle.matcher_meaning.specs.Cases.{Case, where_refused}
 use Rattle.matcher_meaning.specs.Comes.{Evaluates}
@@ -29,7 +29,7 @@ use Rattle.matcher_code.proofs.HeightLemmas.{height_next}
 abbrev StepKeeps : ℕ → (Next → Type 0) → (Next → Type 0) → Type 0
 StepKeeps at P Q = (next : Next) → P next → Q next ⊎ Q (failed (record { cause = Pattern; at = at }))
 
-by_keeps : (at : ℕ) (P Q : Answer → Type 0) (place : ℕ) (below : List Datum) → Keeps at P Q → StepKeeps at (ByAnswer place below P) (ByAnswer place below Q)
+by_keeps : (at : ℕ) (P Q : Evaluation → Type 0) (place : ℕ) (below : List Datum) → Keeps at P Q → StepKeeps at (ByAnswer place below P) (ByAnswer place below Q)
 by_keeps at P Q place below keep next (x, is, leads) = go (keep x is)
   where
     go : Q x ⊎ Q (fails Pattern at) → ByAnswer place below Q next ⊎ ByAnswer place below Q (failed (record { cause = Pattern; at = at }))
@@ -63,14 +63,14 @@ Moves instruction place height to rest =
     ((to ≡ place + 1) × ((finds instruction ≤ height) × (height - finds instruction + leaves instruction ≡ rest)))
     ⊎ ((jump instruction ≡ Some to) × (height_landing instruction height ≡ rest))
 
-onward_goes : (place to : ℕ) (below rest : List Datum) (x : Answer) → goes to rest ≡ onward place below x → (to ≡ place + 1) × (length rest ≡ length below + 1)
+onward_goes : (place to : ℕ) (below rest : List Datum) (x : Evaluation) → goes to rest ≡ onward place below x → (to ≡ place + 1) × (length rest ≡ length below + 1)
 onward_goes place to below rest (Ok d) is =
     let same : rest ≡ d ∷ below = cc in
     let long : length rest ≡ suc (length below) = ap length same in
     (cc, omega (arith, long))
 onward_goes place to below rest (Err fault) is = absurd cc
 
-jumping_goes : (place to other : ℕ) (below stack rest : List Datum) (x : Option Answer) → goes to rest ≡ jumping other below x (goes (place + 1) stack)
+jumping_goes : (place to other : ℕ) (below stack rest : List Datum) (x : Option Evaluation) → goes to rest ≡ jumping other below x (goes (place + 1) stack)
     → ((to ≡ place + 1) × (length rest ≡ length stack)) ⊎ ((to ≡ other) × (length rest ≡ length below + 1))
 jumping_goes place to other below stack rest None is = inl (cc, (let same : rest ≡ stack = cc in ap length same))
 jumping_goes place to other below stack rest (Some (Ok d)) is =
@@ -99,14 +99,14 @@ called_goes case place at callee many stack to rest is = go (taken many [] stack
         (on.0, (omega (arith, long), omega (arith, long, on.1)))
 
 -- one value becomes another
-one_goes : (place to : ℕ) (d : Datum) (below rest : List Datum) (x : Answer) → goes to rest ≡ onward place below x → (to ≡ place + 1) × ((1 ≤ length (d ∷ below)) × (length (d ∷ below) - 1 + 1 ≡ length rest))
+one_goes : (place to : ℕ) (d : Datum) (below rest : List Datum) (x : Evaluation) → goes to rest ≡ onward place below x → (to ≡ place + 1) × ((1 ≤ length (d ∷ below)) × (length (d ∷ below) - 1 + 1 ≡ length rest))
 one_goes place to d below rest x is = let on = onward_goes place to below rest x is in (on.0, (omega arith, omega (arith, on.1)))
 
 -- one value more
-more_goes : (place to : ℕ) (stack rest : List Datum) (x : Answer) → goes to rest ≡ onward place stack x → (to ≡ place + 1) × ((0 ≤ length stack) × (length stack - 0 + 1 ≡ length rest))
+more_goes : (place to : ℕ) (stack rest : List Datum) (x : Evaluation) → goes to rest ≡ onward place stack x → (to ≡ place + 1) × ((0 ≤ length stack) × (length stack - 0 + 1 ≡ length rest))
 more_goes place to stack rest x is = let on = onward_goes place to stack rest x is in (on.0, (omega arith, omega (arith, on.1)))
 
-skip_goes : (place to other : ℕ) (d : Datum) (below rest : List Datum) (x : Option Answer) → goes to rest ≡ jumping other below x (goes (place + 1) below)
+skip_goes : (place to other : ℕ) (d : Datum) (below rest : List Datum) (x : Option Evaluation) → goes to rest ≡ jumping other below x (goes (place + 1) below)
     → ((to ≡ place + 1) × ((1 ≤ length (d ∷ below)) × (length (d ∷ below) - 1 + 0 ≡ length rest))) ⊎ ((Some other ≡ Some to) × (length (d ∷ below) ≡ length rest))
 skip_goes place to other d below rest x is = go (jumping_goes place to other below below rest x is)
   where
@@ -115,7 +115,7 @@ skip_goes place to other d below rest x is = go (jumping_goes place to other bel
     go (inl (same, long)) = inl (same, (omega arith, omega (arith, long)))
     go (inr (same, long)) = inr (ap Some (sym same), omega (arith, long))
 
-member_goes : (place to other : ℕ) (e d : Datum) (below rest : List Datum) (x : Option Answer) → goes to rest ≡ jumping other below x (goes (place + 1) (d ∷ below))
+member_goes : (place to other : ℕ) (e d : Datum) (below rest : List Datum) (x : Option Evaluation) → goes to rest ≡ jumping other below x (goes (place + 1) (d ∷ below))
     → ((to ≡ place + 1) × ((2 ≤ length (e ∷ d ∷ below)) × (length (e ∷ d ∷ below) - 2 + 1 ≡ length rest))) ⊎ ((Some other ≡ Some to) × (length (e ∷ d ∷ below) - 1 ≡ length rest))
 member_goes place to other e d below rest x is = go (jumping_goes place to other below (d ∷ below) rest x is)
   where
@@ -179,29 +179,29 @@ executes_move case ops columns policy_columns place to stack rest op verified th
 -- ---- runs
 
 -- what is said of a run of one more instruction, by the instruction there
-abbrev RunsBy : Case → List Op → ℕ → ℕ → List Datum → Option Answer → Option Op → Type 0
+abbrev RunsBy : Case → List Op → ℕ → ℕ → List Datum → Option Evaluation → Option Op → Type 0
 RunsBy case ops left place stack r there = MatchOption there (r ≡ top stack) (λ op. (next : Next) × Executes case place op stack next × Onward next (λ to rest. Runs case ops left to rest r) r)
 
 -- with an instruction more
-runs_here : (case : Case) (ops : List Op) (left place : ℕ) (stack : List Datum) (op : Op) (next : Next) (r : Option Answer) → slice_get ops place ≡ Some op → Executes case place op stack next
+runs_here : (case : Case) (ops : List Op) (left place : ℕ) (stack : List Datum) (op : Op) (next : Next) (r : Option Evaluation) → slice_get ops place ≡ Some op → Executes case place op stack next
     → Onward next (λ to rest. Runs case ops left to rest r) r → Runs case ops (suc left) place stack r
 unfolding Runs
 runs_here case ops left place stack op next r there executes on = subst (RunsBy case ops left place stack r) (sym there) (next, executes, on)
 
 -- at the end
-runs_end : (case : Case) (ops : List Op) (left place : ℕ) (stack : List Datum) (r : Option Answer) → slice_get ops place ≡ None → r ≡ top stack → Runs case ops left place stack r
+runs_end : (case : Case) (ops : List Op) (left place : ℕ) (stack : List Datum) (r : Option Evaluation) → slice_get ops place ≡ None → r ≡ top stack → Runs case ops left place stack r
 unfolding Runs
 runs_end case ops zero place stack r none is = subst (λ (there : Option Op). MatchOption there (r ≡ top stack) (λ op. r ≡ None)) (sym none) is
 runs_end case ops (suc left) place stack r none is = subst (RunsBy case ops left place stack r) (sym none) is
 
 -- a run that has ended is the same with more instructions
-runs_more : (case : Case) (ops : List Op) (left more place : ℕ) (stack : List Datum) (r : Answer) → left ≤ more → Runs case ops left place stack (Some r) → Runs case ops more place stack (Some r)
+runs_more : (case : Case) (ops : List Op) (left more place : ℕ) (stack : List Datum) (r : Evaluation) → left ≤ more → Runs case ops left place stack (Some r) → Runs case ops more place stack (Some r)
 unfolding Runs
 runs_more case ops zero more place stack r less runs = go (slice_get ops place) refl
   where
     go : (there : Option Op) → slice_get ops place ≡ there → Runs case ops more place stack (Some r)
-    go None none = runs_end case ops more place stack (Some r) none (subst (λ (o : Option Op). MatchOption o (◌≡◌ {A = Option Answer} (Some r) (top stack)) (λ op. ◌≡◌ {A = Option Answer} (Some r) None)) none runs)
-    go (Some op) there = absurd (let never : ◌≡◌ {A = Option Answer} (Some r) None = subst (λ (o : Option Op). MatchOption o (◌≡◌ {A = Option Answer} (Some r) (top stack)) (λ op. ◌≡◌ {A = Option Answer} (Some r) None)) there runs in cc)
+    go None none = runs_end case ops more place stack (Some r) none (subst (λ (o : Option Op). MatchOption o (◌≡◌ {A = Option Evaluation} (Some r) (top stack)) (λ op. ◌≡◌ {A = Option Evaluation} (Some r) None)) none runs)
+    go (Some op) there = absurd (let never : ◌≡◌ {A = Option Evaluation} (Some r) None = subst (λ (o : Option Op). MatchOption o (◌≡◌ {A = Option Evaluation} (Some r) (top stack)) (λ op. ◌≡◌ {A = Option Evaluation} (Some r) None)) there runs in cc)
 runs_more case ops (suc left) zero place stack r less runs = absurd (omega (arith, less))
 runs_more case ops (suc left) (suc more) place stack r less runs = go (slice_get ops place) refl (λ to rest on. runs_more case ops left more to rest r (omega (arith, less)) on)
   where
@@ -220,7 +220,7 @@ runs_more case ops (suc left) (suc more) place stack r less runs = go (slice_get
 -- ---- runs from a place on
 
 -- a step, and then what comes from where it goes
-comes_step : (case : Case) (ops : List Op) (place to : ℕ) (stack rest : List Datum) (op : Op) (r : Answer) → slice_get ops place ≡ Some op → place < to → to ≤ length ops → Executes case place op stack (goes to rest)
+comes_step : (case : Case) (ops : List Op) (place to : ℕ) (stack rest : List Datum) (op : Op) (r : Evaluation) → slice_get ops place ≡ Some op → place < to → to ≤ length ops → Executes case place op stack (goes to rest)
     → ComesFrom case ops to rest r → ComesFrom case ops place stack r
 comes_step case ops place to stack rest op r there less within executes comes =
     let before = slice_get_within ops place op there in
@@ -242,7 +242,7 @@ pub comes_end : (case : Case) (ops : List Op) (place : ℕ) (d : Datum) (below s
 comes_end case ops place d below stack past is = runs_end case ops (length ops - place) place stack (Some (Ok d)) (slice_get_past ops place past) (sym (ap top is))
 
 -- from the first place over an empty stack
-pub comes_whole : (case : Case) (ops : List Op) (r : Answer) → ComesFrom case ops 0 [] r → CodeComesTo case ops r
+pub comes_whole : (case : Case) (ops : List Op) (r : Evaluation) → ComesFrom case ops 0 [] r → CodeComesTo case ops r
 comes_whole case ops r comes = let all : length ops - 0 ≡ length ops = omega arith in subst (λ (left : ℕ). Runs case ops left 0 [] (Some r)) all comes
 
 -- ---- how far a run has come

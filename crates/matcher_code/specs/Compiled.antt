@@ -9,7 +9,7 @@ use Rattle.matcher_read.specs.declared.tree.Operator.{Operator}
 use Rattle.matcher_read.specs.declared.tree.Operator.TheVariants as operators
 use Rattle.model_conf.specs.ModelText.{ModelParts}
 use Rattle.model_conf.specs.RuleText.{IsRuleText}
-use Rattle.matcher_meaning.specs.Answers.{Answer}
+use Rattle.matcher_meaning.specs.Answers.{Evaluation}
 use Rattle.matcher_code.specs.Running.{evaluates, searches}
 use Rattle.matcher_code.specs.declared.op.Op.{Op}
 use Rattle.matcher_code.specs.declared.op.Instruction.{Instruction}
@@ -20,8 +20,8 @@ abbrev pub op_at : ℕ → Instruction → Op
 op_at at instruction = record { at = at; instruction = instruction }
 
 -- the number of a column, counted from 0; 0 where none has the name
-abbrev pub number_of : List (List ℕ) → List ℕ → ℕ
-number_of columns name = unwrap_or (position (bytes_eq name) columns) 0
+abbrev pub column_number : List (List ℕ) → List ℕ → ℕ
+column_number columns name = unwrap_or (position (bytes_eq name) columns) 0
 
 -- the attributes of a path, one after the other
 abbrev pub attributes : ℕ → List (List ℕ) → List Op
@@ -91,9 +91,9 @@ abbrev mutual
   compiled model start (text at bytes) = op_at at (i.Text bytes) ∷ []
   compiled model start (whole at n) = op_at at (i.Whole n) ∷ []
   compiled model start (truth at b) = op_at at (i.Truth b) ∷ []
-  compiled model start (request at column path) = op_at at (i.Request (number_of model.request column)) ∷ attributes at path
-  compiled model start (policy at column) = op_at at (i.Policy (number_of model.policy column)) ∷ []
-  compiled model start (evaluated at column) = op_at at (i.Eval (number_of model.policy column)) ∷ []
+  compiled model start (request at column path) = op_at at (i.Request (column_number model.request column)) ∷ attributes at path
+  compiled model start (policy at column) = op_at at (i.Policy (column_number model.policy column)) ∷ []
+  compiled model start (evaluated at column) = op_at at (i.Eval (column_number model.policy column)) ∷ []
   compiled model start (negation at e) = compiled model start e ++ op_at at i.Not ∷ []
   compiled model start (opposite at e) = compiled model start e ++ op_at at i.Negate ∷ []
   compiled model start (binary at op e f) =
@@ -116,7 +116,7 @@ abbrev pub code_of : ModelParts → Expression → List Op
 code_of model e = compiled model 0 e ++ op_at (place e) i.NeedTruth ∷ []
 
 -- a truth or a fault, as what code comes to
-abbrev pub as_answer : Result Bool Fault → Answer
+abbrev pub as_answer : Result Bool Fault → Evaluation
 as_answer (Ok b) = Ok (datum.truth b)
 as_answer (Err fault) = Err fault
 

@@ -6,7 +6,7 @@ use Rattle.matcher_read.specs.Expression.{Callee, function, relation}
 use Rattle.perm_value.specs.Datum.{Datum}
 use Rattle.perm_value.specs.Datum as datum
 use Rattle.policy_table.specs.Tables.{Fields}
-use Rattle.matcher_meaning.specs.Answers.{Answer}
+use Rattle.matcher_meaning.specs.Answers.{Evaluation}
 use Rattle.matcher_meaning.specs.CaseCalls.{Gives}
 use Rattle.matcher_meaning.specs.Cases.{Case}
 use Rattle.matcher_meaning.specs.Comes.{Evaluates}
@@ -25,16 +25,16 @@ pub data Next : Type 0 where
   lacks : Next
 
 -- on behind the instruction at a place, with the value of an answer on the stack; a fault ends the run
-abbrev pub onward : ℕ → List Datum → Answer → Next
+abbrev pub onward : ℕ → List Datum → Evaluation → Next
 onward place below (Ok d) = goes (place + 1) (d ∷ below)
 onward place below (Err fault) = failed fault
 
 -- the same by an answer of which this holds
-abbrev pub ByAnswer : ℕ → List Datum → (Answer → Type 0) → Next → Type 0
-ByAnswer place below Is next = (x : Answer) × Is x × (next ≡ onward place below x)
+abbrev pub ByAnswer : ℕ → List Datum → (Evaluation → Type 0) → Next → Type 0
+ByAnswer place below Is next = (x : Evaluation) × Is x × (next ≡ onward place below x)
 
 -- on at another place, where an answer is already there; else as is said
-abbrev pub jumping : ℕ → List Datum → Option Answer → Next → Next
+abbrev pub jumping : ℕ → List Datum → Option Evaluation → Next → Next
 jumping to below None next = next
 jumping to below (Some (Ok d)) next = goes to (d ∷ below)
 jumping to below (Some (Err fault)) next = failed fault
@@ -81,21 +81,21 @@ abbrev pub Executes : Case → ℕ → Op → List Datum → Next → Type 0
 Executes case place op stack next = Does case place op.at op.instruction stack next
 
 -- the value on top of a stack
-abbrev pub top : List Datum → Option Answer
+abbrev pub top : List Datum → Option Evaluation
 top [] = None
 top (d ∷ below) = Some (Ok d)
 
 -- what is said of a run behind an instruction
-abbrev pub Onward : Next → (ℕ → List Datum → Type 0) → Option Answer → Type 0
+abbrev pub Onward : Next → (ℕ → List Datum → Type 0) → Option Evaluation → Type 0
 Onward (failed fault) Rest r = r ≡ Some (Err fault)
 Onward (goes place stack) Rest r = Rest place stack
 Onward lacks Rest r = r ≡ None
 
 -- a run from a place on, of so many instructions at most, comes to this answer, or to none: behind the last instruction the top value is the answer
-unfoldable pub Runs : Case → List Op → ℕ → ℕ → List Datum → Option Answer → Type 0
+unfoldable pub Runs : Case → List Op → ℕ → ℕ → List Datum → Option Evaluation → Type 0
 Runs case ops zero place stack r = MatchOption (slice_get ops place) (r ≡ top stack) (λ op. r ≡ None)
 Runs case ops (suc left) place stack r = MatchOption (slice_get ops place) (r ≡ top stack) (λ op. (next : Next) × Executes case place op stack next × Onward next (λ to rest. Runs case ops left to rest r) r)
 
 -- the code comes to this answer: it runs from its first instruction over an empty stack
-abbrev pub CodeComesTo : Case → List Op → Answer → Type 0
+abbrev pub CodeComesTo : Case → List Op → Evaluation → Type 0
 CodeComesTo case ops r = Runs case ops (length ops) 0 [] (Some r)

@@ -9,7 +9,7 @@ use Rattle.perm_value.specs.Datum.{Datum}
 use Rattle.perm_value.specs.Seen.{datum_of_view}
 use Rattle.perm_value.specs.declared.value.View.{View}
 use Rattle.policy_table.specs.Tables.{Fields, Policy}
-use Rattle.matcher_meaning.specs.Answers.{Answer}
+use Rattle.matcher_meaning.specs.Answers.{Evaluation}
 use Rattle.matcher_meaning.specs.Cases.{Case, where_refused}
 use Rattle.matcher_meaning.specs.Meaning.{is_search}
 use Rattle.matcher_code.specs.Machine.{CodeComesTo}
@@ -29,7 +29,7 @@ IsWantOfMemory (stop.Fault failed) = ⊥
 IsWantOfMemory stop.NoMemory = ⊤
 
 -- a value or a fault of which this is said where nothing is refused, and the finder refused nothing; or the fault of a search, of which it is said where that search is refused, and the finder refused its pattern alone; where memory ran out, the finder refused nothing
-abbrev pub IsAnswer : {X : Type 0} → (Option (ℕ × List ℕ) → Answer → Type 0) → (X → Datum) → (Option (List ℕ) → Type 0) → Result X Stop → Type 0
+abbrev pub IsAnswer : {X : Type 0} → (Option (ℕ × List ℕ) → Evaluation → Type 0) → (X → Datum) → (Option (List ℕ) → Type 0) → Result X Stop → Type 0
 IsAnswer Says value Refused (Ok x) = Refused None × Says None (Ok (value x))
 IsAnswer Says value Refused (Err (stop.Fault failed)) =
     (Refused None × Says None (Err failed))

@@ -2,7 +2,7 @@ ghost use Rattle.std.specs.Prelude.{◌≡◌, ℤ, FitsSigned};
 ghost use Rattle.std.specs.Int.{CanDivide, w64};
 ghost use Rattle.std.specs.Option.{SomeIff};
 ghost use Rattle.perm_value.specs.Seen.{datum_of_view};
-ghost use Rattle.matcher_meaning.specs.Answers.{Answer};
+ghost use Rattle.matcher_meaning.specs.Answers.{Evaluation};
 ghost use Rattle.matcher_meaning.specs.Arithmetic.{fitted, divided, of_wholes};
 ghost use Rattle.matcher_code.specs.Helps.Ends.{answer_of};
 ghost use Rattle.matcher_code.specs.Helps.Steps.{given};
@@ -13,7 +13,7 @@ use perm_value::View;
 
 /// Two whole numbers.
 pub(crate) fn wholes(at: u32, left: &View<'_>, right: &View<'_>) -> Result<(i64, i64), Fault>
-    ensures { (give : ℤ → ℤ → Answer)
+    ensures { (give : ℤ → ℤ → Evaluation)
         → given result give ≡ of_wholes at give (datum_of_view left.now) (datum_of_view right.now) }
 {
     match (*left, *right) {

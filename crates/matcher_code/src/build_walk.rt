@@ -2,7 +2,7 @@
 
 ghost use Rattle.std.specs.Prelude.{◌≡◌, ◌^◌, ◌<◌, ◌++◌, OnOk, length, map};
 ghost use Rattle.matcher_read.specs.Expression.{expression, expressions_of};
-ghost use Rattle.matcher_code.specs.Compiled.{arguments, attributes, compiled, members, number_of};
+ghost use Rattle.matcher_code.specs.Compiled.{arguments, attributes, compiled, members, column_number};
 ghost use Rattle.matcher_code.specs.Helps.Placing.{each_placed, placed};
 
 use crate::build_ops::{names_of, push, push_join, push_miss, push_skip};
@@ -23,15 +23,15 @@ pub(crate) struct Source<'a> {
 
 impl<'a> Source<'a> {
     fn request_number(&self, name: &Text) -> u32
-        ensures { result ≡ number_of self.now.model.now.request name.now }
+        ensures { result ≡ column_number self.now.model.now.request name.now }
     {
-        number_of(self.model.request_columns(), name)
+        column_number(self.model.request_columns(), name)
     }
 
     fn policy_number(&self, name: &Text) -> u32
-        ensures { result ≡ number_of self.now.model.now.policy name.now }
+        ensures { result ≡ column_number self.now.model.now.policy name.now }
     {
-        number_of(self.model.policy_columns(), name)
+        column_number(self.model.policy_columns(), name)
     }
 }
 
@@ -168,8 +168,8 @@ fn push_path(alloc: Global, at: u32, path: &[Text], ops: &mut Vec<Op>) -> Result
 }
 
 // The number of a column.
-fn number_of(columns: &Rule, name: &Text) -> u32
-    ensures { result ≡ number_of columns.now name.now }
+fn column_number(columns: &Rule, name: &Text) -> u32
+    ensures { result ≡ column_number columns.now name.now }
 {
     columns.place_of(name.bytes()).unwrap_or(0)
 }

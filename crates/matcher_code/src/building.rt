@@ -6,7 +6,7 @@ ghost use Rattle.matcher_read.specs.Expression.{Expression, expression, nodes};
 ghost use Rattle.matcher_read.specs.Matcher.{is_sound};
 ghost use Rattle.model_conf.specs.Kept.{IsKept};
 ghost use Rattle.model_conf.specs.Uses.{first_undeclared, uses};
-ghost use Rattle.matcher_meaning.specs.Answers.{Answer};
+ghost use Rattle.matcher_meaning.specs.Answers.{Evaluation};
 ghost use Rattle.matcher_meaning.specs.Cases.{Case};
 ghost use Rattle.matcher_meaning.specs.Comes.{RuleComesTo, TruthIs, takes_memory};
 ghost use Rattle.matcher_meaning.specs.Meaning.{searches};
@@ -35,7 +35,7 @@ pub fn build(alloc: Global, model: &Model) -> Result<Code, NoMemory>
     ensures height { IfOk result (λ code. code.height ≤ 1024) }
 
     // Whatever it comes to in a case of the model is a truth or a fault,
-    ensures truth { IfOk result (λ code. (case : Case) (r : Answer) → case.model ≡ model.now
+    ensures truth { IfOk result (λ code. (case : Case) (r : Evaluation) → case.model ≡ model.now
         → CodeComesTo case code.ops r
         → (t : Result Bool Fault) × (r ≡ as_answer t) × TruthIs case model.now.matcher t) }
     // and that of the matcher.
@@ -62,7 +62,7 @@ pub fn build_rule(alloc: Global, model: &Model, rule: &Tree, at: u32) -> Result<
     ensures height { IfOk result (λ code. code.height ≤ 1024) }
 
     // Whatever it comes to in a case of the model is what the rule comes to.
-    ensures means { IfOk result (λ code. (case : Case) (r : Answer) → case.model ≡ model.now
+    ensures means { IfOk result (λ code. (case : Case) (r : Evaluation) → case.model ≡ model.now
         → CodeComesTo case code.ops r → RuleComesTo case at (expression rule.now) r) }
 
     // It has no `eval`, and a `regexMatch` where the rule has one.

@@ -13,7 +13,7 @@ use Rattle.key_match.specs.Stars.{AgreesToStar, part_at_star}
 use Rattle.matcher_read.specs.declared.tree.Function.{Function}
 use Rattle.matcher_read.specs.declared.tree.Function.TheVariants as f
 use Rattle.perm_value.specs.Datum as datum
-use Rattle.matcher_meaning.specs.Answers.{Answer, fails}
+use Rattle.matcher_meaning.specs.Answers.{Evaluation, fails}
 use Rattle.matcher_meaning.specs.Calls.{IsWhether, IsText, searched, IsInBlock, without_query, OfTwo, OfThree}
 
 -- two answers that a fact allows are one
@@ -54,7 +54,7 @@ one_whether fact r s (a, p, e) (b, q, g) = e ∙ ap (λ (t : Bool). Ok (datum.tr
 one_text : (fact : List ℕ → Type 0) → AtMostOne fact → AtMostOne (IsText fact)
 one_text fact one r s (t, p, e) (u, q, g) = e ∙ ap (λ (x : List ℕ). Ok (datum.text x)) (one t u p q) ∙ sym g
 
-same_inside : (a c : Address) (b d : Block) → a ≡ c → b ≡ d → (r : Answer) → IsWhether (IsInside c d.address d.bits) r → IsWhether (IsInside a b.address b.bits) r
+same_inside : (a c : Address) (b d : Block) → a ≡ c → b ≡ d → (r : Evaluation) → IsWhether (IsInside c d.address d.bits) r → IsWhether (IsInside a b.address b.bits) r
 same_inside a c b d e g r p = subst (λ (x : Address). IsWhether (IsInside x b.address b.bits) r) (sym e) (subst (λ (x : Block). IsWhether (IsInside c x.address x.bits) r) (sym g) p)
 
 one_in_block : FunctionsAgree → (at : ℕ) (text block : List ℕ) → AtMostOne (IsInBlock at text block)

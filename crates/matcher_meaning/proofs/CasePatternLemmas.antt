@@ -17,7 +17,7 @@ use Rattle.perm_value.specs.Datum.{Datum}
 use Rattle.perm_value.specs.Datum as datum
 use Rattle.policy_table.specs.Tables.{Fields, Policy, rows}
 use Rattle.matcher_meaning.specs.Answers as answers
-use Rattle.matcher_meaning.specs.Answers.{Answer, Unless, with_first}
+use Rattle.matcher_meaning.specs.Answers.{Evaluation, Unless, with_first}
 use Rattle.matcher_meaning.specs.Calls.{text_before, text_of, texts_of}
 use Rattle.matcher_meaning.specs.CaseCalls.{GivesForTexts, Gives}
 use Rattle.matcher_meaning.specs.Cases.{Case, IsLinkedBy, where_refused, at_row, asked_value, row_text}
@@ -93,25 +93,25 @@ gives_clear : (case : Case) (Bad : ℕ → Type 0) (at : ℕ) (callee : Callee) 
 gives_clear case Bad at callee ds bad = for_texts_clear case Bad at callee (texts_of ds) (λ s t two is unread. bad s t is (two_texts ds s t two) unread)
 
 -- no `eval` comes to the fault of a pattern, unless its rule asks for one that cannot be read
-abbrev EvalsClear : (Bad : ℕ → Type 0) (Evals : ℕ → List ℕ → Answer → Type 0) (EvalAsks : ℕ → List ℕ → List ℕ → Type 0) → Type 0
+abbrev EvalsClear : (Bad : ℕ → Type 0) (Evals : ℕ → List ℕ → Evaluation → Type 0) (EvalAsks : ℕ → List ℕ → List ℕ → Type 0) → Type 0
 EvalsClear Bad Evals EvalAsks = (at : ℕ) (column : List ℕ) → ((pattern : List ℕ) → EvalAsks at column pattern → is_readable pattern ≡ false → Bad at) → AreClear Bad (Evals at column)
 
 -- this is said of each place at which the expression asks for a pattern that cannot be read
-abbrev BadIn : Case → (Bad : ℕ → Type 0) → (Evals : ℕ → List ℕ → Answer → Type 0) → (EvalAsks : ℕ → List ℕ → List ℕ → Type 0) → Expression → Type 0
+abbrev BadIn : Case → (Bad : ℕ → Type 0) → (Evals : ℕ → List ℕ → Evaluation → Type 0) → (EvalAsks : ℕ → List ℕ → List ℕ → Type 0) → Expression → Type 0
 BadIn case Bad Evals EvalAsks e = (at : ℕ) (pattern : List ℕ) → SomePart (AsksHere (free case) Evals EvalAsks at pattern) e → is_readable pattern ≡ false → Bad at
 
-abbrev BadInSome : Case → (Bad : ℕ → Type 0) → (Evals : ℕ → List ℕ → Answer → Type 0) → (EvalAsks : ℕ → List ℕ → List ℕ → Type 0) → Expressions → Type 0
+abbrev BadInSome : Case → (Bad : ℕ → Type 0) → (Evals : ℕ → List ℕ → Evaluation → Type 0) → (EvalAsks : ℕ → List ℕ → List ℕ → Type 0) → Expressions → Type 0
 BadInSome case Bad Evals EvalAsks es = (at : ℕ) (pattern : List ℕ) → SomePartOf (AsksHere (free case) Evals EvalAsks at pattern) es → is_readable pattern ≡ false → Bad at
 
 -- a call whose arguments came to these values
-bad_call : (case : Case) (Bad : ℕ → Type 0) (Evals : ℕ → List ℕ → Answer → Type 0) (EvalAsks : ℕ → List ℕ → List ℕ → Type 0) (at : ℕ) (callee : Callee) (es : Expressions) (ds : List Datum)
+bad_call : (case : Case) (Bad : ℕ → Type 0) (Evals : ℕ → List ℕ → Evaluation → Type 0) (EvalAsks : ℕ → List ℕ → List ℕ → Type 0) (at : ℕ) (callee : Callee) (es : Expressions) (ds : List Datum)
     → BadIn case Bad Evals EvalAsks (call at callee es) → ComeToBy (free case) Evals es (Ok ds) → BadCall Bad at callee ds
 bad_call case Bad Evals EvalAsks at callee es ds bad come s t is two unread =
     let asks : AsksHere (free case) Evals EvalAsks at t (call at (function RegexMatch) es) = (refl, (s, subst (λ (values : List Datum). ComeToBy (free case) Evals es (Ok values)) two come)) in
     bad at t (inl (subst (λ (called : Callee). AsksHere (free case) Evals EvalAsks at t (call at called es)) (sym is) asks)) unread
 
 mutual
-  pub comes_to_clear : (case : Case) (Bad : ℕ → Type 0) (Evals : ℕ → List ℕ → Answer → Type 0) (EvalAsks : ℕ → List ℕ → List ℕ → Type 0) → EvalsClear Bad Evals EvalAsks
+  pub comes_to_clear : (case : Case) (Bad : ℕ → Type 0) (Evals : ℕ → List ℕ → Evaluation → Type 0) (EvalAsks : ℕ → List ℕ → List ℕ → Type 0) → EvalsClear Bad Evals EvalAsks
       → (e : Expression) → BadIn case Bad Evals EvalAsks e → AreClear Bad (ComesToBy (free case) Evals e)
   comes_to_clear case Bad Evals EvalAsks evals (text at bytes) bad r e = same_clear Bad r (Ok (datum.text bytes)) e tt
   comes_to_clear case Bad Evals EvalAsks evals (whole at n) bad r e = same_clear Bad r (Ok (datum.whole n)) e tt
@@ -126,9 +126,9 @@ mutual
       next_clear Bad (ComesToBy (free case) Evals e) (λ x. answers.then x (opposed at)) (comes_to_clear case Bad Evals EvalAsks evals e (λ place pattern part. bad place pattern (inr part)))
       (λ x clear. then_clear Bad x (opposed at) clear (opposed_clear Bad at)) r p
   comes_to_clear case Bad Evals EvalAsks evals (binary at o e g) bad r p =
-      after_clear Bad (ComesToBy (free case) Evals e) (λ d r. Unless (settled at o d) ((y : Answer) × ComesToBy (free case) Evals g y × (r ≡ answers.then y (joined at o d))) r)
+      after_clear Bad (ComesToBy (free case) Evals e) (λ d r. Unless (settled at o d) ((y : Evaluation) × ComesToBy (free case) Evals g y × (r ≡ answers.then y (joined at o d))) r)
       (comes_to_clear case Bad Evals EvalAsks evals e (λ place pattern part. bad place pattern (inr (inl part))))
-      (λ d. unless_clear Bad (settled at o d) (λ r. (y : Answer) × ComesToBy (free case) Evals g y × (r ≡ answers.then y (joined at o d))) (settled_clear Bad at o d)
+      (λ d. unless_clear Bad (settled at o d) (λ r. (y : Evaluation) × ComesToBy (free case) Evals g y × (r ≡ answers.then y (joined at o d))) (settled_clear Bad at o d)
       (next_clear Bad (ComesToBy (free case) Evals g) (λ y. answers.then y (joined at o d)) (comes_to_clear case Bad Evals EvalAsks evals g (λ place pattern part. bad place pattern (inr (inr part))))
       (λ y clear. then_clear Bad y (joined at o d) clear (joined_clear Bad at o d)))) r p
   comes_to_clear case Bad Evals EvalAsks evals (among at e es) bad r p =
@@ -138,14 +138,14 @@ mutual
       after_clear_of Bad (ComeToBy (free case) Evals es) (λ ds r. Gives (free case) at callee ds r) (come_to_clear case Bad Evals EvalAsks evals es (λ place pattern part. bad place pattern (inr part)))
       (λ ds come. gives_clear case Bad at callee ds (bad_call case Bad Evals EvalAsks at callee es ds bad come)) r p
 
-  pub is_among_clear : (case : Case) (Bad : ℕ → Type 0) (Evals : ℕ → List ℕ → Answer → Type 0) (EvalAsks : ℕ → List ℕ → List ℕ → Type 0) → EvalsClear Bad Evals EvalAsks
+  pub is_among_clear : (case : Case) (Bad : ℕ → Type 0) (Evals : ℕ → List ℕ → Evaluation → Type 0) (EvalAsks : ℕ → List ℕ → List ℕ → Type 0) → EvalsClear Bad Evals EvalAsks
       → (d : Datum) (es : Expressions) → BadInSome case Bad Evals EvalAsks es → AreClear Bad (IsAmongBy (free case) Evals d es)
   is_among_clear case Bad Evals EvalAsks evals d no_more bad r e = same_clear Bad r (Ok (datum.truth false)) e tt
   is_among_clear case Bad Evals EvalAsks evals d (one_more e es) bad r (x, p, unless) =
       unless_clear Bad (ended_among d x) (IsAmongBy (free case) Evals d es) (ended_among_clear Bad d x (comes_to_clear case Bad Evals EvalAsks evals e (λ place pattern part. bad place pattern (inl part)) x p))
       (is_among_clear case Bad Evals EvalAsks evals d es (λ place pattern part. bad place pattern (inr part))) r unless
 
-  pub come_to_clear : (case : Case) (Bad : ℕ → Type 0) (Evals : ℕ → List ℕ → Answer → Type 0) (EvalAsks : ℕ → List ℕ → List ℕ → Type 0) → EvalsClear Bad Evals EvalAsks
+  pub come_to_clear : (case : Case) (Bad : ℕ → Type 0) (Evals : ℕ → List ℕ → Evaluation → Type 0) (EvalAsks : ℕ → List ℕ → List ℕ → Type 0) → EvalsClear Bad Evals EvalAsks
       → (es : Expressions) → BadInSome case Bad Evals EvalAsks es → AreClear Bad (ComeToBy (free case) Evals es)
   come_to_clear case Bad Evals EvalAsks evals no_more bad r e = same_clear Bad r (Ok []) e tt
   come_to_clear case Bad Evals EvalAsks evals (one_more e es) bad r p =

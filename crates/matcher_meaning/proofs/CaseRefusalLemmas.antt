@@ -5,7 +5,7 @@ use Rattle.effect_fold.specs.declared.fault.Fault.{Fault}
 use Rattle.matcher_read.specs.Expression.{Callee, function, relation, unknown, Expression, text, whole, truth, request, policy, evaluated, negation, opposite, binary, among, call, Expressions, no_more, one_more}
 use Rattle.perm_value.specs.Datum.{Datum}
 use Rattle.matcher_meaning.specs.Answers as answers
-use Rattle.matcher_meaning.specs.Answers.{Answer, fails, Unless, with_first}
+use Rattle.matcher_meaning.specs.Answers.{Evaluation, fails, Unless, with_first}
 use Rattle.matcher_meaning.specs.Calls.{texts_of}
 use Rattle.matcher_meaning.specs.CaseCalls.{GivesForTexts, Gives}
 use Rattle.matcher_meaning.specs.Cases.{Case, where_refused}
@@ -38,11 +38,11 @@ abbrev held : Case → ℕ → List ℕ → Case
 held case at pattern = where_refused case (Some (at, pattern))
 
 -- whatever an `eval` comes to, if that keeps what it says
-abbrev EvalsKeep : ℕ → (Evals Others : ℕ → List ℕ → Answer → Type 0) → Type 0
+abbrev EvalsKeep : ℕ → (Evals Others : ℕ → List ℕ → Evaluation → Type 0) → Type 0
 EvalsKeep at Evals Others = (place : ℕ) (column : List ℕ) → Keeps at (Evals place column) (Others place column)
 
 mutual
-  pub comes_to_keeps : (case : Case) (at : ℕ) (pattern : List ℕ) (Evals Others : ℕ → List ℕ → Answer → Type 0) → EvalsKeep at Evals Others
+  pub comes_to_keeps : (case : Case) (at : ℕ) (pattern : List ℕ) (Evals Others : ℕ → List ℕ → Evaluation → Type 0) → EvalsKeep at Evals Others
       → (e : Expression) → Keeps at (ComesToBy (free case) Evals e) (ComesToBy (held case at pattern) Others e)
   comes_to_keeps case at pattern Evals Others keep (text place bytes) r p = inl p
   comes_to_keeps case at pattern Evals Others keep (whole place n) r p = inl p
@@ -56,10 +56,10 @@ mutual
       then_keeps at (ComesToBy (free case) Evals e) (ComesToBy (held case at pattern) Others e) (λ x. answers.then x (opposed place)) refl (comes_to_keeps case at pattern Evals Others keep e) r p
   comes_to_keeps case at pattern Evals Others keep (binary place op e g) r p =
       after_keeps at (ComesToBy (free case) Evals e) (ComesToBy (held case at pattern) Others e)
-      (λ d r. Unless (settled place op d) ((y : Answer) × ComesToBy (free case) Evals g y × (r ≡ answers.then y (joined place op d))) r)
-      (λ d r. Unless (settled place op d) ((y : Answer) × ComesToBy (held case at pattern) Others g y × (r ≡ answers.then y (joined place op d))) r)
+      (λ d r. Unless (settled place op d) ((y : Evaluation) × ComesToBy (free case) Evals g y × (r ≡ answers.then y (joined place op d))) r)
+      (λ d r. Unless (settled place op d) ((y : Evaluation) × ComesToBy (held case at pattern) Others g y × (r ≡ answers.then y (joined place op d))) r)
       (comes_to_keeps case at pattern Evals Others keep e)
-      (λ d. unless_keeps at (settled place op d) (λ r. (y : Answer) × ComesToBy (free case) Evals g y × (r ≡ answers.then y (joined place op d))) (λ r. (y : Answer) × ComesToBy (held case at pattern) Others g y × (r ≡ answers.then y (joined place op d)))
+      (λ d. unless_keeps at (settled place op d) (λ r. (y : Evaluation) × ComesToBy (free case) Evals g y × (r ≡ answers.then y (joined place op d))) (λ r. (y : Evaluation) × ComesToBy (held case at pattern) Others g y × (r ≡ answers.then y (joined place op d)))
       (then_keeps at (ComesToBy (free case) Evals g) (ComesToBy (held case at pattern) Others g) (λ y. answers.then y (joined place op d)) refl (comes_to_keeps case at pattern Evals Others keep g))) r p
   comes_to_keeps case at pattern Evals Others keep (among place e es) r p =
       after_keeps at (ComesToBy (free case) Evals e) (ComesToBy (held case at pattern) Others e) (λ d r. IsAmongBy (free case) Evals d es r) (λ d r. IsAmongBy (held case at pattern) Others d es r)
@@ -68,14 +68,14 @@ mutual
       after_keeps at (ComeToBy (free case) Evals es) (ComeToBy (held case at pattern) Others es) (λ ds r. Gives (free case) place callee ds r) (λ ds r. Gives (held case at pattern) place callee ds r)
       (come_to_keep case at pattern Evals Others keep es) (λ ds. gives_keep case at pattern place callee ds) r p
 
-  pub is_among_keeps : (case : Case) (at : ℕ) (pattern : List ℕ) (Evals Others : ℕ → List ℕ → Answer → Type 0) → EvalsKeep at Evals Others
+  pub is_among_keeps : (case : Case) (at : ℕ) (pattern : List ℕ) (Evals Others : ℕ → List ℕ → Evaluation → Type 0) → EvalsKeep at Evals Others
       → (d : Datum) (es : Expressions) → Keeps at (IsAmongBy (free case) Evals d es) (IsAmongBy (held case at pattern) Others d es)
   is_among_keeps case at pattern Evals Others keep d no_more r p = inl p
   is_among_keeps case at pattern Evals Others keep d (one_more e es) r p =
       found_keeps at (ComesToBy (free case) Evals e) (ComesToBy (held case at pattern) Others e) (IsAmongBy (free case) Evals d es) (IsAmongBy (held case at pattern) Others d es) d
       (comes_to_keeps case at pattern Evals Others keep e) (is_among_keeps case at pattern Evals Others keep d es) r p
 
-  pub come_to_keep : (case : Case) (at : ℕ) (pattern : List ℕ) (Evals Others : ℕ → List ℕ → Answer → Type 0) → EvalsKeep at Evals Others
+  pub come_to_keep : (case : Case) (at : ℕ) (pattern : List ℕ) (Evals Others : ℕ → List ℕ → Evaluation → Type 0) → EvalsKeep at Evals Others
       → (es : Expressions) → Keeps at (ComeToBy (free case) Evals es) (ComeToBy (held case at pattern) Others es)
   come_to_keep case at pattern Evals Others keep no_more r p = inl p
   come_to_keep case at pattern Evals Others keep (one_more e es) r p =

@@ -7,7 +7,7 @@ use Rattle.perm_value.specs.Datum as datum
 use Rattle.matcher_read.specs.Expression.{Expression, text, whole, truth, request, policy, evaluated, negation, opposite, binary, among, call, Expressions, no_more, one_more, place}
 use Rattle.model_conf.specs.ModelText.{ModelParts}
 use Rattle.model_conf.specs.RuleText.{IsRuleText, IsNoRuleText}
-use Rattle.matcher_meaning.specs.Answers.{Answer, fails, then, After, Unless, with_first}
+use Rattle.matcher_meaning.specs.Answers.{Evaluation, fails, then, After, Unless, with_first}
 use Rattle.matcher_meaning.specs.CaseCalls.{Gives}
 use Rattle.matcher_meaning.specs.Cases.{Case, asked_value, row_text}
 use Rattle.matcher_meaning.specs.Comes.{ComesToBy, IsAmongBy, ComeToBy, ReadsNone, all_at, RuleComesTo, Evaluates, ComesTo, TruthIs}
@@ -26,7 +26,7 @@ abbrev pub RuleOrNone : Type 0
 RuleOrNone = (model : ModelParts) (bytes : List ℕ) → ((rule : Expression) × IsRuleText model bytes rule) ⊎ IsNoRuleText model bytes
 
 mutual
-  pub comes_to_one : FunctionsAgree → (case : Case) (Evals : ℕ → List ℕ → Answer → Type 0) → ((at : ℕ) (column : List ℕ) → AtMostOne (Evals at column)) → (e : Expression) → AtMostOne (ComesToBy case Evals e)
+  pub comes_to_one : FunctionsAgree → (case : Case) (Evals : ℕ → List ℕ → Evaluation → Type 0) → ((at : ℕ) (column : List ℕ) → AtMostOne (Evals at column)) → (e : Expression) → AtMostOne (ComesToBy case Evals e)
   comes_to_one agree case Evals one (text at bytes) r s p q = p ∙ sym q
   comes_to_one agree case Evals one (whole at n) r s p q = p ∙ sym q
   comes_to_one agree case Evals one (truth at b) r s p q = p ∙ sym q
@@ -36,9 +36,9 @@ mutual
   comes_to_one agree case Evals one (negation at e) r s p q = one_next (ComesToBy case Evals e) (λ x. then x (negated at)) (comes_to_one agree case Evals one e) r s p q
   comes_to_one agree case Evals one (opposite at e) r s p q = one_next (ComesToBy case Evals e) (λ x. then x (opposed at)) (comes_to_one agree case Evals one e) r s p q
   comes_to_one agree case Evals one (binary at op e f) r s p q =
-      first_one (ComesToBy case Evals e) (λ r x. After x (λ d. Unless (settled at op d) ((y : Answer) × ComesToBy case Evals f y × (r ≡ then y (joined at op d))) r) r) (comes_to_one agree case Evals one e)
-      (λ x. after_one x (λ r d. Unless (settled at op d) ((y : Answer) × ComesToBy case Evals f y × (r ≡ then y (joined at op d))) r)
-      (λ d. unless_one (settled at op d) (λ r. (y : Answer) × ComesToBy case Evals f y × (r ≡ then y (joined at op d))) (one_next (ComesToBy case Evals f) (λ y. then y (joined at op d)) (comes_to_one agree case Evals one f)))) r s p q
+      first_one (ComesToBy case Evals e) (λ r x. After x (λ d. Unless (settled at op d) ((y : Evaluation) × ComesToBy case Evals f y × (r ≡ then y (joined at op d))) r) r) (comes_to_one agree case Evals one e)
+      (λ x. after_one x (λ r d. Unless (settled at op d) ((y : Evaluation) × ComesToBy case Evals f y × (r ≡ then y (joined at op d))) r)
+      (λ d. unless_one (settled at op d) (λ r. (y : Evaluation) × ComesToBy case Evals f y × (r ≡ then y (joined at op d))) (one_next (ComesToBy case Evals f) (λ y. then y (joined at op d)) (comes_to_one agree case Evals one f)))) r s p q
   comes_to_one agree case Evals one (among at e es) r s p q =
       first_one (ComesToBy case Evals e) (λ r x. After x (λ d. IsAmongBy case Evals d es r) r) (comes_to_one agree case Evals one e)
       (λ x. after_one x (λ r d. IsAmongBy case Evals d es r) (λ d. is_among_one agree case Evals one d es)) r s p q
@@ -46,13 +46,13 @@ mutual
       first_one (ComeToBy case Evals es) (λ r x. After x (λ ds. Gives case at callee ds r) r) (come_to_one agree case Evals one es)
       (λ x. after_one x (λ r ds. Gives case at callee ds r) (λ ds. gives_one agree case at callee ds)) r s p q
 
-  pub is_among_one : FunctionsAgree → (case : Case) (Evals : ℕ → List ℕ → Answer → Type 0) → ((at : ℕ) (column : List ℕ) → AtMostOne (Evals at column)) → (d : Datum) (es : Expressions) → AtMostOne (IsAmongBy case Evals d es)
+  pub is_among_one : FunctionsAgree → (case : Case) (Evals : ℕ → List ℕ → Evaluation → Type 0) → ((at : ℕ) (column : List ℕ) → AtMostOne (Evals at column)) → (d : Datum) (es : Expressions) → AtMostOne (IsAmongBy case Evals d es)
   is_among_one agree case Evals one d no_more r s p q = p ∙ sym q
   is_among_one agree case Evals one d (one_more e es) r s p q =
       first_one (ComesToBy case Evals e) (λ r x. Unless (ended_among d x) (IsAmongBy case Evals d es r) r) (comes_to_one agree case Evals one e)
       (λ x. unless_one (ended_among d x) (IsAmongBy case Evals d es) (is_among_one agree case Evals one d es)) r s p q
 
-  pub come_to_one : FunctionsAgree → (case : Case) (Evals : ℕ → List ℕ → Answer → Type 0) → ((at : ℕ) (column : List ℕ) → AtMostOne (Evals at column)) → (es : Expressions) → AtMostOne (ComeToBy case Evals es)
+  pub come_to_one : FunctionsAgree → (case : Case) (Evals : ℕ → List ℕ → Evaluation → Type 0) → ((at : ℕ) (column : List ℕ) → AtMostOne (Evals at column)) → (es : Expressions) → AtMostOne (ComeToBy case Evals es)
   come_to_one agree case Evals one no_more r s p q = p ∙ sym q
   come_to_one agree case Evals one (one_more e es) r s p q =
       first_one (ComesToBy case Evals e) (λ r x. After x (λ d. (y : Result (List Datum) Fault) × ComeToBy case Evals es y × (r ≡ with_first d y)) r) (comes_to_one agree case Evals one e)
@@ -72,14 +72,14 @@ evaluates_one agree rules case at column r s (inr p) (inl q) = absurd (q.0 p.0 p
 evaluates_one agree rules case at column r s (inr p) (inr q) =
     rule_comes_to_one agree case at p.0 r s p.2 (subst (λ (rule : Expression). RuleComesTo case at rule s) (rules case.model (row_text case column) q.0 p.0 q.1 p.1) q.2)
 
-pub one_comes : FunctionsAgree → OneRule → (case : Case) (e : Expression) (r s : Answer) → ComesTo case e r → ComesTo case e s → r ≡ s
+pub one_comes : FunctionsAgree → OneRule → (case : Case) (e : Expression) (r s : Evaluation) → ComesTo case e r → ComesTo case e s → r ≡ s
 one_comes agree rules case e = comes_to_one agree case (Evaluates case) (evaluates_one agree rules case) e
 
 pub one_truth_is : FunctionsAgree → OneRule → (case : Case) (e : Expression) (r s : Result Bool Fault) → TruthIs case e r → TruthIs case e s → r ≡ s
 one_truth_is agree rules case e = one_next (ComesTo case e) (λ x. then x (truth_at (place e))) (one_comes agree rules case e)
 
 mutual
-  pub comes_to_some : FunctionsDecide → ReachingIsDecided → (case : Case) (Evals : ℕ → List ℕ → Answer → Type 0) → ((at : ℕ) (column : List ℕ) → AtLeastOne (Evals at column)) → (e : Expression) → AtLeastOne (ComesToBy case Evals e)
+  pub comes_to_some : FunctionsDecide → ReachingIsDecided → (case : Case) (Evals : ℕ → List ℕ → Evaluation → Type 0) → ((at : ℕ) (column : List ℕ) → AtLeastOne (Evals at column)) → (e : Expression) → AtLeastOne (ComesToBy case Evals e)
   comes_to_some decide reach case Evals some (text at bytes) = (Ok (datum.text bytes), refl)
   comes_to_some decide reach case Evals some (whole at n) = (Ok (datum.whole n), refl)
   comes_to_some decide reach case Evals some (truth at b) = (Ok (datum.truth b), refl)
@@ -89,9 +89,9 @@ mutual
   comes_to_some decide reach case Evals some (negation at e) = some_next (ComesToBy case Evals e) (λ x. then x (negated at)) (comes_to_some decide reach case Evals some e)
   comes_to_some decide reach case Evals some (opposite at e) = some_next (ComesToBy case Evals e) (λ x. then x (opposed at)) (comes_to_some decide reach case Evals some e)
   comes_to_some decide reach case Evals some (binary at op e f) =
-      first_some (ComesToBy case Evals e) (λ r x. After x (λ d. Unless (settled at op d) ((y : Answer) × ComesToBy case Evals f y × (r ≡ then y (joined at op d))) r) r) (comes_to_some decide reach case Evals some e)
-      (λ x. after_some x (λ r d. Unless (settled at op d) ((y : Answer) × ComesToBy case Evals f y × (r ≡ then y (joined at op d))) r)
-      (λ d. unless_some (settled at op d) (λ r. (y : Answer) × ComesToBy case Evals f y × (r ≡ then y (joined at op d))) (some_next (ComesToBy case Evals f) (λ y. then y (joined at op d)) (comes_to_some decide reach case Evals some f))))
+      first_some (ComesToBy case Evals e) (λ r x. After x (λ d. Unless (settled at op d) ((y : Evaluation) × ComesToBy case Evals f y × (r ≡ then y (joined at op d))) r) r) (comes_to_some decide reach case Evals some e)
+      (λ x. after_some x (λ r d. Unless (settled at op d) ((y : Evaluation) × ComesToBy case Evals f y × (r ≡ then y (joined at op d))) r)
+      (λ d. unless_some (settled at op d) (λ r. (y : Evaluation) × ComesToBy case Evals f y × (r ≡ then y (joined at op d))) (some_next (ComesToBy case Evals f) (λ y. then y (joined at op d)) (comes_to_some decide reach case Evals some f))))
   comes_to_some decide reach case Evals some (among at e es) =
       first_some (ComesToBy case Evals e) (λ r x. After x (λ d. IsAmongBy case Evals d es r) r) (comes_to_some decide reach case Evals some e)
       (λ x. after_some x (λ r d. IsAmongBy case Evals d es r) (λ d. is_among_some decide reach case Evals some d es))
@@ -99,13 +99,13 @@ mutual
       first_some (ComeToBy case Evals es) (λ r x. After x (λ ds. Gives case at callee ds r) r) (come_to_some decide reach case Evals some es)
       (λ x. after_some x (λ r ds. Gives case at callee ds r) (λ ds. gives_some decide reach case at callee ds))
 
-  pub is_among_some : FunctionsDecide → ReachingIsDecided → (case : Case) (Evals : ℕ → List ℕ → Answer → Type 0) → ((at : ℕ) (column : List ℕ) → AtLeastOne (Evals at column)) → (d : Datum) (es : Expressions) → AtLeastOne (IsAmongBy case Evals d es)
+  pub is_among_some : FunctionsDecide → ReachingIsDecided → (case : Case) (Evals : ℕ → List ℕ → Evaluation → Type 0) → ((at : ℕ) (column : List ℕ) → AtLeastOne (Evals at column)) → (d : Datum) (es : Expressions) → AtLeastOne (IsAmongBy case Evals d es)
   is_among_some decide reach case Evals some d no_more = (Ok (datum.truth false), refl)
   is_among_some decide reach case Evals some d (one_more e es) =
       first_some (ComesToBy case Evals e) (λ r x. Unless (ended_among d x) (IsAmongBy case Evals d es r) r) (comes_to_some decide reach case Evals some e)
       (λ x. unless_some (ended_among d x) (IsAmongBy case Evals d es) (is_among_some decide reach case Evals some d es))
 
-  pub come_to_some : FunctionsDecide → ReachingIsDecided → (case : Case) (Evals : ℕ → List ℕ → Answer → Type 0) → ((at : ℕ) (column : List ℕ) → AtLeastOne (Evals at column)) → (es : Expressions) → AtLeastOne (ComeToBy case Evals es)
+  pub come_to_some : FunctionsDecide → ReachingIsDecided → (case : Case) (Evals : ℕ → List ℕ → Evaluation → Type 0) → ((at : ℕ) (column : List ℕ) → AtLeastOne (Evals at column)) → (es : Expressions) → AtLeastOne (ComeToBy case Evals es)
   come_to_some decide reach case Evals some no_more = (Ok [], refl)
   come_to_some decide reach case Evals some (one_more e es) =
       first_some (ComesToBy case Evals e) (λ r x. After x (λ d. (y : Result (List Datum) Fault) × ComeToBy case Evals es y × (r ≡ with_first d y)) r) (comes_to_some decide reach case Evals some e)

@@ -29,8 +29,8 @@ use Rattle.perm_value.specs.Attribute.{attribute}
 use Rattle.perm_value.specs.Datum.{Datum}
 use Rattle.perm_value.specs.Datum as datum
 use Rattle.matcher_meaning.specs.Answers as answers
-use Rattle.matcher_meaning.specs.Answers.{Answer, After, Unless, with_first}
-use Rattle.matcher_meaning.specs.Arithmetic.{fits, fitted, divided, of_wholes}
+use Rattle.matcher_meaning.specs.Answers.{Evaluation, After, Unless, with_first}
+use Rattle.matcher_meaning.specs.Arithmetic.{is_in_range, fitted, divided, of_wholes}
 use Rattle.matcher_meaning.specs.Calls.{IsWhether, IsText, matched, searched, IsInBlock, without_query, OfTwo, OfThree}
 use Rattle.matcher_meaning.specs.Meaning.{along, truth_at}
 use Rattle.matcher_meaning.specs.Operators.{negated, opposed, as_truth, ended_by, settled, ordered, joined, is_member, ended_among}
@@ -46,14 +46,14 @@ abbrev pub AreClear : {X : Type 0} → (ℕ → Type 0) → (Result X Fault → 
 AreClear {X} Bad P = (r : Result X Fault) → P r → IsClear Bad r
 
 -- an answer that is there is such
-abbrev pub IsClearThere : (ℕ → Type 0) → Option Answer → Type 0
+abbrev pub IsClearThere : (ℕ → Type 0) → Option Evaluation → Type 0
 IsClearThere Bad (Some answer) = IsClear Bad answer
 IsClearThere Bad None = ⊤
 
 pub same_clear : {X : Type 0} (Bad : ℕ → Type 0) (r s : Result X Fault) → r ≡ s → IsClear Bad s → IsClear Bad r
 same_clear {X} Bad r s e clear = subst (λ (x : Result X Fault). IsClear Bad x) (sym e) clear
 
-pub then_clear : {X : Type 0} (Bad : ℕ → Type 0) (x : Answer) (next : Datum → Result X Fault) → IsClear Bad x → ((d : Datum) → IsClear Bad (next d)) → IsClear Bad (answers.then x next)
+pub then_clear : {X : Type 0} (Bad : ℕ → Type 0) (x : Evaluation) (next : Datum → Result X Fault) → IsClear Bad x → ((d : Datum) → IsClear Bad (next d)) → IsClear Bad (answers.then x next)
 then_clear Bad (Ok d) next clear follows = follows d
 then_clear Bad (Err fault) next clear follows = clear
 
@@ -74,7 +74,7 @@ pub after_clear : {X Y : Type 0} (Bad : ℕ → Type 0) (P : Result X Fault → 
     → AreClear Bad (λ r. (x : Result X Fault) × P x × After x (λ d. R d r) r)
 after_clear Bad P R clear follows = after_clear_of Bad P R clear (λ d is. follows d)
 
-pub unless_clear : (Bad : ℕ → Type 0) (there : Option Answer) (P : Answer → Type 0) → IsClearThere Bad there → AreClear Bad P → AreClear Bad (λ r. Unless there (P r) r)
+pub unless_clear : (Bad : ℕ → Type 0) (there : Option Evaluation) (P : Evaluation → Type 0) → IsClearThere Bad there → AreClear Bad P → AreClear Bad (λ r. Unless there (P r) r)
 unless_clear Bad (Some answer) P there clear r e = same_clear Bad r answer e there
 unless_clear Bad None P there clear r p = clear r p
 
@@ -91,18 +91,18 @@ cond_clear Bad true r s clear other = clear
 cond_clear Bad false r s clear other = other
 
 fitted_clear : (Bad : ℕ → Type 0) (at : ℕ) (n : ℤ) → IsClear Bad (fitted at n)
-fitted_clear Bad at n = cond_clear Bad (fits n) (Ok (datum.whole n)) (answers.fails Overflow at) tt (inl refl)
+fitted_clear Bad at n = cond_clear Bad (is_in_range n) (Ok (datum.whole n)) (answers.fails Overflow at) tt (inl refl)
 
 divided_clear : (Bad : ℕ → Type 0) (at : ℕ) (n by given : ℤ) → IsClear Bad (divided at n by given)
 divided_clear Bad at n by given =
-    cond_clear Bad (int_eq by (pos 0)) (answers.fails ZeroDivisor at) (if fits (int_div n by) then Ok (datum.whole given) else answers.fails Overflow at) (inl refl)
-    (cond_clear Bad (fits (int_div n by)) (Ok (datum.whole given)) (answers.fails Overflow at) tt (inl refl))
+    cond_clear Bad (int_eq by (pos 0)) (answers.fails ZeroDivisor at) (if is_in_range (int_div n by) then Ok (datum.whole given) else answers.fails Overflow at) (inl refl)
+    (cond_clear Bad (is_in_range (int_div n by)) (Ok (datum.whole given)) (answers.fails Overflow at) tt (inl refl))
 
 pub opposed_clear : (Bad : ℕ → Type 0) (at : ℕ) (d : Datum) → IsClear Bad (opposed at d)
 opposed_clear Bad at (datum.whole n) = fitted_clear Bad at (neg_ℤ n)
 opposed_clear Bad at _ = inl refl
 
-wholes_clear : (Bad : ℕ → Type 0) (at : ℕ) (give : ℤ → ℤ → Answer) → ((n m : ℤ) → IsClear Bad (give n m)) → (d e : Datum) → IsClear Bad (of_wholes at give d e)
+wholes_clear : (Bad : ℕ → Type 0) (at : ℕ) (give : ℤ → ℤ → Evaluation) → ((n m : ℤ) → IsClear Bad (give n m)) → (d e : Datum) → IsClear Bad (of_wholes at give d e)
 wholes_clear Bad at give clear (datum.whole n) (datum.whole m) = clear n m
 wholes_clear Bad at give clear _ _ = inl refl
 
@@ -142,7 +142,7 @@ settled_clear Bad at op.Or d = ended_clear Bad at true d
 settled_clear Bad at op.And d = ended_clear Bad at false d
 settled_clear Bad at _ d = tt
 
-pub ended_among_clear : (Bad : ℕ → Type 0) (d : Datum) (x : Answer) → IsClear Bad x → IsClearThere Bad (ended_among d x)
+pub ended_among_clear : (Bad : ℕ → Type 0) (d : Datum) (x : Evaluation) → IsClear Bad x → IsClearThere Bad (ended_among d x)
 ended_among_clear Bad d (Ok e) clear = go (is_member d e)
   where
     go : (b : Bool) → IsClearThere Bad (if b then Some (Ok (datum.truth true)) else None)

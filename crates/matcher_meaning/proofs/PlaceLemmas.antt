@@ -4,7 +4,7 @@ use Rattle.matcher_read.specs.Expression.{Expression, text, whole, truth, reques
 use Rattle.matcher_read.specs.Kinds.{is_of}
 use Rattle.matcher_read.specs.declared.kinds.NodeKind.TheVariants.{Eval}
 use Rattle.model_conf.specs.RuleText.{IsRuleText, has_eval}
-use Rattle.matcher_meaning.specs.Answers.{Answer, then}
+use Rattle.matcher_meaning.specs.Answers.{Evaluation, then}
 use Rattle.matcher_meaning.specs.Cases.{Case, row_text}
 use Rattle.matcher_meaning.specs.Comes.{ComesTo, Evaluates, ReadsNone, all_at, each_at}
 use Rattle.matcher_meaning.specs.Operators.{as_truth}
@@ -61,12 +61,12 @@ mutual
   placed_all_nodes at (one_more e es) = omega (arith, placed_nodes at e, placed_all_nodes at es)
 
 -- what the rule comes to as an expression of its own, its nodes at the place of the `eval`, the `eval` comes to as a truth
-pub eval_from_rule : (case : Case) (at : ℕ) (column : List ℕ) (rule : Expression) (x : Answer) → IsRuleText case.model (row_text case column) rule
+pub eval_from_rule : (case : Case) (at : ℕ) (column : List ℕ) (rule : Expression) (x : Evaluation) → IsRuleText case.model (row_text case column) rule
     → ComesTo case (all_at at rule) x → ComesTo case (evaluated at column) (then x (as_truth at))
 eval_from_rule case at column rule x is comes = inr (rule, is, (x, without_eval case (Evaluates case) ReadsNone (all_at at rule) (placed_eval at rule ∙ is.no_eval) x comes, refl))
 
-pub rule_from_eval : OneRule → (case : Case) (at : ℕ) (column : List ℕ) (rule : Expression) (r : Answer) → IsRuleText case.model (row_text case column) rule
-    → ComesTo case (evaluated at column) r → (x : Answer) × ComesTo case (all_at at rule) x × (r ≡ then x (as_truth at))
+pub rule_from_eval : OneRule → (case : Case) (at : ℕ) (column : List ℕ) (rule : Expression) (r : Evaluation) → IsRuleText case.model (row_text case column) rule
+    → ComesTo case (evaluated at column) r → (x : Evaluation) × ComesTo case (all_at at rule) x × (r ≡ then x (as_truth at))
 rule_from_eval rules case at column rule r is (inl p) = absurd (p.0 rule is)
 rule_from_eval rules case at column rule r is (inr (own, said, (x, comes, e))) = (
   x,

@@ -10,7 +10,7 @@ use Rattle.matcher_read.specs.declared.tree.Function.{Function}
 use Rattle.matcher_read.specs.declared.tree.Function.TheVariants as f
 use Rattle.model_conf.specs.RuleText.{has_eval}
 use Rattle.matcher_meaning.specs.Answers as answers
-use Rattle.matcher_meaning.specs.Answers.{Answer, After, Unless, with_first}
+use Rattle.matcher_meaning.specs.Answers.{Evaluation, After, Unless, with_first}
 use Rattle.matcher_meaning.specs.Calls.{OfTwo, texts_of}
 use Rattle.matcher_meaning.specs.CaseCalls.{Gives, GivesForTexts}
 use Rattle.matcher_meaning.specs.Cases.{Case, where_refused}
@@ -23,7 +23,7 @@ abbrev pub Implies : {X : Type 0} → (X → Type 0) → (X → Type 0) → Type
 Implies {X} P Q = (r : X) → P r → Q r
 
 -- an `eval`, and a call, that the test does not find comes under the one refusal to what it comes to under the other
-pub record AreUnmoved (case : Case) (refused other : Option (ℕ × List ℕ)) (Evals Others : ℕ → List ℕ → Answer → Type 0) (test : Expression → Bool) : Type 0 where
+pub record AreUnmoved (case : Case) (refused other : Option (ℕ × List ℕ)) (Evals Others : ℕ → List ℕ → Evaluation → Type 0) (test : Expression → Bool) : Type 0 where
   pub evals : (at : ℕ) (column : List ℕ) → test (evaluated at column) ≡ false → Implies (Evals at column) (Others at column)
   pub calls : (at : ℕ) (callee : Callee) (es : Expressions) (ds : List Datum) → test (call at callee es) ≡ false → Implies (Gives (where_refused case refused) at callee ds) (Gives (where_refused case other) at callee ds)
 
@@ -34,12 +34,12 @@ after_more : {X Y : Type 0} (x : Result X Fault) (R S : X → Result Y Fault →
 after_more (Ok d) R S more r p = more d r p
 after_more (Err fault) R S more r p = p
 
-unless_more : (there : Option Answer) (P Q : Answer → Type 0) → Implies P Q → (r : Answer) → Unless there (P r) r → Unless there (Q r) r
+unless_more : (there : Option Evaluation) (P Q : Evaluation → Type 0) → Implies P Q → (r : Evaluation) → Unless there (P r) r → Unless there (Q r) r
 unless_more (Some answer) P Q more r p = p
 unless_more None P Q more r p = more r p
 
 mutual
-  pub unmoved : (case : Case) (refused other : Option (ℕ × List ℕ)) (Evals Others : ℕ → List ℕ → Answer → Type 0) (test : Expression → Bool) → AreUnmoved case refused other Evals Others test
+  pub unmoved : (case : Case) (refused other : Option (ℕ × List ℕ)) (Evals Others : ℕ → List ℕ → Evaluation → Type 0) (test : Expression → Bool) → AreUnmoved case refused other Evals Others test
       → (e : Expression) → some_node test e ≡ false → Implies (ComesToBy (where_refused case refused) Evals e) (ComesToBy (where_refused case other) Others e)
   unmoved case refused other Evals Others test are (text at bytes) none r p = p
   unmoved case refused other Evals Others test are (whole at n) none r p = p
@@ -58,10 +58,10 @@ mutual
       let parts = or_parts (some_node test e) (some_node test g) outer.1 in (
         x,
         unmoved case refused other Evals Others test are e parts.0 x p,
-        after_more x (λ d r. Unless (settled at op d) ((y : Answer) × ComesToBy (where_refused case refused) Evals g y × (r ≡ answers.then y (joined at op d))) r)
-            (λ d r. Unless (settled at op d) ((y : Answer) × ComesToBy (where_refused case other) Others g y × (r ≡ answers.then y (joined at op d))) r)
-            (λ d. unless_more (settled at op d) (λ r. (y : Answer) × ComesToBy (where_refused case refused) Evals g y × (r ≡ answers.then y (joined at op d)))
-            (λ r. (y : Answer) × ComesToBy (where_refused case other) Others g y × (r ≡ answers.then y (joined at op d)))
+        after_more x (λ d r. Unless (settled at op d) ((y : Evaluation) × ComesToBy (where_refused case refused) Evals g y × (r ≡ answers.then y (joined at op d))) r)
+            (λ d r. Unless (settled at op d) ((y : Evaluation) × ComesToBy (where_refused case other) Others g y × (r ≡ answers.then y (joined at op d))) r)
+            (λ d. unless_more (settled at op d) (λ r. (y : Evaluation) × ComesToBy (where_refused case refused) Evals g y × (r ≡ answers.then y (joined at op d)))
+            (λ r. (y : Evaluation) × ComesToBy (where_refused case other) Others g y × (r ≡ answers.then y (joined at op d)))
             (next_more (ComesToBy (where_refused case refused) Evals g) (ComesToBy (where_refused case other) Others g) (λ y. answers.then y (joined at op d)) (unmoved case refused other Evals Others test are g parts.1))) r after,
       )
   unmoved case refused other Evals Others test are (among at e es) none r (x, p, after) =
@@ -79,7 +79,7 @@ mutual
         after_more x (λ ds r. Gives (where_refused case refused) at callee ds r) (λ ds r. Gives (where_refused case other) at callee ds r) (λ ds. are.calls at callee es ds parts.0) r after,
       )
 
-  pub among_unmoved : (case : Case) (refused other : Option (ℕ × List ℕ)) (Evals Others : ℕ → List ℕ → Answer → Type 0) (test : Expression → Bool) → AreUnmoved case refused other Evals Others test
+  pub among_unmoved : (case : Case) (refused other : Option (ℕ × List ℕ)) (Evals Others : ℕ → List ℕ → Evaluation → Type 0) (test : Expression → Bool) → AreUnmoved case refused other Evals Others test
       → (d : Datum) (es : Expressions) → among_some test es ≡ false → Implies (IsAmongBy (where_refused case refused) Evals d es) (IsAmongBy (where_refused case other) Others d es)
   among_unmoved case refused other Evals Others test are d no_more none r p = p
   among_unmoved case refused other Evals Others test are d (one_more e es) none r (x, p, unless) =
@@ -89,7 +89,7 @@ mutual
         unless_more (ended_among d x) (IsAmongBy (where_refused case refused) Evals d es) (IsAmongBy (where_refused case other) Others d es) (among_unmoved case refused other Evals Others test are d es parts.1) r unless,
       )
 
-  pub all_unmoved : (case : Case) (refused other : Option (ℕ × List ℕ)) (Evals Others : ℕ → List ℕ → Answer → Type 0) (test : Expression → Bool) → AreUnmoved case refused other Evals Others test
+  pub all_unmoved : (case : Case) (refused other : Option (ℕ × List ℕ)) (Evals Others : ℕ → List ℕ → Evaluation → Type 0) (test : Expression → Bool) → AreUnmoved case refused other Evals Others test
       → (es : Expressions) → among_some test es ≡ false → Implies (ComeToBy (where_refused case refused) Evals es) (ComeToBy (where_refused case other) Others es)
   all_unmoved case refused other Evals Others test are no_more none r p = p
   all_unmoved case refused other Evals Others test are (one_more e es) none r (x, p, after) =
@@ -102,7 +102,7 @@ mutual
       )
 
 -- without `eval` it comes to the same whatever an `eval` comes to
-pub without_eval : (case : Case) (Evals Others : ℕ → List ℕ → Answer → Type 0) (e : Expression) → has_eval e ≡ false → Implies (ComesToBy case Evals e) (ComesToBy case Others e)
+pub without_eval : (case : Case) (Evals Others : ℕ → List ℕ → Evaluation → Type 0) (e : Expression) → has_eval e ≡ false → Implies (ComesToBy case Evals e) (ComesToBy case Others e)
 without_eval case Evals Others e none =
     unmoved case case.refused case.refused Evals Others (λ node. is_of node Eval) (record { evals = λ at column h. absurd (true≢false h); calls = λ at callee es ds h r p. p }) e none
 

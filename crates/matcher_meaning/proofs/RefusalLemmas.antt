@@ -8,7 +8,7 @@ use Rattle.matcher_read.specs.declared.tree.Function.{Function}
 use Rattle.matcher_read.specs.declared.tree.Function.TheVariants as f
 use Rattle.perm_value.specs.Datum.{Datum}
 use Rattle.regex_gate.specs.Found.{has_match}
-use Rattle.matcher_meaning.specs.Answers.{Answer, fails, After, Unless}
+use Rattle.matcher_meaning.specs.Answers.{Evaluation, fails, After, Unless}
 use Rattle.matcher_meaning.specs.Calls.{is_refused, matched, OfTwo}
 use Rattle.matcher_meaning.specs.Operators.{ended_among}
 
@@ -43,11 +43,11 @@ after_keeps {X} {Y} at P Q R S keep next r (x, p, after) = first (keep x p)
     first (inl q) = second x q after
     first (inr q) = inr (fails Pattern at, q, refl)
 
-pub unless_keeps : (at : ℕ) (there : Option Answer) (P Q : Answer → Type 0) → Keeps at P Q → Keeps at (λ r. Unless there (P r) r) (λ r. Unless there (Q r) r)
+pub unless_keeps : (at : ℕ) (there : Option Evaluation) (P Q : Evaluation → Type 0) → Keeps at P Q → Keeps at (λ r. Unless there (P r) r) (λ r. Unless there (Q r) r)
 unless_keeps at (Some answer) P Q keep r p = inl p
 unless_keeps at None P Q keep r p = keep r p
 
-abbrev failing : ℕ → Answer
+abbrev failing : ℕ → Evaluation
 failing at = fails Pattern at
 
 left_true : (a b : Bool) → (a && b) ≡ true → a ≡ true
@@ -57,7 +57,7 @@ left_true false b h = h
 same_place : (at place : ℕ) (same : Bool) → (at == place && same) ≡ true → place ≡ at
 same_place at place same h = sym (eqb-true at place (left_true (at == place) same h))
 
-test_keeps : (at place : ℕ) (pattern given : List ℕ) (r other : Answer) (same : Bool) → (same ≡ true → place ≡ at) → r ≡ other
+test_keeps : (at place : ℕ) (pattern given : List ℕ) (r other : Evaluation) (same : Bool) → (same ≡ true → place ≡ at) → r ≡ other
     → (r ≡ if same then fails Pattern place else other) ⊎ (fails Pattern at ≡ if same then fails Pattern place else other)
 test_keeps at place pattern given r other true here e = inr (ap (λ (n : ℕ). failing n) (sym (here refl)))
 test_keeps at place pattern given r other false here e = inl e
@@ -77,12 +77,12 @@ two_keeps at pattern place f.KeyGet2 s t r p = inl p
 two_keeps at pattern place f.KeyGet3 s t r p = inl p
 
 -- the same with the premise that a value that was found may not be
-pub found_keeps : (at : ℕ) (P Q : Answer → Type 0) (R S : Answer → Type 0) (d : Datum) → Keeps at P Q → Keeps at R S
-    → Keeps at (λ r. (x : Answer) × P x × Unless (ended_among d x) (R r) r) (λ r. (x : Answer) × Q x × Unless (ended_among d x) (S r) r)
+pub found_keeps : (at : ℕ) (P Q : Evaluation → Type 0) (R S : Evaluation → Type 0) (d : Datum) → Keeps at P Q → Keeps at R S
+    → Keeps at (λ r. (x : Evaluation) × P x × Unless (ended_among d x) (R r) r) (λ r. (x : Evaluation) × Q x × Unless (ended_among d x) (S r) r)
 found_keeps at P Q R S d keep rest r (x, p, unless) = first (keep x p)
   where
-    Kept : Answer → Type 0
-    Kept r = (y : Answer) × Q y × Unless (ended_among d y) (S r) r
+    Kept : Evaluation → Type 0
+    Kept r = (y : Evaluation) × Q y × Unless (ended_among d y) (S r) r
 
     second : Q x → Unless (ended_among d x) (S r) r ⊎ Unless (ended_among d x) (S (fails Pattern at)) (fails Pattern at) → Kept r ⊎ Kept (fails Pattern at)
     second q (inl u) = inl (x, q, u)

@@ -1,13 +1,13 @@
 -- A fact that is told in steps allows one result at most where each step does, and some where each does.
 use Rattle.std.proofs.Common.{◌≡◌, Option, Some, None, Result, Ok, Err, refl, sym, ap, ◌∙◌, subst}
 use Rattle.effect_fold.specs.declared.fault.Fault.{Fault}
-use Rattle.matcher_meaning.specs.Answers.{Answer, After, Unless}
+use Rattle.matcher_meaning.specs.Answers.{Evaluation, After, Unless}
 use Rattle.matcher_meaning.proofs.CallLemmas.{AtMostOne, AtLeastOne}
 
 pub one_next : {X Y : Type 0} (P : X → Type 0) (next : X → Y) → AtMostOne P → AtMostOne (λ r. (x : X) × P x × (r ≡ next x))
 one_next P next one r s (x, p, e) (y, q, f) = e ∙ ap next (one x y p q) ∙ sym f
 
-pub unless_one : (there : Option Answer) (P : Answer → Type 0) → AtMostOne P → AtMostOne (λ r. Unless there (P r) r)
+pub unless_one : (there : Option Evaluation) (P : Evaluation → Type 0) → AtMostOne P → AtMostOne (λ r. Unless there (P r) r)
 unless_one (Some answer) P one r s p q = p ∙ sym q
 unless_one None P one r s p q = one r s p q
 
@@ -21,7 +21,7 @@ first_one L P left one r s (x, p, e) (y, q, f) = one y r s (subst (λ z. P r z) 
 pub some_next : {X Y : Type 0} (P : X → Type 0) (next : X → Y) → AtLeastOne P → AtLeastOne (λ r. (x : X) × P x × (r ≡ next x))
 some_next P next (x, p) = (next x, (x, p, refl))
 
-pub unless_some : (there : Option Answer) (P : Answer → Type 0) → AtLeastOne P → AtLeastOne (λ r. Unless there (P r) r)
+pub unless_some : (there : Option Evaluation) (P : Evaluation → Type 0) → AtLeastOne P → AtLeastOne (λ r. Unless there (P r) r)
 unless_some (Some answer) P some = (answer, refl)
 unless_some None P some = some
 

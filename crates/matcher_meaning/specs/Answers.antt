@@ -4,15 +4,15 @@ use Rattle.effect_fold.specs.declared.fault.Cause.{Cause}
 use Rattle.effect_fold.specs.declared.fault.Fault.{Fault}
 use Rattle.perm_value.specs.Datum.{Datum}
 
-abbrev pub Answer : Type 0
-Answer = Result Datum Fault
+abbrev pub Evaluation : Type 0
+Evaluation = Result Datum Fault
 
 -- this cause at this place
 abbrev pub fails : {X : Type 0} → Cause → ℕ → Result X Fault
 fails cause at = Err (record { cause = cause; at = at })
 
 -- what follows from a value; a fault stays one
-abbrev pub then : {X : Type 0} → Answer → (Datum → Result X Fault) → Result X Fault
+abbrev pub then : {X : Type 0} → Evaluation → (Datum → Result X Fault) → Result X Fault
 then (Ok d) next = next d
 then (Err fault) next = Err fault
 
@@ -22,7 +22,7 @@ After (Ok x) next r = next x
 After (Err fault) next r = r ≡ Err fault
 
 -- an answer is already there; else it is what is said behind
-abbrev pub Unless : Option Answer → Type 0 → Answer → Type 0
+abbrev pub Unless : Option Evaluation → Type 0 → Evaluation → Type 0
 Unless (Some answer) rest r = r ≡ answer
 Unless None rest r = rest
 

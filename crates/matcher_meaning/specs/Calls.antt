@@ -17,14 +17,14 @@ use Rattle.matcher_read.specs.declared.tree.Function.TheVariants as f
 use Rattle.perm_value.specs.Datum.{Datum}
 use Rattle.perm_value.specs.Datum as datum
 use Rattle.regex_gate.specs.Found.{has_match}
-use Rattle.matcher_meaning.specs.Answers.{Answer, fails}
+use Rattle.matcher_meaning.specs.Answers.{Evaluation, fails}
 
 -- whether a fact holds
-abbrev pub IsWhether : Type 0 → Answer → Type 0
+abbrev pub IsWhether : Type 0 → Evaluation → Type 0
 IsWhether fact r = (b : Bool) × (IsTrue b ↔ fact) × (r ≡ Ok (datum.truth b))
 
 -- a text of which the fact holds
-abbrev pub IsText : (List ℕ → Type 0) → Answer → Type 0
+abbrev pub IsText : (List ℕ → Type 0) → Evaluation → Type 0
 IsText fact r = (t : List ℕ) × fact t × (r ≡ Ok (datum.text t))
 
 -- the search at this place for this pattern is the one that was refused
@@ -33,17 +33,17 @@ is_refused None at pattern = false
 is_refused (Some refused) at pattern = refused.0 == at && bytes_eq refused.1 pattern
 
 -- whether there is a match, or the fault of a pattern that cannot be read
-abbrev pub matched : ℕ → Option Bool → Answer
+abbrev pub matched : ℕ → Option Bool → Evaluation
 matched at (Some is_found) = Ok (datum.truth is_found)
 matched at None = fails Pattern at
 
 -- whether the pattern has a match in the text; the fault `Pattern` where it cannot be read, whatever is refused, and where the search was refused
-abbrev pub searched : Option (ℕ × List ℕ) → ℕ → (text pattern : List ℕ) → Answer
+abbrev pub searched : Option (ℕ × List ℕ) → ℕ → (text pattern : List ℕ) → Evaluation
 searched refused at text pattern =
     if is_refused refused at pattern then fails Pattern at else matched at (has_match pattern text)
 
 -- whether an address lies in a block; that the first text is no address is told before the second is no block
-abbrev pub IsInBlock : ℕ → (text block : List ℕ) → Answer → Type 0
+abbrev pub IsInBlock : ℕ → (text block : List ℕ) → Evaluation → Type 0
 IsInBlock at text block r =
     (((a : Address) → ¬ (IsAddress text a)) × (r ≡ fails BadAddress at))
     ⊎ ((((a : Address) × IsAddress text a) × ((b : Block) → ¬ (IsBlock block b)) × (r ≡ fails BadBlock at))
@@ -54,7 +54,7 @@ abbrev pub without_query : List ℕ → List ℕ
 without_query key = before_first (λ byte. byte == 63) key
 
 -- a function of two texts
-abbrev pub OfTwo : Option (ℕ × List ℕ) → ℕ → Function → List ℕ → List ℕ → Answer → Type 0
+abbrev pub OfTwo : Option (ℕ × List ℕ) → ℕ → Function → List ℕ → List ℕ → Evaluation → Type 0
 OfTwo refused at f.KeyMatch key pattern r = IsWhether (AgreesToStar key pattern) r
 OfTwo refused at f.KeyMatch2 key pattern r = IsWhether (Covers (colon_pieces pattern) key) r
 OfTwo refused at f.KeyMatch3 key pattern r = IsWhether (Covers (brace_pieces pattern) key) r
@@ -68,7 +68,7 @@ OfTwo refused at f.KeyGet2 _ _ r = r ≡ fails Kind at
 OfTwo refused at f.KeyGet3 _ _ r = r ≡ fails Kind at
 
 -- a function of three texts
-abbrev pub OfThree : ℕ → Function → List ℕ → List ℕ → List ℕ → Answer → Type 0
+abbrev pub OfThree : ℕ → Function → List ℕ → List ℕ → List ℕ → Evaluation → Type 0
 OfThree at f.KeyGet2 key pattern name r = IsText (IsNamedPart LongerFirst (colon_pieces pattern) key name) r
 OfThree at f.KeyGet3 key pattern name r = IsText (IsNamedPart ShorterSegmentFirst (brace_pieces pattern) key name) r
 OfThree at _ _ _ _ r = r ≡ fails Kind at

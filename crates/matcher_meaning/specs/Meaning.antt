@@ -7,10 +7,10 @@ use Rattle.perm_value.specs.Datum.{Datum}
 use Rattle.perm_value.specs.Datum as datum
 use Rattle.matcher_read.specs.Expression.{Callee, function, Expression, call, Expressions, some_node, among_some}
 use Rattle.matcher_read.specs.declared.tree.Function.TheVariants.{RegexMatch}
-use Rattle.matcher_meaning.specs.Answers.{Answer, fails}
+use Rattle.matcher_meaning.specs.Answers.{Evaluation, fails}
 
 -- the attribute at the end of these names; a request without the column, a value on the way that is no object, and one that lacks the name are faults at the place
-abbrev pub along : ℕ → Option Datum → List (List ℕ) → Answer
+abbrev pub along : ℕ → Option Datum → List (List ℕ) → Evaluation
 along at None names = fails NoAttribute at
 along at (Some d) [] = Ok d
 along at (Some d) (name ∷ names) = along at (attribute d name) names

@@ -9,26 +9,26 @@ use Rattle.perm_value.specs.Datum as datum
 use Rattle.perm_value.specs.Equality.{datum_eq}
 use Rattle.matcher_read.specs.declared.tree.Operator.{Operator}
 use Rattle.matcher_read.specs.declared.tree.Operator.TheVariants as op
-use Rattle.matcher_meaning.specs.Answers.{Answer, fails}
+use Rattle.matcher_meaning.specs.Answers.{Evaluation, fails}
 use Rattle.matcher_meaning.specs.Arithmetic.{fitted, divided, of_wholes}
 
 -- `!`
-abbrev pub negated : ℕ → Datum → Answer
+abbrev pub negated : ℕ → Datum → Evaluation
 negated at (datum.truth b) = Ok (datum.truth (not b))
 negated at _ = fails Kind at
 
 -- `-` before an operand
-abbrev pub opposed : ℕ → Datum → Answer
+abbrev pub opposed : ℕ → Datum → Evaluation
 opposed at (datum.whole n) = fitted at (neg_ℤ n)
 opposed at _ = fails Kind at
 
 -- a side of `&&` or `||`
-abbrev pub as_truth : ℕ → Datum → Answer
+abbrev pub as_truth : ℕ → Datum → Evaluation
 as_truth at (datum.truth b) = Ok (datum.truth b)
 as_truth at _ = fails Kind at
 
 -- a left side that ends an operator at this truth
-abbrev pub ended_by : ℕ → Bool → Datum → Option Answer
+abbrev pub ended_by : ℕ → Bool → Datum → Option Evaluation
 ended_by at true (datum.truth true) = Some (Ok (datum.truth true))
 ended_by at true (datum.truth false) = None
 ended_by at false (datum.truth false) = Some (Ok (datum.truth false))
@@ -36,19 +36,19 @@ ended_by at false (datum.truth true) = None
 ended_by at _ _ = Some (fails Kind at)
 
 -- what the left side gives alone; None where the right side is evaluated
-abbrev pub settled : ℕ → Operator → Datum → Option Answer
+abbrev pub settled : ℕ → Operator → Datum → Option Evaluation
 settled at op.Or d = ended_by at true d
 settled at op.And d = ended_by at false d
 settled at _ d = None
 
 -- an order of two numbers, or of two texts by their bytes
-abbrev pub ordered : ℕ → (Ordering → Bool) → Datum → Datum → Answer
+abbrev pub ordered : ℕ → (Ordering → Bool) → Datum → Datum → Evaluation
 ordered at is_so (datum.whole n) (datum.whole m) = Ok (datum.truth (is_so (int_cmp n m)))
 ordered at is_so (datum.text s) (datum.text t) = Ok (datum.truth (is_so (slice_cmp nat_cmp s t)))
 ordered at is_so _ _ = fails Kind at
 
 -- what both sides give; of `||` and `&&` the left side has not ended it
-abbrev pub joined : ℕ → Operator → Datum → Datum → Answer
+abbrev pub joined : ℕ → Operator → Datum → Datum → Evaluation
 joined at op.Or d e = as_truth at e
 joined at op.And d e = as_truth at e
 joined at op.Equal d e = Ok (datum.truth (datum_eq d e))
@@ -75,6 +75,6 @@ is_member d (datum.list es) = datum_eq d (datum.list es) || has_item d es
 is_member d e = datum_eq d e
 
 -- what a member that was evaluated ends `in` with: true, or its fault; None where the next is evaluated
-abbrev pub ended_among : Datum → Answer → Option Answer
+abbrev pub ended_among : Datum → Evaluation → Option Evaluation
 ended_among d (Ok e) = if is_member d e then Some (Ok (datum.truth true)) else None
 ended_among d (Err fault) = Some (Err fault)

@@ -4,7 +4,7 @@ use Rattle.matcher_read.specs.Expression.{function, Expression, text, whole, tru
 use Rattle.matcher_read.specs.declared.tree.Function.TheVariants.{RegexMatch}
 use Rattle.model_conf.specs.RuleText.{IsRuleText}
 use Rattle.perm_value.specs.Datum as datum
-use Rattle.matcher_meaning.specs.Answers.{Answer}
+use Rattle.matcher_meaning.specs.Answers.{Evaluation}
 use Rattle.matcher_meaning.specs.Cases.{Case, row_text}
 use Rattle.matcher_meaning.specs.Comes.{ComeToBy, Evaluates, ReadsNone, all_at}
 
@@ -29,7 +29,7 @@ abbrev mutual
   SomePartOf Is (one_more e es) = SomePart Is e ⊎ SomePartOf Is es
 
 -- a call of `regexMatch` at this place whose arguments come to a text and this pattern, or an `eval` there of which this is said
-abbrev pub AsksHere : Case → (ℕ → List ℕ → Answer → Type 0) → (ℕ → List ℕ → List ℕ → Type 0) → ℕ → List ℕ → Expression → Type 0
+abbrev pub AsksHere : Case → (ℕ → List ℕ → Evaluation → Type 0) → (ℕ → List ℕ → List ℕ → Type 0) → ℕ → List ℕ → Expression → Type 0
 AsksHere case Evals EvalAsks at pattern (call own (function RegexMatch) es) = (own ≡ at) × ((t : List ℕ) × ComeToBy case Evals es (Ok (datum.text t ∷ datum.text pattern ∷ [])))
 AsksHere case Evals EvalAsks at pattern (evaluated own column) = (own ≡ at) × EvalAsks at column pattern
 AsksHere case Evals EvalAsks at pattern _ = ⊥

@@ -10,7 +10,7 @@ ghost use Rattle.perm_value.specs.Datum.{Datum};
 ghost use Rattle.policy_table.specs.Tables.{Fields, Policy};
 ghost use Rattle.matcher_read.specs.Expression.{Expression};
 ghost use Rattle.model_conf.specs.ModelText.{ModelParts};
-ghost use Rattle.matcher_meaning.specs.Answers.{Answer, fails};
+ghost use Rattle.matcher_meaning.specs.Answers.{Evaluation, fails};
 ghost use Rattle.matcher_meaning.specs.Cases.{Case, at_row, where_refused};
 ghost use Rattle.matcher_meaning.specs.Comes.{ComesTo, TruthIs};
 ghost use Rattle.matcher_meaning.specs.Perm.{Refusal, is_pattern, is_refusal, refusal_fault};
@@ -26,7 +26,7 @@ use role_meaning::{depth_is_one, links_are_decided};
 /// The law that an expression comes to one answer at most in a case, and a whole matcher to one
 /// truth.
 pub fn case_answer_is_unique()
-    ensures value { (case : Case) (e : Expression) (first second : Answer)
+    ensures value { (case : Case) (e : Expression) (first second : Evaluation)
         → ComesTo case e first → ComesTo case e second → first ≡ second }
     ensures truth { (case : Case) (e : Expression) (first second : Result Bool Fault)
         → TruthIs case e first → TruthIs case e second → first ≡ second }
@@ -39,7 +39,7 @@ pub fn case_answer_is_unique()
 
 /// The law that an expression comes to an answer in each case, and a whole matcher to a truth.
 pub fn case_answer_is_there()
-    ensures value { (case : Case) (e : Expression) → (r : Answer) × ComesTo case e r }
+    ensures value { (case : Case) (e : Expression) → (r : Evaluation) × ComesTo case e r }
     ensures truth { (case : Case) (e : Expression)
         → (r : Result Bool Fault) × TruthIs case e r }
 {
@@ -53,7 +53,7 @@ pub fn case_answer_is_there()
 /// The law that a search which is refused leaves an answer, a truth or a verdict as it is, or that
 /// this is its fault.
 pub fn refusal_keeps_or_fails()
-    ensures value { (case : Case) (e : Expression) (at : ℕ) (pattern : List ℕ) (r : Answer)
+    ensures value { (case : Case) (e : Expression) (at : ℕ) (pattern : List ℕ) (r : Evaluation)
         → ComesTo (where_refused case None) e r
         → ComesTo (where_refused case (Some (at, pattern))) e r
         ⊎ ComesTo (where_refused case (Some (at, pattern))) e (fails Pattern at) }

@@ -1,26 +1,22 @@
 -- Identifiers, and columns by their places.
-use Rattle.std.proofs.Common.{◌≡◌, ◌≢◌, ℕ, zero, suc, ◌+◌, ◌<◌, ◌≤◌, ◌||◌, Bool, true, false, Bor, List, [], ◌∷◌, ◌++◌, length, take, map, get_or, eqb, Option, Some, None, Contains, IsTrue, refl, sym, ap, ◌∙◌, subst, arith}
-use Rattle.std.specs.Prelude.{option_map}
-use Rattle.std.specs.List.{list_all, list_any, position, All}
-use Rattle.std.proofs.lemmas.Bool.{and_parts, false≢true, or_parts}
+use Rattle.std.proofs.Common.{◌≡◌, ◌≢◌, ℕ, zero, suc, ◌+◌, ◌<◌, ◌≤◌, ◌||◌, Bool, true, false, Bor, List, [], ◌∷◌, ◌++◌, length, take, map, get_or, eqb, Contains, IsTrue, refl, sym, ap, ◌∙◌, subst, arith}
+use Rattle.std.specs.List.{list_all, list_any, All}
+use Rattle.std.proofs.lemmas.Bool.{and_parts, or_parts}
 use Rattle.std.proofs.lemmas.Bool.Decides.{nat_tests}
 use Rattle.std.proofs.lemmas.List.{append_assoc, map-append, length-map, length-take, get_or-map, get_or-take, get_or_default, take-map, take_all, take_more}
 use Rattle.std.proofs.lemmas.List.Folds.{Any-from_list_any, list_all-map, list_any_at}
 use Rattle.std.proofs.lemmas.Slice.Eq.{bytes_eq-Decides}
 use Rattle.std.specs.Str.{bytes_eq}
 use Rattle.std.specs.Prelude.{Any}
-use Rattle.std.proofs.lemmas.List.Quantifiers.{all_pairs_push, position-Some}
+use Rattle.std.proofs.lemmas.List.Quantifiers.{all_pairs_push}
 use Rattle.std.proofs.lemmas.List.Sums.{AllPass-from_list_all, list_all-from_AllPass}
-use Rattle.perm_base.specs.LineEnds.{has_line_end, is_line_end}
+use Rattle.perm_base.specs.LineEnds.{AreFields, has_line_end, is_line_end}
 use Rattle.text_parts.specs.Lines.{has_byte}
-use Rattle.perm_base.specs.Rule.{IsFirstLineEnd}
-use Rattle.perm_base.specs.declared.rule.RuleFault.{RuleFault}
-use Rattle.perm_base.specs.declared.rule.RuleFault.TheVariants.{LineEnd}
 use Rattle.text_parts.specs.Names.{is_word, is_identifier}
 use Rattle.text_parts.proofs.CallerLemmas.{words_of}
 use Rattle.std.proofs.lemmas.List.Splits.{slice_split_at, slice_split_none}
 use Rattle.text_parts.specs.Blanks.{trimmed}
-use Rattle.model_conf.specs.Columns.{AreDistinct, AreNames, columns_in}
+use Rattle.model_conf.specs.Columns.{AreColumns, AreDistinct, AreNames, columns_in}
 
 -- ---- identifiers
 
@@ -43,15 +39,9 @@ no_line_end byte inside = grind (arith, nat_tests)
 has_line_end-identifier : (name : List ℕ) → IsTrue (is_identifier name) → has_line_end name ≡ false
 has_line_end-identifier name is = lacks is_line_end no_line_end name (words_of name is)
 
-at_first : (names : List (List ℕ)) (place : Option ℕ) (field : ℕ) → AreNames names → position has_line_end names ≡ place → option_map (λ (at : ℕ). at + 1) place ≡ Some field → ⊥
-at_first names None field named is e = absurd cc
-at_first names (Some at) field named is e =
-    let first = position-Some has_line_end names at [] is in
-    false≢true (sym (has_line_end-identifier (get_or names at []) (named at [] first.0)) ∙ first.1)
-
--- identifiers hold no line end
-pub whole_lines : (names : List (List ℕ)) (fault : RuleFault) → AreNames names → IsFirstLineEnd names fault → ⊥
-whole_lines names (LineEnd field) named is = at_first names (position has_line_end names) field named refl is
+no_line_ends : (names : List (List ℕ)) → AreNames names → list_any has_line_end names ≡ false
+no_line_ends [] named = refl
+no_line_ends (name ∷ names) named = rw (has_line_end-identifier name (named 0 [] (omega arith)), no_line_ends names (λ at d within. named (suc at) d (omega arith))) refl
 
 -- ---- places
 
@@ -111,11 +101,12 @@ distinct_all names at past distinct =
     let all : take at (texts names) ≡ texts names = take_all at (texts names) (omega (arith, length-map names text_of)) in
     subst AreDistinct all distinct
 
-pub named_all : (fields : List (List ℕ)) (items names : List (Bor (List ℕ))) (at : ℕ) → items ≡ names → AreNames (texts names) → length items ≤ at → fields ≡ take at (texts items) → AreNames fields
-named_all fields items names at same named past taken =
-    let all : fields ≡ texts items = taken ∙ take_all at (texts items) (omega (arith, length-map items text_of)) in
-    let is : AreNames (texts items) = rw same named in
-    subst AreNames (sym all) is
+-- all names are taken, as the fields of a rule
+pub columns_are_fields : (fields : List (List ℕ)) (names : List (Bor (List ℕ))) (at : ℕ) → AreColumns (texts names) → length names ≤ at → fields ≡ take at (texts names) → AreFields fields
+columns_are_fields fields names at are past taken =
+    let all : texts names ≡ fields = sym (taken ∙ take_all at (texts names) (omega (arith, length-map names text_of))) in
+    let columns : AreColumns fields = subst AreColumns all are in
+    record { few = omega (arith, columns.few); whole_lines = no_line_ends fields columns.named }
 
 -- ---- columns between commas
 

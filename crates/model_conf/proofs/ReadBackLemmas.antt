@@ -24,7 +24,7 @@ use Rattle.model_conf.specs.ModelText.{ModelParts, HasValues, IsModel, SayModel,
 use Rattle.model_conf.specs.Printed.{printed, printed_lines, relation_entry, role_lines}
 use Rattle.model_conf.specs.Relations.{first_bad_shape, relations_of}
 use Rattle.model_conf.specs.Sections.{Entry, entry, entries_of, entry_of, first_fault, has_key, is_key_of, is_section, said_fault}
-use Rattle.model_conf.specs.Statements.{Said, header, pair, nothing, IsNoHeader, Statement, statement, AreStatements}
+use Rattle.model_conf.specs.Statements.{LineContent, header, pair, nothing, IsNoHeader, Statement, statement, AreStatements}
 use Rattle.model_conf.specs.Helps.Steps.{Standing, behind, standing}
 use Rattle.model_conf.specs.declared.fault.ModelFault.{ModelFault}
 use Rattle.model_conf.specs.declared.fault.ModelFault.TheVariants as fault
@@ -145,14 +145,14 @@ back_entries m = entry (codes "e") (effect_text m.effect) ∷ entry (codes "m") 
 abbrev all_entries : ModelParts → List Entry
 all_entries m = front_entries m ++ (map relation_entry m.relations ++ back_entries m)
 
-abbrev role_saids : List RoleShape → List Said
+abbrev role_saids : List RoleShape → List LineContent
 role_saids [] = []
 role_saids (first ∷ others) = header (codes "role_definition") ∷ map said_of (map relation_entry (first ∷ others))
 
-abbrev back_saids : ModelParts → List Said
+abbrev back_saids : ModelParts → List LineContent
 back_saids m = header (codes "policy_effect") ∷ pair (codes "e") (effect_text m.effect) ∷ header (codes "matchers") ∷ pair (codes "m") m.matcher_text ∷ []
 
-abbrev all_saids : ModelParts → List Said
+abbrev all_saids : ModelParts → List LineContent
 all_saids m =
     header (codes "request_definition") ∷ pair (codes "r") (joined m.request) ∷ header (codes "policy_definition") ∷ pair (codes "p") (joined m.policy) ∷ (role_saids m.relations ++ back_saids m)
 
@@ -172,12 +172,12 @@ printed_read m kept h =
     let matchers = empty_line (section_read (codes "matchers") (entry (codes "m") m.matcher_text ∷ []) refl (t, tt)) in
     let front = read-append (section_read (codes "request_definition") (entry (codes "r") (joined m.request) ∷ []) refl (r, tt)) (empty_line (section_read (codes "policy_definition") (entry (codes "p") (joined m.policy) ∷ []) refl (p, tt))) in
     let regrouped = append_assoc (role_saids m.relations) (header (codes "policy_effect") ∷ pair (codes "e") (effect_text m.effect) ∷ []) (header (codes "matchers") ∷ pair (codes "m") m.matcher_text ∷ []) in
-    subst (λ (l : List Said). AreRead (printed_lines m) (header (codes "request_definition") ∷ pair (codes "r") (joined m.request) ∷ header (codes "policy_definition") ∷ pair (codes "p") (joined m.policy) ∷ l)) regrouped
+    subst (λ (l : List LineContent). AreRead (printed_lines m) (header (codes "request_definition") ∷ pair (codes "r") (joined m.request) ∷ header (codes "policy_definition") ∷ pair (codes "p") (joined m.policy) ∷ l)) regrouped
     (read-append (read-append (read-append front roles) effects) matchers)
 
 -- ---- no line is out of order
 
-abbrev AllFine : Standing → List Said → Type 0
+abbrev AllFine : Standing → List LineContent → Type 0
 AllFine now [] = ⊤
 AllFine now (said ∷ saids) = ((number : ℕ) → said_fault now.entries now.section number said ≡ None) × AllFine (behind now said) saids
 
@@ -187,7 +187,7 @@ no_fault before (s ∷ others) fine =
     ap (λ (o : Option ModelFault). option_or o (first_fault (before ++ s ∷ []) others)) (fine.0 s.number)
     ∙ no_fault (before ++ s ∷ []) others (subst (λ (now : Standing). AllFine now (map (λ (t : Statement). t.said) others)) (sym (stands-push before s.number s.said)) fine.1)
 
-slots_in_order : (names : List (List ℕ)) (slots : List (Option Bool)) (before : List Entry) (rest : List Said) → AreRoleKeys names → AreFresh before names → AreApart names
+slots_in_order : (names : List (List ℕ)) (slots : List (Option Bool)) (before : List Entry) (rest : List LineContent) → AreRoleKeys names → AreFresh before names → AreApart names
     → AllFine (standing (Some (codes "role_definition")) (before ++ slot_entries names slots)) rest → AllFine (standing (Some (codes "role_definition")) before) (map said_of (slot_entries names slots) ++ rest)
 slots_in_order [] slots before rest keys fresh apart_ fine = subst (λ (l : List Entry). AllFine (standing (Some (codes "role_definition")) l) rest) (append-nil before) fine
 slots_in_order (name ∷ names) [] before rest keys fresh apart_ fine = subst (λ (l : List Entry). AllFine (standing (Some (codes "role_definition")) l) rest) (append-nil before) fine
@@ -231,17 +231,17 @@ entries_said : (statements : List Statement) → entries_of statements ≡ filte
 entries_said [] = refl
 entries_said (s ∷ others) = by_said s.number s.said (entries_said others)
   where
-    by_said : (number : ℕ) (said : Said) → entries_of others ≡ filter_map entry_of (map (λ (t : Statement). t.said) others)
+    by_said : (number : ℕ) (said : LineContent) → entries_of others ≡ filter_map entry_of (map (λ (t : Statement). t.said) others)
         → entries_of (statement number said ∷ others) ≡ filter_map entry_of (said ∷ map (λ (t : Statement). t.said) others)
     by_said number (header name) rest = rest
     by_said number (pair key value) rest = ap (λ (l : List Entry). entry key value ∷ l) rest
     by_said number nothing rest = rest
 
-entries_of_pairs : (entries : List Entry) (rest : List Said) → filter_map entry_of (map said_of entries ++ rest) ≡ entries ++ filter_map entry_of rest
+entries_of_pairs : (entries : List Entry) (rest : List LineContent) → filter_map entry_of (map said_of entries ++ rest) ≡ entries ++ filter_map entry_of rest
 entries_of_pairs [] rest = refl
 entries_of_pairs (e ∷ entries) rest = ap (λ (l : List Entry). e ∷ l) (entries_of_pairs entries rest)
 
-entries_of_roles : (relations : List RoleShape) (rest : List Said) → filter_map entry_of (role_saids relations ++ rest) ≡ map relation_entry relations ++ filter_map entry_of rest
+entries_of_roles : (relations : List RoleShape) (rest : List LineContent) → filter_map entry_of (role_saids relations ++ rest) ≡ map relation_entry relations ++ filter_map entry_of rest
 entries_of_roles [] rest = refl
 entries_of_roles (first ∷ others) rest = entries_of_pairs (map relation_entry (first ∷ others)) rest
 
@@ -319,7 +319,7 @@ printed_is_model m kept few =
         utf8 = IsUtf8-printed m kept.request.named kept.policy.named kept.utf8;
         said = subst (λ (lines : List (List ℕ)). AreStatements (numbered 1 lines) said.statements) (sym (lines_again read)) said.are;
       };
-      lines = no_fault [] said.statements (subst (λ (l : List Said). AllFine (standing None []) l) (sym said.say) (all_in_order m h));
+      lines = no_fault [] said.statements (subst (λ (l : List LineContent). AllFine (standing None []) l) (sym said.say) (all_in_order m h));
       says = subst (λ (es : List Entry). SayModel es m) (sym entries) (entries_say m kept h);
     }
 

@@ -9,7 +9,7 @@ use Rattle.model_conf.specs.Logical.{IsWhole, no_line, passed, begun}
 use Rattle.model_conf.specs.Sections.{Entry, entry_of, entries_of, fault_behind, first_fault, name_of, said_fault, section_behind}
 use Rattle.model_conf.specs.Helps.Seen.{TakesLines, ReadsEntries}
 use Rattle.model_conf.specs.declared.entries.Entries.{Entries}
-use Rattle.model_conf.specs.Statements.{Said, header, pair, nothing, Statement, statement, LineSays, no_more, one_more, AreStatements, HasStatements}
+use Rattle.model_conf.specs.Statements.{LineContent, header, pair, nothing, Statement, statement, LineSays, no_more, one_more, AreStatements, HasStatements}
 use Rattle.model_conf.specs.Helps.Steps.{Standing, standing, behind}
 use Rattle.model_conf.specs.declared.fault.ModelFault.{ModelFault}
 use Rattle.model_conf.specs.declared.fault.ModelFault.TheVariants as fault
@@ -42,7 +42,7 @@ section_behind-push (first ∷ front) s = ap (λ (o : Option (List ℕ)). option
 abbrev pub stands_behind : List Statement → Standing
 stands_behind front = standing (section_behind front) (entries_of front)
 
-pub stands-push : (front : List Statement) (number : ℕ) (said : Said) → stands_behind (front ++ statement number said ∷ []) ≡ behind (stands_behind front) said
+pub stands-push : (front : List Statement) (number : ℕ) (said : LineContent) → stands_behind (front ++ statement number said ∷ []) ≡ behind (stands_behind front) said
 stands-push front number (header name) =
     ap (λ (o : Option (List ℕ)). standing o (entries_of (front ++ statement number (header name) ∷ []))) (section_behind-push front (statement number (header name)))
     ∙ ap (λ (l : List Entry). standing (Some name) l) (filter_map-append (λ (s : Statement). entry_of s.said) front (statement number (header name) ∷ []) ∙ append-nil (entries_of front))
@@ -58,7 +58,7 @@ stands-push front number nothing =
 pub passed_more : {first : Line} {lines : List Line} {tail : List Statement} → is_passed_in_model first.text ≡ true → AreStatements lines tail → AreStatements (first ∷ lines) tail
 passed_more e t = record { logical = t.logical; lines_are = passed e t.lines_are; say = t.say }
 
-pub begun_more : {first : Line} {lines left : List Line} {whole : List ℕ} {said : Said} {tail : List Statement} → is_passed_in_model first.text ≡ false → IsWhole first.text lines whole left → LineSays whole said
+pub begun_more : {first : Line} {lines left : List Line} {whole : List ℕ} {said : LineContent} {tail : List Statement} → is_passed_in_model first.text ≡ false → IsWhole first.text lines whole left → LineSays whole said
     → AreStatements left tail → AreStatements (first ∷ lines) (statement first.number said ∷ tail)
 begun_more {first} {whole = whole} e joined says t = record { logical = line first.number whole ∷ t.logical; lines_are = begun e joined t.lines_are; say = one_more says t.say }
 
@@ -83,12 +83,12 @@ read_passed bytes rest after text number now so_far first e = record {
 }
 
 -- a line that was begun, with what it says, and the lines behind it
-begun_at : (bytes rest after text whole : List ℕ) (number : ℕ) (now : Standing) (left : List Line) (said : Said) (tail : List Statement) → (so_far : HasRead bytes rest number now) → text_lines rest ≡ text ∷ text_lines after → is_passed_in_model text ≡ false
+begun_at : (bytes rest after text whole : List ℕ) (number : ℕ) (now : Standing) (left : List Line) (said : LineContent) (tail : List Statement) → (so_far : HasRead bytes rest number now) → text_lines rest ≡ text ∷ text_lines after → is_passed_in_model text ≡ false
     → IsWhole text (numbered (number + 1) (text_lines after)) whole left → LineSays whole said → AreStatements left tail → AreStatements (numbered 1 (text_lines bytes)) (so_far.front ++ statement number said ∷ tail)
 begun_at bytes rest after text whole number now left said tail so_far first e joined says t =
     so_far.reads (statement number said ∷ tail) (subst (λ (l : List (List ℕ)). AreStatements (numbered number l) (statement number said ∷ tail)) (sym first) (begun_more e joined says t))
 
-fault_there : (front : List Statement) (number : ℕ) (said : Said) (now : Standing) (found : Option ModelFault) → now ≡ stands_behind front → said_fault now.entries now.section number said ≡ found → fault_behind front (statement number said) ≡ found
+fault_there : (front : List Statement) (number : ℕ) (said : LineContent) (now : Standing) (found : Option ModelFault) → now ≡ stands_behind front → said_fault now.entries now.section number said ≡ found → fault_behind front (statement number said) ≡ found
 fault_there front number said now found stands e = ap (λ (st : Standing). said_fault st.entries st.section number said) (sym stands) ∙ e
 
 pub read_taken : (bytes rest after text : List ℕ) (left : Bor (List ℕ)) (number next : ℕ) (now later : Standing) → HasRead bytes rest number now → text_lines rest ≡ text ∷ text_lines after → is_passed_in_model text ≡ false

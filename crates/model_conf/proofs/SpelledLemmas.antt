@@ -11,7 +11,7 @@ use Rattle.text_parts.specs.Passed.{is_passed_in_model}
 use Rattle.model_conf.specs.Logical.{EndsOpen, ended, no_line}
 use Rattle.model_conf.specs.Printed.{key_line, section_lines}
 use Rattle.model_conf.specs.Sections.{Entry}
-use Rattle.model_conf.specs.Statements.{Said, header, pair, IsNoHeader, Says, as_header, as_pair, LineSays, Statement, statement, AreStatements, no_more}
+use Rattle.model_conf.specs.Statements.{LineContent, header, pair, IsNoHeader, Says, as_header, as_pair, LineSays, Statement, statement, AreStatements, no_more}
 use Rattle.text_parts.proofs.BlankLemmas.{before_blanks-other, behind_blanks-blank}
 use Rattle.std.proofs.lemmas.Bool.{and_parts}
 use Rattle.model_conf.proofs.JoinedLemmas.{before_blanks-onto}
@@ -53,7 +53,7 @@ pub record IsEntryText (e : Entry) : Type 0 where
 -- ---- one line
 
 -- a line that says this, whatever stands behind it
-pub record IsSpelled (text : List ℕ) (said : Said) : Type 0 where
+pub record IsSpelled (text : List ℕ) (said : LineContent) : Type 0 where
   pub whole : has_byte 10 text ≡ false
   pub no_cr_is : without_cr text ≡ text
   pub closed : (front : List ℕ) → ¬ (EndsOpen text front)
@@ -118,17 +118,17 @@ header_spelled name tame =
 -- ---- lines one behind the other
 
 -- each line is empty or says the next of these
-pub data AreRead : List (List ℕ) → List Said → Type 0 where
+pub data AreRead : List (List ℕ) → List LineContent → Type 0 where
   no_lines : AreRead [] []
-  empty_line : {lines : List (List ℕ)} {saids : List Said} → AreRead lines saids → AreRead ([] ∷ lines) saids
-  full_line : {text : List ℕ} {said : Said} {lines : List (List ℕ)} {saids : List Said} → IsSpelled text said → AreRead lines saids → AreRead (text ∷ lines) (said ∷ saids)
+  empty_line : {lines : List (List ℕ)} {saids : List LineContent} → AreRead lines saids → AreRead ([] ∷ lines) saids
+  full_line : {text : List ℕ} {said : LineContent} {lines : List (List ℕ)} {saids : List LineContent} → IsSpelled text said → AreRead lines saids → AreRead (text ∷ lines) (said ∷ saids)
 
-pub read-append : {front back : List (List ℕ)} {saids others : List Said} → AreRead front saids → AreRead back others → AreRead (front ++ back) (saids ++ others)
+pub read-append : {front back : List (List ℕ)} {saids others : List LineContent} → AreRead front saids → AreRead back others → AreRead (front ++ back) (saids ++ others)
 read-append no_lines more = more
 read-append (empty_line rest) more = empty_line (read-append rest more)
 read-append (full_line is rest) more = full_line is (read-append rest more)
 
-abbrev pub said_of : Entry → Said
+abbrev pub said_of : Entry → LineContent
 said_of e = pair e.key e.value
 
 keys_read : (entries : List Entry) → AllByRecursion IsEntryText entries → AreRead (map key_line entries) (map said_of entries)
@@ -147,18 +147,18 @@ no_ends : lines_of [] ≡ []
 unfolding lines_of
 no_ends = refl
 
-pub lines_again : {lines : List (List ℕ)} {saids : List Said} → AreRead lines saids → text_lines (with_ends lines) ≡ lines
+pub lines_again : {lines : List (List ℕ)} {saids : List LineContent} → AreRead lines saids → text_lines (with_ends lines) ≡ lines
 lines_again no_lines = text_lines-none [] no_ends
 lines_again (empty_line {lines = lines} rest) = ends_more [] lines refl refl (lines_again rest)
 lines_again (full_line {text} {lines = lines} is rest) = ends_more text lines is.whole is.no_cr_is (lines_again rest)
 
 -- the statements of lines
-pub record HasSaid (lines : List Line) (saids : List Said) : Type 0 where
+pub record HasSaid (lines : List Line) (saids : List LineContent) : Type 0 where
   pub statements : List Statement
   pub are : AreStatements lines statements
   pub say : map (λ (s : Statement). s.said) statements ≡ saids
 
-pub said_by_lines : {lines : List (List ℕ)} {saids : List Said} → AreRead lines saids → (number : ℕ) → HasSaid (numbered number lines) saids
+pub said_by_lines : {lines : List (List ℕ)} {saids : List LineContent} → AreRead lines saids → (number : ℕ) → HasSaid (numbered number lines) saids
 said_by_lines no_lines number = record { statements = []; are = record { logical = []; lines_are = no_line; say = no_more }; say = refl }
 said_by_lines (empty_line rest) number =
     let more = said_by_lines rest (number + 1) in
@@ -168,5 +168,5 @@ said_by_lines (full_line {text} {said} {lines} is rest) number =
     record {
       statements = statement number said ∷ more.statements;
       are = begun_more {first = line number text} {lines = numbered (number + 1) lines} is.begun (ended is.closed) is.says more.are;
-      say = ap (λ (l : List Said). said ∷ l) more.say;
+      say = ap (λ (l : List LineContent). said ∷ l) more.say;
     }

@@ -15,7 +15,7 @@ use Rattle.text_parts.specs.Numbered.{Line, numbered, text_lines}
 use Rattle.model_conf.specs.Logical as l
 use Rattle.model_conf.specs.Relations.{value_of}
 use Rattle.model_conf.specs.Sections.{Entry, entries_of}
-use Rattle.model_conf.specs.Statements.{Said, Says, as_header, as_pair, as_nothing, Statement, AllSay, no_more, one_more, HasStatements}
+use Rattle.model_conf.specs.Statements.{LineContent, Says, as_header, as_pair, as_nothing, Statement, AllSay, no_more, one_more, HasStatements}
 
 -- it holds no LF
 abbrev IsLine : List ℕ → Type 0
@@ -166,7 +166,7 @@ left_line (unclosed {quote} {inside} {whole} is sign whole_is) none =
 abbrev AreValues : List Entry → Type 0
 AreValues entries = AllByRecursion (λ (e : Entry). IsPartOfLine e.value) entries
 
-said_values : (text : List ℕ) (said : Said) (number : ℕ) (others : List Statement) → Says text said → IsLine text → AreValues (entries_of others) → AreValues (entries_of (record { number = number; said = said } ∷ others))
+said_values : (text : List ℕ) (said : LineContent) (number : ℕ) (others : List Statement) → Says text said → IsLine text → AreValues (entries_of others) → AreValues (entries_of (record { number = number; said = said } ∷ others))
 said_values text said number others (as_header name e) is all = all
 said_values text said number others (as_pair key value none first e) is all =
     let behind = line_parts key (61 ∷ value) (subst IsLine e is) in

@@ -7,7 +7,7 @@ use Rattle.text_parts.specs.Blanks.{before_blanks, trimmed}
 use Rattle.text_parts.specs.Numbered.{Line, line}
 use Rattle.text_parts.specs.Passed.{is_passed_in_model}
 use Rattle.model_conf.specs.Logical.{EndsOpen, IsWhole, ended, continued, dropped, AreLogical, no_line, passed, begun}
-use Rattle.model_conf.specs.Statements.{Said, header, pair, nothing, IsNoHeader, Says, as_header, as_pair, as_nothing, LineSays, Statement, statement, AllSay, no_more, one_more, AreStatements}
+use Rattle.model_conf.specs.Statements.{LineContent, header, pair, nothing, IsNoHeader, Says, as_header, as_pair, as_nothing, LineSays, Statement, statement, AllSay, no_more, one_more, AreStatements}
 use Rattle.model_conf.proofs.OpenLemmas.{before_open, ends_open}
 use Rattle.model_conf.proofs.CommentLemmas.{uncommented, uncommented_is}
 
@@ -70,12 +70,12 @@ cut_or : (text : List ℕ) → IsCut text
 cut_or [] = inr refl
 cut_or (first ∷ text) = cut_by first text (eqb first 61) refl (cut_or text)
 
-says_by : (text : List ℕ) → IsHeader text → IsCut text → (said : Said) × Says text said
+says_by : (text : List ℕ) → IsHeader text → IsCut text → (said : LineContent) × Says text said
 says_by text (inl is) cut = (header is.0, as_header is.0 is.1)
 says_by text (inr none) (inl is) = (pair (trimmed is.0) (trimmed is.1), as_pair is.0 is.1 none is.2 is.3)
 says_by text (inr none) (inr no_sign) = (nothing, as_nothing none no_sign)
 
-pub LineSays-some : (text : List ℕ) → (said : Said) × LineSays text said
+pub LineSays-some : (text : List ℕ) → (said : LineContent) × LineSays text said
 LineSays-some text =
     let left = uncommented None text in
     let s = says_by (trimmed left) (header_or (trimmed left)) (cut_or (trimmed left)) in

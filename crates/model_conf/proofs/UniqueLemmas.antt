@@ -6,7 +6,7 @@ use Rattle.text_parts.specs.Lines.{has_byte}
 use Rattle.text_parts.specs.Blanks.{trimmed}
 use Rattle.text_parts.specs.Numbered.{Line, line}
 use Rattle.model_conf.specs.Logical.{IsWhole, ended, continued, dropped, AreLogical, no_line, passed, begun}
-use Rattle.model_conf.specs.Statements.{Said, header, pair, Says, as_header, as_pair, as_nothing, LineSays, Statement, statement, AllSay, no_more, one_more, AreStatements}
+use Rattle.model_conf.specs.Statements.{LineContent, header, pair, Says, as_header, as_pair, as_nothing, LineSays, Statement, statement, AllSay, no_more, one_more, AreStatements}
 use Rattle.model_conf.proofs.OpenLemmas.{EndsOpen-once}
 use Rattle.text_parts.proofs.CallerLemmas.{cut_once, has_byte-here}
 use Rattle.model_conf.proofs.CommentLemmas.{uncommented_only}
@@ -19,7 +19,7 @@ header_once name other e = append_cancel_right name other (93 ∷ []) cc
 no_sign : (text key value : List ℕ) → text ≡ key ++ 61 ∷ value → has_byte 61 text ≡ false → ⊥
 no_sign text key value spelled none = false≢true (sym none ∙ ap (has_byte 61) spelled ∙ has_byte-here 61 key value)
 
-pub Says-once : (text : List ℕ) (one two : Said) → Says text one → Says text two → one ≡ two
+pub Says-once : (text : List ℕ) (one two : LineContent) → Says text one → Says text two → one ≡ two
 Says-once text one two (as_header name e) (as_header other f) = ap header (header_once name other (sym e ∙ f))
 Says-once text one two (as_header name e) (as_pair key value none first f) = absurd (none name e)
 Says-once text one two (as_header name e) (as_nothing none no_) = absurd (none name e)
@@ -32,7 +32,7 @@ Says-once text one two (as_nothing none no_) (as_header name f) = absurd (none n
 Says-once text one two (as_nothing none no_) (as_pair key value none' first f) = absurd (no_sign text key value f no_)
 Says-once text one two (as_nothing none no_) (as_nothing none' no_') = refl
 
-pub LineSays-once : (text : List ℕ) (one two : Said) → LineSays text one → LineSays text two → one ≡ two
+pub LineSays-once : (text : List ℕ) (one two : LineContent) → LineSays text one → LineSays text two → one ≡ two
 LineSays-once text one two first second =
     let same : second.left ≡ first.left = uncommented_only second.uncommented ∙ sym (uncommented_only first.uncommented) in
     Says-once (trimmed first.left) one two first.says (subst (λ (l : List ℕ). Says (trimmed l) two) same second.says)
@@ -66,7 +66,7 @@ AreLogical-once (begun {first} {logical = logical} {whole = whole} e joined more
 pub AllSay-once : {logical : List Line} {one two : List Statement} → AllSay logical one → AllSay logical two → one ≡ two
 AllSay-once no_more no_more = refl
 AllSay-once (one_more {first} {said = said} {statements = statements} says more) (one_more {said = said'} {statements = statements'} says' more') =
-    ap (λ (s : Said). statement first.number s ∷ statements) (LineSays-once first.text said said' says says') ∙ ap (λ (l : List Statement). statement first.number said' ∷ l) (AllSay-once more more')
+    ap (λ (s : LineContent). statement first.number s ∷ statements) (LineSays-once first.text said said' says says') ∙ ap (λ (l : List Statement). statement first.number said' ∷ l) (AllSay-once more more')
 
 pub AreStatements-once : (lines : List Line) (one two : List Statement) → AreStatements lines one → AreStatements lines two → one ≡ two
 AreStatements-once lines one two first second =

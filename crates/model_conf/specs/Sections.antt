@@ -3,7 +3,7 @@ use Rattle.std.specs.Prelude.{ℕ, ◌&&◌, Bool, if◌then◌else◌, List, []
 use Rattle.std.specs.List.{list_any, filter_map}
 use Rattle.std.specs.Option.{option_or}
 use Rattle.std.specs.Str.{bytes_eq}
-use Rattle.model_conf.specs.Statements.{Said, header, pair, nothing, Statement}
+use Rattle.model_conf.specs.Statements.{LineContent, header, pair, nothing, Statement}
 use Rattle.model_conf.specs.declared.fault.ModelFault.{ModelFault}
 use Rattle.model_conf.specs.declared.fault.ModelFault.TheVariants as fault
 
@@ -26,7 +26,7 @@ unfoldable pub has_key : List ℕ → List ℕ → Bool
 has_key name key = list_any (λ (section : List ℕ × List (List ℕ)). bytes_eq name section.0 && list_any (bytes_eq key) section.1) sections
 
 -- the name of a header
-abbrev pub name_of : Said → Option (List ℕ)
+abbrev pub name_of : LineContent → Option (List ℕ)
 name_of (header name) = Some name
 name_of (pair key value) = None
 name_of nothing = None
@@ -44,7 +44,7 @@ pub record Entry : Type 0 where
 abbrev pub entry : List ℕ → List ℕ → Entry
 entry key value = record { key = key; value = value }
 
-abbrev pub entry_of : Said → Option Entry
+abbrev pub entry_of : LineContent → Option Entry
 entry_of (pair key value) = Some (entry key value)
 entry_of (header name) = None
 entry_of nothing = None
@@ -64,7 +64,7 @@ key_fault entries (Some section) number key =
     if has_key section key then (if is_key_of entries key then Some (fault.RepeatedKey number) else None) else Some (fault.UnknownKey number)
 
 -- the fault of a line that says this, behind these entries and in this section
-abbrev pub said_fault : List Entry → Option (List ℕ) → ℕ → Said → Option ModelFault
+abbrev pub said_fault : List Entry → Option (List ℕ) → ℕ → LineContent → Option ModelFault
 said_fault entries section number (header name) = if is_section name then None else Some (fault.UnknownSection number)
 said_fault entries section number (pair key value) = key_fault entries section number key
 said_fault entries section number nothing = Some (fault.Line number)

@@ -46,10 +46,7 @@ fn rule_of(alloc: Global, names: &[&str]) -> Result<Rule, NoMemory>
     for name in names {
         fields.push(Text::from_str(alloc, name)?)?;
     }
-    let Ok(rule) = Rule::from_fields(fields) else {
-        unreachable!()
-    };
-    Ok(rule)
+    Ok(Rule::from_vec(fields))
 }
 
 fn are_columns(names: &[&str]) -> bool

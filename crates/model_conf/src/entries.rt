@@ -8,7 +8,7 @@ ghost use Rattle.model_conf.specs.Helps.Steps.{Takes};
 
 use crate::fault::ModelFault;
 use crate::joining::{join_lines, open_front};
-use crate::saying::{Said, read_said};
+use crate::saying::{LineContent, read_said};
 use crate::sections::{Section, key_named, section_named};
 use outside::NoMemory;
 use std::alloc::Global;
@@ -31,19 +31,19 @@ pub(crate) struct Entries {
 impl Entries {
     // Takes a logical line, whose first line has this number. After want of memory the entries are not to be used.
     fn take(&mut self, alloc: Global, number: u32, line: &str) -> Result<(), ModelFault>
-        ensures { (said : statements.Said) × statements.LineSays line.now said
+        ensures { (said : statements.LineContent) × statements.LineSays line.now said
             × Takes (standing_seen self.old) (standing_seen self.new) number said result }
     {
         match read_said(line) {
-            Said::Header(name) => {
+            LineContent::Header(name) => {
                 let Some(section) = section_named(name) else {
                     return Err(ModelFault::UnknownSection { line: number });
                 };
                 self.section = Some(section);
                 Ok(())
             }
-            Said::Pair(key, value) => self.put(alloc, number, key, value),
-            Said::Nothing => Err(ModelFault::Line { line: number }),
+            LineContent::Pair(key, value) => self.put(alloc, number, key, value),
+            LineContent::Nothing => Err(ModelFault::Line { line: number }),
         }
     }
 

@@ -7,23 +7,23 @@ use text_parts::{cut_at, trimmed};
 
 /// What a logical line says.
 #[derive(Clone, Copy)]
-pub(crate) enum Said<'a> {
+pub(crate) enum LineContent<'a> {
     Header(&'a str),
     Pair(&'a str, &'a str),
     Nothing,
 }
 
 /// What a logical line says, without its comment and the blanks at its ends.
-pub(crate) fn read_said(line: &str) -> Said<'_>
+pub(crate) fn read_said(line: &str) -> LineContent<'_>
     ensures { LineSays line.now (said_by result) }
 {
     let text = trimmed(without_comment(line));
     if let Some(name) = header_name(text) {
-        return Said::Header(name);
+        return LineContent::Header(name);
     }
     match cut_at(text, b'=') {
-        Some((key, value)) => Said::Pair(trimmed(key), trimmed(value)),
-        None => Said::Nothing,
+        Some((key, value)) => LineContent::Pair(trimmed(key), trimmed(value)),
+        None => LineContent::Nothing,
     }
 }
 

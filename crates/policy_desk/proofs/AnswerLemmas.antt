@@ -1,7 +1,7 @@
 -- What a desk answers, and when it is an edit.
 use Rattle.std.proofs.Common.{◌≡◌, List, Option, Some, None, Ok, Err, refl, subst}
 use Rattle.std.specs.Option.{option_map_or}
-use Rattle.edit_calls.specs.Answers.{Answer, answer, within}
+use Rattle.edit_calls.specs.Answers.{CallAnswer, answer, within}
 use Rattle.edit_calls.specs.Edits.{edit_by}
 use Rattle.edit_calls.specs.Refusals.{refusal}
 use Rattle.edit_calls.specs.declared.call.Call.{Call}
@@ -24,7 +24,7 @@ pub record IsFound (shapes : Shapes) (policy : Policy) (call : Call) (edit : Lis
 pub found : (shapes : Shapes) (policy : Policy) (call : Call) (edit : List Change) → answer shapes policy call ≡ Ok (Some edit) → IsFound shapes policy call edit
 found shapes policy call edit = by_refusal (refusal shapes call) refl
   where
-    limited : List Change → Option Limit → Answer
+    limited : List Change → Option Limit → CallAnswer
     limited one limit = option_map_or (λ (l : Limit). Err (Full l)) limit (Ok (Some one))
 
     by_limit : (one : List Change) (limit : Option Limit) → refusal shapes call ≡ None → edit_by shapes policy call ≡ Some one → passed shapes (edited one policy) ≡ limit

@@ -1,5 +1,5 @@
 -- What a desk keeps where an edit is drafted.
-use Rattle.std.proofs.Common.{◌≡◌, ℕ, ◌+◌, ◌<◌, true, List, [], ◌∷◌, ◌++◌, length, length-append, Ok, Some, refl, sym, ap, subst, ◌∙◌, arith}
+use Rattle.std.proofs.Common.{◌≡◌, ℕ, ◌+◌, ◌<◌, true, List, [], ◌∷◌, ◌++◌, length, length-append, Ok, Some, sym, ap, subst, ◌∙◌, arith}
 use Rattle.std.proofs.lemmas.List.{append-nil}
 use Rattle.edit_calls.specs.Admitted.{AreAdmitted, admits}
 use Rattle.perm_base.specs.declared.shapes.Shapes.{Shapes}
@@ -42,17 +42,17 @@ drafted_is now inside edit pending drafts is more made = (λ j. record inside { 
 
 -- a publish is begun
 pub begun_from : (now inside : Work) (state : State) (floor : ℕ) → inside ≡ now → floor ≡ floor_after now → state.shapes ≡ inside.state.shapes → state.column ≡ inside.state.column
-    → state.log.start ≡ inside.state.log.start → state.log.base ≡ inside.state.log.base → state.log.tail ≡ inside.state.log.tail → IsBegun now (record inside { state = state; floor = floor })
-begun_from now inside state floor is raised shapes column start base tail =
+    → state.log.start ≡ inside.state.log.start → state.log.tail ≡ inside.state.log.tail → tables state ≡ tables inside.state → IsBegun now (record inside { state = state; floor = floor })
+begun_from now inside state floor is raised shapes column start tail same =
     subst (λ (d : Work). IsBegun d (record inside { state = state; floor = floor })) is
     (record {
       state = record {
         shapes = shapes;
         column = column;
         start = start;
-        base = base;
         tail = tail;
-        stands = λ opening history stands. stands_same inside.state.log state.log opening history start base tail stands;
+        tables_are = same;
+        stands = λ opening history stands. stands_same inside.state state opening history start tail same stands;
       };
       others = let here : floor ≡ floor_after inside = raised ∙ ap floor_after (sym is) in λ j. record inside { state = state; floor = here j };
     })

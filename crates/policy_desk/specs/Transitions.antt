@@ -1,6 +1,6 @@
 -- What calls and publishes do to a desk.
 use Rattle.std.specs.Prelude.{◌≡◌, ℕ, ◌+◌, List, [], ◌++◌, length}
-use Rattle.edit_calls.specs.Answers.{Answer}
+use Rattle.edit_calls.specs.Answers.{CallAnswer}
 use Rattle.policy_desk.specs.Answers.{drafts_after, pending_after}
 use Rattle.policy_desk.specs.Desks.{Work, floor_after}
 use Rattle.policy_state.specs.States.{State, StandsFor, tables}
@@ -9,7 +9,7 @@ use Rattle.policy_table.specs.declared.change.Change.{Change}
 use Rattle.version_log.specs.Log.{versions}
 
 -- a call with this answer was made: its edit, where it has one, is pending and made in the drafts, and nothing else changed
-abbrev pub after_call : Answer → Work → Work
+abbrev pub after_call : CallAnswer → Work → Work
 after_call answered desk = record desk { pending = pending_after answered desk.pending; drafts = drafts_after answered desk.drafts }
 
 -- the policy is as it was, its room aside
@@ -17,8 +17,8 @@ pub record IsSame (before now : State) : Type 0 where
   pub shapes : now.shapes ≡ before.shapes
   pub column : now.column ≡ before.column
   pub start : now.log.start ≡ before.log.start
-  pub base : now.log.base ≡ before.log.base
   pub tail : now.log.tail ≡ before.log.tail
+  pub tables_are : tables now ≡ tables before
   pub stands : (opening : Policy) (history : List (List Change)) → StandsFor before opening history → StandsFor now opening history
 
 -- the policy has these edits behind the others

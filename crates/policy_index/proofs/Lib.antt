@@ -1,9 +1,8 @@
 mod ListLemmas
+mod CopyLemmas
 mod PlaceLemmas
 mod CountLemmas
 mod CommitLemmas
-mod MadeLemmas
-mod OwnLemmas
+mod ReserveLemmas
 mod LawLemmas
 mod IndexLemmas
-pub mod CallerLemmas

@@ -7,7 +7,7 @@ use Rattle.std.proofs.lemmas.Cmp.{nat_list_eq_equiv}
 use Rattle.std.proofs.lemmas.List.{drop_more, length-take-le, take_more}
 use Rattle.std.proofs.lemmas.List.Sums.{sum_by-cons}
 use Rattle.policy_table.specs.Tables.{Fields}
-use Rattle.policy_index.specs.Helps.Kept.{AreListed}
+use Rattle.policy_index.specs.Indexed.{AreListed}
 use Rattle.policy_index.specs.Lists.{Lists, places_at, room_at}
 use Rattle.policy_index.specs.Places.{has_text, places_from, places_of}
 

@@ -1,5 +1,6 @@
 ghost use Rattle.std.specs.Prelude.{◌≡◌, ℕ, ◌+◌, ◌&&◌, [], List, if◌then◌else◌, length, not};
-ghost use Rattle.policy_index.specs.Helps.Kept.{AreListed, CanFill, only_inserts};
+ghost use Rattle.policy_index.specs.Helps.Kept.{CanFill};
+ghost use Rattle.policy_index.specs.Indexed.{AreListed};
 ghost use Rattle.policy_index.specs.Lists.{places_at, room_at};
 
 use crate::places::Places;
@@ -7,11 +8,11 @@ use crate::prepared::Prepared;
 use perm_base::Rule;
 use policy_table::Tables;
 
-/// Whether changes only append rows to the p of tables: they put rules in and take none out, and p is not ranked.
+/// Whether edits only append rows to the p of tables: they take no rule out, and p is not ranked.
 pub(crate) fn only_append(prepared: &Prepared, tables: &Tables) -> bool
-    ensures { result ≡ (only_inserts prepared.now && not tables.now.policy.ranked) }
+    ensures { result ≡ (prepared.now && not tables.now.policy.ranked) }
 {
-    prepared.only_inserts() && !tables.is_ranked()
+    prepared.all_keep() && !tables.is_ranked()
 }
 
 /// The place from which rows are to be filled in: behind those that are there already, where rows are only appended to

@@ -1,14 +1,14 @@
-ghost use Rattle.std.specs.Prelude.{◌≡◌, ℕ, ◌<◌, ◌^◌, IfOk, List, length, true};
+ghost use Rattle.std.specs.Prelude.{◌≡◌, Bool, IfOk, List, true};
 ghost use Rattle.perm_base.specs.declared.shapes.TableId.TheVariants.{P};
-ghost use Rattle.policy_table.specs.Changes.{applies, edited, flat, own};
-ghost use Rattle.policy_table.specs.Tables.{rows};
+ghost use Rattle.policy_table.specs.Changes.{flat};
+ghost use Rattle.policy_table.specs.Tables.{Fields, rows};
 ghost use Rattle.policy_table.specs.declared.change.Change.{Change};
-ghost use Rattle.policy_index.specs.Indexed.{IsPreparedFor, all_fit, only_p};
+ghost use Rattle.policy_index.specs.Indexed.{Follows, IsIndexOf, IsPreparedFor, all_fit};
 ghost use Rattle.policy_index.specs.Places.{HaveColumn, places_of};
 
 use crate::filling::{fill, first_to_fill, only_append};
-use crate::making::{copy_of_p, places_of};
-use crate::own::{only_inserts, own_changes};
+use crate::keeping::all_keep;
+use crate::making::places_of;
 use crate::places::Places;
 use crate::prepared::Prepared;
 use crate::reserving::reserve;
@@ -16,32 +16,26 @@ use perm_base::{NoMemory, Share, TableId};
 use policy_table::{Edit, Tables};
 use std::alloc::Global;
 use std::marker::Model;
-use std::slice;
 
-/// An index of p by one column: the places of the rows by their text in it. It keeps the rules of p, ranked or not.
-/// Contracts see the column, the kept tables, of which p alone has rules, and the places with their room.
+/// An index of p by one column: the places of the rows by their text in it. It keeps no rules: its contracts name those of
+/// which it is an index. They see the column, the number of the rules, and the places with their room.
 #[derive(Drop)]
 pub struct Index {
     column: u32,
-    tables: Tables,
+    count: u32,
     places: Places,
 }
 
 impl Model for Index {
-    ghost use Rattle.perm_base.specs.declared.shapes.TableId.TheVariants.{P};
-    ghost use Rattle.policy_table.specs.Tables.{rows};
-    ghost use Rattle.policy_index.specs.Helps.Kept.{IsIndexed};
     ghost use Rattle.policy_index.specs.Indexed.{Indexed};
 
     ghost Value = { Indexed };
 
     ghost view = { λ i. record {
       column = i.column;
-      held = i.tables;
+      count = i.count;
       lists = i.places;
     } };
-
-    ghost invariant = { λ i. IsIndexed i.column (rows i.tables.policy P) i.places };
 }
 
 impl Index {
@@ -49,13 +43,27 @@ impl Index {
     pub fn make(alloc: Global, tables: &Tables, column: u32) -> Result<Index, NoMemory>
         requires { HaveColumn column (rows tables.now.policy P) }
         ensures column { IfOk result (λ index. index.column ≡ column) }
-        ensures policy { IfOk result (λ index. index.held.policy ≡ only_p tables.now.policy) }
+        ensures rules { IfOk result (λ index. IsIndexOf index (rows tables.now.policy P)) }
     {
-        let kept = copy_of_p(alloc, tables)?;
-        let places = places_of(alloc, tables.rows(TableId::P), column)?;
+        let rules = tables.rows(TableId::P);
+        let places = places_of(alloc, rules, column)?;
         Ok(Index {
             column,
-            tables: kept,
+            count: rules.len() as u32,
+            places,
+        })
+    }
+
+    /// The same index once more, its room aside. Its time is linear in the rows.
+    pub fn copy(&self, alloc: Global) -> Result<Index, NoMemory>
+        ensures column { IfOk result (λ copy. copy.column ≡ self.now.column) }
+        ensures rules { IfOk result (λ copy. (rules : List Fields)
+            → IsIndexOf self.now rules → IsIndexOf copy rules) }
+    {
+        let places = self.places.copy(alloc)?;
+        Ok(Index {
+            column: self.column,
+            count: self.count,
             places,
         })
     }
@@ -63,50 +71,38 @@ impl Index {
     /// The rising places, counted from 0, of the rows of p whose column equals a text. It takes no memory, and its time
     /// does not grow with p.
     pub fn rows_of(&self, text: &[u8]) -> &[u32]
-        ensures { result.now ≡ places_of self.now.column text.now (rows self.now.held.policy P) }
+        ensures { (rules : List Fields) → IsIndexOf self.now rules
+            → result.now ≡ places_of self.now.column text.now rules }
     {
         self.places.of(text)
     }
 
     /// Makes the changes of p of edits ready, so that `commit` needs no memory; changes of other tables are passed over.
-    /// The index is as before, whatever the answer, and edits that were prepared before stay so.
+    /// The index is of the same rules as before, whatever the answer, and edits that were prepared before stay so.
     pub fn prepare(&mut self, alloc: Global, edits: &[Edit]) -> Result<Prepared, NoMemory>
-        requires possible { applies (own P (flat edits.now)) self.old.held.policy ≡ true }
-        requires few { length (rows (edited (own P (flat edits.now)) self.old.held.policy) P)
-            < 2 ^ 32 }
-        requires columns { all_fit self.old.column (own P (flat edits.now)) ≡ true }
+        requires columns { all_fit self.old.column (flat edits.now) ≡ true }
         ensures column { self.new.column ≡ self.old.column }
-        ensures unchanged { self.new.held.policy ≡ self.old.held.policy }
-        ensures edits { IfOk result (λ prepared. prepared ≡ own P (flat edits.now)) }
-        ensures ready { IfOk result (IsPreparedFor self.new) }
-        ensures stays { (changes : List Change)
-            → IsPreparedFor self.old changes → IsPreparedFor self.new changes }
+        ensures stays { (rules : List Fields) → IsIndexOf self.old rules → IsIndexOf self.new rules }
+        ensures ready { IfOk result (IsPreparedFor self.new (flat edits.now)) }
+        ensures prepared { (changes : List Change) (prepared : Bool)
+            → IsPreparedFor self.old changes prepared → IsPreparedFor self.new changes prepared }
     {
-        self.tables.kept();
-        let changes = own_changes(alloc, edits)?;
-        reserve(&mut self.places, alloc, self.column, changes.as_slice())?;
-        let prepared = self.tables.prepare(alloc, slice::from_ref(&changes))?;
-        Ok(Prepared::new(prepared, only_inserts(changes.as_slice())))
+        reserve(&mut self.places, alloc, self.column, edits)?;
+        Ok(Prepared::new(all_keep(edits)))
     }
 
-    /// Makes the changes that were prepared for this index as it stands. It takes no memory. Where rows are only appended
-    /// its time does not grow with p; else all places are filled in anew, in one pass over p.
-    pub fn commit(&mut self, prepared: Prepared)
-        requires { IsPreparedFor self.old prepared }
+    /// Takes over what tables became by edits that were prepared for this index as it stands. It takes no memory. Where rows
+    /// were only appended its time does not grow with p; else all places are filled in anew, in one pass over p.
+    pub fn commit(&mut self, prepared: Prepared, tables: &Tables)
+        requires { Follows self.old prepared tables.now.policy }
         ensures column { self.new.column ≡ self.old.column }
-        ensures policy { self.new.held.policy ≡ edited prepared self.old.held.policy }
+        ensures rules { IsIndexOf self.new (rows tables.now.policy P) }
     {
-        self.tables.kept();
-        let appends = only_append(&prepared, &self.tables);
-        let count = self.tables.rows(TableId::P).len();
-        let from = first_to_fill(&mut self.places, appends, count);
-        self.tables.commit(prepared.into_changes());
-        fill(
-            &mut self.places,
-            self.tables.rows(TableId::P),
-            self.column,
-            from,
-        );
+        let appends = only_append(&prepared, tables);
+        let from = first_to_fill(&mut self.places, appends, self.count as usize);
+        let rules = tables.rows(TableId::P);
+        fill(&mut self.places, rules, self.column, from);
+        self.count = rules.len() as u32;
     }
 }
 

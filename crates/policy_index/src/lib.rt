@@ -3,14 +3,14 @@
 
 mod filling;
 mod index;
+mod keeping;
 mod law;
 mod making;
-mod own;
 mod place_list;
 mod places;
 mod prepared;
 mod reserving;
 
 pub use index::Index;
-pub use law::{index_follows_tables, places_are_exact};
+pub use law::places_are_exact;
 pub use prepared::Prepared;

@@ -1,4 +1,4 @@
-ghost use Rattle.std.specs.Prelude.{◌≡◌, ◌+◌, ◌<◌, ◌≤◌, [], ◌∷◌, ◌++◌, OnOk, length};
+ghost use Rattle.std.specs.Prelude.{◌≡◌, ◌+◌, ◌<◌, ◌≤◌, [], ◌∷◌, ◌++◌, IfOk, OnOk, length};
 
 use perm_base::{NoMemory, Share};
 use smallvec::SmallVec;
@@ -55,6 +55,15 @@ impl PlaceList {
         ensures room { self.old.room ≤ self.new.room + 1 }
     {
         self.places.push_reserved(place);
+    }
+
+    /// The same places once more.
+    pub(crate) fn copy(&self, alloc: Global) -> Result<PlaceList, NoMemory>
+        ensures { IfOk result (λ copy. copy.places ≡ self.now.places) }
+    {
+        Ok(PlaceList {
+            places: SmallVec::from_slice(alloc, self.as_slice())?,
+        })
     }
 
     /// Takes all places out; their room stays.

@@ -1,4 +1,6 @@
-ghost use Rattle.std.specs.Prelude.{◌≡◌, ◌+◌, ◌<◌, ◌≤◌, [], ◌∷◌, ◌++◌, List, ℕ, OnOk, if◌then◌else◌, length};
+ghost use Rattle.std.specs.Prelude.{◌≡◌, ◌+◌, ◌<◌, ◌≤◌, [], ◌∷◌, ◌++◌, List, ℕ, IfOk, OnOk, Some, if◌then◌else◌, length, slice_get};
+ghost use Rattle.std.specs.List.{IsDistinct};
+ghost use Rattle.std.specs.Map.{keys_of};
 ghost use Rattle.std.specs.Str.{bytes_eq};
 ghost use Rattle.policy_index.specs.Lists.{places_at, room_at};
 
@@ -86,6 +88,39 @@ impl Places {
         self.reserve(alloc, text, 1)?;
         self.push(text, place);
         Ok(())
+    }
+
+    /// The same places once more.
+    pub(crate) fn copy(&self, alloc: Global) -> Result<Places, NoMemory>
+        ensures { IfOk result (λ copy. (text : List ℕ) → places_at copy text
+            ≡ places_at self.now text) }
+    {
+        let len = self.len();
+        let mut lists = IndexMap::with_capacity(alloc, len)?;
+        for at in 0..len {
+            let (text, list) = self.entry(at);
+            let _none = lists.insert(Vec::from_slice(alloc, text)?, list.copy(alloc)?)?;
+        }
+        Ok(Places { lists })
+    }
+
+    // How many different texts have been given places.
+    fn len(&self) -> usize
+        ensures value { result ≡ length self.now }
+        ensures once { IsDistinct bytes_eq (keys_of self.now) }
+    {
+        self.lists.len()
+    }
+
+    // The text at a place among them, and its places.
+    fn entry(&self, at: usize) -> (&[u8], &PlaceList)
+        requires { at < length self.now }
+        ensures { slice_get self.now at ≡ Some (result.0.now, result.1.now) }
+    {
+        let Some((text, list)) = self.lists.get_index(at) else {
+            unreachable!()
+        };
+        (text.as_slice(), list)
     }
 
     /// Takes all places out; their room stays.

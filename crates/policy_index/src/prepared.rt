@@ -1,45 +1,31 @@
 ghost use Rattle.std.specs.Prelude.{◌≡◌};
-ghost use Rattle.policy_index.specs.Helps.Kept.{only_inserts};
 
 use std::marker::Model;
 
-/// Edits that are ready to be made in an index. Contracts see their changes of p.
+/// Edits that are ready to be made in an index. Contracts see whether they take no rule out of p.
 #[derive(Drop)]
 pub struct Prepared {
-    changes: policy_table::Prepared,
-    appends: bool,
+    all_keep: bool,
 }
 
 impl Model for Prepared {
-    ghost use Rattle.std.specs.Prelude.{◌≡◌, List};
-    ghost use Rattle.policy_index.specs.Helps.Kept.{only_inserts};
-    ghost use Rattle.policy_table.specs.declared.change.Change.{Change};
+    ghost use Rattle.std.specs.Prelude.{Bool};
 
-    ghost Value = { List Change };
+    ghost Value = { Bool };
 
-    ghost view = { λ p. p.changes };
-
-    ghost invariant = { λ p. p.appends ≡ only_inserts p.changes };
+    ghost view = { λ p. p.all_keep };
 }
 
 impl Prepared {
-    pub(crate) fn new(changes: policy_table::Prepared, appends: bool) -> Prepared
-        requires { appends ≡ only_inserts changes }
-        ensures { result ≡ changes }
+    pub(crate) fn new(all_keep: bool) -> Prepared
+        ensures { result ≡ all_keep }
     {
-        Prepared { changes, appends }
+        Prepared { all_keep }
     }
 
-    /// Whether they put rules into p and take none out.
-    pub(crate) fn only_inserts(&self) -> bool
-        ensures { result ≡ only_inserts self.now }
+    pub(crate) fn all_keep(&self) -> bool
+        ensures { result ≡ self.now }
     {
-        self.appends
-    }
-
-    pub(crate) fn into_changes(self) -> policy_table::Prepared
-        ensures { result ≡ self }
-    {
-        self.changes
+        self.all_keep
     }
 }

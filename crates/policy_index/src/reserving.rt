@@ -1,16 +1,40 @@
 ghost use Rattle.std.specs.Prelude.{◌≡◌, ℕ, ◌+◌, ◌≤◌, List, IfNone, IfSome, OnOk, false, if◌then◌else◌, length, nat_lt, true};
+ghost use Rattle.policy_table.specs.Changes.{flat};
 ghost use Rattle.policy_index.specs.Indexed.{all_fit, fits_column, puts, puts_text};
 ghost use Rattle.policy_index.specs.Lists.{places_at, room_at};
 ghost use Rattle.policy_index.specs.Places.{has_text};
 
+use crate::keeping::is_of_p;
 use crate::places::Places;
 use perm_base::{NoMemory, Rule};
-use policy_table::Change;
+use policy_table::{Change, Edit};
 use std::alloc::Global;
 
-/// Makes room for the places of the rules that changes put in.
+/// Makes room for the places of the rules that edits put into p.
 pub(crate) fn reserve(
     places: &mut Places,
+    alloc: Global,
+    column: u32,
+    edits: &[Edit],
+) -> Result<(), NoMemory>
+    requires { all_fit column (flat edits.now) ≡ true }
+    ensures places { (text : List ℕ) → places_at places.new text ≡ places_at places.old text }
+    ensures more { (text : List ℕ) → room_at places.old text ≤ room_at places.new text }
+    ensures room { OnOk result ((text : List ℕ) → puts column text (flat edits.now)
+        ≤ room_at places.new text) }
+{
+    // As many places for each text as the changes so far put rules with it into p.
+    let mut counts = Places::new(alloc);
+    for edit in edits {
+        reserve_edit(places, &mut counts, alloc, column, edit.as_slice())?;
+    }
+    Ok(())
+}
+
+// Makes room for the places of the changes of one edit more.
+fn reserve_edit(
+    places: &mut Places,
+    counts: &mut Places,
     alloc: Global,
     column: u32,
     changes: &[Change],
@@ -18,13 +42,14 @@ pub(crate) fn reserve(
     requires { all_fit column changes.now ≡ true }
     ensures places { (text : List ℕ) → places_at places.new text ≡ places_at places.old text }
     ensures more { (text : List ℕ) → room_at places.old text ≤ room_at places.new text }
-    ensures room { OnOk result ((text : List ℕ) → puts column text changes.now
-        ≤ room_at places.new text) }
+    ensures counted { OnOk result ((text : List ℕ) → length (places_at counts.new text)
+        ≡ length (places_at counts.old text) + puts column text changes.now) }
+    ensures room { OnOk result ((text : List ℕ)
+        → length (places_at counts.old text) ≤ room_at places.old text
+        → length (places_at counts.new text) ≤ room_at places.new text) }
 {
-    // As many places for each text as the changes so far put in rules with it.
-    let mut counts = Places::new(alloc);
     for change in changes {
-        reserve_one(places, &mut counts, alloc, column, change)?;
+        reserve_one(places, counts, alloc, column, change)?;
     }
     Ok(())
 }
@@ -55,7 +80,7 @@ fn reserve_one(
     places.reserve(alloc, text, counts.of(text).len())
 }
 
-// The rule that a change puts in.
+// The rule that a change puts into p.
 fn put_in(change: &Change) -> Option<&Rule>
     ensures text { IfSome result (λ rule. (column : ℕ) (text : List ℕ)
         → puts_text column text change.now ≡ has_text column text rule.now) }
@@ -64,6 +89,9 @@ fn put_in(change: &Change) -> Option<&Rule>
     ensures none { IfNone result ((column : ℕ) (text : List ℕ)
         → puts_text column text change.now ≡ false) }
 {
+    if !is_of_p(change) {
+        return None;
+    }
     match change {
         Change::Insert { rule, .. } => Some(rule),
         Change::Remove { .. } => None,

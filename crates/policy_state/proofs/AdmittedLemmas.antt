@@ -1,5 +1,5 @@
 -- Edits that are admitted one after the other.
-use Rattle.std.proofs.Common.{◌≡◌, ℕ, ◌<◌, Bool, true, false, ◌==◌, ◌&&◌, cond, List, [], ◌∷◌, ◌++◌, length, Option, Some, None, refl, sym, ap, subst, ◌∙◌, arith}
+use Rattle.std.proofs.Common.{◌≡◌, ℕ, ◌<◌, Bool, true, false, not, ◌==◌, ◌&&◌, ◌||◌, cond, List, [], ◌∷◌, ◌++◌, length, Option, Some, None, refl, sym, ap, subst, ◌∙◌, arith}
 use Rattle.std.specs.Prelude.{nat_lt}
 use Rattle.std.specs.List.{list_all}
 use Rattle.std.specs.Option.{option_map_or}
@@ -15,12 +15,11 @@ use Rattle.perm_base.specs.declared.shapes.TableId.TheVariants.{G, P}
 use Rattle.policy_index.specs.Indexed.{all_fit, fits_column}
 use Rattle.policy_table.specs.Changes.{applies, edited, flat, is_table, own, replay, table_of}
 use Rattle.policy_table.specs.Limits.{AreSound, columns_of, role_columns}
-use Rattle.policy_table.specs.Tables.{Fields, Policy, most_tables}
+use Rattle.policy_table.specs.Tables.{Fields, Policy}
 use Rattle.policy_table.specs.declared.change.Change.{Change}
 use Rattle.policy_table.specs.declared.change.Change.TheVariants.{Insert, Remove, Replace}
-use Rattle.policy_table.proofs.CallerLemmas.{applies_both, are_lists, counted_edited, edited_both, same_table}
+use Rattle.policy_table.proofs.CallerLemmas.{applies_both, edited_both, same_table}
 use Rattle.role_domain.specs.Sections.{all_columns, puts_columns}
-use Rattle.version_log.specs.Log.{AreMadeIn}
 
 -- changes that are admitted leave sound tables
 abbrev pub KeepSound : Shapes → Type 0
@@ -45,16 +44,6 @@ unfolding edited
 all_sound shapes keep policy [] sound are = sound
 all_sound shapes keep policy (edit ∷ edits) sound are =
     subst (AreSound shapes) (sym (edited_both edit (flat edits) policy)) (all_sound shapes keep (edited edit policy) edits (keep policy edit sound are.0) are.1)
-
--- each is made in the tables before it
-pub all_made : (shapes : Shapes) → KeepSound shapes → (policy : Policy) (edits : List (List Change)) → length policy.lists ≡ most_tables → AreSound shapes policy → AreAdmitted shapes policy edits → AreMadeIn policy edits
-all_made shapes keep policy [] nine sound are = tt
-all_made shapes keep policy (edit ∷ edits) nine sound are =
-    let after = keep policy edit sound are.0 in
-    let counted : length (edited edit policy).lists ≡ most_tables = counted_edited edit policy ∙ nine in (
-      record { applies = one_applies shapes policy edit are.0; lists = are_lists shapes (edited edit policy) counted after.shaped after.within },
-      all_made shapes keep (edited edit policy) edits counted after are.1,
-    )
 
 -- ---- edits of two lists
 
@@ -116,19 +105,25 @@ own_pass shapes table test passes (change ∷ changes) fit = by (is_table table 
     by true e rest = ap (λ (b : Bool). b && list_all test (own table changes)) (passes change (same_table table (table_of change) e) parts.0) ∙ rest
     by false e rest = rest
 
--- those of p have a column below the number of its columns
-pub all_have_column : (shapes : Shapes) (column : ℕ) (changes : List Change) → column < shapes.columns → list_all (is_fitting shapes) changes ≡ true → all_fit column (own P changes) ≡ true
-all_have_column shapes column changes below fit = own_pass shapes P (fits_column column) passes changes fit
+-- changes that put in rules which may stand there have a column of p below the number of its columns
+pub all_have_column : (shapes : Shapes) (column : ℕ) (changes : List Change) → column < shapes.columns → list_all (is_fitting shapes) changes ≡ true → all_fit column changes ≡ true
+all_have_column shapes column [] below fit = refl
+all_have_column shapes column (change ∷ changes) below fit =
+    ap (λ (b : Bool). b && all_fit column changes) (passes change parts.0) ∙ all_have_column shapes column changes below parts.1
   where
-    wide : (table : TableId) (rule : Fields) → P ≡ table → may_stand shapes table rule ≡ true → nat_lt column (length rule) ≡ true
-    wide table rule here may =
-        let size : length rule ≡ shapes.columns = columns_known shapes table rule shapes.columns (ap (columns_of shapes) (sym here)) may in
+    parts : (is_fitting shapes change ≡ true) × (list_all (is_fitting shapes) changes ≡ true)
+    parts = and_parts (is_fitting shapes change) (list_all (is_fitting shapes) changes) fit
+
+    wide : (table : TableId) (rule : Fields) (b : Bool) → is_table P table ≡ b → may_stand shapes table rule ≡ true → (not b || nat_lt column (length rule)) ≡ true
+    wide table rule false e may = refl
+    wide table rule true e may =
+        let size : length rule ≡ shapes.columns = columns_known shapes table rule shapes.columns (ap (columns_of shapes) (sym (same_table P table e))) may in
         lt-ltb column (length rule) (omega (arith, size, below))
 
-    passes : (change : Change) → P ≡ table_of change → is_fitting shapes change ≡ true → fits_column column change ≡ true
-    passes (Insert table rule) here may = wide table rule here may
-    passes (Remove table rule) here may = refl
-    passes (Replace table old new) here may = wide table new here may
+    passes : (change : Change) → is_fitting shapes change ≡ true → fits_column column change ≡ true
+    passes (Insert table rule) may = wide table rule (is_table P table) refl may
+    passes (Remove table rule) may = refl
+    passes (Replace table old new) may = wide table new (is_table P table) refl may
 
 -- those of a relation have its columns
 pub all_have_columns : (shapes : Shapes) (shape : RoleShape) (changes : List Change) → shape_of shapes.roles shape.number ≡ Some shape → list_all (is_fitting shapes) changes ≡ true → all_columns (role_columns shape) (own (G shape.number) changes) ≡ true

@@ -1,4 +1,5 @@
--- What a caller cites of edits that are admitted one after the other, and of what a log stands for.
+-- What a caller cites of edits that are admitted one after the other, of tables that grow by them, and of what a policy stands for.
 pub use Rattle.policy_state.proofs.AdmittedLemmas.{admitted_both, admitted_front, admitted_rest}
-pub use Rattle.policy_state.proofs.LogLemmas.{stands_same, version_stands}
-pub use Rattle.policy_state.proofs.NamedLemmas.{named_at, named_edits}
+pub use Rattle.policy_state.proofs.GrownLemmas.{grown_more, grown_new, grown_same}
+pub use Rattle.policy_state.proofs.LogLemmas.{log_stands_same, stands_after, stands_same, version_stands}
+pub use Rattle.policy_state.proofs.NamedLemmas.{named_at, named_edits, named_grown}

@@ -1,6 +1,8 @@
-mod FollowLemmas
+mod GrownLemmas
+mod DraftLemmas
 mod RoleLemmas
 mod AdmittedLemmas
+mod CopyLemmas
 mod NamedLemmas
 mod IndexLemmas
 mod SectionLemmas

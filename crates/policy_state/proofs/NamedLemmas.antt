@@ -1,12 +1,12 @@
 -- Edits that are admitted name rules of 1 to 32 fields, of tables with names.
-use Rattle.std.proofs.Common.{◌≡◌, ℕ, zero, suc, ◌+◌, ◌-◌, Result, Ok, Err, IfOk, MatchResult, ◌<◌, ◌≤◌, Bool, true, false, ◌&&◌, ◌||◌, cond, eqb, List, [], ◌∷◌, ◌++◌, length, slice_get, get_or, Option, Some, None, All, refl, sym, ap, subst, ◌∙◌, arith, true≢false}
+use Rattle.std.proofs.Common.{◌≡◌, ℕ, zero, suc, ◌-◌, Result, Ok, Err, IfOk, MatchResult, ◌<◌, ◌≤◌, Bool, true, false, ◌||◌, cond, eqb, List, [], ◌∷◌, length, slice_get, get_or, Option, Some, None, All, refl, sym, ap, subst, ◌∙◌, arith, true≢false}
 use Rattle.std.specs.Prelude.{if◌then◌else◌, is_some, IsSome}
 use Rattle.std.specs.List.{AllByRecursion, list_all}
 use Rattle.std.specs.Option.{option_map_or}
 use Rattle.std.proofs.lemmas.Bool.{and_parts, eqb-true}
 use Rattle.std.proofs.lemmas.List.Elements.{All-cons, All-head, All-nil, All-tail, recursion_from_All}
 use Rattle.std.proofs.lemmas.Option.{same_Some, slice_get-get_or, slice_get_within}
-use Rattle.edit_calls.specs.Admitted.{AreAdmitted, admits, is_fitting, may_stand}
+use Rattle.edit_calls.specs.Admitted.{AreAdmitted, is_fitting, may_stand}
 use Rattle.perm_base.specs.RoleShapes.{IsNumbered, shape_of}
 use Rattle.perm_base.specs.Shapes.{AreValid}
 use Rattle.perm_base.specs.TableNames.{name_of, table_names}
@@ -15,7 +15,7 @@ use Rattle.perm_base.specs.declared.shapes.Shapes.{Shapes}
 use Rattle.perm_base.specs.declared.shapes.TableId.{TableId}
 use Rattle.perm_base.specs.declared.shapes.TableId.TheVariants.{G, P}
 use Rattle.policy_query.specs.Edits.{IsEdit}
-use Rattle.policy_table.specs.Changes.{applies, changed, edited, is_possible, suits, table_of}
+use Rattle.policy_table.specs.Changes.{applies, changed, edited, is_possible, suits}
 use Rattle.policy_table.specs.Limits.{HaveShapes, columns_of, role_columns}
 use Rattle.policy_table.specs.Tables.{Fields, Policy, place, rows, same, stands}
 use Rattle.policy_table.specs.declared.change.Change.{Change}
@@ -23,6 +23,7 @@ use Rattle.policy_table.specs.declared.change.Change.TheVariants.{Insert, Remove
 use Rattle.policy_table.proofs.CallerLemmas.{Puts, same-Decides, shapes_edited}
 use Rattle.version_log.specs.EditText.{IsNamedRule, NameRules}
 use Rattle.version_log.specs.Log.{Logged}
+use Rattle.policy_state.specs.States.{IsGrown}
 use Rattle.policy_state.proofs.AdmittedLemmas.{has_columns}
 
 -- the rule has as many fields as its table has columns
@@ -117,6 +118,10 @@ named_edits shapes policy (edit ∷ edits) valid have are =
     let parts = and_parts _ _ whole.0 in
     let one = named_changes shapes policy edit valid have parts.0 parts.1 in
     All-cons NameRules edit edits one.names (named_edits shapes (edited edit policy) edits valid one.shaped are.1)
+
+-- so do those by which tables have grown
+pub named_grown : (shapes : Shapes) (policy : Policy) (edits : List (List Change)) → AreValid shapes → IsGrown shapes edits policy → All NameRules edits
+named_grown shapes policy edits valid grown = named_edits shapes grown.base edits valid grown.sound.shaped grown.admitted
 
 -- so does each of them
 pub named_at : (edits : List (List Change)) (at : ℕ) (edit : List Change) → All NameRules edits → slice_get edits at ≡ Some edit → NameRules edit

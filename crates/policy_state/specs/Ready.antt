@@ -1,22 +1,21 @@
 -- Edits that are ready to be made in a policy, and the version at which its log is to start afterwards.
-use Rattle.std.specs.Prelude.{◌≡◌, ℕ, ◌+◌, ◌≤◌, List, [], ◌∷◌, map, length, Option, Some, None, IfSome, ⊤}
-use Rattle.perm_base.specs.declared.shapes.TableId.TheVariants.{P}
-use Rattle.policy_index.specs.Indexed.{Indexed, IsPreparedFor as CanBeIndexed}
+use Rattle.std.specs.Prelude.{◌≡◌, ℕ, ◌+◌, ◌≤◌, Bool, List, [], ◌∷◌, length, Option, Some, None, ⊤}
 use Rattle.edit_calls.specs.Admitted.{AreAdmitted}
-use Rattle.policy_state.specs.States.{State, tables}
-use Rattle.policy_table.specs.Changes.{flat, own}
+use Rattle.perm_base.specs.declared.shapes.TableId.TheVariants.{G}
+use Rattle.policy_index.specs.Indexed.{Indexed, IsPreparedFor as CanBeIndexed}
+use Rattle.policy_state.specs.States.{State}
+use Rattle.policy_table.specs.Changes.{edited, flat}
 use Rattle.policy_table.specs.Held.{IsPreparedFor as CanBeMade}
+use Rattle.policy_table.specs.Tables.{Policy, rows}
 use Rattle.policy_table.specs.declared.change.Change.{Change}
-use Rattle.role_domain.specs.Sections.{Draft, Section, IsPreparedFor as CanBeLinked, own_of}
+use Rattle.role_domain.specs.Sections.{Draft, Section, IsPreparedFor as CanBeLinked}
 use Rattle.version_log.specs.Log.{most_versions, versions}
-use Rattle.version_log.specs.Starts.{IsReadyFor, Start}
 
--- what is ready in each part of the state: the changes of the tables, those of the index, those of each section, and the start
+-- what is ready in each part of the state: the changes of the tables, what the index takes over, and a draft for each section
 pub record ReadyParts : Type 0 where
   pub tables : List Change
-  pub index : Option (List Change)
+  pub index : Option Bool
   pub sections : List Draft
-  pub start : Start
 
 -- the edits, the version of the start, and the parts
 pub record Ready : Type 0 where
@@ -25,28 +24,28 @@ pub record Ready : Type 0 where
   pub parts : ReadyParts
 
 -- the changes can be made in the index, where there is one
-abbrev pub CanIndex : Option Indexed → Option (List Change) → Type 0
-CanIndex None None = ⊤
-CanIndex (Some index) (Some changes) = CanBeIndexed index changes
-CanIndex None (Some changes) = ⊥
-CanIndex (Some index) None = ⊥
+abbrev pub CanIndex : List Change → Option Indexed → Option Bool → Type 0
+CanIndex changes None None = ⊤
+CanIndex changes (Some index) (Some prepared) = CanBeIndexed index changes prepared
+CanIndex changes None (Some prepared) = ⊥
+CanIndex changes (Some index) None = ⊥
 
--- each draft can be made in the section beside it
-abbrev pub CanLink : List Section → List Draft → Type 0
-CanLink [] [] = ⊤
-CanLink (section ∷ sections) (draft ∷ drafts) = CanBeLinked section draft × CanLink sections drafts
-CanLink [] (draft ∷ drafts) = ⊥
-CanLink (section ∷ sections) [] = ⊥
+-- each draft makes of the section beside it that of its relation in these tables
+abbrev pub CanLink : Policy → List Section → List Draft → Type 0
+CanLink after [] [] = ⊤
+CanLink after (section ∷ sections) (draft ∷ drafts) = CanBeLinked section (rows after (G section.shape.number)) draft × CanLink after sections drafts
+CanLink after [] (draft ∷ drafts) = ⊥
+CanLink after (section ∷ sections) [] = ⊥
 
--- the edits can be made in this state: each is admitted, and every part has room for its own changes
+-- the edits can be made in this state: each is admitted, every part has room for its own changes, and the start is one of the
+-- log's versions
 pub record IsPreparedFor (state : State) (ready : Ready) : Type 0 where
-  pub admitted : AreAdmitted state.shapes (tables state) ready.edits
+  pub admitted : AreAdmitted state.shapes state.parts.held.policy ready.edits
   pub few : versions state.log + length ready.edits ≤ most_versions
   pub room : length ready.edits ≤ state.log.spare
+  pub from : state.log.start ≤ ready.start
+  pub until : ready.start ≤ versions state.log
   pub tables : CanBeMade state.parts.held ready.parts.tables
   pub changes : ready.parts.tables ≡ flat ready.edits
-  pub index : CanIndex state.parts.index ready.parts.index
-  pub index_changes : IfSome ready.parts.index (λ (changes : List Change). changes ≡ own P (flat ready.edits))
-  pub sections : CanLink state.parts.sections ready.parts.sections
-  pub section_changes : map (λ (draft : Draft). draft.changes) ready.parts.sections ≡ map (λ (section : Section). own_of section ready.edits) state.parts.sections
-  pub start : IsReadyFor state.log ready.parts.start
+  pub index : CanIndex (flat ready.edits) state.parts.index ready.parts.index
+  pub sections : CanLink (edited (flat ready.edits) state.parts.held.policy) state.parts.sections ready.parts.sections

@@ -1,13 +1,16 @@
--- What contracts see of a policy as a whole: the shapes of its tables, the column of its index, and the log of its edits, which
--- tells the tables (Casbin, the enforcer's model and policy).
-use Rattle.std.specs.Prelude.{ℕ, List, Option}
+-- What contracts see of a policy as a whole: the shapes of its tables, the column of its index, the log of its edits, and the
+-- tables after these (Casbin, the enforcer's model and policy).
+use Rattle.std.specs.Prelude.{◌≡◌, ℕ, List, Option}
+use Rattle.edit_calls.specs.Admitted.{AreAdmitted}
 use Rattle.perm_base.specs.declared.shapes.Shapes.{Shapes}
 use Rattle.policy_index.specs.Indexed.{Indexed}
+use Rattle.policy_table.specs.Changes.{replay}
 use Rattle.policy_table.specs.Held.{Held}
+use Rattle.policy_table.specs.Limits.{AreSound}
 use Rattle.policy_table.specs.Tables.{Policy}
 use Rattle.policy_table.specs.declared.change.Change.{Change}
 use Rattle.role_domain.specs.Sections.{Section}
-use Rattle.version_log.specs.Log.{Logged, Stands, tables_of}
+use Rattle.version_log.specs.Log.{Logged, Stands}
 
 -- what is kept beside the log, with its room: the tables, the index of p, and a section for each role relation
 pub record Parts : Type 0 where
@@ -15,7 +18,8 @@ pub record Parts : Type 0 where
   pub index : Option Indexed
   pub sections : List Section
 
--- the column of p by which an index is kept, or none; what is kept beside is read by `IsPreparedFor` alone
+-- the column of p by which an index is kept, or none; of what is kept beside, the tables are read, and the rest by
+-- `IsPreparedFor` alone
 pub record State : Type 0 where
   pub shapes : Shapes
   pub column : Option ℕ
@@ -24,8 +28,16 @@ pub record State : Type 0 where
 
 -- the tables after all edits
 abbrev pub tables : State → Policy
-tables state = tables_of state.log
+tables state = state.parts.held.policy
 
--- the state stands for a history of edits from opening tables
-abbrev pub StandsFor : State → Policy → List (List Change) → Type 0
-StandsFor state opening history = Stands state.log opening history
+-- the state stands for a history of edits from opening tables: its log does, and its tables are what the history made of them
+pub record StandsFor (state : State) (opening : Policy) (history : List (List Change)) : Type 0 where
+  pub log : Stands state.log history
+  pub tables : state.parts.held.policy ≡ replay history opening
+
+-- tables have grown by edits: from some sound tables, in which the edits were admitted one after the other
+pub record IsGrown (shapes : Shapes) (edits : List (List Change)) (policy : Policy) : Type 0 where
+  pub base : Policy
+  pub sound : AreSound shapes base
+  pub admitted : AreAdmitted shapes base edits
+  pub tables : policy ≡ replay edits base

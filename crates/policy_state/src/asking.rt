@@ -8,7 +8,7 @@ ghost use Rattle.policy_state.specs.Asked.{IsAskedOf};
 ghost use Rattle.policy_state.specs.States.{tables};
 ghost use Rattle.policy_table.specs.Tables.{Fields, rows};
 ghost use Rattle.role_domain.specs.Relations.{HasFewRoles, TellsRows, asked_rows};
-ghost use Rattle.role_domain.specs.Sections.{rows_in};
+ghost use Rattle.role_domain.specs.Sections.{IsSectionOf};
 ghost use Rattle.role_meaning.specs.Implied.{AreImplied};
 ghost use Rattle.role_meaning.specs.Links.{IsLinked};
 
@@ -38,7 +38,7 @@ impl PolicyState {
         requires there { IsSome (shape_of self.now.shapes.roles relation) }
         ensures shape { shape_of self.now.shapes.roles relation ≡ Some result.now.shape }
         ensures limit { result.now.limit ≡ self.now.shapes.limit }
-        ensures rows { rows_in result.now ≡ rows (tables self.now) (G relation) }
+        ensures section { IsSectionOf result.now (rows (tables self.now) (G relation)) }
     {
         let Some(section) = self.sections.find(relation) else {
             unreachable!()

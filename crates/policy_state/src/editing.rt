@@ -1,11 +1,11 @@
-ghost use Rattle.std.specs.Prelude.{◌≡◌, ◌+◌, ◌≤◌, ◌++◌, IfOk, List, length};
+ghost use Rattle.std.specs.Prelude.{◌≡◌, ◌+◌, ◌-◌, ◌≤◌, ◌++◌, IfOk, List, drop, length};
 ghost use Rattle.edit_calls.specs.Admitted.{AreAdmitted};
 ghost use Rattle.policy_state.specs.Ready.{IsPreparedFor};
 ghost use Rattle.policy_state.specs.States.{StandsFor, tables};
 ghost use Rattle.policy_table.specs.Changes.{replay};
 ghost use Rattle.policy_table.specs.Tables.{Policy};
 ghost use Rattle.policy_table.specs.declared.change.Change.{Change};
-ghost use Rattle.version_log.specs.Log.{AreMadeIn, Stands, most_versions, tables_of, versions};
+ghost use Rattle.version_log.specs.Log.{Stands, most_versions, versions};
 
 use crate::indexing::{commit_index, prepare_index};
 use crate::prepared::Prepared;
@@ -33,8 +33,8 @@ impl PolicyState {
         ensures shapes { self.new.shapes ≡ self.old.shapes }
         ensures column { self.new.column ≡ self.old.column }
         ensures log_start { self.new.log.start ≡ self.old.log.start }
-        ensures base { self.new.log.base ≡ self.old.log.base }
         ensures tail { self.new.log.tail ≡ self.old.log.tail }
+        ensures tables { tables self.new ≡ tables self.old }
         ensures edits { IfOk result (λ prepared. prepared.edits ≡ edits.now) }
         ensures start { IfOk result (λ prepared. prepared.start ≡ start) }
         ensures ready { IfOk result (IsPreparedFor self.new) }
@@ -43,9 +43,8 @@ impl PolicyState {
         self.tables.kept();
         let tables = self.tables.prepare(alloc, edits)?;
         let index = prepare_index(&mut self.index, alloc, edits)?;
-        let sections = self.sections.prepare(alloc, edits)?;
+        let sections = self.sections.prepare(alloc, edits, &self.tables)?;
         self.log.reserve(edits.len() as u32)?;
-        let start = self.log.prepare_start(alloc, start)?;
         let edits = copy_edits(alloc, edits)?;
         Ok(Prepared {
             tables,
@@ -63,6 +62,8 @@ impl PolicyState {
         ensures shapes { self.new.shapes ≡ self.old.shapes }
         ensures column { self.new.column ≡ self.old.column }
         ensures start { self.new.log.start ≡ prepared.start }
+        ensures tail { self.new.log.tail
+            ≡ drop (prepared.start - self.old.log.start) self.old.log.tail ++ prepared.edits }
         ensures stands { (opening : Policy) (history : List (List Change))
             → StandsFor self.old opening history
             → StandsFor self.new opening (history ++ prepared.edits) }
@@ -79,9 +80,9 @@ impl PolicyState {
         } = prepared;
         admitted_edits_keep_sound();
         self.tables.kept();
-        self.log.commit_start(start);
+        self.log.move_start(start);
         self.tables.commit(tables);
-        commit_index(&mut self.index, index);
+        commit_index(&mut self.index, index, &self.tables);
         self.sections.commit(sections);
         push_all(&mut self.log, edits);
     }
@@ -102,14 +103,11 @@ fn copy_edits(alloc: Global, edits: &[Edit]) -> Result<Vec<Edit>, NoMemory>
 fn push_all(log: &mut Log, edits: Vec<Edit>)
     requires room { length edits.items ≤ log.old.spare }
     requires few { versions log.old + length edits.items ≤ most_versions }
-    requires made { AreMadeIn (tables_of log.old) edits.items }
     ensures start { log.new.start ≡ log.old.start }
-    ensures base { log.new.base ≡ log.old.base }
     ensures tail { log.new.tail ≡ log.old.tail ++ edits.items }
-    ensures tables { tables_of log.new ≡ replay edits.items (tables_of log.old) }
     ensures versions { versions log.new ≡ versions log.old + length edits.items }
-    ensures stands { (opening : Policy) (history : List (List Change))
-        → Stands log.old opening history → Stands log.new opening (history ++ edits.items) }
+    ensures stands { (history : List (List Change))
+        → Stands log.old history → Stands log.new (history ++ edits.items) }
 {
     for edit in edits {
         log.push(edit);

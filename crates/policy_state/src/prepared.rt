@@ -1,6 +1,5 @@
 use policy_table::Edit;
 use std::marker::Model;
-use version_log::StartPrepared;
 
 /// Edits that are ready to be made in a policy, and the version at which its log is to start afterwards. Contracts see the
 /// edits, that version, and what is ready in each part.
@@ -9,7 +8,7 @@ pub struct Prepared {
     pub(crate) tables: policy_table::Prepared,
     pub(crate) index: Option<policy_index::Prepared>,
     pub(crate) sections: Vec<role_domain::Prepared>,
-    pub(crate) start: StartPrepared,
+    pub(crate) start: u32,
     pub(crate) edits: Vec<Edit>,
 }
 
@@ -20,12 +19,11 @@ impl Model for Prepared {
 
     ghost view = { λ p. record {
       edits = p.edits.items;
-      start = p.start.to;
+      start = p.start;
       parts = record {
         tables = p.tables;
         index = p.index;
         sections = p.sections.items;
-        start = p.start;
       };
     } };
 }

@@ -1,9 +1,12 @@
-ghost use Rattle.std.specs.Prelude.{◌≡◌, ◌==◌, All, IfOk, find, map};
+ghost use Rattle.std.specs.Prelude.{◌≡◌, ◌==◌, All, IfOk, find, map, true};
 ghost use Rattle.std.specs.Option.{option_copied, option_map};
 ghost use Rattle.perm_base.specs.Shapes.{AreValid};
-ghost use Rattle.policy_state.specs.Helps.Kept.{AreSections, CanTake, changes_in, kept_of, made};
+ghost use Rattle.perm_base.specs.declared.shapes.Shapes.{Shapes};
+ghost use Rattle.policy_state.specs.Helps.Kept.{AreSections, CanTake, IsSectionIn, kept_of};
 ghost use Rattle.policy_state.specs.Ready.{CanLink};
+ghost use Rattle.policy_table.specs.Changes.{applies, edited, flat};
 ghost use Rattle.policy_table.specs.Limits.{AreSound};
+ghost use Rattle.policy_table.specs.Tables.{Policy};
 
 use perm_base::{NoMemory, Shapes, Share};
 use policy_table::{Edit, Tables};
@@ -45,6 +48,18 @@ impl Sections {
         Ok(Sections { sections })
     }
 
+    /// The same sections once more, their room aside.
+    pub(crate) fn copy(&self, alloc: Global) -> Result<Sections, NoMemory>
+        ensures { IfOk result (λ copy. (shapes : Shapes) (policy : Policy)
+            → AreSections shapes policy self.now → AreSections shapes policy copy) }
+    {
+        let mut sections = Vec::with_capacity(alloc, self.sections.len())?;
+        for section in &self.sections {
+            sections.push(section.copy(alloc)?)?;
+        }
+        Ok(Sections { sections })
+    }
+
     /// The section of the relation of a number.
     pub(crate) fn find(&self, number: u8) -> Option<&RoleSection>
         ensures { option_copied result
@@ -58,29 +73,33 @@ impl Sections {
         None
     }
 
-    /// Makes edits ready in each section.
+    /// Makes edits of the tables ready in each section, before they are made there.
     pub(crate) fn prepare(
         &mut self,
         alloc: Global,
         edits: &[Edit],
+        tables: &Tables,
     ) -> Result<Vec<Prepared>, NoMemory>
-        requires { All (CanTake edits.now) (map kept_of self.old) }
+        requires possible { applies (flat edits.now) tables.now.policy ≡ true }
+        requires each { All (CanTake edits.now tables.now.policy) self.old }
         ensures kept { map kept_of self.new ≡ map kept_of self.old }
-        ensures ready { IfOk result (λ prepared. CanLink self.new prepared.items) }
-        ensures changes { IfOk result (λ prepared. map (λ draft. draft.changes) prepared.items
-            ≡ map (changes_in edits.now) (map kept_of self.old)) }
+        ensures each { All (IsSectionIn tables.now.policy) self.new }
+        ensures ready { IfOk result (λ prepared.
+            CanLink (edited (flat edits.now) tables.now.policy) self.new prepared.items) }
     {
         let mut prepared = Vec::with_capacity(alloc, self.sections.len())?;
         for at in 0..self.sections.len() {
-            prepared.push(self.sections[at].prepare(alloc, edits)?)?;
+            prepared.push(self.sections[at].prepare(alloc, edits, tables)?)?;
         }
         Ok(prepared)
     }
 
     /// Makes in each section what was prepared for it. It takes no memory.
     pub(crate) fn commit(&mut self, prepared: Vec<Prepared>)
-        requires { CanLink self.old prepared.items }
-        ensures { map kept_of self.new ≡ made prepared.items (map kept_of self.old) }
+        requires { (after : Policy) × CanLink after self.old prepared.items }
+        ensures kept { map kept_of self.new ≡ map kept_of self.old }
+        ensures each { (after : Policy) → CanLink after self.old prepared.items
+            → All (IsSectionIn after) self.new }
     {
         let mut at = 0;
         for ready in prepared {

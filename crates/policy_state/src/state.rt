@@ -1,14 +1,13 @@
 ghost use Rattle.std.specs.Prelude.{◌≡◌, ◌<◌, ◌≤◌, [], All, IfOk, IfSome, List};
 ghost use Rattle.perm_base.specs.Shapes.{AreValid};
-ghost use Rattle.edit_calls.specs.Admitted.{AreAdmitted};
-ghost use Rattle.policy_state.specs.States.{StandsFor, tables};
+ghost use Rattle.policy_state.specs.States.{IsGrown, StandsFor, tables};
 ghost use Rattle.policy_table.specs.Limits.{AreSound};
 ghost use Rattle.policy_table.specs.Tables.{Policy};
 ghost use Rattle.policy_table.specs.declared.change.Change.{Change};
 ghost use Rattle.version_log.specs.EditText.{NameRules};
-ghost use Rattle.version_log.specs.Log.{IsLog, most_versions, versions};
+ghost use Rattle.version_log.specs.Log.{most_versions, versions};
 
-use crate::indexing::make_index;
+use crate::indexing::{copy_index, make_index};
 use crate::sections::Sections;
 use perm_base::{NoMemory, RoleShapes, Shapes, Share};
 use policy_index::Index;
@@ -18,8 +17,8 @@ use std::marker::Model;
 use version_log::{Log, new_log};
 
 /// A policy as a whole (Casbin, the enforcer's model and policy): tables of given shapes, an index of p by one column or none,
-/// the role relations, and the log of the edits that led to these tables. Contracts see the shapes, the column, the log,
-/// which tells the tables, and what is kept beside it.
+/// the role relations, and the log of the edits that led to these tables. Each rule is kept in the tables alone. Contracts see
+/// the shapes, the column, the log, and what is kept beside it.
 #[derive(Drop)]
 pub struct PolicyState {
     pub(crate) shapes: Shapes,
@@ -62,12 +61,12 @@ pub fn make_state(
     ensures column { IfOk result (λ state. state.column ≡ column) }
     ensures stands { IfOk result (λ state. StandsFor state tables.policy []) }
     ensures start { IfOk result (λ state. state.log.start ≡ 0) }
-    ensures base { IfOk result (λ state. state.log.base ≡ tables.policy) }
+    ensures tables { IfOk result (λ state. state.parts.held.policy ≡ tables.policy) }
     ensures tail { IfOk result (λ state. state.log.tail ≡ []) }
 {
     let index = make_index(alloc, column, &tables)?;
     let sections = Sections::make(alloc, &shapes, &tables)?;
-    let log = new_log(alloc, tables.copy(alloc)?);
+    let log = new_log(alloc);
     Ok(PolicyState {
         shapes,
         column,
@@ -79,21 +78,22 @@ pub fn make_state(
 }
 
 impl PolicyState {
-    /// The same policy once more, its room aside. Its time is linear in the rows and in the edits of the log.
+    /// The same policy once more, its room aside. Its time is linear in the rows, in the distances that the sections keep, and
+    /// in the edits of the log.
     pub fn copy(&self, alloc: Global) -> Result<PolicyState, NoMemory>
         ensures shapes { IfOk result (λ copy. copy.shapes ≡ self.now.shapes) }
         ensures column { IfOk result (λ copy. copy.column ≡ self.now.column) }
         ensures start { IfOk result (λ copy. copy.log.start ≡ self.now.log.start) }
-        ensures base { IfOk result (λ copy. copy.log.base ≡ self.now.log.base) }
         ensures tail { IfOk result (λ copy. copy.log.tail ≡ self.now.log.tail) }
+        ensures tables { IfOk result (λ copy. tables copy ≡ tables self.now) }
         ensures stands { IfOk result (λ copy. (opening : Policy) (history : List (List Change))
             → StandsFor self.now opening history → StandsFor copy opening history) }
     {
         let shapes = copy_shapes(alloc, &self.shapes)?;
         let tables = self.tables.copy(alloc)?;
         let column = self.column;
-        let index = make_index(alloc, column, &tables)?;
-        let sections = Sections::make(alloc, &shapes, &tables)?;
+        let index = copy_index(alloc, &self.index)?;
+        let sections = self.sections.copy(alloc)?;
         let log = self.log.copy(alloc)?;
         Ok(PolicyState {
             shapes,
@@ -141,18 +141,14 @@ impl PolicyState {
         self.column
     }
 
-    /// What it keeps: the shapes are valid, the tables are sound, the log begins from sound tables, and each edit of the log is
-    /// admitted in the tables before it and was made there. So each names rules of 1 to 32 fields, of tables with names, and
-    /// its text is read back.
+    /// What it keeps: the shapes are valid, the tables are sound, and they have grown by the edits of the log, each of which was
+    /// admitted in the tables before it. So each names rules of 1 to 32 fields, of tables with names, and its text is read back.
     pub fn kept(&self)
         ensures valid { AreValid self.now.shapes }
         ensures sound { AreSound self.now.shapes (tables self.now) }
-        ensures log { IsLog self.now.log.start self.now.log.base self.now.log.tail }
-        ensures base { AreSound self.now.shapes self.now.log.base }
-        ensures admitted { AreAdmitted self.now.shapes self.now.log.base self.now.log.tail }
+        ensures grown { IsGrown self.now.shapes self.now.log.tail (tables self.now) }
         ensures names { All NameRules self.now.log.tail }
     {
-        self.log.kept();
         let _shapes = &self.shapes;
     }
 }

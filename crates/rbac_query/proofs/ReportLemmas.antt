@@ -295,25 +295,24 @@ module _ (shape : RoleShape) (rules : List Fields) where
         (stops_one subject_in (IsEntry shape rules limit) entry_text old (map shown done) (shown key) text so_far most stop (map shown left)
         (λ entry same is. subst (λ (s : Subject). IsStop most (text ++ roles_text s entry.roles) stop) (sym same) (stops entry.roles (subst (λ (s : Subject). AreReached shape rules limit s entry.roles) same is))))
 
--- a section of the relation g of a policy
-pub record IsSectionOf (shapes : Shapes) (policy : Policy) (shape : RoleShape) (limit : ℕ) (links : List Fields) : Type 0 where
+-- the shape and the limit by which the relation g of a policy is asked
+pub record IsAskedBy (shapes : Shapes) (shape : RoleShape) (limit : ℕ) : Type 0 where
   pub there : shape_of shapes.roles hierarchy ≡ Some shape
   pub limit_is : limit ≡ shapes.limit
-  pub links_are : links ≡ rows policy (G hierarchy)
 
-module _ (shapes : Shapes) (policy : Policy) (shape : RoleShape) (limit : ℕ) (links : List Fields) (section : IsSectionOf shapes policy shape limit links)
+module _ (shapes : Shapes) (policy : Policy) (shape : RoleShape) (limit : ℕ) (by : IsAskedBy shapes shape limit)
     (other : RoleShape) (rules : List Fields) (subjects : List Subject) (there : shape_of shapes.roles hierarchy ≡ Some other) (rules_are : rules ≡ rows policy (G hierarchy)) (listed : AreSubjects other rules subjects) where
   listed_there : AreSubjects shape (rows policy (G hierarchy)) subjects
   listed_there =
-      subst (λ (s : RoleShape). AreSubjects s (rows policy (G hierarchy)) subjects) (same_Some other shape (sym there ∙ section.there))
+      subst (λ (s : RoleShape). AreSubjects s (rows policy (G hierarchy)) subjects) (same_Some other shape (sym there ∙ by.there))
       (subst (λ (l : List Fields). AreSubjects other l subjects) rules_are listed)
 
-  pub written : (text start new : List ℕ) → IsReport shapes policy text → start ≡ row_text default_writer header → AddsEntries shape links limit start subjects new → new ≡ text
+  pub written : (text start new : List ℕ) → IsReport shapes policy text → start ≡ row_text default_writer header → AddsEntries shape (rows policy (G hierarchy)) limit start subjects new → new ≡ text
   written text start new report begun adds =
-      is_written shapes policy shape section.there subjects listed_there text start new report begun
-      (subst (λ (l : List Fields). AddsEntries shape l shapes.limit start subjects new) section.links_are (subst (λ (n : ℕ). AddsEntries shape links n start subjects new) section.limit_is adds))
+      is_written shapes policy shape by.there subjects listed_there text start new report begun
+      (subst (λ (n : ℕ). AddsEntries shape (rows policy (G hierarchy)) n start subjects new) by.limit_is adds)
 
-  pub stopped : (text start : List ℕ) (most : ℕ) (stop : ReportStop) → IsReport shapes policy text → start ≡ row_text default_writer header → StopsEntries shape links limit most start subjects stop → IsStop most text stop
+  pub stopped : (text start : List ℕ) (most : ℕ) (stop : ReportStop) → IsReport shapes policy text → start ≡ row_text default_writer header → StopsEntries shape (rows policy (G hierarchy)) limit most start subjects stop → IsStop most text stop
   stopped text start most stop report begun stops =
-      stops_written shapes policy shape section.there subjects listed_there text start most stop report begun
-      (subst (λ (l : List Fields). StopsEntries shape l shapes.limit most start subjects stop) section.links_are (subst (λ (n : ℕ). StopsEntries shape links n most start subjects stop) section.limit_is stops))
+      stops_written shapes policy shape by.there subjects listed_there text start most stop report begun
+      (subst (λ (n : ℕ). StopsEntries shape (rows policy (G hierarchy)) n most start subjects stop) by.limit_is stops)

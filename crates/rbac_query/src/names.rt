@@ -3,7 +3,7 @@ ghost use Rattle.policy_query.specs.Names.{names_refusal};
 ghost use Rattle.policy_state.specs.States.{tables};
 ghost use Rattle.rbac_query.specs.Asked.{AreImplicitRoles, AreImplicitUsers, IsAnswered};
 
-use perm_base::Rule;
+use perm_base::{Rule, TableId};
 use policy_query::{QueryRefused, names_refusal};
 use policy_state::PolicyState;
 use std::alloc::Global;
@@ -49,5 +49,7 @@ pub fn implicit_users(
     if let Some(refused) = names_refusal(state.shapes(), relation, domain) {
         return Err(refused);
     }
-    Ok(state.section(relation).users_within(alloc, name, domain)?)
+    let rows = state.tables().rows(TableId::G(relation));
+    let section = state.section(relation);
+    Ok(section.users_within(alloc, name, domain, rows)?)
 }

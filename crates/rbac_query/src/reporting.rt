@@ -1,8 +1,9 @@
-ghost use Rattle.std.specs.Prelude.{◌≡◌, ◌++◌, ◌≤◌, ◌<◌, IfErr, IfOk, OnOk, is_some, length, map};
+ghost use Rattle.std.specs.Prelude.{◌≡◌, ◌++◌, ◌≤◌, ◌<◌, IfErr, IfOk, List, OnOk, is_some, length, map};
 ghost use Rattle.std.specs.Option.{option_copied};
 ghost use Rattle.csv.specs.Writing.{default_writer, row_text};
 ghost use Rattle.policy_state.specs.States.{tables};
-ghost use Rattle.role_domain.specs.Sections.{rows_in};
+ghost use Rattle.policy_table.specs.Tables.{Fields};
+ghost use Rattle.role_domain.specs.Sections.{IsSectionOf};
 ghost use Rattle.role_meaning.specs.Distances.{IsFar};
 ghost use Rattle.rbac_query.specs.Helps.Entries.{AddsEntries, AddsRoles, AddsSubject, StopsEntries, StopsRoles, StopsSubject, user_in};
 ghost use Rattle.rbac_query.specs.Helps.Stops.{IsStop};
@@ -66,11 +67,13 @@ fn push_entries(
     most: u64,
 ) -> Result<(), ReportStop>
     requires { length text.old.items ≤ most }
-    ensures took { OnOk result (AddsEntries section.now.shape (rows_in section.now)
-        section.now.limit text.old.items (map shown subjects.now.keys) text.new.items) }
+    ensures took { OnOk result ((rows : List Fields) → IsSectionOf section.now rows
+        → AddsEntries section.now.shape rows section.now.limit text.old.items
+        (map shown subjects.now.keys) text.new.items) }
     ensures within { OnOk result (length text.new.items ≤ most) }
-    ensures stop { IfErr result (StopsEntries section.now.shape (rows_in section.now)
-        section.now.limit most text.old.items (map shown subjects.now.keys)) }
+    ensures stop { IfErr result (λ stop. (rows : List Fields) → IsSectionOf section.now rows
+        → StopsEntries section.now.shape rows section.now.limit most text.old.items
+        (map shown subjects.now.keys) stop) }
 {
     for subject in subjects.iter() {
         push_subject(alloc, text, section, subject.0, subject.1, most)?;
@@ -88,11 +91,13 @@ fn push_subject(
     most: u64,
 ) -> Result<(), ReportStop>
     requires { length text.old.items ≤ most }
-    ensures took { OnOk result (AddsSubject section.now.shape (rows_in section.now)
-        section.now.limit (user_in user.now domain.now) text.old.items text.new.items) }
+    ensures took { OnOk result ((rows : List Fields) → IsSectionOf section.now rows
+        → AddsSubject section.now.shape rows section.now.limit (user_in user.now domain.now)
+        text.old.items text.new.items) }
     ensures within { OnOk result (length text.new.items ≤ most) }
-    ensures stop { IfErr result (StopsSubject section.now.shape (rows_in section.now)
-        section.now.limit (user_in user.now domain.now) most text.old.items) }
+    ensures stop { IfErr result (λ stop. (rows : List Fields) → IsSectionOf section.now rows
+        → StopsSubject section.now.shape rows section.now.limit (user_in user.now domain.now)
+        most text.old.items stop) }
 {
     let asked = asked(section.shape(), domain);
     let names = section.roles_within(alloc, user.as_bytes(), asked)?;
@@ -110,11 +115,13 @@ fn push_roles(
     most: u64,
 ) -> Result<(), ReportStop>
     requires { length text.old.items ≤ most }
-    ensures took { OnOk result (AddsRoles section.now.shape (rows_in section.now)
-        (user_in user.now domain.now) text.old.items names.now text.new.items) }
+    ensures took { OnOk result ((rows : List Fields) → IsSectionOf section.now rows
+        → AddsRoles section.now.shape rows (user_in user.now domain.now) text.old.items
+        names.now text.new.items) }
     ensures within { OnOk result (length text.new.items ≤ most) }
-    ensures stop { IfErr result (StopsRoles section.now.shape (rows_in section.now)
-        (user_in user.now domain.now) most text.old.items names.now) }
+    ensures stop { IfErr result (λ stop. (rows : List Fields) → IsSectionOf section.now rows
+        → StopsRoles section.now.shape rows (user_in user.now domain.now) most text.old.items
+        names.now stop) }
 {
     for name in names {
         let links = links_to(section, user, domain, name.bytes());
@@ -125,8 +132,9 @@ fn push_roles(
 
 // By how many links a user reaches a role in a domain.
 fn links_to(section: &RoleSection, user: &str, domain: &str, role: &[u8]) -> u8
-    ensures { IsFar section.now.shape (rows_in section.now) (asked section.now.shape domain.now)
-        user.now role.now result }
+    ensures { (rows : List Fields) → IsSectionOf section.now rows
+        → IsFar section.now.shape rows (asked section.now.shape domain.now) user.now role.now
+        result }
 {
     let asked = asked(section.shape(), domain);
     far::<Brand>(section, user.as_bytes(), role, asked, Blank::new(1))
@@ -144,8 +152,8 @@ fn far<L: Ledger>(
     requires parts { blank.parts ≡ L.parts }
     requires some { 0 < L.parts }
     requires asked { is_some domain ≡ section.now.shape.with_domain }
-    ensures { IsFar section.now.shape (rows_in section.now) (option_copied domain.entry) x.now
-        y.now result }
+    ensures { (rows : List Fields) → IsSectionOf section.now rows
+        → IsFar section.now.shape rows (option_copied domain.entry) x.now y.now result }
 {
     let mut steps = Steps::<L>::new(blank);
     section.far(x, y, domain, &mut steps)

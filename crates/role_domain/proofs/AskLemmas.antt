@@ -13,15 +13,13 @@ use Rattle.std.proofs.lemmas.Slice.Eq.{bytes_eq-Decides}
 use Rattle.indexmap.proofs.CallerLemmas.{Contains-list_any}
 use Rattle.perm_base.specs.Patterns.{is_pattern}
 use Rattle.perm_base.specs.declared.shapes.Fit.{Fit}
-use Rattle.perm_base.specs.declared.shapes.RoleShape.{RoleShape}
-use Rattle.perm_base.specs.declared.shapes.TableId.TheVariants.{G}
 use Rattle.policy_table.specs.Limits.{different, domains_of, role_columns}
-use Rattle.policy_table.specs.Tables.{Fields, Policy, rows}
+use Rattle.policy_table.specs.Tables.{Fields}
 use Rattle.policy_table.proofs.CallerLemmas.{among_different, distinct_different}
 use Rattle.role_domain.specs.Domains.{IsDomain, IsRight, found}
-use Rattle.role_domain.specs.Helps.Kept.{IsSection, relation_in}
 use Rattle.role_domain.specs.Helps.Walks.{IsDistance, inner, walk_of}
 use Rattle.role_domain.specs.Relations.{HasFewRoles, IsNamed, Tells, TellsRows, asked_rows, counted, named, pair_of, terms_of}
+use Rattle.role_domain.specs.Sections.{IsSectionOf, Section, relation_of}
 use Rattle.role_domain.specs.declared.domain.Domain.{Domain}
 use Rattle.role_domain.specs.declared.terms.Terms.{Terms}
 use Rattle.role_domain.proofs.Across.{Alike, all_implied_across, alike_on, depth_across, far_across, few_across, graph_alike, graph_of, has_across, inner_of, linked_across, outer_alike, outer_of, patterns_alike, row_counts, users_across}
@@ -48,51 +46,47 @@ same_tests false true there back = back refl
 same_tests false false there back = refl
 
 -- a section that is asked in a domain
-module _ (shape : RoleShape) (limit : ℕ) (policy : Policy) (entries : List (List ℕ × Domain)) (patterns : List Fields) (sound : IsSection shape limit policy entries patterns)
-    (domain : Option (List ℕ)) (text : List ℕ) (asks : is_some domain ≡ shape.with_domain) (is : text ≡ unwrap_or domain []) where
-  abbrev pub all_rows : List Fields
-  all_rows = rows policy (G shape.number)
-
-  outer : Alike (inner_of (terms_of shape limit) all_rows text) (outer_of shape all_rows domain)
-  outer = outer_alike shape limit all_rows domain text sound.columns asks is
+module _ (section : Section) (all_rows : List Fields) (sound : IsSectionOf section all_rows) (domain : Option (List ℕ)) (text : List ℕ) (asks : is_some domain ≡ section.shape.with_domain) (is : text ≡ unwrap_or domain []) where
+  outer : Alike (inner_of (terms_of section.shape section.limit) all_rows text) (outer_of section.shape all_rows domain)
+  outer = outer_alike section.shape section.limit all_rows domain text sound.columns asks is
 
   -- the graph of a domain that is there
-  module _ (decided : FitsDecided) (there : Domain) (at : Some there ≡ found entries text) where
-    pub right : IsDomain (relation_in shape limit policy) text there
-    right = subst (IsRight (relation_in shape limit policy) text) (sym at) (sound.domains.right text)
+  module _ (decided : FitsDecided) (there : Domain) (at : Some there ≡ found section.domains.entries text) where
+    pub right : IsDomain (relation_of section all_rows) text there
+    right = subst (IsRight (relation_of section all_rows) text) (sym at) (sound.domains.right text)
 
-    alike : Alike (graph_of there.graph.names there.graph.rows) (outer_of shape all_rows domain)
+    alike : Alike (graph_of there.graph.names there.graph.rows) (outer_of section.shape all_rows domain)
     alike =
-        alike_on (graph_of there.graph.names there.graph.rows) (inner_of (terms_of shape limit) all_rows text) (outer_of shape all_rows domain)
-        (graph_alike there.graph.names (terms_of shape limit) there.graph.rows all_rows text (test_of decided (terms_of shape limit).domains text) right.names (tells_of decided (terms_of shape limit).domains text)
-        (right.rows (test_of decided (terms_of shape limit).domains text) (tells_of decided (terms_of shape limit).domains text)))
+        alike_on (graph_of there.graph.names there.graph.rows) (inner_of (terms_of section.shape section.limit) all_rows text) (outer_of section.shape all_rows domain)
+        (graph_alike there.graph.names (terms_of section.shape section.limit) there.graph.rows all_rows text (test_of decided (terms_of section.shape section.limit).domains text) right.names (tells_of decided (terms_of section.shape section.limit).domains text)
+        (right.rows (test_of decided (terms_of section.shape section.limit).domains text) (tells_of decided (terms_of section.shape section.limit).domains text)))
         outer
 
-    pub linked_there : (x y : List ℕ) (test : Bool) → IsTrue test ↔ GraphReaches there.graph there.graph.limit x y → IsTrue test ↔ IsLinked shape all_rows limit domain x y
+    pub linked_there : (x y : List ℕ) (test : Bool) → IsTrue test ↔ GraphReaches there.graph there.graph.limit x y → IsTrue test ↔ IsLinked section.shape all_rows section.limit domain x y
     linked_there x y test told =
-        linked_across (graph_of there.graph.names there.graph.rows) (outer_of shape all_rows domain) limit x y test alike
+        linked_across (graph_of there.graph.names there.graph.rows) (outer_of section.shape all_rows domain) section.limit x y test alike
         (subst (λ (n : ℕ). IsTrue test ↔ GraphReaches there.graph n x y) right.limited told)
 
-    pub far_there : (x y : List ℕ) (distance : ℕ) → IsGraphFar there.graph x y distance → IsFar shape all_rows domain x y distance
-    far_there x y distance far = far_across (graph_of there.graph.names there.graph.rows) (outer_of shape all_rows domain) x y distance alike far
+    pub far_there : (x y : List ℕ) (distance : ℕ) → IsGraphFar there.graph x y distance → IsFar section.shape all_rows domain x y distance
+    far_there x y distance far = far_across (graph_of there.graph.names there.graph.rows) (outer_of section.shape all_rows domain) x y distance alike far
 
-    pub has_there : (x : List ℕ) (test : Bool) → IsTrue test ↔ HasRoles (shape_of there.graph.names) there.graph.rows None x → IsTrue test ↔ HasRoles shape all_rows domain x
-    has_there x test told = has_across (graph_of there.graph.names there.graph.rows) (outer_of shape all_rows domain) x test alike told
+    pub has_there : (x : List ℕ) (test : Bool) → IsTrue test ↔ HasRoles (shape_of there.graph.names) there.graph.rows None x → IsTrue test ↔ HasRoles section.shape all_rows domain x
+    has_there x test told = has_across (graph_of there.graph.names there.graph.rows) (outer_of section.shape all_rows domain) x test alike told
 
-    pub depth_there : (x : List ℕ) (depth : ℕ) → IsDepth (shape_of there.graph.names) there.graph.rows there.graph.limit None x depth → IsDepth shape all_rows limit domain x depth
+    pub depth_there : (x : List ℕ) (depth : ℕ) → IsDepth (shape_of there.graph.names) there.graph.rows there.graph.limit None x depth → IsDepth section.shape all_rows section.limit domain x depth
     depth_there x depth is =
-        depth_across (graph_of there.graph.names there.graph.rows) (outer_of shape all_rows domain) limit x depth alike
+        depth_across (graph_of there.graph.names there.graph.rows) (outer_of section.shape all_rows domain) section.limit x depth alike
         (subst (λ (n : ℕ). IsDepth (shape_of there.graph.names) there.graph.rows n None x depth) right.limited is)
 
-    pub implied_there : (x : List ℕ) (names : List (List ℕ)) → AreImplied (shape_of there.graph.names) there.graph.rows there.graph.limit None x names → AreImplied shape all_rows limit domain x names
+    pub implied_there : (x : List ℕ) (names : List (List ℕ)) → AreImplied (shape_of there.graph.names) there.graph.rows there.graph.limit None x names → AreImplied section.shape all_rows section.limit domain x names
     implied_there x names are =
-        all_implied_across (graph_of there.graph.names there.graph.rows) (outer_of shape all_rows domain) limit x names alike
+        all_implied_across (graph_of there.graph.names there.graph.rows) (outer_of section.shape all_rows domain) section.limit x names alike
         (subst (λ (n : ℕ). AreImplied (shape_of there.graph.names) there.graph.rows n None x names) right.limited are)
 
-    pub users_there : (x : List ℕ) (among : List Fields) (names : List (List ℕ)) → among ≡ all_rows → AreUsersOf (shape_of there.graph.names) there.graph.rows there.graph.limit None (map user_of among) x names → AreImpliedUsers shape all_rows limit domain x names
+    pub users_there : (x : List ℕ) (among : List Fields) (names : List (List ℕ)) → among ≡ all_rows → AreUsersOf (shape_of there.graph.names) there.graph.rows there.graph.limit None (map user_of among) x names → AreImpliedUsers section.shape all_rows section.limit domain x names
     users_there x among names all are =
-        users_across (graph_of there.graph.names there.graph.rows) (outer_of shape all_rows domain) limit (map user_of all_rows) x names alike
-        (subst (λ (l : List Fields). AreUsersOf (shape_of there.graph.names) there.graph.rows limit None (map user_of l) x names) all
+        users_across (graph_of there.graph.names there.graph.rows) (outer_of section.shape all_rows domain) section.limit (map user_of all_rows) x names alike
+        (subst (λ (l : List Fields). AreUsersOf (shape_of there.graph.names) there.graph.rows section.limit None (map user_of l) x names) all
         (subst (λ (n : ℕ). AreUsersOf (shape_of there.graph.names) there.graph.rows n None (map user_of among) x names) right.limited are))
 
     -- some row has its text
@@ -104,10 +98,10 @@ module _ (shape : RoleShape) (limit : ℕ) (policy : Policy) (entries : List (Li
         by (Some name) same passes =
             subst (Contains (domains_of all_rows)) (sym ((bytes_eq-Decides text (domain_of passes.row)).0 passes.passes) ∙ same) (map_stands domain_of all_rows passes.row passes.stands)
 
-    pub kept_there : (test : Bool) → IsTrue test ↔ (length (different (map role_of there.graph.rows)) ≤ 1024) → IsTrue test ↔ (IsNamed all_rows domain × HasFewRoles shape all_rows domain)
+    pub kept_there : (test : Bool) → IsTrue test ↔ (length (different (map role_of there.graph.rows)) ≤ 1024) → IsTrue test ↔ (IsNamed all_rows domain × HasFewRoles section.shape all_rows domain)
     kept_there test told = (
-      λ holds. (is_named, few_across (graph_of there.graph.names there.graph.rows) (outer_of shape all_rows domain) alike.back (few (told.0 holds))),
-      λ both. told.1 (back (few_across (outer_of shape all_rows domain) (graph_of there.graph.names there.graph.rows) alike.there both.1)),
+      λ holds. (is_named, few_across (graph_of there.graph.names there.graph.rows) (outer_of section.shape all_rows domain) alike.back (few (told.0 holds))),
+      λ both. told.1 (back (few_across (outer_of section.shape all_rows domain) (graph_of there.graph.names there.graph.rows) alike.there both.1)),
     )
       where
         any_stands : (texts : List (List ℕ)) (one : List ℕ) → Contains texts one → list_any (bytes_eq one) texts ≡ true
@@ -144,90 +138,90 @@ module _ (shape : RoleShape) (limit : ℕ) (policy : Policy) (entries : List (Li
             among_names one (row, stands, same) = subst (Contains given.names) same (given.all row stands tt)
 
     -- the rows of the graph that are asked are those that count
-    asked_there : (x : List ℕ) (test : Fields → Bool) → TellsRows shape all_rows domain test → graph_asked there.graph.names x there.graph.rows ≡ asked_rows shape test x all_rows
+    asked_there : (x : List ℕ) (test : Fields → Bool) → TellsRows section.shape all_rows domain test → graph_asked there.graph.names x there.graph.rows ≡ asked_rows section.shape test x all_rows
     asked_there x test tells =
         ap (λ (names : Fit). graph_asked names x there.graph.rows) right.names
-        ∙ count_alike asks_it there.graph.rows (pairs_of told all_rows) (λ one. right.rows told (tells_of decided (terms_of shape limit).domains text) one ∙ sym (times_pairs told one all_rows))
+        ∙ count_alike asks_it there.graph.rows (pairs_of told all_rows) (λ one. right.rows told (tells_of decided (terms_of section.shape section.limit).domains text) one ∙ sym (times_pairs told one all_rows))
         ∙ count_map asks_it pair_of (filter (λ (row : Fields). told (domain_of row)) all_rows)
         ∙ count_filter (λ (row : Fields). asks_it (pair_of row)) (λ (row : Fields). told (domain_of row)) all_rows
         ∙ count_agree_on (λ (row : Fields). told (domain_of row) && asks_it (pair_of row)) (λ (row : Fields). test row && asks_it row) all_rows (λ row stands. ap (λ (b : Bool). b && asks_it row) (agree row stands))
       where
         asks_it : Fields → Bool
-        asks_it one = bytes_eq x (user_of one) || is_pattern shape.names (user_of one)
+        asks_it one = bytes_eq x (user_of one) || is_pattern section.shape.names (user_of one)
 
         told : List ℕ → Bool
-        told = test_of decided (terms_of shape limit).domains text
+        told = test_of decided (terms_of section.shape section.limit).domains text
 
         agree : (row : Fields) → Contains all_rows row → told (domain_of row) ≡ test row
         agree row stands =
-            let counts = row_counts shape all_rows domain text sound.columns asks is row stands in
-            let fits = (tells_of decided (terms_of shape limit).domains text).told (domain_of row) in
+            let counts = row_counts section.shape all_rows domain text sound.columns asks is row stands in
+            let fits = (tells_of decided (terms_of section.shape section.limit).domains text).told (domain_of row) in
             same_tests (told (domain_of row)) (test row) (λ holds. (tells.told row stands).1 (counts.0 (fits.0 holds))) (λ holds. fits.1 (counts.1 ((tells.told row stands).0 holds)))
 
     -- a question takes at most as many steps as these, and one more
-    pub steps_there : (x : List ℕ) (before after : ℕ) (test : Fields → Bool) → (length (different (map role_of there.graph.rows)) ≤ 1024 → after ≤ before + graph_asked there.graph.names x there.graph.rows + 1) → TellsRows shape all_rows domain test → HasFewRoles shape all_rows domain → after ≤ before + asked_rows shape test x all_rows + 1
+    pub steps_there : (x : List ℕ) (before after : ℕ) (test : Fields → Bool) → (length (different (map role_of there.graph.rows)) ≤ 1024 → after ≤ before + graph_asked there.graph.names x there.graph.rows + 1) → TellsRows section.shape all_rows domain test → HasFewRoles section.shape all_rows domain → after ≤ before + asked_rows section.shape test x all_rows + 1
     steps_there x before after test few_steps tells few =
         let count : ℕ = length (different (map role_of there.graph.rows)) in
         let kept : IsTrue (nat_le count 1024) = (kept_there (nat_le count 1024) (leb-true count 1024, le-leb count 1024)).1 (is_named, few) in
         omega (arith, few_steps (leb-true count 1024 kept), asked_there x test tells)
 
   -- a domain that no row names
-  module _ (nowhere : None ≡ found entries text) where
+  module _ (nowhere : None ≡ found section.domains.entries text) where
     none : named text all_rows ≡ 0
-    none = subst (IsRight (relation_in shape limit policy) text) (sym nowhere) (sound.domains.right text)
+    none = subst (IsRight (relation_of section all_rows) text) (sym nowhere) (sound.domains.right text)
 
-    alike_patterns : Alike (inner_of (terms_of shape limit) patterns text) (outer_of shape all_rows domain)
+    alike_patterns : Alike (inner_of (terms_of section.shape section.limit) section.patterns text) (outer_of section.shape all_rows domain)
     alike_patterns =
-        alike_on (inner_of (terms_of shape limit) patterns text) (inner_of (terms_of shape limit) all_rows text) (outer_of shape all_rows domain)
-        (patterns_alike (relation_in shape limit policy) patterns text sound.patterns none) outer
+        alike_on (inner_of (terms_of section.shape section.limit) section.patterns text) (inner_of (terms_of section.shape section.limit) all_rows text) (outer_of section.shape all_rows domain)
+        (patterns_alike (relation_of section all_rows) section.patterns text sound.patterns none) outer
 
-    pub linked_nowhere : (terms : Terms) (walked : List Fields) (x y : List ℕ) (distance : Option ℕ) (test : Bool) → terms ≡ terms_of shape limit → walked ≡ patterns → test ≡ is_some distance → IsDistance (walk_of terms walked text) x y limit distance → IsTrue test ↔ IsLinked shape all_rows limit domain x y
+    pub linked_nowhere : (terms : Terms) (walked : List Fields) (x y : List ℕ) (distance : Option ℕ) (test : Bool) → terms ≡ terms_of section.shape section.limit → walked ≡ section.patterns → test ≡ is_some distance → IsDistance (walk_of terms walked text) x y section.limit distance → IsTrue test ↔ IsLinked section.shape all_rows section.limit domain x y
     linked_nowhere terms walked x y distance test same_terms same_rows told far =
-        linked_across (inner_of (terms_of shape limit) patterns text) (outer_of shape all_rows domain) limit x y test alike_patterns
-        (linked_told (walk_of (terms_of shape limit) patterns text) x y limit distance test told
-        (subst (λ (t : Terms). IsDistance (walk_of t patterns text) x y limit distance) same_terms (subst (λ (l : List Fields). IsDistance (walk_of terms l text) x y limit distance) same_rows far)))
+        linked_across (inner_of (terms_of section.shape section.limit) section.patterns text) (outer_of section.shape all_rows domain) section.limit x y test alike_patterns
+        (linked_told (walk_of (terms_of section.shape section.limit) section.patterns text) x y section.limit distance test told
+        (subst (λ (t : Terms). IsDistance (walk_of t section.patterns text) x y section.limit distance) same_terms (subst (λ (l : List Fields). IsDistance (walk_of terms l text) x y section.limit distance) same_rows far)))
 
-    pub far_nowhere : (terms : Terms) (walked : List Fields) (x y : List ℕ) (distance : Option ℕ) (result : ℕ) → terms ≡ terms_of shape limit → walked ≡ patterns → result ≡ unwrap_or distance 255 → IsDistance (walk_of terms walked text) x y 254 distance → IsFar shape all_rows domain x y result
+    pub far_nowhere : (terms : Terms) (walked : List Fields) (x y : List ℕ) (distance : Option ℕ) (result : ℕ) → terms ≡ terms_of section.shape section.limit → walked ≡ section.patterns → result ≡ unwrap_or distance 255 → IsDistance (walk_of terms walked text) x y 254 distance → IsFar section.shape all_rows domain x y result
     far_nowhere terms walked x y distance result same_terms same_rows told far =
-        far_across (inner_of (terms_of shape limit) patterns text) (outer_of shape all_rows domain) x y result alike_patterns
-        (far_told (walk_of (terms_of shape limit) patterns text) x y distance result told
-        (subst (λ (t : Terms). IsDistance (walk_of t patterns text) x y 254 distance) same_terms (subst (λ (l : List Fields). IsDistance (walk_of terms l text) x y 254 distance) same_rows far)))
+        far_across (inner_of (terms_of section.shape section.limit) section.patterns text) (outer_of section.shape all_rows domain) x y result alike_patterns
+        (far_told (walk_of (terms_of section.shape section.limit) section.patterns text) x y distance result told
+        (subst (λ (t : Terms). IsDistance (walk_of t section.patterns text) x y 254 distance) same_terms (subst (λ (l : List Fields). IsDistance (walk_of terms l text) x y 254 distance) same_rows far)))
 
-    pub has_nowhere : (terms : Terms) (walked : List Fields) (x : List ℕ) (test : Bool) → terms ≡ terms_of shape limit → walked ≡ patterns → IsTrue test ↔ HasRoles (inner terms) walked (Some text) x → IsTrue test ↔ HasRoles shape all_rows domain x
+    pub has_nowhere : (terms : Terms) (walked : List Fields) (x : List ℕ) (test : Bool) → terms ≡ terms_of section.shape section.limit → walked ≡ section.patterns → IsTrue test ↔ HasRoles (inner terms) walked (Some text) x → IsTrue test ↔ HasRoles section.shape all_rows domain x
     has_nowhere terms walked x test same_terms same_rows told =
-        has_across (inner_of (terms_of shape limit) patterns text) (outer_of shape all_rows domain) x test alike_patterns
-        (subst (λ (t : Terms). IsTrue test ↔ HasRoles (inner t) patterns (Some text) x) same_terms (subst (λ (l : List Fields). IsTrue test ↔ HasRoles (inner terms) l (Some text) x) same_rows told))
+        has_across (inner_of (terms_of section.shape section.limit) section.patterns text) (outer_of section.shape all_rows domain) x test alike_patterns
+        (subst (λ (t : Terms). IsTrue test ↔ HasRoles (inner t) section.patterns (Some text) x) same_terms (subst (λ (l : List Fields). IsTrue test ↔ HasRoles (inner terms) l (Some text) x) same_rows told))
 
-    pub depth_nowhere : (terms : Terms) (walked : List Fields) (x : List ℕ) (depth : ℕ) → terms ≡ terms_of shape limit → walked ≡ patterns → IsDepth (inner terms) walked limit (Some text) x depth → IsDepth shape all_rows limit domain x depth
+    pub depth_nowhere : (terms : Terms) (walked : List Fields) (x : List ℕ) (depth : ℕ) → terms ≡ terms_of section.shape section.limit → walked ≡ section.patterns → IsDepth (inner terms) walked section.limit (Some text) x depth → IsDepth section.shape all_rows section.limit domain x depth
     depth_nowhere terms walked x depth same_terms same_rows is =
-        depth_across (inner_of (terms_of shape limit) patterns text) (outer_of shape all_rows domain) limit x depth alike_patterns
-        (subst (λ (t : Terms). IsDepth (inner t) patterns limit (Some text) x depth) same_terms (subst (λ (l : List Fields). IsDepth (inner terms) l limit (Some text) x depth) same_rows is))
+        depth_across (inner_of (terms_of section.shape section.limit) section.patterns text) (outer_of section.shape all_rows domain) section.limit x depth alike_patterns
+        (subst (λ (t : Terms). IsDepth (inner t) section.patterns section.limit (Some text) x depth) same_terms (subst (λ (l : List Fields). IsDepth (inner terms) l section.limit (Some text) x depth) same_rows is))
 
-    pub implied_nowhere : (decided : FitsDecided) (graph : Graph) (x : List ℕ) (names : List (List ℕ)) → graph.names ≡ shape.names → graph.limit ≡ limit
-        → ((test : List ℕ → Bool) → Tells (terms_of shape limit).domains text test → (one : Fields) → times one graph.rows ≡ counted test one patterns)
-        → AreImplied (shape_of graph.names) graph.rows graph.limit None x names → AreImplied shape all_rows limit domain x names
+    pub implied_nowhere : (decided : FitsDecided) (graph : Graph) (x : List ℕ) (names : List (List ℕ)) → graph.names ≡ section.shape.names → graph.limit ≡ section.limit
+        → ((test : List ℕ → Bool) → Tells (terms_of section.shape section.limit).domains text test → (one : Fields) → times one graph.rows ≡ counted test one section.patterns)
+        → AreImplied (shape_of graph.names) graph.rows graph.limit None x names → AreImplied section.shape all_rows section.limit domain x names
     implied_nowhere decided graph x names same_names same_limit counts are =
-        all_implied_across (graph_of graph.names graph.rows) (outer_of shape all_rows domain) limit x names
-        (alike_on (graph_of graph.names graph.rows) (inner_of (terms_of shape limit) patterns text) (outer_of shape all_rows domain)
-        (graph_alike graph.names (terms_of shape limit) graph.rows patterns text (test_of decided (terms_of shape limit).domains text) same_names (tells_of decided (terms_of shape limit).domains text)
-        (counts (test_of decided (terms_of shape limit).domains text) (tells_of decided (terms_of shape limit).domains text)))
+        all_implied_across (graph_of graph.names graph.rows) (outer_of section.shape all_rows domain) section.limit x names
+        (alike_on (graph_of graph.names graph.rows) (inner_of (terms_of section.shape section.limit) section.patterns text) (outer_of section.shape all_rows domain)
+        (graph_alike graph.names (terms_of section.shape section.limit) graph.rows section.patterns text (test_of decided (terms_of section.shape section.limit).domains text) same_names (tells_of decided (terms_of section.shape section.limit).domains text)
+        (counts (test_of decided (terms_of section.shape section.limit).domains text) (tells_of decided (terms_of section.shape section.limit).domains text)))
         alike_patterns)
         (subst (λ (n : ℕ). AreImplied (shape_of graph.names) graph.rows n None x names) same_limit are)
 
-    pub users_nowhere : (decided : FitsDecided) (graph : Graph) (x : List ℕ) (among : List Fields) (names : List (List ℕ)) → among ≡ all_rows → graph.names ≡ shape.names → graph.limit ≡ limit
-        → ((test : List ℕ → Bool) → Tells (terms_of shape limit).domains text test → (one : Fields) → times one graph.rows ≡ counted test one patterns)
-        → AreUsersOf (shape_of graph.names) graph.rows graph.limit None (map user_of among) x names → AreImpliedUsers shape all_rows limit domain x names
+    pub users_nowhere : (decided : FitsDecided) (graph : Graph) (x : List ℕ) (among : List Fields) (names : List (List ℕ)) → among ≡ all_rows → graph.names ≡ section.shape.names → graph.limit ≡ section.limit
+        → ((test : List ℕ → Bool) → Tells (terms_of section.shape section.limit).domains text test → (one : Fields) → times one graph.rows ≡ counted test one section.patterns)
+        → AreUsersOf (shape_of graph.names) graph.rows graph.limit None (map user_of among) x names → AreImpliedUsers section.shape all_rows section.limit domain x names
     users_nowhere decided graph x among names all same_names same_limit counts are =
-        users_across (graph_of graph.names graph.rows) (outer_of shape all_rows domain) limit (map user_of all_rows) x names
-        (alike_on (graph_of graph.names graph.rows) (inner_of (terms_of shape limit) patterns text) (outer_of shape all_rows domain)
-        (graph_alike graph.names (terms_of shape limit) graph.rows patterns text (test_of decided (terms_of shape limit).domains text) same_names (tells_of decided (terms_of shape limit).domains text)
-        (counts (test_of decided (terms_of shape limit).domains text) (tells_of decided (terms_of shape limit).domains text)))
+        users_across (graph_of graph.names graph.rows) (outer_of section.shape all_rows domain) section.limit (map user_of all_rows) x names
+        (alike_on (graph_of graph.names graph.rows) (inner_of (terms_of section.shape section.limit) section.patterns text) (outer_of section.shape all_rows domain)
+        (graph_alike graph.names (terms_of section.shape section.limit) graph.rows section.patterns text (test_of decided (terms_of section.shape section.limit).domains text) same_names (tells_of decided (terms_of section.shape section.limit).domains text)
+        (counts (test_of decided (terms_of section.shape section.limit).domains text) (tells_of decided (terms_of section.shape section.limit).domains text)))
         alike_patterns)
-        (subst (λ (l : List Fields). AreUsersOf (shape_of graph.names) graph.rows limit None (map user_of l) x names) all
+        (subst (λ (l : List Fields). AreUsersOf (shape_of graph.names) graph.rows section.limit None (map user_of l) x names) all
         (subst (λ (n : ℕ). AreUsersOf (shape_of graph.names) graph.rows n None (map user_of among) x names) same_limit are))
 
     -- it is kept where no domain is asked for, and there are no rows then
-    pub kept_nowhere : (test : Bool) → not test ≡ is_some domain → IsTrue test ↔ (IsNamed all_rows domain × HasFewRoles shape all_rows domain)
+    pub kept_nowhere : (test : Bool) → not test ≡ is_some domain → IsTrue test ↔ (IsNamed all_rows domain × HasFewRoles section.shape all_rows domain)
     kept_nowhere test told = by domain asks is told
       where
         no_row : (row : Fields) → Contains all_rows row → text ≡ domain_of row → ⊥
@@ -240,14 +234,14 @@ module _ (shape : RoleShape) (limit : ℕ) (policy : Policy) (entries : List (Li
         turned true is = refl
         turned false is = absurd (false≢true (sym is))
 
-        by : (asked : Option (List ℕ)) → is_some asked ≡ shape.with_domain → text ≡ unwrap_or asked [] → not test ≡ is_some asked → IsTrue test ↔ (IsNamed all_rows asked × HasFewRoles shape all_rows asked)
+        by : (asked : Option (List ℕ)) → is_some asked ≡ section.shape.with_domain → text ≡ unwrap_or asked [] → not test ≡ is_some asked → IsTrue test ↔ (IsNamed all_rows asked × HasFewRoles section.shape all_rows asked)
         by None no_domain same kept = (
           λ holds. (tt, record { names = []; few = omega arith; all = λ row stands counts. absurd (no_row row stands (same ∙ sym (empty row (columns row stands ∙ ap (λ (b : Bool). if b then 3 else 2) (sym no_domain))))) }),
           λ both. turned test kept,
         )
           where
-            columns : (row : Fields) → Contains all_rows row → length row ≡ role_columns shape
-            columns row stands = All-contains (λ (r : Fields). length r ≡ role_columns shape) all_rows row sound.columns stands
+            columns : (row : Fields) → Contains all_rows row → length row ≡ role_columns section.shape
+            columns row stands = All-contains (λ (r : Fields). length r ≡ role_columns section.shape) all_rows row sound.columns stands
 
             empty : (row : Fields) → length row ≡ 2 → domain_of row ≡ []
             empty [] long = refl

@@ -13,6 +13,5 @@ mod Turning
 mod SectionLemmas
 mod Marks
 mod Climbing
+mod CopyLemmas
 mod AskLemmas
-mod OnlyLemmas
-pub mod CallerLemmas

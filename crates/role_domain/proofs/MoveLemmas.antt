@@ -5,7 +5,7 @@ use Rattle.std.specs.List.{Contains, IsDistinct, count_by}
 use Rattle.std.specs.Map.{keys_of, lookup}
 use Rattle.std.proofs.lemmas.Bool.{and_parts, false≢true}
 use Rattle.std.proofs.lemmas.List.{take_more}
-use Rattle.std.proofs.lemmas.List.Elements.{All-head, All-tail}
+use Rattle.std.proofs.lemmas.List.Elements.{All-head, All-tail, filter-append}
 use Rattle.std.proofs.lemmas.Map.Made.{is_some-lookup}
 use Rattle.perm_base.specs.declared.shapes.TableId.{TableId}
 use Rattle.perm_base.specs.declared.shapes.TableId.TheVariants.{G}
@@ -13,7 +13,7 @@ use Rattle.policy_table.specs.Changes.{applies, changed, changed_rules, edited, 
 use Rattle.policy_table.specs.Tables.{AreOrdered, Fields, Policy, is_ranked, place, rows, same, stands}
 use Rattle.policy_table.specs.declared.change.Change.{Change}
 use Rattle.policy_table.specs.declared.change.Change.TheVariants.{Insert, Remove, Replace}
-use Rattle.policy_table.proofs.CallerLemmas.{first_possible, ordered_changed, distinct_filter, rest_possible, rows_possible, same-Decides, same_symm, same_table, stands-in_place, stands-inserted, stands-without}
+use Rattle.policy_table.proofs.CallerLemmas.{first_possible, ordered_changed, distinct_filter, rest_possible, rows_other, rows_possible, same-Decides, same_symm, same_table, stands-in_place, stands-inserted, stands-without}
 use Rattle.role_domain.specs.Domains.{ArePatterns}
 use Rattle.role_domain.specs.Helps.Turns.{IsTurned, said_of, stands_after, stands_behind, turns}
 use Rattle.role_domain.specs.Relations.{has_pattern}
@@ -23,15 +23,39 @@ use Rattle.role_graph.specs.Groups.{times}
 use Rattle.role_graph.proofs.CallerLemmas.{once, times_both, times_filter}
 use Rattle.role_meaning.proofs.CallerLemmas.{stands_cases, stands_nowhere}
 
-stands_push : (changes : List Change) (change : Change) (one : Fields) (stood : Bool) → stands_after (changes ++ change ∷ []) one stood ≡ stands_behind change one (stands_after changes one stood)
-stands_push [] change one stood = refl
-stands_push (first ∷ changes) change one stood = stands_push changes change one (stands_behind first one stood)
+-- changes behind others
+pub stands_both : (changes more : List Change) (one : Fields) (stood : Bool) → stands_after (changes ++ more) one stood ≡ stands_after more one (stands_after changes one stood)
+stands_both [] more one stood = refl
+stands_both (first ∷ changes) more one stood = stands_both changes more one (stands_behind first one stood)
 
--- one change more
-pub stands_next : (changes : List Change) (at : ℕ) (change : Change) → at < length changes → change ≡ get_or changes at change → (one : Fields) (stood : Bool) → stands_after (take (at + 1) changes) one stood ≡ stands_behind change one (stands_after (take at changes) one stood)
-stands_next changes at change within is one stood =
-    ap (λ (l : List Change). stands_after l one stood) (take_more changes at change within ∙ ap (λ (x : Change). take at changes ++ x ∷ []) (sym is))
-    ∙ stands_push (take at changes) change one stood
+-- one change more, of the table or of another
+pub stands_next : (table : TableId) (changes : List Change) (at : ℕ) (change : Change) → at < length changes → change ≡ get_or changes at change → (one : Fields) (stood : Bool)
+    → stands_after (own table (take (at + 1) changes)) one stood
+    ≡ (if is_table table (table_of change) then stands_behind change one (stands_after (own table (take at changes)) one stood) else stands_after (own table (take at changes)) one stood)
+stands_next table changes at change within is one stood =
+    ap (λ (l : List Change). stands_after (own table l) one stood) (take_more changes at change within ∙ ap (λ (x : Change). take at changes ++ x ∷ []) (sym is))
+    ∙ ap (λ (l : List Change). stands_after l one stood) (filter-append (λ (c : Change). is_table table (table_of c)) (take at changes) (change ∷ []))
+    ∙ stands_both (own table (take at changes)) (own table (change ∷ [])) one stood
+    ∙ by (is_table table (table_of change)) (stands_after (own table (take at changes)) one stood)
+  where
+    by : (b s : Bool) → stands_after (cond b (change ∷ []) []) one s ≡ (if b then stands_behind change one s else s)
+    by true s = refl
+    by false s = refl
+
+-- what was said so far, behind a change of another table and behind one of the table
+pub said_past : (table : TableId) (changes : List Change) (at : ℕ) (change : Change) (one : Fields) (stood now : Bool) → at < length changes → change ≡ get_or changes at change → is_table table (table_of change) ≡ false
+    → now ≡ stands_after (own table (take at changes)) one stood → now ≡ stands_after (own table (take (at + 1) changes)) one stood
+said_past table changes at change one stood now within is other before =
+    before
+    ∙ sym (stands_next table changes at change within is one stood
+    ∙ ap (λ (b : Bool). if b then stands_behind change one (stands_after (own table (take at changes)) one stood) else stands_after (own table (take at changes)) one stood) other)
+
+pub said_more : (table : TableId) (changes : List Change) (at : ℕ) (change : Change) (one : Fields) (stood was now : Bool) → at < length changes → change ≡ get_or changes at change → is_table table (table_of change) ≡ true
+    → was ≡ stands_after (own table (take at changes)) one stood → now ≡ stands_behind change one was → now ≡ stands_after (own table (take (at + 1) changes)) one stood
+said_more table changes at change one stood was now within is here before behind =
+    behind ∙ ap (stands_behind change one) before
+    ∙ sym (stands_next table changes at change within is one stood
+    ∙ ap (λ (b : Bool). if b then stands_behind change one (stands_after (own table (take at changes)) one stood) else stands_after (own table (take at changes)) one stood) here)
 
 -- what stands in a list passes the test
 there_stands : (rules : List Fields) (one : Fields) → Contains rules one → stands one rules ≡ true
@@ -75,16 +99,18 @@ one_stands (Replace table old new) rules one fits =
     by false false true = refl
     by false false false = refl
 
--- behind the changes of a relation
-pub stands_changed : (number : ℕ) (changes : List Change) (policy : Policy) → AreOrdered policy → applies (own (G number) changes) policy ≡ true → (one : Fields) → stands one (rows (edited (own (G number) changes) policy) (G number)) ≡ stands_after (own (G number) changes) one (stands one (rows policy (G number)))
+-- behind changes, as those of the relation say
+pub stands_changed : (number : ℕ) (changes : List Change) (policy : Policy) → AreOrdered policy → applies changes policy ≡ true → (one : Fields) → stands one (rows (edited changes policy) (G number)) ≡ stands_after (own (G number) changes) one (stands one (rows policy (G number)))
 unfolding edited
 stands_changed number [] policy order possible one = refl
 stands_changed number (change ∷ changes) policy order possible one =
-    by (is_table (G number) (table_of change)) refl possible (λ rest. stands_changed number changes policy order rest one)
-    (λ first rest. stands_changed number changes (changed change policy) (ordered_changed change policy order first) rest one)
+    by (is_table (G number) (table_of change)) refl (stands_changed number changes (changed change policy) (ordered_changed change policy order first) (rest_possible change changes policy possible) one)
   where
-    here : is_table (G number) (table_of change) ≡ true → is_possible change policy ≡ true → stands one (rows (changed change policy) (G number)) ≡ stands_behind change one (stands one (rows policy (G number)))
-    here e first =
+    first : is_possible change policy ≡ true
+    first = first_possible change changes policy possible
+
+    here : is_table (G number) (table_of change) ≡ true → stands one (rows (changed change policy) (G number)) ≡ stands_behind change one (stands one (rows policy (G number)))
+    here e =
         let table : G number ≡ table_of change = same_table (G number) (table_of change) e in
         ap (λ (t : TableId). stands one (rows (changed change policy) t)) table
         ∙ ap (stands one) (rows_possible change policy order.counted first)
@@ -92,15 +118,11 @@ stands_changed number (change ∷ changes) policy order possible one =
         ∙ one_stands change (rows policy (G number)) one
         (ap (λ (t : TableId). suits change (rows policy t)) table ∙ (and_parts (is_some (place (table_of change))) (suits change (rows policy (table_of change))) first).1)
 
-    by : (b : Bool) → is_table (G number) (table_of change) ≡ b → applies (cond b (change ∷ own (G number) changes) (own (G number) changes)) policy ≡ true
-        → (applies (own (G number) changes) policy ≡ true → stands one (rows (edited (own (G number) changes) policy) (G number)) ≡ stands_after (own (G number) changes) one (stands one (rows policy (G number))))
-        → (is_possible change policy ≡ true → applies (own (G number) changes) (changed change policy) ≡ true
-        → stands one (rows (edited (own (G number) changes) (changed change policy)) (G number)) ≡ stands_after (own (G number) changes) one (stands one (rows (changed change policy) (G number))))
-        → stands one (rows (edited (cond b (change ∷ own (G number) changes) (own (G number) changes)) policy) (G number)) ≡ stands_after (cond b (change ∷ own (G number) changes) (own (G number) changes)) one (stands one (rows policy (G number)))
-    by false e possible stay more = stay possible
-    by true e possible stay more =
-        let first : is_possible change policy ≡ true = first_possible change (own (G number) changes) policy possible in
-        more first (rest_possible change (own (G number) changes) policy possible) ∙ ap (stands_after (own (G number) changes) one) (here e first)
+    by : (b : Bool) → is_table (G number) (table_of change) ≡ b
+        → stands one (rows (edited changes (changed change policy)) (G number)) ≡ stands_after (own (G number) changes) one (stands one (rows (changed change policy) (G number)))
+        → stands one (rows (edited changes (changed change policy)) (G number)) ≡ stands_after (cond b (change ∷ own (G number) changes) (own (G number) changes)) one (stands one (rows policy (G number)))
+    by true e rest = rest ∙ ap (stands_after (own (G number) changes) one) (here e)
+    by false e rest = rest ∙ ap (λ (l : List Fields). stands_after (own (G number) changes) one (stands one l)) (rows_other change policy (G number) e)
 
 -- ---- which rules come and go
 

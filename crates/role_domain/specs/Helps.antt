@@ -3,3 +3,4 @@ pub mod Tallies
 pub mod Turns
 pub mod Kept
 pub mod Walks
+pub mod Copies

@@ -2,6 +2,7 @@
 
 ghost use Rattle.std.specs.Prelude.{◌≡◌, ◌+◌, ◌≤◌, All, IfOk, OnOk, length};
 ghost use Rattle.policy_table.specs.Tables.{Fields};
+ghost use Rattle.role_domain.specs.Helps.Copies.{content_of};
 ghost use Rattle.role_graph.specs.Graph.{most_rows};
 ghost use Rattle.role_graph.specs.Groups.{times};
 
@@ -14,6 +15,17 @@ use std::alloc::Global;
 pub(crate) struct Domain {
     pub(crate) own: u64,
     pub(crate) graph: RoleGraph,
+}
+
+impl Domain {
+    /// The same domain once more, the room of its graph aside.
+    pub(crate) fn copy(&self, alloc: Global) -> Result<Domain, NoMemory>
+        ensures { IfOk result (λ copy. content_of copy ≡ content_of self.now) }
+    {
+        let own = self.own;
+        let graph = self.graph.copy(alloc)?;
+        Ok(Domain { own, graph })
+    }
 }
 
 impl Share for Domain {}

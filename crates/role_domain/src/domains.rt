@@ -1,11 +1,12 @@
 //! The domains of a relation by their texts.
 
-ghost use Rattle.std.specs.Prelude.{◌≡◌, ◌+◌, ◌<◌, ◌≤◌, ℕ, List, [], None, OnOk, Some, false, get_or, length};
+ghost use Rattle.std.specs.Prelude.{◌≡◌, ◌+◌, ◌<◌, ◌≤◌, ℕ, List, [], IfOk, None, OnOk, Some, false, get_or, length, slice_get};
 ghost use Rattle.std.specs.List.{IsDistinct};
 ghost use Rattle.std.specs.Map.{keys_of};
 ghost use Rattle.std.specs.Option.{option_copied};
 ghost use Rattle.std.specs.Str.{bytes_eq};
 ghost use Rattle.role_domain.specs.Domains.{AreDomains, Domains, IsRight, by_text, found};
+ghost use Rattle.role_domain.specs.Helps.Copies.{contents_of};
 ghost use Rattle.role_domain.specs.Relations.{Relation};
 ghost use Rattle.role_domain.specs.Steps.{AreReady, IsReady};
 ghost use Rattle.role_graph.specs.Graph.{IsPreparedFor};
@@ -44,6 +45,30 @@ impl Domains {
         Domains {
             entries: IndexMap::new(alloc),
         }
+    }
+
+    /// The same domains once more, their room aside.
+    pub(crate) fn copy(&self, alloc: Global) -> Result<Domains, NoMemory>
+        ensures { IfOk result (λ copy. contents_of copy.entries ≡ contents_of self.now.entries) }
+    {
+        let len = self.len();
+        let mut entries = IndexMap::with_capacity(alloc, len)?;
+        for at in 0..len {
+            let (text, domain) = self.entry(at);
+            let _none = entries.insert(Vec::from_slice(alloc, text)?, domain.copy(alloc)?)?;
+        }
+        Ok(Domains { entries })
+    }
+
+    // The text at a place, and its domain.
+    fn entry(&self, at: usize) -> (&[u8], &Domain)
+        requires { at < length self.now.entries }
+        ensures { slice_get self.now.entries at ≡ Some (result.0.now, result.1.now) }
+    {
+        let Some((text, domain)) = self.entries.get_index(at) else {
+            unreachable!()
+        };
+        (text.as_slice(), domain)
     }
 
     /// The domain of a text.

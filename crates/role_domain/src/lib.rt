@@ -2,10 +2,8 @@
 //! what is asked of names in a domain.
 #![tactic(auto)]
 
-mod changes;
 mod domain;
 mod domains;
-mod law;
 mod moves;
 mod patterns;
 mod prepared;
@@ -17,7 +15,6 @@ mod tally;
 mod terms;
 mod walk;
 
-pub use law::section_follows_tables;
 pub use prepared::Prepared;
 pub use role_graph::Steps;
-pub use section::{RoleSection, new_section};
+pub use section::RoleSection;

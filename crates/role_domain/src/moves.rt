@@ -3,31 +3,34 @@
 ghost use Rattle.std.specs.Prelude.{◌≡◌, ◌++◌, Bool, IfOk, OnOk, filter, if◌then◌else◌};
 ghost use Rattle.std.specs.List.{IsDistinct};
 ghost use Rattle.std.specs.Map.{keys_of};
+ghost use Rattle.perm_base.specs.declared.shapes.TableId.{TableId};
+ghost use Rattle.policy_table.specs.Changes.{flat, is_table, own};
 ghost use Rattle.policy_table.specs.Tables.{Fields, rows, same, stands};
 ghost use Rattle.role_domain.specs.Helps.Turns.{said_of, stands_after, stands_behind, turns};
 
 use indexmap::IndexMap;
 use perm_base::{NoMemory, Rule, TableId};
-use policy_table::{Change, Tables};
+use policy_table::{Change, Edit, Tables};
 use std::alloc::Global;
 
 /// The rules that changes name, each with whether it stands behind them.
-pub(crate) type Said = IndexMap<Rule, bool>;
+pub(crate) type Standings = IndexMap<Rule, bool>;
 
-/// What is said last of the rules that changes name.
-pub(crate) fn said(alloc: Global, changes: &[Change]) -> Result<Said, NoMemory>
+/// What is said last of the rules of a table that edits name.
+pub(crate) fn said(alloc: Global, table: TableId, edits: &[Edit]) -> Result<Standings, NoMemory>
     ensures { IfOk result (λ said. (rule : Fields) (stood : Bool)
-        → said_of said.entries rule stood ≡ stands_after changes.now rule stood) }
+        → said_of said.entries rule stood
+        ≡ stands_after (own table (flat edits.now)) rule stood) }
 {
     let mut said = IndexMap::new(alloc);
-    for change in changes {
-        say(alloc, &mut said, change)?;
+    for edit in edits {
+        say_own(alloc, &mut said, table, edit.as_slice())?;
     }
     Ok(said)
 }
 
 /// Whether a rule stands, as was said last of it, or else as it stood.
-pub(crate) fn stands_now(said: &Said, rule: &Rule, stood: bool) -> bool
+pub(crate) fn stands_now(said: &Standings, rule: &Rule, stood: bool) -> bool
     ensures { result ≡ said_of said.now.entries rule.now stood }
 {
     said.get(rule).copied().unwrap_or(stood)
@@ -38,7 +41,7 @@ pub(crate) fn moved(
     alloc: Global,
     tables: &Tables,
     table: TableId,
-    said: &Said,
+    said: &Standings,
     comes: bool,
 ) -> Result<Vec<Rule>, NoMemory>
     ensures rules { IfOk result (λ rules. rules.items ≡ filter (λ rule.
@@ -68,8 +71,46 @@ fn turns(comes: bool, before: bool, after: bool) -> bool
     }
 }
 
+// What the changes of a table among these say of rules.
+fn say_own(
+    alloc: Global,
+    said: &mut Standings,
+    table: TableId,
+    changes: &[Change],
+) -> Result<(), NoMemory>
+    ensures { OnOk result ((rule : Fields) (stood : Bool) → said_of said.new.entries rule stood
+        ≡ stands_after (own table changes.now) rule (said_of said.old.entries rule stood)) }
+{
+    for change in changes {
+        if !is_table(table, change.table()) {
+            continue;
+        }
+        say(alloc, said, change)?;
+    }
+    Ok(())
+}
+
+// Whether two names are of one table.
+fn is_table(table: TableId, other: TableId) -> bool
+    ensures { result ≡ is_table table other }
+{
+    match table {
+        TableId::P => matches!(other, TableId::P),
+        TableId::G(number) => is_relation(number, other),
+    }
+}
+
+fn is_relation(number: u8, other: TableId) -> bool
+    ensures { result ≡ is_table (TableId.G number) other }
+{
+    match other {
+        TableId::P => false,
+        TableId::G(found) => number == found,
+    }
+}
+
 // What a change says of rules.
-fn say(alloc: Global, said: &mut Said, change: &Change) -> Result<(), NoMemory>
+fn say(alloc: Global, said: &mut Standings, change: &Change) -> Result<(), NoMemory>
     ensures { OnOk result ((rule : Fields) (stood : Bool) → said_of said.new.entries rule stood
         ≡ stands_behind change.now rule (said_of said.old.entries rule stood)) }
 {
@@ -83,7 +124,7 @@ fn say(alloc: Global, said: &mut Said, change: &Change) -> Result<(), NoMemory>
     }
 }
 
-fn say_rule(alloc: Global, said: &mut Said, rule: &Rule, stands: bool) -> Result<(), NoMemory>
+fn say_rule(alloc: Global, said: &mut Standings, rule: &Rule, stands: bool) -> Result<(), NoMemory>
     ensures { OnOk result ((other : Fields) (stood : Bool) → said_of said.new.entries other stood
         ≡ (if same rule.now other then stands else said_of said.old.entries other stood)) }
 {

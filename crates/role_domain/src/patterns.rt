@@ -6,7 +6,7 @@ ghost use Rattle.role_domain.specs.Helps.Turns.{said_of};
 ghost use Rattle.role_domain.specs.Relations.{Tells, counted, has_pattern};
 ghost use Rattle.role_graph.specs.Groups.{times};
 
-use crate::moves::{Said, stands_now};
+use crate::moves::{Standings, stands_now};
 use crate::rows::{domain_of, pair_of};
 use perm_base::{Fit, NoMemory, Rule, is_pattern};
 use role_meaning::fits;
@@ -35,12 +35,21 @@ pub(crate) fn fitting(
     Ok(pairs)
 }
 
+/// The rows with a pattern as their domain.
+pub(crate) fn patterns_of(alloc: Global, fit: Fit, rows: &[Rule]) -> Result<Vec<Rule>, NoMemory>
+    ensures { IfOk result (λ found. found.items ≡ filter (has_pattern fit) rows.now) }
+{
+    let mut found = Vec::new(alloc);
+    push_patterns(alloc, fit, &mut found, rows)?;
+    Ok(found)
+}
+
 /// The rows with a pattern as their domain after a change: those of before that still stand, and those that come.
 pub(crate) fn patterns_after(
     alloc: Global,
     fit: Fit,
     patterns: &[Rule],
-    said: &Said,
+    said: &Standings,
     come: &[Rule],
 ) -> Result<Vec<Rule>, NoMemory>
     ensures { IfOk result (λ after. after.items
@@ -52,8 +61,19 @@ pub(crate) fn patterns_after(
     Ok(after)
 }
 
+/// The same rows once more.
+pub(crate) fn copy_rows(alloc: Global, rows: &[Rule]) -> Result<Vec<Rule>, NoMemory>
+    ensures { IfOk result (λ copy. copy.items ≡ rows.now) }
+{
+    let mut copy = Vec::with_capacity(alloc, rows.len())?;
+    for row in rows {
+        copy.push(row.copy(alloc)?)?;
+    }
+    Ok(copy)
+}
+
 // The rows that are not said to go.
-fn staying(alloc: Global, rows: &[Rule], said: &Said) -> Result<Vec<Rule>, NoMemory>
+fn staying(alloc: Global, rows: &[Rule], said: &Standings) -> Result<Vec<Rule>, NoMemory>
     ensures { IfOk result (λ found. found.items
         ≡ filter (λ row. said_of said.now.entries row true) rows.now) }
 {

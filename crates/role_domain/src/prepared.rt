@@ -21,11 +21,10 @@ pub(crate) enum Step {
     },
 }
 
-/// Edits that `RoleSection::commit` makes. Contracts see the changes of the relation, what becomes of
-/// each domain that these touch, and the rows with a pattern as their domain afterwards.
+/// Edits that `RoleSection::commit` makes. Contracts see what becomes of each domain that they touch,
+/// and the rows with a pattern as their domain afterwards.
 #[derive(Drop)]
 pub struct Prepared {
-    changes: policy_table::Prepared,
     touched: Vec<(Vec<u8>, Step)>,
     patterns: Vec<Rule>,
 }
@@ -37,35 +36,24 @@ impl Model for Prepared {
     ghost Value = { Draft };
 
     ghost view = { λ p. record {
-      changes = p.changes;
       touched = by_text p.touched.items;
       patterns = p.patterns.items;
     } };
 }
 
 impl Prepared {
-    pub(crate) fn new(
-        changes: policy_table::Prepared,
-        touched: Vec<(Vec<u8>, Step)>,
-        patterns: Vec<Rule>,
-    ) -> Prepared
-        ensures changes { result.changes ≡ changes }
+    pub(crate) fn new(touched: Vec<(Vec<u8>, Step)>, patterns: Vec<Rule>) -> Prepared
         ensures touched { result.touched ≡ by_text touched.items }
         ensures patterns { result.patterns ≡ patterns.items }
     {
-        Prepared {
-            changes,
-            touched,
-            patterns,
-        }
+        Prepared { touched, patterns }
     }
 
-    /// The changes, what becomes of the touched domains, and the rows with a pattern as their domain.
-    pub(crate) fn into_parts(self) -> (policy_table::Prepared, Vec<(Vec<u8>, Step)>, Vec<Rule>)
-        ensures changes { result.0 ≡ self.changes }
-        ensures touched { by_text result.1.items ≡ self.touched }
-        ensures patterns { result.2.items ≡ self.patterns }
+    /// What becomes of the touched domains, and the rows with a pattern as their domain.
+    pub(crate) fn into_parts(self) -> (Vec<(Vec<u8>, Step)>, Vec<Rule>)
+        ensures touched { by_text result.0.items ≡ self.touched }
+        ensures patterns { result.1.items ≡ self.patterns }
     {
-        (self.changes, self.touched, self.patterns)
+        (self.touched, self.patterns)
     }
 }

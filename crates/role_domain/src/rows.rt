@@ -22,8 +22,5 @@ pub(crate) fn pair_of(alloc: Global, row: &Rule) -> Result<Rule, NoMemory>
     let mut fields = Vec::new(alloc);
     fields.push(Text::from_str(alloc, row.text(0))?)?;
     fields.push(Text::from_str(alloc, row.text(1))?)?;
-    let Ok(pair) = Rule::from_fields(fields) else {
-        unreachable!()
-    };
-    Ok(pair)
+    Ok(Rule::from_vec(fields))
 }

@@ -1,34 +1,32 @@
 //! A role relation over its domains.
 
-ghost use Rattle.std.specs.Prelude.{◌≡◌, ◌+◌, ◌↔◌, ◌≤◌, ℕ, All, Bool, [], IfOk, IsSome, IsTrue, List, false, is_some, length, true, unwrap_or};
+ghost use Rattle.std.specs.Prelude.{◌≡◌, ◌+◌, ◌↔◌, ◌≤◌, ℕ, All, Bool, [], IfOk, IsSome, IsTrue, List, is_some, length, true, unwrap_or};
 ghost use Rattle.std.specs.Option.{option_copied};
 ghost use Rattle.perm_base.specs.declared.shapes.TableId.TheVariants.{G};
-ghost use Rattle.policy_table.specs.Changes.{applies, edited};
+ghost use Rattle.policy_table.specs.Changes.{applies, edited, flat, own};
 ghost use Rattle.policy_table.specs.Limits.{role_columns};
-ghost use Rattle.policy_table.specs.Tables.{Fields, place, rows, without_rules};
+ghost use Rattle.policy_table.specs.Tables.{Fields, place, rows};
 ghost use Rattle.role_meaning.specs.Depths.{IsDepth};
 ghost use Rattle.role_meaning.specs.Distances.{IsFar};
 ghost use Rattle.role_meaning.specs.Implied.{AreImplied};
 ghost use Rattle.role_meaning.specs.ImpliedUsers.{AreImpliedUsers};
 ghost use Rattle.role_meaning.specs.Links.{HasRoles, IsLinked};
 ghost use Rattle.role_domain.specs.Relations.{HasFewPatterns, HasFewRoles, IsNamed, TellsRows, asked_rows};
-ghost use Rattle.role_domain.specs.Sections.{IsPreparedFor, all_columns, only, own_of, rows_after, rows_in};
+ghost use Rattle.role_domain.specs.Sections.{IsPreparedFor, IsSectionOf, all_columns};
 
-use crate::changes::{inserts, own_changes};
 use crate::domain::graph_of;
 use crate::domains::Domains;
 use crate::moves::{moved, said};
-use crate::patterns::{fitting, patterns_after};
+use crate::patterns::{copy_rows, fitting, patterns_after, patterns_of};
 use crate::prepared::Prepared;
 use crate::terms::terms_of;
 use crate::walk::{depth, distance, has_roles};
 use dist_rows::Steps;
 use perm_base::{NoMemory, RoleShape, Rule, Share, TableId};
-use policy_table::{Edit, Tables, no_tables};
+use policy_table::{Edit, Tables};
 use role_meaning::links_are_decided;
 use std::alloc::Global;
 use std::marker::Model;
-use std::slice;
 use std::sync::ledger::Ledger;
 
 /// The greatest number of links that is told.
@@ -37,21 +35,21 @@ const FARTHEST: u8 = 254;
 /// What tells that there are more links than that, or none at all.
 const TOO_FAR: u8 = 255;
 
-/// The rows of one role relation, by their domains (Casbin, RBAC with domains). A relation without
-/// domains is asked with none, and has one graph. Contracts see the shape, the hierarchy limit, the
-/// tables that it keeps, of which the relation alone has rules, and the domains of these.
+/// The domains of one role relation, whose rows stand in tables (Casbin, RBAC with domains). A relation
+/// without domains is asked with none, and has one graph. Contracts see the shape, the hierarchy limit,
+/// the domains, and the rows with a pattern as their domain. Of which rows a section is, they say by
+/// `IsSectionOf`; a question is answered of these.
 #[derive(Drop)]
 pub struct RoleSection {
     shape: RoleShape,
     limit: u8,
-    tables: Tables,
     domains: Domains,
     // The rows with a pattern as their domain.
     patterns: Vec<Rule>,
 }
 
 impl Model for RoleSection {
-    ghost use Rattle.role_domain.specs.Helps.Kept.{IsSection};
+    ghost use Rattle.role_domain.specs.Helps.Kept.{IsKept};
     ghost use Rattle.role_domain.specs.Sections.{Section};
 
     ghost Value = { Section };
@@ -59,30 +57,11 @@ impl Model for RoleSection {
     ghost view = { λ s. record {
       shape = s.shape;
       limit = s.limit;
-      held = s.tables;
       domains = s.domains;
+      patterns = s.patterns.items;
     } };
 
-    ghost invariant = { λ s.
-        IsSection s.shape s.limit s.tables.policy s.domains.entries s.patterns.items };
-}
-
-/// A section of a relation without rules. It takes no memory.
-pub fn new_section(alloc: Global, shape: RoleShape, limit: u8) -> RoleSection
-    requires some { 1 ≤ limit }
-    requires most { limit ≤ 250 }
-    requires placed { IsSome (place (G shape.number)) }
-    ensures shape { result.shape ≡ shape }
-    ensures limit { result.limit ≡ limit }
-    ensures policy { result.held.policy ≡ without_rules false }
-{
-    RoleSection {
-        shape,
-        limit,
-        tables: no_tables(alloc),
-        domains: Domains::new(alloc),
-        patterns: Vec::new(alloc),
-    }
+    ghost invariant = { λ s. IsKept s.shape s.limit s.patterns.items };
 }
 
 impl RoleSection {
@@ -102,16 +81,40 @@ impl RoleSection {
         requires patterns { HasFewPatterns shape (rows tables.now.policy (G shape.number)) }
         ensures shape { IfOk result (λ section. section.shape ≡ shape) }
         ensures limit { IfOk result (λ section. section.limit ≡ limit) }
-        ensures policy { IfOk result (λ section.
-            section.held.policy ≡ only shape.number tables.now.policy) }
+        ensures section { IfOk result (λ section.
+            IsSectionOf section (rows tables.now.policy (G shape.number))) }
     {
-        let mut section = new_section(alloc, shape, limit);
-        tables.kept();
-        let table = TableId::G(shape.number);
-        let edit = inserts(alloc, table, tables.rows(table))?;
-        let prepared = section.prepare(alloc, slice::from_ref(&edit))?;
-        section.commit(prepared);
-        Ok(section)
+        let terms = terms_of(shape, limit);
+        let rows = tables.rows(TableId::G(shape.number));
+        let patterns = patterns_of(alloc, terms.domains, rows)?;
+        let mut domains = Domains::new(alloc);
+        domains.fill(alloc, terms, rows, &patterns)?;
+        Ok(RoleSection {
+            shape,
+            limit,
+            domains,
+            patterns,
+        })
+    }
+
+    /// The same section once more, its room aside. Its time is linear in the rows and in the distances
+    /// that are kept.
+    pub fn copy(&self, alloc: Global) -> Result<RoleSection, NoMemory>
+        ensures shape { IfOk result (λ copy. copy.shape ≡ self.now.shape) }
+        ensures limit { IfOk result (λ copy. copy.limit ≡ self.now.limit) }
+        ensures section { IfOk result (λ copy. (rows : List Fields)
+            → IsSectionOf self.now rows → IsSectionOf copy rows) }
+    {
+        let shape = self.shape;
+        let limit = self.limit;
+        let domains = self.domains.copy(alloc)?;
+        let patterns = copy_rows(alloc, &self.patterns)?;
+        Ok(RoleSection {
+            shape,
+            limit,
+            domains,
+            patterns,
+        })
     }
 
     /// The shape of the relation.
@@ -141,14 +144,15 @@ impl RoleSection {
         steps: &mut Steps<L>,
     ) -> bool
         requires { is_some domain ≡ self.now.shape.with_domain }
-        ensures found { IsTrue result ↔ IsLinked self.now.shape (rows_in self.now) self.now.limit
+        ensures found { (rows : List Fields) → IsSectionOf self.now rows
+            → IsTrue result ↔ IsLinked self.now.shape rows self.now.limit
             (option_copied domain.entry) x.now y.now }
         ensures steps { steps.old ≤ steps.new }
-        ensures few_steps { (test : Fields → Bool)
-            → TellsRows self.now.shape (rows_in self.now) (option_copied domain.entry) test
-            → HasFewRoles self.now.shape (rows_in self.now) (option_copied domain.entry)
-            → steps.new ≤ steps.old
-            + asked_rows self.now.shape test x.now (rows_in self.now) + 1 }
+        ensures few_steps { (rows : List Fields) → IsSectionOf self.now rows
+            → (test : Fields → Bool)
+            → TellsRows self.now.shape rows (option_copied domain.entry) test
+            → HasFewRoles self.now.shape rows (option_copied domain.entry)
+            → steps.new ≤ steps.old + asked_rows self.now.shape test x.now rows + 1 }
     {
         links_are_decided();
         let text = asked(domain);
@@ -171,14 +175,14 @@ impl RoleSection {
         steps: &mut Steps<L>,
     ) -> u8
         requires { is_some domain ≡ self.now.shape.with_domain }
-        ensures far { IsFar self.now.shape (rows_in self.now) (option_copied domain.entry) x.now
-            y.now result }
+        ensures far { (rows : List Fields) → IsSectionOf self.now rows
+            → IsFar self.now.shape rows (option_copied domain.entry) x.now y.now result }
         ensures steps { steps.old ≤ steps.new }
-        ensures few_steps { (test : Fields → Bool)
-            → TellsRows self.now.shape (rows_in self.now) (option_copied domain.entry) test
-            → HasFewRoles self.now.shape (rows_in self.now) (option_copied domain.entry)
-            → steps.new ≤ steps.old
-            + asked_rows self.now.shape test x.now (rows_in self.now) + 1 }
+        ensures few_steps { (rows : List Fields) → IsSectionOf self.now rows
+            → (test : Fields → Bool)
+            → TellsRows self.now.shape rows (option_copied domain.entry) test
+            → HasFewRoles self.now.shape rows (option_copied domain.entry)
+            → steps.new ≤ steps.old + asked_rows self.now.shape test x.now rows + 1 }
     {
         links_are_decided();
         let text = asked(domain);
@@ -195,8 +199,8 @@ impl RoleSection {
     /// there. It takes no memory.
     pub fn has_roles(&self, x: &[u8], domain: Option<&[u8]>) -> bool
         requires { is_some domain ≡ self.now.shape.with_domain }
-        ensures { IsTrue result ↔ HasRoles self.now.shape (rows_in self.now)
-            (option_copied domain.entry) x.now }
+        ensures { (rows : List Fields) → IsSectionOf self.now rows
+            → IsTrue result ↔ HasRoles self.now.shape rows (option_copied domain.entry) x.now }
     {
         links_are_decided();
         let text = asked(domain);
@@ -211,8 +215,9 @@ impl RoleSection {
     /// the hierarchy of subjects). It takes no memory.
     pub fn depth(&self, x: &[u8], domain: Option<&[u8]>) -> u8
         requires { is_some domain ≡ self.now.shape.with_domain }
-        ensures { IsDepth self.now.shape (rows_in self.now) self.now.limit
-            (option_copied domain.entry) x.now result }
+        ensures { (rows : List Fields) → IsSectionOf self.now rows
+            → IsDepth self.now.shape rows self.now.limit (option_copied domain.entry) x.now
+            result }
     {
         links_are_decided();
         let text = asked(domain);
@@ -234,8 +239,9 @@ impl RoleSection {
         domain: Option<&[u8]>,
     ) -> Result<Rule, NoMemory>
         requires { is_some domain ≡ self.now.shape.with_domain }
-        ensures { IfOk result (λ names. AreImplied self.now.shape (rows_in self.now)
-            self.now.limit (option_copied domain.entry) x.now names) }
+        ensures { IfOk result (λ names. (rows : List Fields) → IsSectionOf self.now rows
+            → AreImplied self.now.shape rows self.now.limit (option_copied domain.entry) x.now
+            names) }
     {
         links_are_decided();
         let text = asked(domain);
@@ -251,47 +257,40 @@ impl RoleSection {
     }
 
     /// The users of the rows of the relation that are no patterns, other than `x`, and that reach it in
-    /// the domain within the limit: each once, by bytes (Casbin, implicit users). The links of the
-    /// domain are walked once, from `x` back; then each row's user is looked up.
+    /// the domain within the limit: each once, by bytes (Casbin, implicit users). The rows are lent; the
+    /// links of the domain are walked once, from `x` back; then each row's user is looked up.
     pub fn users_within(
         &self,
         alloc: Global,
         x: &[u8],
         domain: Option<&[u8]>,
+        rows: &[Rule],
     ) -> Result<Rule, NoMemory>
-        requires { is_some domain ≡ self.now.shape.with_domain }
-        ensures { IfOk result (λ names. AreImpliedUsers self.now.shape (rows_in self.now)
-            self.now.limit (option_copied domain.entry) x.now names) }
+        requires asked { is_some domain ≡ self.now.shape.with_domain }
+        requires rows { IsSectionOf self.now rows.now }
+        ensures { IfOk result (λ names. AreImpliedUsers self.now.shape rows.now self.now.limit
+            (option_copied domain.entry) x.now names) }
     {
         links_are_decided();
         let text = asked(domain);
-        let among = self.all_rows();
         if let Some(there) = self.domains.get(text) {
-            let names = there.graph.users_within(alloc, x, among)?;
+            let names = there.graph.users_within(alloc, x, rows)?;
             return Ok(names);
         }
         let terms = terms_of(self.shape, self.limit);
         let pairs = fitting(alloc, terms.domains, text, &self.patterns)?;
         let graph = graph_of(alloc, terms.names, self.limit, &pairs, &[])?;
-        let names = graph.users_within(alloc, x, among)?;
+        let names = graph.users_within(alloc, x, rows)?;
         Ok(names)
-    }
-
-    // The rows of the relation.
-    fn all_rows(&self) -> &[Rule]
-        ensures rows { result.now ≡ rows_in self.now }
-        ensures columns { All (λ row. 2 ≤ length row) result.now }
-        ensures few { length result.now ≤ 200000 }
-    {
-        self.tables.rows(TableId::G(self.shape.number))
     }
 
     /// Whether some row has the domain's text, or no domain is asked for, and at most 1,024 names
     /// hold the role of each row that counts there.
     pub fn is_kept(&self, domain: Option<&[u8]>) -> bool
         requires { is_some domain ≡ self.now.shape.with_domain }
-        ensures { IsTrue result ↔ (IsNamed (rows_in self.now) (option_copied domain.entry)
-            × HasFewRoles self.now.shape (rows_in self.now) (option_copied domain.entry)) }
+        ensures { (rows : List Fields) → IsSectionOf self.now rows
+            → IsTrue result ↔ (IsNamed rows (option_copied domain.entry)
+            × HasFewRoles self.now.shape rows (option_copied domain.entry)) }
     {
         links_are_decided();
         match self.domains.get(asked(domain)) {
@@ -300,43 +299,51 @@ impl RoleSection {
         }
     }
 
-    /// Makes the changes of the relation among those of edits ready, so that `commit` needs no
-    /// memory; changes of other tables are passed over. The rules are as before, whatever the answer.
-    pub fn prepare(&mut self, alloc: Global, edits: &[Edit]) -> Result<Prepared, NoMemory>
-        requires possible { applies (own_of self.old edits.now) self.old.held.policy ≡ true }
-        requires columns { all_columns (role_columns self.old.shape) (own_of self.old edits.now)
-            ≡ true }
-        requires rows { length (rows_after self.old edits.now) ≤ 200000 }
-        requires patterns { HasFewPatterns self.old.shape (rows_after self.old edits.now) }
+    /// Makes edits of the tables ready, before they are made there, so that `commit` needs no memory;
+    /// changes of other tables are passed over. The section stays of the rows that it is of, whatever
+    /// the answer.
+    pub fn prepare(
+        &mut self,
+        alloc: Global,
+        edits: &[Edit],
+        tables: &Tables,
+    ) -> Result<Prepared, NoMemory>
+        requires section { IsSectionOf self.old (rows tables.now.policy (G self.old.shape.number)) }
+        requires possible { applies (flat edits.now) tables.now.policy ≡ true }
+        requires columns { all_columns (role_columns self.old.shape)
+            (own (G self.old.shape.number) (flat edits.now)) ≡ true }
+        requires few { length (rows (edited (flat edits.now) tables.now.policy)
+            (G self.old.shape.number)) ≤ 200000 }
+        requires patterns { HasFewPatterns self.old.shape
+            (rows (edited (flat edits.now) tables.now.policy) (G self.old.shape.number)) }
         ensures shape { self.new.shape ≡ self.old.shape }
         ensures limit { self.new.limit ≡ self.old.limit }
-        ensures unchanged { self.new.held.policy ≡ self.old.held.policy }
-        ensures edits { IfOk result (λ prepared. prepared.changes ≡ own_of self.old edits.now) }
-        ensures ready { IfOk result (IsPreparedFor self.new) }
+        ensures stays { (rows : List Fields) → IsSectionOf self.old rows
+            → IsSectionOf self.new rows }
+        ensures ready { IfOk result (IsPreparedFor self.new
+            (rows (edited (flat edits.now) tables.now.policy) (G self.old.shape.number))) }
     {
-        self.tables.kept();
+        tables.kept();
         let table = TableId::G(self.shape.number);
         let terms = terms_of(self.shape, self.limit);
-        let changes = own_changes(alloc, table, edits)?;
-        let said = said(alloc, changes.as_slice())?;
-        let come = moved(alloc, &self.tables, table, &said, true)?;
-        let go = moved(alloc, &self.tables, table, &said, false)?;
+        let said = said(alloc, table, edits)?;
+        let come = moved(alloc, tables, table, &said, true)?;
+        let go = moved(alloc, tables, table, &said, false)?;
         let patterns = patterns_after(alloc, terms.domains, &self.patterns, &said, &come)?;
         let touched = self.domains.prepare(alloc, terms, &come, &go, &patterns)?;
-        let changes = self.tables.prepare(alloc, slice::from_ref(&changes))?;
-        Ok(Prepared::new(changes, touched, patterns))
+        Ok(Prepared::new(touched, patterns))
     }
 
     /// Makes the edits that were prepared for this section as it stands. It takes no memory, and its
     /// time does not grow with the rows that they do not touch.
     pub fn commit(&mut self, prepared: Prepared)
-        requires { IsPreparedFor self.old prepared }
+        requires { (after : List Fields) × IsPreparedFor self.old after prepared }
         ensures shape { self.new.shape ≡ self.old.shape }
         ensures limit { self.new.limit ≡ self.old.limit }
-        ensures policy { self.new.held.policy ≡ edited prepared.changes self.old.held.policy }
+        ensures section { (after : List Fields) → IsPreparedFor self.old after prepared
+            → IsSectionOf self.new after }
     {
-        let (changes, touched, patterns) = prepared.into_parts();
-        self.tables.commit(changes);
+        let (touched, patterns) = prepared.into_parts();
         self.domains.make(touched);
         self.patterns = patterns;
     }

@@ -8,7 +8,7 @@ ghost use Rattle.policy_table.specs.Tables.{Fields};
 ghost use Rattle.role_meaning.specs.Links.{domain_of};
 ghost use Rattle.role_domain.specs.Domains.{AreDomains, IsDomain, IsRight, by_text, found};
 ghost use Rattle.role_domain.specs.Helps.Tallies.{Brings, Tallies, has_text, own_at, rows_at};
-ghost use Rattle.role_domain.specs.Helps.Turns.{CanStep, CanTurn, IsTurnOf, Turn, after_of};
+ghost use Rattle.role_domain.specs.Helps.Turns.{CanStep, CanTurn, IsTurnOf, Turn, after_of, first_turn};
 ghost use Rattle.role_domain.specs.Relations.{Relation, Tells, pair_of};
 ghost use Rattle.role_domain.specs.Steps.{AreReady, IsReady};
 
@@ -24,6 +24,22 @@ use role_meaning::{fits, links_are_decided};
 use std::alloc::Global;
 
 impl Domains {
+    /// Makes the domains of rows where there are none, given those of the rows that have a pattern as their domain.
+    pub(crate) fn fill(
+        &mut self,
+        alloc: Global,
+        terms: Terms,
+        rows: &[Rule],
+        patterns: &[Rule],
+    ) -> Result<(), NoMemory>
+        requires { CanTurn (first_turn terms rows.now) self.old patterns.now }
+        ensures { OnOk result (AreDomains (after_of (first_turn terms rows.now)) self.new.entries) }
+    {
+        let touched = self.prepare(alloc, terms, rows, &[], patterns)?;
+        self.make(touched);
+        Ok(())
+    }
+
     /// Tells what becomes of the domains that rows touch which come and go, given the rows with a pattern as their domain
     /// afterwards, and makes room for it. The domains stay as they are, whatever the answer.
     pub(crate) fn prepare(

@@ -1,5 +1,5 @@
 -- Users that have a role, found from the role back, level by level.
-use Rattle.std.proofs.Common.{◌≡◌, ◌≢◌, ◌⊎◌, inl, inr, ◌<◌, ◌≤◌, ◌+◌, ◌∙◌, ◌^◌, ℕ, zero, suc, Bool, true, false, List, [], ◌∷◌, ◌++◌, None, length, map, get_or, take, refl, sym, ap, subst, arith}
+use Rattle.std.proofs.Common.{◌≡◌, ◌⊎◌, inl, inr, ◌<◌, ◌≤◌, ◌+◌, ◌∙◌, ℕ, zero, suc, Bool, true, false, List, [], ◌∷◌, ◌++◌, None, length, map, get_or, take, sym, ap, subst, arith}
 use Rattle.std.specs.Prelude.{◌↔◌, IsTrue}
 use Rattle.std.specs.List.{Contains, IsDistinct, list_any}
 use Rattle.std.specs.List.Sorted.{IsPermutation, IsSortedBy}
@@ -25,7 +25,7 @@ use Rattle.role_graph.specs.Helps.Distances.{ReachesBy, ReachesByGroup}
 use Rattle.role_graph.specs.Helps.Marks.{IsSet}
 use Rattle.role_graph.specs.Helps.Names.{Adds, is_before}
 use Rattle.role_graph.specs.Helps.Users.{AreLeading, Chooses, FitsMarked, GoesBack, IsOnWay, Leads}
-use Rattle.role_graph.specs.Helps.Walks.{FitsAt, IsRoleAt, Linked}
+use Rattle.role_graph.specs.Helps.Walks.{FitsAt, Linked}
 use Rattle.role_graph.proofs.Gathering.{adds_none, all_whole, any_stands, flips, stands_any, strictly}
 use Rattle.role_graph.proofs.Naming.{ReachesIn}
 use Rattle.role_graph.proofs.Nearest.{by_groups, from_groups}

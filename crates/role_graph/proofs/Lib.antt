@@ -6,6 +6,7 @@ mod Changing
 mod Closed
 mod Committing
 mod Counting
+pub mod Copying
 mod Editing
 mod Entries
 mod Following
@@ -26,6 +27,7 @@ mod Putting
 mod Rooms
 mod Resizing
 mod Seeking
+mod ShortLists
 mod Tallies
 mod Walking
 pub mod CallerLemmas

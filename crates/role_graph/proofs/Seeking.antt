@@ -1,14 +1,13 @@
 -- Walks that look for a name, or for any name without roles.
-use Rattle.std.proofs.Common.{◌≡◌, ◌⊎◌, inl, inr, ◌<◌, ◌≤◌, ◌+◌, ◌∙◌, ℕ, suc, Bool, true, false, List, [], ◌∷◌, ◌++◌, Option, None, Some, IsTrue, length, get_or, refl, sym, subst, arith}
+use Rattle.std.proofs.Common.{◌≡◌, ◌⊎◌, inl, inr, ◌<◌, ◌≤◌, ◌+◌, ◌∙◌, ℕ, suc, Bool, true, false, List, Option, None, Some, IsTrue, length, get_or, refl, sym, subst, arith}
 use Rattle.std.specs.Prelude.{◌↔◌, unwrap_or}
 use Rattle.std.specs.Borrow.{Bor}
 use Rattle.std.specs.List.{Contains}
 use Rattle.std.proofs.lemmas.Bool.{cases_eq, cases_lt, false≢true}
-use Rattle.std.proofs.lemmas.List.Elements.{Contains-push_cases}
 use Rattle.role_meaning.specs.Depths.{IsDepth, ReachesTop}
 use Rattle.role_meaning.specs.Least.{IsLeast}
 use Rattle.role_meaning.specs.Links.{HasRoles, Reaches}
-use Rattle.role_meaning.proofs.CallerLemmas.{reaches_itself, reaches_more, stands_nowhere}
+use Rattle.role_meaning.proofs.CallerLemmas.{reaches_itself, reaches_more}
 use Rattle.role_graph.specs.Graph.{shape_of}
 use Rattle.role_graph.specs.Groups.{rows_of}
 use Rattle.role_graph.specs.Helps.Kept.{AreLinks, Parts, linked_of}
@@ -70,22 +69,6 @@ sought_itself linked sought x most is = (
     least = λ lower less. absurd (omega arith);
   },
 )
-
--- ---- the loop over names
-
--- none of the names is sought
-pub record NoneIs (linked : Linked) (sought : Sought) (names : List (List ℕ)) : Type 0 where
-  pub each : (name : List ℕ) → Contains names name → IsSought linked sought name → ⊥
-
-pub none_is_first : (linked : Linked) (sought : Sought) → NoneIs linked sought []
-none_is_first linked sought = record { each = λ name stands. absurd (stands_nowhere name stands) }
-
-pub none_is_on : (linked : Linked) (sought : Sought) (names : List (List ℕ)) (name : List ℕ) → (IsSought linked sought name → ⊥) → NoneIs linked sought names → NoneIs linked sought (names ++ name ∷ [])
-none_is_on linked sought names name never before = record { each = λ one stands is. by one is (Contains-push_cases names name one stands) }
-  where
-    by : (one : List ℕ) → IsSought linked sought one → Contains names one ⊎ (name ≡ one) → ⊥
-    by one is (inl early) = before.each one early is
-    by one is (inr same) = never (subst (IsSought linked sought) (sym same) is)
 
 -- ---- the loop over groups
 

@@ -8,3 +8,4 @@ pub mod Names
 pub mod Squares
 pub mod Distances
 pub mod Users
+pub mod Lists

@@ -141,8 +141,8 @@ fn place_of(texts: &[Text], name: &[u8]) -> Option<usize>
     texts.iter().position(|text| name == text.bytes())
 }
 
-// A copy of texts.
-fn copy_all(alloc: Global, texts: &[Text]) -> Result<Vec<Text>, NoMemory>
+/// A copy of texts.
+pub(crate) fn copy_all(alloc: Global, texts: &[Text]) -> Result<Vec<Text>, NoMemory>
     ensures { IfOk result (λ copy. copy.items ≡ texts.now) }
 {
     let mut copy = Vec::with_capacity(alloc, texts.len())?;

@@ -1,8 +1,6 @@
 //! The role graph of one domain.
 
-ghost use Rattle.std.specs.Prelude.{◌≡◌, ◌^◌, false, ◌+◌, ◌<◌, ◌≤◌, ◌↔◌, All, [], IfOk, OnOk, IsTrue, None, length, map};
-ghost use Rattle.std.specs.List.{list_any};
-ghost use Rattle.perm_base.specs.LineEnds.{has_line_end};
+ghost use Rattle.std.specs.Prelude.{◌≡◌, ◌+◌, ◌≤◌, ◌↔◌, All, [], IfOk, OnOk, IsTrue, None, length, map};
 ghost use Rattle.role_meaning.specs.Depths.{IsDepth};
 ghost use Rattle.role_meaning.specs.Implied.{AreImplied};
 ghost use Rattle.role_meaning.specs.ImpliedUsers.{AreUsersOf};
@@ -93,6 +91,28 @@ pub fn new_graph(alloc: Global, names: Fit, limit: u8) -> RoleGraph
 }
 
 impl RoleGraph {
+    /// The same graph once more, its room aside. Its time is linear in the rows and in the distances
+    /// that are kept.
+    pub fn copy(&self, alloc: Global) -> Result<RoleGraph, NoMemory>
+        ensures rows { IfOk result (λ copy. copy.rows ≡ self.now.rows) }
+        ensures names { IfOk result (λ copy. copy.names ≡ self.now.names) }
+        ensures limit { IfOk result (λ copy. copy.limit ≡ self.now.limit) }
+    {
+        let links = self.links.copy(alloc)?;
+        let roles = self.roles.copy(alloc)?;
+        let square = self.square.copy(alloc)?;
+        let limit = self.limit;
+        let count = self.count;
+        Ok(RoleGraph {
+            alloc,
+            links,
+            limit,
+            roles,
+            count,
+            square,
+        })
+    }
+
     /// How names are compared with users.
     pub fn names(&self) -> Fit
         ensures { result ≡ self.now.names }
@@ -178,7 +198,7 @@ impl RoleGraph {
     {
         let _names = self.roles.len();
         let names = self.names_within(alloc, x)?;
-        Ok(rule_of(names))
+        Ok(Rule::from_vec(names))
     }
 
     // The same as a list.
@@ -201,7 +221,7 @@ impl RoleGraph {
             self.now.limit None (map user_of among.now) x.now names) }
     {
         let users = users_among(&self.links, alloc, x, self.limit, among)?;
-        Ok(rule_of(users))
+        Ok(Rule::from_vec(users))
     }
 
     /// Prepares to take the rows of `remove` out, each once, and to add those of `insert`. The
@@ -293,16 +313,4 @@ fn add_all(edits: &mut Edits, links: &Links, alloc: Global, rows: &[Rule]) -> Re
         edits.add(links, alloc, row)?;
     }
     Ok(())
-}
-
-// The rule of texts that may be its fields.
-fn rule_of(fields: Vec<Text>) -> Rule
-    requires few { length fields.items < 2 ^ 32 }
-    requires whole_lines { list_any has_line_end fields.items ≡ false }
-    ensures { result ≡ fields.items }
-{
-    let Ok(rule) = Rule::from_fields(fields) else {
-        unreachable!()
-    };
-    rule
 }

@@ -7,6 +7,7 @@ ghost use Rattle.role_graph.specs.Groups.{Group};
 ghost use Rattle.role_graph.specs.Helps.Kept.{AreKept, roles_under};
 ghost use Rattle.role_graph.specs.Helps.Walks.{no_group};
 
+use crate::edits::copy_all;
 use indexmap::IndexMap;
 use perm_base::{NoMemory, Share, Text};
 use std::alloc::Global;
@@ -93,6 +94,20 @@ impl Groups {
             Some(roles) => roles.as_slice(),
             None => &[],
         }
+    }
+
+    /// The same groups once more.
+    pub(crate) fn copy(&self, alloc: Global) -> Result<Groups, NoMemory>
+        ensures { IfOk result (λ copy. copy.groups ≡ self.now.groups) }
+    {
+        let len = self.entries.len();
+        let mut entries = IndexMap::with_capacity(alloc, len)?;
+        for at in 0..len {
+            let user = Vec::from_slice(alloc, self.user_at(at))?;
+            let roles = copy_all(alloc, self.roles_at(at))?;
+            let _none = entries.insert(user, roles)?;
+        }
+        Ok(Groups { entries })
     }
 
     /// Makes room for so many further groups.

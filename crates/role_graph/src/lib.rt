@@ -16,6 +16,7 @@ mod names;
 mod prepared;
 mod reserving;
 mod roles;
+mod short;
 mod touching;
 mod users;
 mod walk;

@@ -1,16 +1,18 @@
 //! The groups of a graph: those whose users are patterns apart from the others.
 
-ghost use Rattle.std.specs.Prelude.{◌≡◌, ◌+◌, ◌<◌, ◌≤◌, ◌⊎◌, ◌++◌, ◌↔◌, ℕ, List, [], OnOk, IfNone, IfSome, IsTrue, Some, get_or, length};
+ghost use Rattle.std.specs.Prelude.{◌≡◌, ◌+◌, ◌<◌, ◌≤◌, ◌⊎◌, ◌++◌, ◌↔◌, ℕ, List, [], OnOk, IfNone, IfOk, IfSome, IsTrue, Some, get_or, length, true};
 ghost use Rattle.std.specs.List.{Contains};
 ghost use Rattle.policy_table.specs.Tables.{Fields};
 ghost use Rattle.role_graph.specs.Groups.{after, rows_of, times};
 ghost use Rattle.role_graph.specs.Helps.Kept.{AreApart, AreLinks, HasRoom, linked_of, roles_in};
+ghost use Rattle.role_graph.specs.Helps.Lists.{Lists};
 ghost use Rattle.role_graph.specs.Helps.Marks.{Extends, IsSet};
 ghost use Rattle.role_graph.specs.Helps.Walks.{FitsAt, IsLink, no_group};
 
 use crate::edits::Edits;
 use crate::groups::Groups;
 use crate::marks::{Marks, reach};
+use crate::short::{Listed, list_one};
 use crate::walk::holds;
 use perm_base::{Fit, NoMemory, Share, Text, is_pattern};
 use role_meaning::fits;
@@ -47,6 +49,23 @@ impl Links {
             patterned: Groups::new(alloc),
             names,
         }
+    }
+
+    /// The same links once more.
+    pub(crate) fn copy(&self, alloc: Global) -> Result<Links, NoMemory>
+        ensures plain { IfOk result (λ copy. copy.plain.groups ≡ self.now.plain.groups) }
+        ensures patterned { IfOk result (λ copy. copy.patterned.groups
+            ≡ self.now.patterned.groups) }
+        ensures names { IfOk result (λ copy. copy.names ≡ self.now.names) }
+    {
+        let plain = self.plain.copy(alloc)?;
+        let patterned = self.patterned.copy(alloc)?;
+        let names = self.names;
+        Ok(Links {
+            plain,
+            patterned,
+            names,
+        })
     }
 
     /// How names are compared with users.
@@ -207,6 +226,47 @@ impl Links {
     {
         self.mark_text(name, reached, fresh);
         self.mark_patterns(name, reached, fresh);
+    }
+
+    /// Lists the groups whose users a name fits, and tells whether there is room.
+    pub(crate) fn list(&self, name: &[u8], listed: &mut Listed) -> bool
+        ensures { result ≡ true → Lists (FitsAt (linked_of self.now) name.now)
+            (FitsAt (linked_of self.now) name.now) listed.old.items listed.new.items }
+    {
+        if !self.list_text(name, listed) {
+            return false;
+        }
+        self.list_patterns(name, listed)
+    }
+
+    // Lists the group whose user a name is.
+    fn list_text(&self, name: &[u8], listed: &mut Listed) -> bool
+        ensures { result ≡ true → Lists
+            (λ at. (at < length self.now.plain.groups) × FitsAt (linked_of self.now) name.now at)
+            (λ at. FitsAt (linked_of self.now) name.now at) listed.old.items listed.new.items }
+    {
+        match self.plain.place_of(name) {
+            Some(at) => list_one(at, listed),
+            None => true,
+        }
+    }
+
+    // Lists the groups whose users are patterns that a name fits.
+    fn list_patterns(&self, name: &[u8], listed: &mut Listed) -> bool
+        ensures { result ≡ true → Lists
+            (λ at. (length self.now.plain.groups ≤ at) × FitsAt (linked_of self.now) name.now at)
+            (λ at. FitsAt (linked_of self.now) name.now at) listed.old.items listed.new.items }
+    {
+        let count = self.plain.len();
+        for at in 0..self.patterned.len() {
+            if !fits(self.names, name, self.patterned.user_at(at)) {
+                continue;
+            }
+            if !list_one(count + at, listed) {
+                return false;
+            }
+        }
+        true
     }
 
     /// Whether a name fits the user of some group.

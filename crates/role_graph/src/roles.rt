@@ -1,6 +1,6 @@
 //! The roles of a graph's rows.
 
-ghost use Rattle.std.specs.Prelude.{◌≡◌, false, ◌+◌, ◌++◌, ◌<◌, ◌≤◌, ◌⊎◌, ◌^◌, ◌↔◌, [], List, ℕ, IfNone, IfSome, IsOk, IsTrue, OnOk, get_or, if◌then◌else◌, length};
+ghost use Rattle.std.specs.Prelude.{◌≡◌, false, ◌+◌, ◌++◌, ◌<◌, ◌≤◌, ◌⊎◌, ◌^◌, ◌↔◌, [], List, ℕ, IfNone, IfOk, IfSome, IsOk, IsTrue, OnOk, Some, get_or, if◌then◌else◌, length, slice_get};
 ghost use Rattle.std.specs.List.{Contains, IsDistinct, count_by, list_any};
 ghost use Rattle.std.specs.Str.{IsUtf8, bytes_eq};
 ghost use Rattle.perm_base.specs.LineEnds.{has_line_end};
@@ -44,6 +44,30 @@ impl Roles {
         Roles {
             counts: IndexMap::new(alloc),
         }
+    }
+
+    /// The same counts once more.
+    pub(crate) fn copy(&self, alloc: Global) -> Result<Roles, NoMemory>
+        ensures { IfOk result (λ copy. copy.entries ≡ self.now.entries) }
+    {
+        let len = self.len();
+        let mut counts = IndexMap::with_capacity(alloc, len)?;
+        for at in 0..len {
+            let (role, count) = self.entry(at);
+            let _none = counts.insert(Vec::from_slice(alloc, role)?, count)?;
+        }
+        Ok(Roles { counts })
+    }
+
+    // The role at a place, and how often it is counted.
+    fn entry(&self, at: usize) -> (&[u8], u64)
+        requires { at < length self.now.entries }
+        ensures { slice_get self.now.entries at ≡ Some (result.0.now, result.1) }
+    {
+        let Some((role, count)) = self.counts.get_index(at) else {
+            unreachable!()
+        };
+        (role.as_slice(), *count)
     }
 
     // How often a role is counted.

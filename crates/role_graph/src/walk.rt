@@ -12,6 +12,7 @@ ghost use Rattle.role_graph.specs.Helps.Walks.{FitsAt, GoesOn, HasSought, IsDist
 
 use crate::links::Links;
 use crate::marks::Marks;
+use crate::short::seek_near;
 use perm_base::Text;
 
 /// What a walk looks for: a name, or any name without roles.
@@ -46,6 +47,18 @@ fn seek(links: &Links, x: &[u8], sought: Sought, most: u8) -> Option<u8>
     requires { most ≤ 254 }
     ensures { IsFirst (linked_of links.now) sought.entry x.now most result }
 {
+    match seek_near(links, x, sought, most) {
+        Some(found) => found,
+        None => seek_far(links, x, sought, most),
+    }
+}
+
+// The same for a walk that comes to many groups, which it marks.
+#[inline(never)]
+fn seek_far(links: &Links, x: &[u8], sought: Sought, most: u8) -> Option<u8>
+    requires { most ≤ 254 }
+    ensures { IsFirst (linked_of links.now) sought.entry x.now most result }
+{
     if is_sought(links, sought, x) {
         return Some(0);
     }
@@ -63,8 +76,8 @@ fn seek(links: &Links, x: &[u8], sought: Sought, most: u8) -> Option<u8>
     None
 }
 
-// Whether a name is sought.
-fn is_sought(links: &Links, sought: Sought, name: &[u8]) -> bool
+/// Whether a name is sought.
+pub(crate) fn is_sought(links: &Links, sought: Sought, name: &[u8]) -> bool
     ensures { IsTrue result ↔ IsSought (linked_of links.now) sought.entry name.now }
 {
     match sought {
@@ -73,8 +86,8 @@ fn is_sought(links: &Links, sought: Sought, name: &[u8]) -> bool
     }
 }
 
-// Whether some of the names is sought.
-fn some_is_sought(links: &Links, sought: Sought, names: &[Text]) -> bool
+/// Whether some of the names is sought.
+pub(crate) fn some_is_sought(links: &Links, sought: Sought, names: &[Text]) -> bool
     ensures { IsTrue result ↔ ((name : List ℕ) × Contains names.now name
         × IsSought (linked_of links.now) sought.entry name) }
 {

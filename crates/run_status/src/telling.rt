@@ -1,5 +1,6 @@
 ghost use Rattle.std.specs.Prelude.{◌≡◌, ◌++◌, decimal};
 ghost use Rattle.outside.specs.Pushes.{PushesAll};
+ghost use Rattle.run_status.specs.Hits.{hits_line};
 ghost use Rattle.run_status.specs.Messages.{line_of};
 ghost use Rattle.run_status.specs.Statuses.{status_of};
 ghost use Rattle.run_status.specs.Told.{IsTold};
@@ -28,6 +29,22 @@ pub fn push_stop<E: Sink>(err: &mut E, stop: Stop) -> Result<(), Failed>
         (E.faults err.old) (E.faults err.new) (line_of stop) result }
 {
     push_message(err, message_of(stop))?;
+    push_all(err, b"\n")
+}
+
+/// Tells how many requests were answered from a cache: pushes the line. Where a push fails, no more is told. It takes no memory.
+pub fn tell_hits<E: Sink>(err: &mut E, hits: u64)
+    ensures { IsTold (E.taken err.old) (E.taken err.new)
+        (E.faults err.old) (E.faults err.new) (hits_line hits) }
+{
+    let _ = push_hits(err, hits);
+}
+
+fn push_hits<E: Sink>(err: &mut E, hits: u64) -> Result<(), Failed>
+    ensures { PushesAll (E.taken err.old) (E.taken err.new)
+        (E.faults err.old) (E.faults err.new) (hits_line hits) result }
+{
+    push_numbered(err, "cache: hits ", hits)?;
     push_all(err, b"\n")
 }
 

@@ -6,7 +6,7 @@ use Rattle.std.specs.Option.{option_map_or}
 use Rattle.std.proofs.lemmas.Option.{same_Some}
 use Rattle.edit_calls.proofs.CallerLemmas.{has_place}
 use Rattle.edit_calls.specs.Admitted.{admits}
-use Rattle.edit_calls.specs.Answers.{Answer, answer, while_few, within}
+use Rattle.edit_calls.specs.Answers.{CallAnswer, answer, while_few, within}
 use Rattle.edit_calls.specs.Edits.{edit_by}
 use Rattle.edit_calls.specs.Refusals.{refusal, table_of}
 use Rattle.edit_calls.specs.declared.call.Call.{Call}
@@ -48,13 +48,13 @@ record IsFound (shapes : Shapes) (policy : Policy) (call : Call) (edit : List Ch
 found : (shapes : Shapes) (policy : Policy) (call : Call) (edit : List Change) → answer shapes policy call ≡ Ok (Some edit) → IsFound shapes policy call edit
 found shapes policy call edit = by_refusal (refusal shapes call) refl
   where
-    limited : List Change → Option Limit → Answer
+    limited : List Change → Option Limit → CallAnswer
     limited one limit = option_map_or (λ (l : Limit). Err (Full l)) limit (Ok (Some one))
 
-    edited_by : Option (List Change) → Answer
+    edited_by : Option (List Change) → CallAnswer
     edited_by one = option_map_or (λ (e : List Change). within shapes policy e) one (Ok None)
 
-    refused_by : Option CallRefused → Answer
+    refused_by : Option CallRefused → CallAnswer
     refused_by refused = option_map_or (λ (r : CallRefused). Err r) refused (edited_by (edit_by shapes policy call))
 
     by_limit : (one : List Change) (limit : Option Limit) → refusal shapes call ≡ None → edit_by shapes policy call ≡ Some one → passed shapes (edited one policy) ≡ limit → limited one limit ≡ Ok (Some edit) → IsFound shapes policy call edit
@@ -114,7 +114,7 @@ module _ (laws : CallLaws) (shapes : Shapes) where
         by_count edit true one = all
         by_count edit false one = admitted_more shapes edits opening edit all one
 
-        by : (answered : Answer) → answer shapes (replay edits opening) call ≡ answered → AreAdmitted shapes opening (with_edit edits (while_few most_versions (length edits) answered))
+        by : (answered : CallAnswer) → answer shapes (replay edits opening) call ≡ answered → AreAdmitted shapes opening (with_edit edits (while_few most_versions (length edits) answered))
         by (Ok None) is = all
         by (Err refused) is = all
         by (Ok (Some edit)) is = by_count edit (eqb (length edits) most_versions) (answer_admitted (replay edits opening) call edit ordered is)

@@ -5,7 +5,7 @@ use Rattle.std.specs.List.{filter_map, last_or}
 use Rattle.std.specs.Option.{option_map_or}
 use Rattle.std.proofs.lemmas.Bool.{leb-false}
 use Rattle.std.proofs.lemmas.Option.{get_or_from_slice_get}
-use Rattle.edit_calls.specs.Answers.{Answer as CallAnswer, answer as answer_in, while_few}
+use Rattle.edit_calls.specs.Answers.{CallAnswer, answer as answer_in, while_few}
 use Rattle.edit_calls.specs.declared.call.Call.{Call}
 use Rattle.perm_base.specs.declared.shapes.Shapes.{Shapes}
 use Rattle.policy_query.specs.Answers.{answer_unless}
@@ -17,8 +17,8 @@ use Rattle.policy_table.specs.Tables.{Policy}
 use Rattle.policy_table.specs.declared.change.Change.{Change}
 use Rattle.script_read.specs.Said.{Said}
 use Rattle.script_read.specs.Said as said
-use Rattle.version_log.proofs.CallerLemmas.{replay_both, tables_after}
-use Rattle.version_log.specs.Log.{Logged, Stands, most_versions, tables_of, versions}
+use Rattle.version_log.proofs.CallerLemmas.{replay_both}
+use Rattle.version_log.specs.Log.{Logged, Stands, most_versions, versions}
 use Rattle.session_meaning.specs.Desks.{IsBehind, history}
 use Rattle.session_meaning.specs.Given.{call_answer, given, with_edit, with_item}
 use Rattle.session_meaning.specs.Replies.{recall_refusal, recalled}
@@ -50,7 +50,7 @@ get_front (y ∷ xs) ys zero x is = is
 get_front (y ∷ xs) ys (suc k) x is = get_front xs ys k x is
 
 module _ (shapes : Shapes) (opening : Policy) where
-  module _ (items : List Said) (log : Logged) (pending : List (List Change)) (count : Option ℕ) (desk : IsBehind shapes opening items log pending count) where
+  module _ (items : List Said) (log : Logged) (policy : Policy) (pending : List (List Change)) (count : Option ℕ) (desk : IsBehind shapes opening items log policy pending count) where
     -- the version of its log is out
     pub desk_version : versions log ≡ out shapes opening items
     desk_version =
@@ -58,19 +58,15 @@ module _ (shapes : Shapes) (opening : Policy) where
         let rest : length log.tail ≡ length (history shapes opening items) - log.start = ap (λ (l : List (List Change)). length l) desk.stands.tail ∙ length-drop log.start (history shapes opening items) in
         omega (arith, whole, rest, desk.stands.within)
 
-    -- so are its tables
-    pub desk_tables : tables_of log ≡ published shapes opening items
-    desk_tables = tables_after log opening (history shapes opening items) desk.stands
-
     -- what holds of its version and its tables holds of those that are out
-    pub out_at_desk : (Holds : ℕ → Policy → Type 0) → Holds (versions log) (tables_of log) → Holds (out shapes opening items) (published shapes opening items)
+    pub out_at_desk : (Holds : ℕ → Policy → Type 0) → Holds (versions log) policy → Holds (out shapes opening items) (published shapes opening items)
     out_at_desk Holds is =
-        subst (λ (n : ℕ). Holds n (published shapes opening items)) desk_version (subst (Holds (versions log)) desk_tables is)
+        subst (λ (n : ℕ). Holds n (published shapes opening items)) desk_version (subst (Holds (versions log)) desk.tables is)
 
     -- the drafts are its tables after the pending edits
-    pub desk_drafts : replay pending (tables_of log) ≡ replay (given shapes opening items) opening
+    pub desk_drafts : replay pending policy ≡ replay (given shapes opening items) opening
     desk_drafts =
-        ap (replay pending) desk_tables ∙ sym (replay_both (history shapes opening items) pending opening)
+        ap (replay pending) desk.tables ∙ sym (replay_both (history shapes opening items) pending opening)
         ∙ ap (λ (l : List (List Change)). replay l opening) (sym desk.others)
 
     -- all edits that are given are published or pending
@@ -80,7 +76,7 @@ module _ (shapes : Shapes) (opening : Policy) where
         omega (arith, desk_version, whole, ap (λ (l : List (List Change)). length l) desk.others, length-append (history shapes opening items) pending)
 
     -- a call is answered by its drafts
-    pub desk_call : (call : Call) → while_few most_versions (versions log + length pending) (answer_in shapes (replay pending (tables_of log)) call) ≡ call_answer shapes opening (given shapes opening items) call
+    pub desk_call : (call : Call) → while_few most_versions (versions log + length pending) (answer_in shapes (replay pending policy) call) ≡ call_answer shapes opening (given shapes opening items) call
     desk_call call = λ j. while_few most_versions (desk_edits j) (answer_in shapes (desk_drafts j) call)
 
     -- why an edit is not recalled
@@ -112,10 +108,14 @@ module _ (shapes : Shapes) (opening : Policy) where
 
     -- ---- one item more
 
+    published_same : (item : Said) → is_publish item ≡ false → published shapes opening items ≡ published shapes opening (items ++ item ∷ [])
+    published_same item calm = ap (λ (l : List (List Change)). replay l opening) (sym (history_same shapes opening items item calm))
+
     -- a call adds its edit to the pending ones
-    pub behind_call : (call : Call) → IsBehind shapes opening (items ++ said.edits call ∷ []) log (with_edit pending (call_answer shapes opening (given shapes opening items) call)) count
+    pub behind_call : (call : Call) → IsBehind shapes opening (items ++ said.edits call ∷ []) log policy (with_edit pending (call_answer shapes opening (given shapes opening items) call)) count
     behind_call call = record {
-      stands = subst (Stands log opening) (sym (history_same shapes opening items (said.edits call) refl)) desk.stands;
+      stands = subst (Stands log) (sym (history_same shapes opening items (said.edits call) refl)) desk.stands;
+      tables = desk.tables ∙ published_same (said.edits call) refl;
       from = desk.from ∙ sym (start_same shapes opening items (said.edits call) refl);
       others = given_more shapes opening items (said.edits call) ∙ by (call_answer shapes opening (given shapes opening items) call)
           ∙ ap (λ (l : List (List Change)). l ++ with_edit pending (call_answer shapes opening (given shapes opening items) call)) (sym (history_same shapes opening items (said.edits call) refl));
@@ -128,32 +128,35 @@ module _ (shapes : Shapes) (opening : Policy) where
         by (Err refused) = desk.others
 
     -- a publish leaves none pending: the log stands for the pending edits behind the others, and starts later where a count is to be kept
-    pub behind_publish : (after : Logged) → Stands after opening (history shapes opening items ++ pending) → after.start ≡ option_map_or (λ (kept_count : ℕ). max log.start (versions log - kept_count)) count log.start
-        → IsBehind shapes opening (items ++ said.publishes ∷ []) after [] count
-    behind_publish after stands from =
+    pub behind_publish : (after : Logged) (new : Policy) → Stands after (history shapes opening items ++ pending) → new ≡ replay (history shapes opening items ++ pending) opening → after.start ≡ option_map_or (λ (kept_count : ℕ). max log.start (versions log - kept_count)) count log.start
+        → IsBehind shapes opening (items ++ said.publishes ∷ []) after new [] count
+    behind_publish after new stands made from =
         let all : history shapes opening (items ++ said.publishes ∷ []) ≡ history shapes opening items ++ pending = history_publish shapes opening items ∙ desk.others in
         record {
-          stands = subst (Stands after opening) (sym all) stands;
+          stands = subst (Stands after) (sym all) stands;
+          tables = made ∙ ap (λ (l : List (List Change)). replay l opening) (sym all);
           from = from ∙ (λ j. option_map_or (λ (n : ℕ). max (desk.from j) (desk_version j - n)) (desk.keeps j) (desk.from j)) ∙ sym (start_publish shapes opening items);
           others = given_more shapes opening items said.publishes ∙ sym (history_publish shapes opening items) ∙ sym (append-nil (history shapes opening (items ++ said.publishes ∷ [])));
           keeps = desk.keeps ∙ sym (kept_more items said.publishes);
         }
 
     -- a further count is to be kept
-    pub behind_keep : (number : ℕ) → IsBehind shapes opening (items ++ said.keeps number ∷ []) log pending (Some number)
+    pub behind_keep : (number : ℕ) → IsBehind shapes opening (items ++ said.keeps number ∷ []) log policy pending (Some number)
     behind_keep number = record {
-      stands = subst (Stands log opening) (sym (history_same shapes opening items (said.keeps number) refl)) desk.stands;
+      stands = subst (Stands log) (sym (history_same shapes opening items (said.keeps number) refl)) desk.stands;
+      tables = desk.tables ∙ published_same (said.keeps number) refl;
       from = desk.from ∙ sym (start_same shapes opening items (said.keeps number) refl);
       others = given_more shapes opening items (said.keeps number) ∙ desk.others ∙ ap (λ (l : List (List Change)). l ++ pending) (sym (history_same shapes opening items (said.keeps number) refl));
       keeps = sym (kept_more items (said.keeps number));
     }
 
     -- all other items leave the desk as it is
-    pub behind_other : (item : Said) → only_asks item ≡ true → IsBehind shapes opening (items ++ item ∷ []) log pending count
+    pub behind_other : (item : Said) → only_asks item ≡ true → IsBehind shapes opening (items ++ item ∷ []) log policy pending count
     behind_other item asks =
         let calm = no_publish item asks in
         record {
-          stands = subst (Stands log opening) (sym (history_same shapes opening items item calm)) desk.stands;
+          stands = subst (Stands log) (sym (history_same shapes opening items item calm)) desk.stands;
+          tables = desk.tables ∙ published_same item calm;
           from = desk.from ∙ sym (start_same shapes opening items item calm);
           others = given_more shapes opening items item ∙ no_edit item asks ∙ desk.others ∙ ap (λ (l : List (List Change)). l ++ pending) (sym (history_same shapes opening items item calm));
           keeps = desk.keeps ∙ sym (no_count item asks) ∙ sym (kept_more items item);
@@ -172,9 +175,10 @@ module _ (shapes : Shapes) (opening : Policy) where
         no_count _ is = refl
 
   -- a desk before all items
-  pub behind_none : (log : Logged) → Stands log opening [] → IsBehind shapes opening [] log [] None
-  behind_none log stands = record {
-    stands = subst (Stands log opening) (sym (history_none shapes opening)) stands;
+  pub behind_none : (log : Logged) (policy : Policy) → Stands log [] → policy ≡ opening → IsBehind shapes opening [] log policy [] None
+  behind_none log policy stands same = record {
+    stands = subst (Stands log) (sym (history_none shapes opening)) stands;
+    tables = same ∙ ap (λ (l : List (List Change)). replay l opening) (sym (history_none shapes opening));
     from = omega (arith, stands.within, start_none shapes opening);
     others = given_none shapes opening ∙ sym (history_none shapes opening) ∙ sym (append-nil (history shapes opening []));
     keeps = sym kept_none;

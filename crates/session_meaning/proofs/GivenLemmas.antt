@@ -5,7 +5,7 @@ use Rattle.std.specs.List.{fold}
 use Rattle.std.proofs.lemmas.Bool.{eqb-false}
 use Rattle.std.proofs.lemmas.List.{take-append-le}
 use Rattle.std.proofs.lemmas.List.Sums.{fold-append}
-use Rattle.edit_calls.specs.Answers.{Answer, answer, while_few}
+use Rattle.edit_calls.specs.Answers.{CallAnswer, answer, while_few}
 use Rattle.edit_calls.specs.declared.refused.CallRefused.TheVariants.{Full}
 use Rattle.perm_base.specs.declared.shapes.Shapes.{Shapes}
 use Rattle.policy_table.specs.Changes.{replay}
@@ -24,13 +24,13 @@ Begins front whole = (rest : List (List Change)) × (whole ≡ front ++ rest)
 none_behind : (edits : List (List Change)) → Begins edits edits
 none_behind edits = ([], sym (append-nil edits))
 
-edit_behind : (edits : List (List Change)) (answered : Answer) → Begins edits (with_edit edits answered)
+edit_behind : (edits : List (List Change)) (answered : CallAnswer) → Begins edits (with_edit edits answered)
 edit_behind edits (Ok (Some edit)) = (edit ∷ [], refl)
 edit_behind edits (Ok None) = none_behind edits
 edit_behind edits (Err refused) = none_behind edits
 
 -- a further edit is given while there are few
-few_edit : (edits : List (List Change)) (answered : Answer) → length edits ≤ most_versions → length (with_edit edits (while_few most_versions (length edits) answered)) ≤ most_versions
+few_edit : (edits : List (List Change)) (answered : CallAnswer) → length edits ≤ most_versions → length (with_edit edits (while_few most_versions (length edits) answered)) ≤ most_versions
 few_edit edits (Ok None) few = few
 few_edit edits (Err refused) few = few
 few_edit edits (Ok (Some edit)) few = by (eqb (length edits) most_versions) refl

@@ -10,7 +10,7 @@ use Rattle.answer_lines.specs.Told.{comes_with_rule, has_name, is_call_told, is_
 use Rattle.answer_lines.specs.declared.answer.Answer.{Answer}
 use Rattle.answer_lines.specs.declared.answer.Answer.TheVariants as answer
 use Rattle.answer_lines.specs.declared.answer.Line.{Line}
-use Rattle.edit_calls.specs.Answers.{Answer as CallAnswer, answer as answer_in, while_few, within}
+use Rattle.edit_calls.specs.Answers.{CallAnswer, answer as answer_in, while_few, within}
 use Rattle.edit_calls.specs.Edits.{edit_by}
 use Rattle.edit_calls.specs.Refusals.{added_rules, bad_filter, filter_fault, has_long_field, named_rules, other_length, refusal, table_of}
 use Rattle.edit_calls.specs.declared.call.Call.{Call}

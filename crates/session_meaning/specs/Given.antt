@@ -2,7 +2,7 @@
 -- given before it (Casbin, management API; here its calls wait for a publish).
 use Rattle.std.specs.Prelude.{List, [], ◌∷◌, ◌++◌, length, Some, None, Ok, Err}
 use Rattle.std.specs.List.{fold}
-use Rattle.edit_calls.specs.Answers.{Answer, answer, while_few}
+use Rattle.edit_calls.specs.Answers.{CallAnswer, answer, while_few}
 use Rattle.edit_calls.specs.declared.call.Call.{Call}
 use Rattle.perm_base.specs.declared.shapes.Shapes.{Shapes}
 use Rattle.policy_table.specs.Changes.{replay}
@@ -13,14 +13,14 @@ use Rattle.script_read.specs.Said as said
 use Rattle.version_log.specs.Log.{most_versions}
 
 -- the edits, and one more where the answer is an edit
-abbrev pub with_edit : List (List Change) → Answer → List (List Change)
+abbrev pub with_edit : List (List Change) → CallAnswer → List (List Change)
 with_edit edits (Ok (Some edit)) = edits ++ edit ∷ []
 with_edit edits (Ok None) = edits
 with_edit edits (Err refused) = edits
 
 module _ (shapes : Shapes) (opening : Policy) where
   -- what a call is answered behind these edits
-  abbrev pub call_answer : List (List Change) → Call → Answer
+  abbrev pub call_answer : List (List Change) → Call → CallAnswer
   call_answer edits call = while_few most_versions (length edits) (answer shapes (replay edits opening) call)
 
   -- the edits, and the one that a further item gives: calls alone give edits

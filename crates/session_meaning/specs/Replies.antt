@@ -4,7 +4,7 @@ use Rattle.std.specs.Prelude.{◌≡◌, ℕ, ◌-◌, ◌==◌, ◌||◌, nat_l
 use Rattle.std.specs.List.{Contains}
 use Rattle.answer_lines.specs.declared.answer.Answer.{Answer}
 use Rattle.answer_lines.specs.declared.answer.Answer.TheVariants as answer
-use Rattle.edit_calls.specs.Answers.{Answer as CallAnswer}
+use Rattle.edit_calls.specs.Answers.{CallAnswer}
 use Rattle.effect_fold.specs.declared.verdict.Verdict.{Verdict}
 use Rattle.effect_fold.specs.declared.verdict.Verdict.TheVariants.{Allow, Deny, Fault}
 use Rattle.matcher_meaning.specs.Verdicts.{IsJudged}

@@ -1,3 +1,3 @@
--- What a caller cites of edits that are made one after the other, and of the texts of edits.
-pub use Rattle.version_log.proofs.LogLemmas.{front_applies, front_lists, more_made, replay_both, replay_rest, rest_made, started, tables_after}
+-- What a caller cites of logs, of edits in two parts, and of the texts of edits.
+pub use Rattle.version_log.proofs.LogLemmas.{replay_both, stands_from, stands_more}
 pub use Rattle.version_log.proofs.ReadLemmas.{edit_once, no_edit, one_fault}

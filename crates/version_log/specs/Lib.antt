@@ -1,4 +1,3 @@
 pub mod Log
-pub mod Starts
 pub mod EditText
 pub mod Helps

@@ -1,16 +1,7 @@
 ghost use Rattle.std.specs.Prelude.{◌≡◌, ◌⊎◌, ℕ, List};
-ghost use Rattle.policy_table.specs.Changes.{replay};
-ghost use Rattle.policy_table.specs.Tables.{Policy};
 ghost use Rattle.policy_table.specs.declared.change.Change.{Change};
 ghost use Rattle.version_log.specs.EditText.{IsEditFault, IsEditText};
-ghost use Rattle.version_log.specs.Log.{Logged, Stands, tables_of};
 ghost use Rattle.version_log.specs.declared.edit_fault.EditFault.{EditFault};
-
-/// The law that the tables of a log that stands for a history are the opening tables after that history.
-pub fn logs_stand_for_their_history()
-    ensures { (log : Logged) (opening : Policy) (history : List (List Change))
-        → Stands log opening history → tables_of log ≡ replay history opening }
-{}
 
 /// The law that a text is that of one edit at most.
 pub fn text_says_one_edit()

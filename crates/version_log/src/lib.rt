@@ -1,4 +1,4 @@
-//! The log of a policy's edits: the tables that it begins from, and the edits made since, one a version; edits as text.
+//! The log of a policy's edits, one a version; edits as text.
 #![tactic(auto)]
 
 mod edit_fault;
@@ -8,14 +8,12 @@ mod item;
 mod item_read;
 mod laws;
 mod log;
-mod start;
 
 pub use edit_fault::EditFault;
 pub use edit_print::print_edit;
 pub use edit_read::read_edit;
 pub use laws::{
-    every_text_is_an_edit_or_at_fault, faulty_text_is_no_edit, logs_stand_for_their_history,
-    text_has_one_edit_fault, text_says_one_edit,
+    every_text_is_an_edit_or_at_fault, faulty_text_is_no_edit, text_has_one_edit_fault,
+    text_says_one_edit,
 };
 pub use log::{Log, new_log};
-pub use start::StartPrepared;

@@ -29,7 +29,7 @@ use Rattle.casbin_run.specs.Ends.{may_write}
 use Rattle.casbin_run.specs.Finders.{HasRefused}
 use Rattle.casbin_run.specs.Given.{InputIs, SaysItems}
 use Rattle.casbin_run.specs.Roles.{IsLong, IsReported, IsShort}
-use Rattle.casbin_run.specs.Texts.{HasRoom, IsTooLong, Writes, joined, text_of_lines}
+use Rattle.casbin_run.specs.Texts.{HasRoom, IsTooLong, Tells, Writes, joined, text_of_lines}
 use Rattle.casbin_run.specs.Worlds.{Taken}
 
 -- what was loaded can be worked with
@@ -84,9 +84,10 @@ pub record Worked (on : Ground) (IsLogged : List (List ℕ) → Type 0) : Type 0
   pub logged : IsLogged (all_refused refused)
 
 -- the sink took the task's text, a front of it, or the first so many of its pieces
-pub record DidAll (on : Ground) (IsLogged : List (List ℕ) → Type 0) (out out_now : Option (List ℕ)) : Type 0 where
+pub record DidAll (on : Ground) (IsLogged : List (List ℕ) → Type 0) (out out_now : Option (List ℕ)) (err err_now : Taken) : Type 0 where
   pub worked : Worked on IsLogged
   pub took : out_now ≡ with_back out worked.text
+  pub told : Tells on.task on.model on.shapes on.policy worked.items worked.refused worked.text err err_now
 
 pub record DidSome (on : Ground) (IsLogged : List (List ℕ) → Type 0) (out out_now : Option (List ℕ)) : Type 0 where
   pub worked : Worked on IsLogged

@@ -12,7 +12,7 @@ use Rattle.effect_fold.specs.declared.verdict.Verdict.{Verdict}
 use Rattle.perm_value.specs.declared.value.View.{View}
 use Rattle.perm_value.specs.declared.value.View.TheVariants as view
 use Rattle.policy_table.specs.Tables.{Fields}
-use Rattle.matcher_meaning.specs.Answers.{Answer}
+use Rattle.matcher_meaning.specs.Answers.{Evaluation}
 use Rattle.matcher_meaning.specs.Cases.{Case, at_row, where_refused}
 use Rattle.matcher_meaning.specs.Comes.{TruthIs}
 use Rattle.matcher_meaning.specs.Perm.{Refusal, refusal_fault, row_word}
@@ -21,7 +21,7 @@ use Rattle.matcher_meaning.specs.Verdicts.{HasOutcome, RowHasOutcome}
 use Rattle.matcher_code.specs.Compiled.{as_answer}
 
 -- the truth of the model's matcher, as what its code comes to, where a search is refused or none
-abbrev pub SaysTruth : Case → Option (ℕ × List ℕ) → Answer → Type 0
+abbrev pub SaysTruth : Case → Option (ℕ × List ℕ) → Evaluation → Type 0
 SaysTruth case refused answer = (t : Result Bool Fault) × (answer ≡ as_answer t) × TruthIs (where_refused case refused) case.model.matcher t
 
 -- the truth that a value is; other values are none

@@ -3,7 +3,7 @@ use Rattle.std.specs.Prelude.{◌≡◌, ◌≤◌, ℕ, Bool, codes, length, Op
 use Rattle.std.specs.Str.{bytes_eq}
 use Rattle.effect_fold.specs.declared.fault.Fault.{Fault}
 use Rattle.model_conf.specs.ModelText.{ModelParts}
-use Rattle.matcher_meaning.specs.Answers.{Answer}
+use Rattle.matcher_meaning.specs.Answers.{Evaluation}
 use Rattle.matcher_meaning.specs.Cases.{Case}
 use Rattle.matcher_meaning.specs.Comes.{TruthIs, takes_memory}
 use Rattle.matcher_meaning.specs.Perm.{names_policy}
@@ -18,7 +18,7 @@ use Rattle.decision.specs.declared.index.Index.{Index}
 pub record IsProgram (model : ModelParts) (code : CodeParts) (by_row : Bool) (effect_place domain_place : Option ℕ) (index : Option Index) : Type 0 where
   pub columns : code.policy_columns ≡ length model.policy
   pub height : code.height ≤ 1024
-  pub truth : (case : Case) (r : Answer) → case.model ≡ model → CodeComesTo case code.ops r → (t : Result Bool Fault) × (r ≡ as_answer t) × TruthIs case model.matcher t
+  pub truth : (case : Case) (r : Evaluation) → case.model ≡ model → CodeComesTo case code.ops r → (t : Result Bool Fault) × (r ≡ as_answer t) × TruthIs case model.matcher t
   pub takes : some_takes_memory code.ops ≡ takes_memory model.matcher
   pub rows : by_row ≡ names_policy model.matcher
   pub effect : effect_place ≡ position (bytes_eq (codes "eft")) model.policy

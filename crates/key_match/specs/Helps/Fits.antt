@@ -31,16 +31,16 @@ piece_fits (Segment name) after text = byte_fits not_slash (stretch_fits after) 
 piece_fits Stretch after text = stretch_fits after text
 piece_fits Rest after text = end_fits after text
 
-abbrev pub fits : List Piece → List ℕ → Bool
-fits [] text = not (is_some_text text)
-fits (piece ∷ pieces) text = piece_fits piece (fits pieces) text
+abbrev pub pieces_fit : List Piece → List ℕ → Bool
+pieces_fit [] text = not (is_some_text text)
+pieces_fit (piece ∷ pieces) text = piece_fits piece (pieces_fit pieces) text
 
 -- the second pieces fit the second text where the first fit the first, and still do where some first bytes
 -- (without `/`, or any) are left out there
 pub record LeadsTo (pieces : List Piece) (text : List ℕ) (later : List Piece) (left : List ℕ) : Type 0 where
-  pub same : fits pieces text ≡ fits later left
-  pub in_stretch : stretch_fits (fits pieces) text ≡ true → stretch_fits (fits later) left ≡ true
-  pub anywhere : end_fits (fits pieces) text ≡ true → end_fits (fits later) left ≡ true
+  pub same : pieces_fit pieces text ≡ pieces_fit later left
+  pub in_stretch : stretch_fits (pieces_fit pieces) text ≡ true → stretch_fits (pieces_fit later) left ≡ true
+  pub anywhere : end_fits (pieces_fit pieces) text ≡ true → end_fits (pieces_fit later) left ≡ true
 
 -- a later place within the pattern and the key
 pub record IsAhead (pattern key : List ℕ) (from to : Place) : Type 0 where
@@ -59,16 +59,16 @@ pub record GoesTo (dialect : Dialect) (pattern key : List ℕ) (pieces : List Pi
 
 -- what each stop says
 abbrev pub StopsAt : Dialect → List ℕ → List ℕ → Place → Stop → Type 0
-StopsAt dialect pattern key from stop.Fits = fits (pieces_from dialect pattern from) (drop from.key key) ≡ true
-StopsAt dialect pattern key from stop.Mismatch = fits (pieces_from dialect pattern from) (drop from.key key) ≡ false
-StopsAt dialect pattern key from stop.KeyEnded = end_fits (fits (pieces_from dialect pattern from)) (drop from.key key) ≡ false
+StopsAt dialect pattern key from stop.Fits = pieces_fit (pieces_from dialect pattern from) (drop from.key key) ≡ true
+StopsAt dialect pattern key from stop.Mismatch = pieces_fit (pieces_from dialect pattern from) (drop from.key key) ≡ false
+StopsAt dialect pattern key from stop.KeyEnded = end_fits (pieces_fit (pieces_from dialect pattern from)) (drop from.key key) ≡ false
 StopsAt dialect pattern key from (stop.Stretch to) = GoesTo dialect pattern key (pieces_from dialect pattern from) from Stretch to
 StopsAt dialect pattern key from (stop.Rest to) = GoesTo dialect pattern key (pieces_from dialect pattern from) from Rest to
 
 -- the same up to the next rest, for pieces that begin at a place
 abbrev pub Reaches : Dialect → List ℕ → List ℕ → List Piece → Place → Reach → Type 0
-Reaches dialect pattern key pieces from reach.Fits = fits pieces (drop from.key key) ≡ true
-Reaches dialect pattern key pieces from reach.NotHere = fits pieces (drop from.key key) ≡ false
-Reaches dialect pattern key pieces from reach.NotBeforeSlash = stretch_fits (fits pieces) (drop from.key key) ≡ false
-Reaches dialect pattern key pieces from reach.Nowhere = end_fits (fits pieces) (drop from.key key) ≡ false
+Reaches dialect pattern key pieces from reach.Fits = pieces_fit pieces (drop from.key key) ≡ true
+Reaches dialect pattern key pieces from reach.NotHere = pieces_fit pieces (drop from.key key) ≡ false
+Reaches dialect pattern key pieces from reach.NotBeforeSlash = stretch_fits (pieces_fit pieces) (drop from.key key) ≡ false
+Reaches dialect pattern key pieces from reach.Nowhere = end_fits (pieces_fit pieces) (drop from.key key) ≡ false
 Reaches dialect pattern key pieces from (reach.Rest to) = GoesTo dialect pattern key pieces from Rest to

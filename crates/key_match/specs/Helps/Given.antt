@@ -5,7 +5,7 @@ use Rattle.std.specs.Str.{bytes_eq}
 use Rattle.key_match.specs.Pieces.{Piece, One, Segment, Stretch, Rest, StandsFor, Divides}
 use Rattle.key_match.specs.Divisions.{has_name}
 use Rattle.key_match.specs.Names.{NamesAgree}
-use Rattle.key_match.specs.Helps.Fits.{fits, pieces_from}
+use Rattle.key_match.specs.Helps.Fits.{pieces_fit, pieces_from}
 use Rattle.key_match.specs.Helps.Parts.{part_between}
 use Rattle.key_match.specs.declared.token.Dialect.TheVariants.{Brace}
 use Rattle.key_match.specs.declared.fit.Place.{Place}
@@ -66,6 +66,6 @@ CutsAlike given piece pieces key from end =
 pub record PassesTo (pattern key : List ℕ) (from to : Place) : Type 0 where
   pub pattern_from : from.pattern ≤ to.pattern
   pub key_within : to.key ≤ length key
-  pub fitting : fits (pieces_from Brace pattern to) (drop to.key key) ≡ true
+  pub fitting : pieces_fit (pieces_from Brace pattern to) (drop to.key key) ≡ true
   pub forward : (given : Given) → CoversGiven given (pieces_from Brace pattern from) (drop from.key key) → CoversGiven given (pieces_from Brace pattern to) (drop to.key key)
   pub backward : (given : Given) → CoversGiven given (pieces_from Brace pattern to) (drop to.key key) → CoversGiven given (pieces_from Brace pattern from) (drop from.key key)

@@ -2,7 +2,7 @@
 use Rattle.std.specs.Prelude.{◌≡◌, ◌≤◌, ◌<◌, ◌-◌, ℕ, true, false, List, length, take, drop}
 use Rattle.key_match.specs.Pieces.{Piece, StandsFor}
 use Rattle.key_match.specs.Divisions.{Order, LongerFirst, ShorterSegmentFirst}
-use Rattle.key_match.specs.Helps.Fits.{fits}
+use Rattle.key_match.specs.Helps.Fits.{pieces_fit}
 use Rattle.key_match.specs.declared.part.Choice.{Choice}
 use Rattle.key_match.specs.declared.part.Choice.TheVariants.{Longest, Shortest}
 use Rattle.key_match.specs.declared.part.Ends.{Ends}
@@ -31,18 +31,18 @@ pub record AreEnds (piece : Piece) (key : List ℕ) (from : ℕ) (ends : Ends) :
 pub record NoneLater (pieces : List Piece) (key : List ℕ) (least most found : ℕ) : Type 0 where
   pub from_least : least ≤ found
   pub to_most : found ≤ most
-  pub later : (end : ℕ) → found < end → end ≤ most → fits pieces (drop end key) ≡ false
+  pub later : (end : ℕ) → found < end → end ≤ most → pieces_fit pieces (drop end key) ≡ false
 
 -- nor from one before it
 pub record NoneEarlier (pieces : List Piece) (key : List ℕ) (least most found : ℕ) : Type 0 where
   pub from_least : least ≤ found
   pub to_most : found ≤ most
-  pub earlier : (end : ℕ) → least ≤ end → end < found → fits pieces (drop end key) ≡ false
+  pub earlier : (end : ℕ) → least ≤ end → end < found → pieces_fit pieces (drop end key) ≡ false
 
 -- the end of the part that goes before all others with which the rest fits
 pub record IsChosen (order : Order) (piece : Piece) (pieces : List Piece) (key : List ℕ) (from end : ℕ) : Type 0 where
   pub after_from : from ≤ end
   pub within : end ≤ length key
   pub stands : StandsFor piece (part_between key from end)
-  pub rest : fits pieces (drop end key) ≡ true
-  pub first : (other : ℕ) → from ≤ other → other ≤ length key → StandsFor piece (part_between key from other) → fits pieces (drop other key) ≡ true → ¬ order piece (other - from) (end - from)
+  pub rest : pieces_fit pieces (drop end key) ≡ true
+  pub first : (other : ℕ) → from ≤ other → other ≤ length key → StandsFor piece (part_between key from other) → pieces_fit pieces (drop other key) ≡ true → ¬ order piece (other - from) (end - from)

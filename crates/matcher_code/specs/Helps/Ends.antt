@@ -9,7 +9,7 @@ use Rattle.perm_value.specs.Datum.{Datum}
 use Rattle.perm_value.specs.Seen.{datum, datum_of_view}
 use Rattle.perm_value.specs.declared.value.View.{View}
 use Rattle.policy_table.specs.Tables.{Policy}
-use Rattle.matcher_meaning.specs.Answers.{Answer, fails}
+use Rattle.matcher_meaning.specs.Answers.{Evaluation, fails}
 use Rattle.matcher_meaning.specs.CaseCalls.{Gives}
 use Rattle.matcher_meaning.specs.Cases.{Case, where_refused}
 use Rattle.matcher_meaning.specs.Meaning.{is_search}
@@ -29,7 +29,7 @@ use Rattle.matcher_code.specs.declared.stop.Stop.{Stop}
 use Rattle.matcher_code.specs.declared.stop.Stop.TheVariants as stop
 
 -- an answer over borrowed parts
-abbrev pub answer_of : Result View Fault → Answer
+abbrev pub answer_of : Result View Fault → Evaluation
 answer_of (Ok v) = Ok (datum_of_view v)
 answer_of (Err fault) = Err fault
 

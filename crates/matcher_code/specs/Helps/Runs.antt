@@ -5,7 +5,7 @@ use Rattle.effect_fold.specs.declared.fault.Cause.TheVariants.{Pattern}
 use Rattle.perm_value.specs.Datum.{Datum}
 use Rattle.perm_value.specs.Seen.{datum_of_view}
 use Rattle.perm_value.specs.declared.value.View.{View}
-use Rattle.matcher_meaning.specs.Answers.{Answer, fails}
+use Rattle.matcher_meaning.specs.Answers.{Evaluation, fails}
 use Rattle.matcher_meaning.specs.Cases.{Case, where_refused}
 use Rattle.matcher_code.specs.Machine.{Runs}
 use Rattle.matcher_code.specs.Rules.{height_at}
@@ -18,7 +18,7 @@ use Rattle.matcher_code.specs.declared.pause.Pause.{Pause}
 use Rattle.matcher_code.specs.declared.pause.Pause.TheVariants as pause
 
 -- from a place on, over a stack, the code comes to this answer
-abbrev pub ComesFrom : Case → List Op → ℕ → List Datum → Answer → Type 0
+abbrev pub ComesFrom : Case → List Op → ℕ → List Datum → Evaluation → Type 0
 ComesFrom case ops place stack r = Runs case ops (length ops - place) place stack (Some r)
 
 -- a stack with so many values as the place wants
@@ -28,7 +28,7 @@ pub record IsAt (ops : List Op) (place height : ℕ) : Type 0 where
 
 -- what the code comes to from the second place and stack, it comes to from the first
 pub record LeadsOn (case : Case) (ops : List Op) (place : ℕ) (stack : List Datum) (to : ℕ) (rest : List Datum) : Type 0 where
-  pub found_is : (r : Answer) → ComesFrom (where_refused case None) ops to rest r → ComesFrom (where_refused case None) ops place stack r
+  pub found_is : (r : Evaluation) → ComesFrom (where_refused case None) ops to rest r → ComesFrom (where_refused case None) ops place stack r
   pub refused_is : (at : ℕ) (pattern : List ℕ) → ComesFrom (where_refused case (Some (at, pattern))) ops to rest (fails Pattern at) → ComesFrom (where_refused case (Some (at, pattern))) ops place stack (fails Pattern at)
 
 -- a run stands still at an `eval`

@@ -4,7 +4,7 @@ use Rattle.std.specs.Borrow.{Bor}
 use Rattle.text_parts.specs.Numbered.{Line, numbered, text_lines}
 use Rattle.model_conf.specs.Logical.{IsWhole}
 use Rattle.model_conf.specs.Sections.{Entry, entry, entries_of, said_fault, first_fault}
-use Rattle.model_conf.specs.Statements.{Said, Statement, LineSays, HasStatements}
+use Rattle.model_conf.specs.Statements.{LineContent, Statement, LineSays, HasStatements}
 use Rattle.model_conf.specs.Helps.Steps.{Standing, standing, behind, section_text}
 use Rattle.model_conf.specs.declared.fault.ModelFault.{ModelFault}
 use Rattle.model_conf.specs.declared.fault.ModelFault.TheVariants as fault
@@ -22,9 +22,9 @@ standing_seen kept = standing (option_map section_text kept.section) (entries_se
 
 -- a logical line that begins with this line was taken with those that continue it, or its fault was told
 abbrev pub TakesLines : ℕ → List ℕ → List Line → Standing → Standing → Result (Bor (List ℕ) × ℕ) ModelFault → Type 0
-TakesLines number text lines before after (Ok left) = (whole : List ℕ) × (said : Said) × IsWhole text lines whole (numbered left.1 (text_lines left.0.now)) × LineSays whole said
+TakesLines number text lines before after (Ok left) = (whole : List ℕ) × (said : LineContent) × IsWhole text lines whole (numbered left.1 (text_lines left.0.now)) × LineSays whole said
     × (said_fault before.entries before.section number said ≡ None) × (after ≡ behind before said)
-TakesLines number text lines before after (Err stop) = stop ≢ fault.NoMemory → (whole : List ℕ) × (left : List Line) × (said : Said) × IsWhole text lines whole left × LineSays whole said
+TakesLines number text lines before after (Err stop) = stop ≢ fault.NoMemory → (whole : List ℕ) × (left : List Line) × (said : LineContent) × IsWhole text lines whole left × LineSays whole said
     × (said_fault before.entries before.section number said ≡ Some stop)
 
 -- the entries of a text, or the fault of its first line that has one

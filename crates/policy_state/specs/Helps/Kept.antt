@@ -1,92 +1,78 @@
 -- What a state keeps.
-use Rattle.std.specs.Prelude.{◌≡◌, ℕ, ◌<◌, ◌≤◌, ◌^◌, true, List, [], ◌∷◌, IfSome, Option, Some, None, length, map, option_map}
+use Rattle.std.specs.Prelude.{◌≡◌, ℕ, ◌<◌, ◌≤◌, Bool, true, List, All, IfSome, Option, Some, None, length, map, option_map, ⊤}
 use Rattle.perm_base.specs.Shapes.{AreValid}
 use Rattle.perm_base.specs.declared.shapes.RoleShape.{RoleShape}
 use Rattle.perm_base.specs.declared.shapes.Shapes.{Shapes}
 use Rattle.perm_base.specs.declared.shapes.TableId.TheVariants.{G, P}
-use Rattle.policy_index.specs.Indexed.{Indexed, all_fit, only_p}
-use Rattle.edit_calls.specs.Admitted.{AreAdmitted}
-use Rattle.policy_state.specs.States.{Parts}
-use Rattle.policy_table.specs.Changes.{applies, edited, flat, own}
-use Rattle.policy_table.specs.Limits.{AreSound, role_columns}
-use Rattle.policy_table.specs.Tables.{Policy, rows}
-use Rattle.policy_table.specs.declared.change.Change.{Change}
+use Rattle.policy_index.specs.Indexed.{Follows, Indexed, IsIndexOf}
+use Rattle.policy_state.specs.States.{IsGrown, Parts}
+use Rattle.policy_table.specs.Changes.{edited, flat, own}
 use Rattle.policy_table.specs.Held.{Held}
+use Rattle.policy_table.specs.Limits.{AreSound, role_columns}
+use Rattle.policy_table.specs.Tables.{Fields, Policy, rows}
+use Rattle.policy_table.specs.declared.change.Change.{Change}
 use Rattle.role_domain.specs.Relations.{HasFewPatterns}
-use Rattle.role_domain.specs.Sections.{Draft, Section, all_columns, only}
-use Rattle.version_log.specs.Log.{Logged, tables_of}
+use Rattle.role_domain.specs.Sections.{Section, IsSectionOf, all_columns}
+use Rattle.version_log.specs.Log.{Logged}
 
--- what is kept of a section, its room aside
+-- what stays of a section while edits are made in it
 pub record Kept : Type 0 where
   pub shape : RoleShape
   pub limit : ℕ
-  pub policy : Policy
 
 abbrev pub kept_of : Section → Kept
-kept_of section = record { shape = section.shape; limit = section.limit; policy = section.held.policy }
+kept_of section = record { shape = section.shape; limit = section.limit }
 
--- the section of a relation of tables
-abbrev pub section_of : ℕ → Policy → RoleShape → Kept
-section_of limit policy shape = record { shape = shape; limit = limit; policy = only shape.number policy }
+-- what the section of a shape keeps
+abbrev pub kept_by : ℕ → RoleShape → Kept
+kept_by limit shape = record { shape = shape; limit = limit }
 
--- a section for each relation of the shapes, in their order
+-- the section is of the rows of its relation in tables
+abbrev pub IsSectionIn : Policy → Section → Type 0
+IsSectionIn policy section = IsSectionOf section (rows policy (G section.shape.number))
+
+-- a section for each of these relations, in their order
+pub record AreSectionsOf (limit : ℕ) (roles : List RoleShape) (policy : Policy) (sections : List Section) : Type 0 where
+  pub kept : map kept_of sections ≡ map (kept_by limit) roles
+  pub each : All (IsSectionIn policy) sections
+
+-- a section for each relation of the shapes
 abbrev pub AreSections : Shapes → Policy → List Section → Type 0
-AreSections shapes policy sections = map kept_of sections ≡ map (section_of shapes.limit policy) shapes.roles
+AreSections shapes policy sections = AreSectionsOf shapes.limit shapes.roles policy sections
 
--- the index is of p of the tables, by one of its columns
-pub record IsIndexOf (shapes : Shapes) (tables : Policy) (index : Indexed) : Type 0 where
-  pub column : index.column < shapes.columns
-  pub policy : index.held.policy ≡ only_p tables
+-- the index, where there is one, is of these rules
+abbrev pub AreIndexed : Option Indexed → List Fields → Type 0
+AreIndexed index rules = IfSome index (λ (i : Indexed). IsIndexOf i rules)
 
--- what is kept of an index, its room aside
-pub record KeptIndex : Type 0 where
-  pub column : ℕ
-  pub policy : Policy
+-- its column
+abbrev pub column_of : Option Indexed → Option ℕ
+column_of index = option_map (λ (i : Indexed). i.column) index
 
-abbrev pub indexed_of : Indexed → KeptIndex
-indexed_of index = record { column = index.column; policy = index.held.policy }
+-- the tables are those of which the index is one, after changes that were prepared for it
+abbrev pub MayFollow : Option Indexed → Option Bool → Policy → Type 0
+MayFollow None None after = ⊤
+MayFollow (Some index) (Some prepared) after = Follows index prepared after
+MayFollow None (Some prepared) after = ⊥
+MayFollow (Some index) None after = ⊥
 
 -- the parts of a state
 abbrev pub parts_of : Held → Option Indexed → List Section → Parts
 parts_of held index sections = record { held = held; index = index; sections = sections }
 
--- what a state keeps: valid shapes; a log that begins from sound tables and whose edits are admitted one after the other; sound
--- tables that are those of the log, their index by the column, and their sections
+-- what a state keeps: valid shapes; sound tables that have grown by the edits of the log; their index by the column, which is
+-- one of p; and their sections
 pub record IsState (shapes : Shapes) (by : Option ℕ) (log : Logged) (parts : Parts) : Type 0 where
   pub valid : AreValid shapes
-  pub base : AreSound shapes log.base
-  pub admitted : AreAdmitted shapes log.base log.tail
   pub sound : AreSound shapes parts.held.policy
-  pub tables : tables_of log ≡ parts.held.policy
-  pub column : option_map (λ (index : Indexed). index.column) parts.index ≡ by
-  pub index : IfSome parts.index (IsIndexOf shapes parts.held.policy)
+  pub grown : IsGrown shapes log.tail parts.held.policy
+  pub below : IfSome by (λ (column : ℕ). column < shapes.columns)
+  pub column : column_of parts.index ≡ by
+  pub index : AreIndexed parts.index (rows parts.held.policy P)
   pub sections : AreSections shapes parts.held.policy parts.sections
 
--- the changes of p among those of edits can be made ready in an index
-pub record CanReserve (edits : List (List Change)) (index : Indexed) : Type 0 where
-  pub possible : applies (own P (flat edits)) index.held.policy ≡ true
-  pub few : length (rows (edited (own P (flat edits)) index.held.policy) P) < 2 ^ 32
-  pub columns : all_fit index.column (own P (flat edits)) ≡ true
-
--- the index after its changes are made, where there is one
-abbrev pub reindexed : Option (List Change) → Option KeptIndex → Option KeptIndex
-reindexed None index = index
-reindexed (Some changes) None = None
-reindexed (Some changes) (Some index) = Some (record index { policy = edited changes index.policy })
-
--- the changes of a section's relation among those of edits
-abbrev pub changes_in : List (List Change) → Kept → List Change
-changes_in edits kept = own (G kept.shape.number) (flat edits)
-
--- they can be made ready in the section
-pub record CanTake (edits : List (List Change)) (kept : Kept) : Type 0 where
-  pub possible : applies (changes_in edits kept) kept.policy ≡ true
-  pub columns : all_columns (role_columns kept.shape) (changes_in edits kept) ≡ true
-  pub few : length (rows (edited (changes_in edits kept) kept.policy) (G kept.shape.number)) ≤ 200000
-  pub patterns : HasFewPatterns kept.shape (rows (edited (changes_in edits kept) kept.policy) (G kept.shape.number))
-
--- the sections after their drafts are made
-abbrev pub made : List Draft → List Kept → List Kept
-made [] kept = kept
-made (draft ∷ drafts) [] = []
-made (draft ∷ drafts) (one ∷ kept) = record one { policy = edited draft.changes one.policy } ∷ made drafts kept
+-- the changes of a section's relation among those of edits can be made ready in the section
+pub record CanTake (edits : List (List Change)) (policy : Policy) (section : Section) : Type 0 where
+  pub section_of : IsSectionIn policy section
+  pub columns : all_columns (role_columns section.shape) (own (G section.shape.number) (flat edits)) ≡ true
+  pub few : length (rows (edited (flat edits) policy) (G section.shape.number)) ≤ 200000
+  pub patterns : HasFewPatterns section.shape (rows (edited (flat edits) policy) (G section.shape.number))

@@ -44,6 +44,10 @@ before_of turn = record { terms = turn.terms; rows = turn.before }
 abbrev pub after_of : Turn → Relation
 after_of turn = record { terms = turn.terms; rows = turn.after }
 
+-- a relation that had no rows, and these come
+abbrev pub first_turn : Terms → List Fields → Turn
+first_turn terms all = record { terms = terms; before = []; after = all; come = all; go = [] }
+
 pub record IsTurnOf (turn : Turn) (terms : Terms) (come go : List Fields) : Type 0 where
   pub terms_are : turn.terms ≡ terms
   pub come_are : turn.come ≡ come

@@ -1,5 +1,5 @@
 -- Users that have a role by links, found from the role back.
-use Rattle.std.specs.Prelude.{◌≡◌, ◌⊎◌, ◌<◌, ◌↔◌, false, ℕ, Bool, List, length}
+use Rattle.std.specs.Prelude.{◌≡◌, ◌⊎◌, ◌↔◌, false, ℕ, Bool, List}
 use Rattle.std.specs.List.{Contains}
 use Rattle.perm_base.specs.LineEnds.{has_line_end}
 use Rattle.perm_base.specs.Patterns.{is_pattern}

@@ -13,12 +13,12 @@ use Rattle.casbin_run.proofs.WorkLemmas.{all_more, stops_more}
 use Rattle.casbin_run.proofs.run.answer.Goals as goal
 
 pub returns-in_default-clause-comes : goal.returns-in_default-clause-comes
-returns-in_default-clause-comes g c = nothing_done _ _ _ Words (words_end _ _ _ (sym c.in_default.ensures.asked) (adds_none (g.F.Shelf.calls c.args.shelf.now)) refl) (omega arith) refl refl refl
+returns-in_default-clause-comes g c = nothing_done _ _ _ _ Words (words_end _ _ _ (sym c.in_default.ensures.asked) (adds_none (g.F.Shelf.calls c.args.shelf.now)) refl) (omega arith) refl refl refl
 
 pub returns-in_err-loaded-clause-comes : goal.returns-in_err-loaded-clause-comes
 returns-in_err-loaded-clause-comes g c =
     let stop : c.from_residual.result ≡ Err c.in_err-loaded.field-0.0 = search rules in
-    rw stop (nothing_done _ _ _ c.in_err-loaded.field-0.0 (load_ends (given (texts c.args.words.now) (g.F.Shelf.files c.args.shelf.now) (g.S.Source.left c.args.input.now)) _ _ c.in-Some.job (sym c.in-Some.ensures.asked) refl refl c.in_err-loaded.field-0.0 c.in_err-loaded.ensures.stopped) c.load.ensures.counted refl refl refl)
+    rw stop (nothing_done _ _ _ _ c.in_err-loaded.field-0.0 (load_ends (given (texts c.args.words.now) (g.F.Shelf.files c.args.shelf.now) (g.S.Source.left c.args.input.now)) _ _ c.in-Some.job (sym c.in-Some.ensures.asked) refl refl c.in_err-loaded.field-0.0 c.in_err-loaded.ensures.stopped) c.load.ensures.counted refl refl refl)
 
 pub returns-clause-comes : goal.returns-clause-comes
 returns-clause-comes g c =
@@ -32,8 +32,10 @@ returns-clause-comes g c =
     let given_here = given (texts c.args.words.now) (g.F.Shelf.files c.args.shelf.now) (g.S.Source.left c.args.input.now) in
     let asked = sym c.in-Some.ensures.asked in
     record {
-      done = on_ok_weaker c.do_task.result (λ all. all_done given_here before now c.in-Some.job asked c.in_ok-loaded.loaded c.in_ok-loaded.ensures.loaded c.in_ok-loaded.ensures.fetched c.do_task.ensures.unread (all_more on _ _ more _ _ all.0) all.1) (on_both _ _ c.do_task.result c.do_task.ensures.done c.do_task.ensures.reads_back);
+      done = on_ok_weaker c.do_task.result (λ all. all_done given_here before now c.in-Some.job asked c.in_ok-loaded.loaded c.in_ok-loaded.ensures.loaded c.in_ok-loaded.ensures.fetched c.do_task.ensures.unread _ _ (all_more on _ _ more _ _ _ _ all.0) all.1) (on_both _ _ c.do_task.result c.do_task.ensures.done c.do_task.ensures.reads_back);
       stopped = IfErr-weaker c.do_task.result _ _ (λ stop stops. work_ends given_here before now c.in-Some.job asked c.in_ok-loaded.loaded c.in_ok-loaded.ensures.loaded c.in_ok-loaded.ensures.fetched c.do_task.ensures.unread stop (stops_more on _ _ more _ _ _ _ stop stops)) c.do_task.ensures.stopped;
+      silent = c.do_task.ensures.silent;
+      err_counted = c.do_task.ensures.err_counted;
       quiet = c.do_task.ensures.quiet;
       read_to_end = search rules;
       ended = search rules;

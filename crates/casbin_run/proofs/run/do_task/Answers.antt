@@ -4,8 +4,9 @@ use Rattle.std.proofs.lemmas.Result.{IfErr-weaker, on_ok_weaker}
 use Rattle.script_read.specs.Said.{Said, seen}
 use Rattle.script_read.specs.Script.{IsRequests}
 use Rattle.casbin_run.specs.Helps.Working.{ground}
-use Rattle.casbin_run.specs.declared.job.Task.TheVariants.{Enforce, Serve, Check, Format, Implicit, Report}
+use Rattle.casbin_run.specs.declared.job.Task.TheVariants.{Enforce, Cached, Serve, Check, Format, Implicit, Report}
 use Rattle.casbin_run.proofs.WorkLemmas.{answered_all, answered_stops, asked_says, input_stops, report_quiet, report_stops, served_says, showed_all, shown_all, shown_stops, shows_check, shows_format, shows_implied, shows_report, text_quiet, text_stops}
+use Rattle.casbin_run.proofs.CachedWork.{cached_done}
 use Rattle.casbin_run.proofs.run.do_task.Goals as goal
 
 pub returns-in_err-text-in-Enforce-clause-stopped : goal.returns-in_err-text-in-Enforce-clause-stopped
@@ -17,7 +18,7 @@ pub returns-in_ok-text-in-Enforce-clause-done : goal.returns-in_ok-text-in-Enfor
 returns-in_ok-text-in-Enforce-clause-done g c =
     let json = c.in-Enforce.json in
     let left = g.S.Source.left c.args.input.now in
-    rw c.in-Enforce.is (on_ok_weaker c.enforce.result (answered_all (ground (Enforce json) c.args.loaded left) (λ items refused pieces text lines. lines) tt (IsRequests json c.as_str.result.now) (asked_says json left c.as_str.result.now (rw c.as_str.ensures.value c.in_ok-text-in-Enforce.ensures.read)) _ _ _ _) c.enforce.ensures.printed)
+    rw c.in-Enforce.is (on_ok_weaker c.enforce.result (λ all. answered_all (ground (Enforce json) c.args.loaded left) (λ items refused pieces text lines. lines) tt (IsRequests json c.as_str.result.now) (asked_says json left c.as_str.result.now (rw c.as_str.ensures.value c.in_ok-text-in-Enforce.ensures.read)) _ _ _ _ _ _ all refl) c.enforce.ensures.printed)
 
 pub returns-in_ok-text-in-Enforce-clause-stopped : goal.returns-in_ok-text-in-Enforce-clause-stopped
 returns-in_ok-text-in-Enforce-clause-stopped g c =
@@ -30,7 +31,7 @@ returns-in_ok-script-in-Serve-clause-done g c =
     let json = c.in-Serve.json in
     let left = g.S.Source.left c.args.input.now in
     let script = map seen c.in_ok-script-in-Serve.script in
-    rw c.in-Serve.is (on_ok_weaker c.serve.result (answered_all (ground (Serve json) c.args.loaded left) (λ items refused pieces text lines. lines) tt (λ (items : List Said). items ≡ script) (served_says json left script c.in_ok-script-in-Serve.ensures.read) _ _ _ _) c.serve.ensures.printed)
+    rw c.in-Serve.is (on_ok_weaker c.serve.result (λ all. answered_all (ground (Serve json) c.args.loaded left) (λ items refused pieces text lines. lines) tt (λ (items : List Said). items ≡ script) (served_says json left script c.in_ok-script-in-Serve.ensures.read) _ _ _ _ _ _ all refl) c.serve.ensures.printed)
 
 pub returns-in_ok-script-in-Serve-clause-stopped : goal.returns-in_ok-script-in-Serve-clause-stopped
 returns-in_ok-script-in-Serve-clause-stopped g c =
@@ -42,7 +43,7 @@ returns-in_ok-script-in-Serve-clause-stopped g c =
 pub returns-in-Check-clause-done : goal.returns-in-Check-clause-done
 returns-in-Check-clause-done g c =
     let left = g.S.Source.left c.args.input.now in
-    rw c.in-Check.is (on_ok_weaker c.check.result (shown_all (ground Check c.args.loaded left) (g.P.Finder.refusals c.args.finder.now) _ (shows_check c.args.loaded left) _ _) c.check.ensures.shown)
+    rw c.in-Check.is (on_ok_weaker c.check.result (shown_all (ground Check c.args.loaded left) (g.P.Finder.refusals c.args.finder.now) _ (shows_check c.args.loaded left) _ _ _) c.check.ensures.shown)
 
 pub returns-in-Check-clause-stopped : goal.returns-in-Check-clause-stopped
 returns-in-Check-clause-stopped g c =
@@ -52,7 +53,7 @@ returns-in-Check-clause-stopped g c =
 pub returns-in-Format-clause-done : goal.returns-in-Format-clause-done
 returns-in-Format-clause-done g c =
     let left = g.S.Source.left c.args.input.now in
-    rw c.in-Format.is (on_ok_weaker c.format.result (shown_all (ground Format c.args.loaded left) (g.P.Finder.refusals c.args.finder.now) _ (shows_format c.args.loaded left) _ _) c.format.ensures.shown)
+    rw c.in-Format.is (on_ok_weaker c.format.result (shown_all (ground Format c.args.loaded left) (g.P.Finder.refusals c.args.finder.now) _ (shows_format c.args.loaded left) _ _ _) c.format.ensures.shown)
 
 pub returns-in-Format-clause-stopped : goal.returns-in-Format-clause-stopped
 returns-in-Format-clause-stopped g c =
@@ -63,7 +64,7 @@ pub returns-in-Implicit-clause-done : goal.returns-in-Implicit-clause-done
 returns-in-Implicit-clause-done g c =
     let left = g.S.Source.left c.args.input.now in
     let subject = c.in-Implicit.subject in
-    rw c.in-Implicit.is (on_ok_weaker c.implicit.result (showed_all (ground (Implicit subject) c.args.loaded left) (g.P.Finder.refusals c.args.finder.now) _ (shows_implied c.args.loaded left subject) _ _) c.implicit.ensures.shown)
+    rw c.in-Implicit.is (on_ok_weaker c.implicit.result (showed_all (ground (Implicit subject) c.args.loaded left) (g.P.Finder.refusals c.args.finder.now) _ (shows_implied c.args.loaded left subject) _ _ _) c.implicit.ensures.shown)
 
 pub returns-in-Implicit-clause-stopped : goal.returns-in-Implicit-clause-stopped
 returns-in-Implicit-clause-stopped g c =
@@ -77,7 +78,7 @@ returns-in-Implicit-clause-quiet g c = IfErr-weaker c.implicit.result _ _ (text_
 pub returns-in-Report-clause-done : goal.returns-in-Report-clause-done
 returns-in-Report-clause-done g c =
     let left = g.S.Source.left c.args.input.now in
-    rw c.in-Report.is (on_ok_weaker c.report.result (showed_all (ground Report c.args.loaded left) (g.P.Finder.refusals c.args.finder.now) _ (shows_report c.args.loaded left) _ _) c.report.ensures.shown)
+    rw c.in-Report.is (on_ok_weaker c.report.result (showed_all (ground Report c.args.loaded left) (g.P.Finder.refusals c.args.finder.now) _ (shows_report c.args.loaded left) _ _ _) c.report.ensures.shown)
 
 pub returns-in-Report-clause-stopped : goal.returns-in-Report-clause-stopped
 returns-in-Report-clause-stopped g c =
@@ -105,3 +106,24 @@ returns-in-Implicit-clause-reads_back g c = rw c.in-Implicit.is (on_ok_weaker c.
 
 pub returns-in-Report-clause-reads_back : goal.returns-in-Report-clause-reads_back
 returns-in-Report-clause-reads_back g c = rw c.in-Report.is (on_ok_weaker c.report.result (λ all. tt) c.report.ensures.shown)
+
+-- by way of a cache
+pub returns-in_err-text-in-Cached-clause-stopped : goal.returns-in_err-text-in-Cached-clause-stopped
+returns-in_err-text-in-Cached-clause-stopped g c =
+    let stop : c.from_residual-in_err-text-in-Cached.result ≡ Err c.in_err-text-in-Cached.field-0.0 = search rules in
+    rw (c.in-Cached.is, stop) (input_stops (ground (Cached c.in-Cached.json c.in-Cached.capacity) c.args.loaded (g.S.Source.left c.args.input.now)) _ _ _ _ c.in_err-text-in-Cached.field-0.0 refl c.in_err-text-in-Cached.ensures.stopped)
+
+pub returns-in_ok-text-in-Cached-clause-done : goal.returns-in_ok-text-in-Cached-clause-done
+returns-in_ok-text-in-Cached-clause-done g c =
+    let json = c.in-Cached.json in
+    let left = g.S.Source.left c.args.input.now in
+    rw c.in-Cached.is (on_ok_weaker c.enforce_cached.result (cached_done json c.in-Cached.capacity c.args.loaded left (IsRequests json c.as_str-in-Cached.result.now) (asked_says json left c.as_str-in-Cached.result.now (rw c.as_str-in-Cached.ensures.value c.in_ok-text-in-Cached.ensures.read)) _ _ _ _ _ _) c.enforce_cached.ensures.printed)
+
+pub returns-in_ok-text-in-Cached-clause-stopped : goal.returns-in_ok-text-in-Cached-clause-stopped
+returns-in_ok-text-in-Cached-clause-stopped g c =
+    let json = c.in-Cached.json in
+    let left = g.S.Source.left c.args.input.now in
+    rw c.in-Cached.is (IfErr-weaker c.enforce_cached.result _ _ (answered_stops (ground (Cached json c.in-Cached.capacity) c.args.loaded left) (λ items refused pieces text lines. lines) tt (IsRequests json c.as_str-in-Cached.result.now) (asked_says json left c.as_str-in-Cached.result.now (rw c.as_str-in-Cached.ensures.value c.in_ok-text-in-Cached.ensures.read)) _ _ _ _ _ _) c.enforce_cached.ensures.stopped)
+
+pub returns-in_ok-text-in-Cached-clause-reads_back : goal.returns-in_ok-text-in-Cached-clause-reads_back
+returns-in_ok-text-in-Cached-clause-reads_back g c = rw c.in-Cached.is (on_ok_weaker c.enforce_cached.result (λ all. tt) c.enforce_cached.ensures.printed)

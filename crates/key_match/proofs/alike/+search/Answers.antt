@@ -1,7 +1,7 @@
 use Rattle.std.proofs.Common.{◌∷◌, drop, refl, ap, sym, ◌∙◌, arith}
 use Rattle.std.proofs.lemmas.Bool.{false≢true}
 use Rattle.key_match.specs.Pieces.{Segment}
-use Rattle.key_match.specs.Helps.Fits.{fits, pieces_from}
+use Rattle.key_match.specs.Helps.Fits.{pieces_fit, pieces_from}
 use Rattle.key_match.specs.Helps.Tokens.{pieces_at, piece_of}
 use Rattle.key_match.specs.declared.token.Dialect.TheVariants.{Brace}
 use Rattle.key_match.specs.declared.token.Token.{Token}
@@ -29,7 +29,7 @@ fits_given-part_ends-ends-requires t c =
     let passes = c.pass_bytes-at.ensures in
     let left = drop at.key c.args.key.now in
     HasPart-from (piece_of c.in-Some.reading.token) (pieces_at Brace c.args.pattern.now c.in-Some.reading.next) c.args.key.now at.key passes.key_within
-    (ap (λ pieces. fits pieces left) (sym c.in-Some.ensures.found.pieces) ∙ passes.fitting)
+    (ap (λ pieces. pieces_fit pieces left) (sym c.in-Some.ensures.found.pieces) ∙ passes.fitting)
 
 pub fits_given-returns-then-starts_with : goal.fits_given-returns-then-starts_with
 fits_given-returns-then-starts_with t c =

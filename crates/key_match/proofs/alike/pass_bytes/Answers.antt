@@ -1,6 +1,6 @@
 use Rattle.std.proofs.Common.{◌≡◌, ◌∷◌, true, drop, ap, sym, ◌∙◌, subst, arith, List}
 use Rattle.key_match.specs.Pieces.{Piece, One}
-use Rattle.key_match.specs.Helps.Fits.{fits}
+use Rattle.key_match.specs.Helps.Fits.{pieces_fit}
 use Rattle.key_match.specs.Helps.Tokens.{pieces_at, piece_of, set_of}
 use Rattle.key_match.specs.Helps.Given.{CoversGiven}
 use Rattle.key_match.specs.declared.token.Dialect.TheVariants.{Brace}
@@ -18,7 +18,7 @@ loop-reading-preserved c =
     let next = pieces_at Brace pattern c.in-Some.reading.next in
     let read : pieces_at Brace pattern at.pattern ≡ One bytes ∷ next =
     c.in-Some.ensures.found.pieces ∙ ap (λ (token : Token). piece_of token ∷ next) c.in-One.is in
-    let fitting : fits (One bytes ∷ next) (drop at.key key) ≡ true = ap (λ pieces. fits pieces (drop at.key key)) (sym read) ∙ passes.fitting in
+    let fitting : pieces_fit (One bytes ∷ next) (drop at.key key) ≡ true = ap (λ pieces. pieces_fit pieces (drop at.key key)) (sym read) ∙ passes.fitting in
     let more = byte-fits bytes next key at.key passes.key_within fitting in
     record {
       pattern_from = let ahead = c.in-Some.ensures.found in omega arith;

@@ -1,5 +1,5 @@
 use Rattle.std.proofs.Common.{drop, sym, subst, ⊎_elim}
-use Rattle.key_match.specs.Helps.Fits.{fits, stretch_fits, end_fits, pieces_from, Reaches}
+use Rattle.key_match.specs.Helps.Fits.{pieces_fit, stretch_fits, end_fits, pieces_from, Reaches}
 use Rattle.key_match.specs.declared.fit.Reach.{Reach}
 use Rattle.key_match.proofs.Bools.{false_by}
 use Rattle.key_match.proofs.Leads.{stretch-here, end-here}
@@ -8,7 +8,7 @@ use Rattle.key_match.proofs.fit.fits_from.Goals as goal
 pub returns-in-NotHere : goal.returns-in-NotHere
 returns-in-NotHere c =
     let pieces = pieces_from c.args.dialect c.args.pattern.now c.args.from in
-    let f = fits pieces in
+    let f = pieces_fit pieces in
     let t = drop c.args.from.key c.args.key.now in
     let Found : Reach → Type 0 = λ reach. Reaches c.args.dialect c.args.pattern.now c.args.key.now pieces c.args.from reach in
     sym (⊎_elim (λ e. subst Found e c.reach_rest.ensures)

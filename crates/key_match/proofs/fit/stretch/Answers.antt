@@ -1,6 +1,6 @@
 use Rattle.std.proofs.Common.{get_or, drop, ◌∙◌, arith}
 use Rattle.key_match.specs.Pieces.{Stretch, Rest}
-use Rattle.key_match.specs.Helps.Fits.{fits, end_fits, pieces_from}
+use Rattle.key_match.specs.Helps.Fits.{pieces_fit, end_fits, pieces_from}
 use Rattle.key_match.proofs.Bools.{false_by}
 use Rattle.key_match.proofs.Leads.{stretch-here, end-stretch, LeadsTo-behind, LeadsTo-trans, keeps-rest, keeps-stretch, LeadsTo-past_at, not_slash-other}
 use Rattle.key_match.proofs.fit.stretch.Goals as goal
@@ -8,12 +8,12 @@ use Rattle.key_match.proofs.fit.stretch.Goals as goal
 pub returns-in-Fits : goal.returns-in-Fits
 returns-in-Fits c =
     let left = drop c.loop-to.mark.key c.args.key.now in
-    c.loop-to.invariant.leads.same ∙ stretch-here (fits (pieces_from c.args.dialect c.args.pattern.now c.loop-to.mark)) left c.in-Fits.ensures
+    c.loop-to.invariant.leads.same ∙ stretch-here (pieces_fit (pieces_from c.args.dialect c.args.pattern.now c.loop-to.mark)) left c.in-Fits.ensures
 
 pub returns-in-KeyEnded : goal.returns-in-KeyEnded
 returns-in-KeyEnded c =
     let left = drop c.loop-to.mark.key c.args.key.now in
-    let f = fits (pieces_from c.args.dialect c.args.pattern.now c.loop-to.mark) in
+    let f = pieces_fit (pieces_from c.args.dialect c.args.pattern.now c.loop-to.mark) in
     false_by _ (end_fits f left) (λ x. end-stretch f left (c.loop-to.invariant.leads.anywhere x)) c.in-KeyEnded.ensures
 
 pub returns-in-Rest : goal.returns-in-Rest

@@ -1,6 +1,6 @@
 use Rattle.std.proofs.Common.{sym, ◌∙◌, ap, inr, refl}
 use Rattle.std.proofs.lemmas.Bool.{false≢true}
-use Rattle.key_match.specs.Helps.Fits.{fits}
+use Rattle.key_match.specs.Helps.Fits.{pieces_fit}
 use Rattle.key_match.specs.Helps.Tokens.{piece_of, pieces_of}
 use Rattle.key_match.specs.Helps.Parts.{order_of}
 use Rattle.key_match.proofs.Readings.{pieces_at-start}
@@ -14,7 +14,7 @@ returns-then-not-fits_from c =
     let pieces = pieces_of c.args.dialect c.args.pattern.now in
     inr (
       λ covers.
-          let whole = ap (λ ps. fits ps key) (pieces_at-start c.args.dialect c.args.pattern.now) ∙ fits-from_Covers pieces key covers in
+          let whole = ap (λ ps. pieces_fit ps key) (pieces_at-start c.args.dialect c.args.pattern.now) ∙ fits-from_Covers pieces key covers in
           false≢true (sym c.if-not-fits_from.true ∙ c.fits_from.ensures ∙ whole),
       refl,
     )

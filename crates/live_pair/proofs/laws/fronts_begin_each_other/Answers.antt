@@ -1,5 +1,5 @@
-use Rattle.std.proofs.Common.{◌∙◌}
-use Rattle.live_pair.proofs.CallerLemmas.{edits_begin, edits_both, prefix_whole, stands_same, version_stands}
+use Rattle.std.proofs.Common.{◌+◌, length, ◌∙◌}
+use Rattle.live_pair.proofs.CallerLemmas.{edits_begin, edits_both, prefix_whole, version_stands}
 use Rattle.live_pair.specs.Story.{edits_in}
 use Rattle.live_pair.proofs.laws.fronts_begin_each_other.Goals as goal
 
@@ -13,4 +13,4 @@ pub returns-clause-whole : goal.returns-clause-whole
 returns-clause-whole c = prefix_whole
 
 pub returns-clause-version : goal.returns-clause-version
-returns-clause-version c = λ state other opening front stands start base tail. version_stands other.log opening (edits_in front) (stands_same state.log other.log opening (edits_in front) start base tail stands)
+returns-clause-version c = λ state other opening front stands start tail. (λ j. start j + length (tail j)) ∙ version_stands state.log (edits_in front) stands.log

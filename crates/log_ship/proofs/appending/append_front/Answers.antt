@@ -1,9 +1,8 @@
-use Rattle.std.proofs.Common.{List, ◌++◌, subst, take, ◌∙◌, rules}
+use Rattle.std.proofs.Common.{◌≡◌, List, subst, take, ◌∙◌, rules}
 use Rattle.log_ship.proofs.AppendLemmas.{EndsAt, admitted_count, admitted_is, appended_state, ends_at}
 use Rattle.log_ship.specs.Followers.{IsSameState}
 use Rattle.log_ship.specs.Taking.{with_edits}
-use Rattle.policy_state.specs.States.{StandsFor, tables}
-use Rattle.policy_table.specs.Tables.{Policy}
+use Rattle.policy_state.specs.States.{tables}
 use Rattle.policy_table.specs.declared.change.Change.{Change}
 use Rattle.log_ship.proofs.appending.append_front.Goals as goal
 
@@ -20,11 +19,10 @@ returns-clause-appended c =
       shapes = c.prepare.ensures.shapes;
       column = c.prepare.ensures.column;
       start = c.prepare.ensures.log_start;
-      base = c.prepare.ensures.base;
       tail = c.prepare.ensures.tail;
+      tables_are = c.prepare.ensures.tables;
     } in
-    let stands : (opening : Policy) (history : List (List Change)) → StandsFor c.prepare.new.self opening history → StandsFor c.commit.new.self opening (history ++ take c.in_ok-count.count c.args.edits.now)
-    = λ opening history before. subst (λ (l : List (List Change)). StandsFor c.commit.new.self opening (history ++ l)) c.in_ok-prepared.ensures.edits (c.commit.ensures.stands opening history before) in
-    subst (λ (l : List (List Change)). IsSameState (with_edits l c.args.state.now) c.commit.new.self) (admitted_is c.args.state.now.shapes (tables c.args.state.now) c.args.edits.now c.in_ok-count.count ends)
-    (appended_state c.args.state.now c.prepare.new.self c.commit.new.self (take c.in_ok-count.count c.args.edits.now) ready c.commit.ensures.shapes c.commit.ensures.column
-    (c.commit.ensures.start ∙ c.in_ok-prepared.ensures.start ∙ c.start-start.ensures.start) stands)
+    let edits : c.in_ok-prepared.prepared.edits ≡ take c.in_ok-count.count c.args.edits.now = c.in_ok-prepared.ensures.edits in
+    subst (λ (l : List (List Change)). IsSameState (with_edits l c.args.state.now) c.commit.new.self) (edits ∙ admitted_is c.args.state.now.shapes (tables c.args.state.now) c.args.edits.now c.in_ok-count.count ends)
+    (appended_state c.args.state.now c.prepare.new.self c.commit.new.self c.in_ok-prepared.prepared.edits c.in_ok-prepared.prepared.start ready c.commit.ensures.shapes c.commit.ensures.column
+    (c.in_ok-prepared.ensures.start ∙ c.start-start.ensures.start) c.commit.ensures.start c.commit.ensures.tail c.commit.ensures.tables)

@@ -4,22 +4,22 @@ use Rattle.std.proofs.lemmas.List.{append-nil, take_all}
 use Rattle.serde_json.specs.Data.{items_depth}
 use Rattle.serde_json.specs.View.{items_view}
 use Rattle.serde_json.proofs.Views.{Entry}
-use Rattle.perm_value.proofs.WithinLemmas.{fits, items_within, members_within, one_item_too_deep, one_member_too_deep, all_with_last}
+use Rattle.perm_value.proofs.WithinLemmas.{no_deeper, items_within, members_within, one_item_too_deep, one_member_too_deep, all_with_last}
 use Rattle.perm_value.proofs.json.+within.Goals as goal
 
 pub are_items_within-returns-then-not-is_within : goal.are_items_within-returns-then-not-is_within
 are_items_within-returns-then-not-is_within t c =
     let found = c.deref-item-items.result.now in
-    let deep : fits c.args.levels (get_or found c.loop-item.item-index c.item-item.result) ≡ false =
-    ap (fits c.args.levels) (sym c.item-item.is) ∙ sym c.is_within.ensures ∙ c.if-not-is_within.true in
+    let deep : no_deeper c.args.levels (get_or found c.loop-item.item-index c.item-item.result) ≡ false =
+    ap (no_deeper c.args.levels) (sym c.item-item.is) ∙ sym c.is_within.ensures ∙ c.if-not-is_within.true in
     subst (λ js. false ≡ nat_le (items_depth (items_view js)) c.args.levels) c.deref-item-items.ensures.value
     (sym (one_item_too_deep c.args.levels found c.loop-item.item-index c.item-item.result c.loop-item-test.true deep))
 
 pub are_items_within-returns : goal.are_items_within-returns
 are_items_within-returns t c =
     let found = c.deref-item-items.result.now in
-    let all : list_all (fits c.args.levels) found ≡ true =
-    ap (list_all (fits c.args.levels)) (sym (take_all c.loop-item.item-index found c.loop-item-test.false)) ∙ c.loop-item.invariant in
+    let all : list_all (no_deeper c.args.levels) found ≡ true =
+    ap (list_all (no_deeper c.args.levels)) (sym (take_all c.loop-item.item-index found c.loop-item-test.false)) ∙ c.loop-item.invariant in
     subst (λ js. true ≡ nat_le (items_depth (items_view js)) c.args.levels) c.deref-item-items.ensures.value
     (sym (items_within c.args.levels found ∙ all))
 

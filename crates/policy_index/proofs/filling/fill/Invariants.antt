@@ -1,6 +1,6 @@
 use Rattle.std.proofs.Common.{List, ℕ, ◌≤◌, take, drop}
 use Rattle.std.specs.List.{count_by}
-use Rattle.policy_index.specs.Helps.Kept.{AreListed}
+use Rattle.policy_index.specs.Indexed.{AreListed}
 use Rattle.policy_index.specs.Lists.{room_at}
 use Rattle.policy_index.specs.Places.{has_text}
 use Rattle.policy_index.proofs.filling.fill.Given as goal

@@ -1,5 +1,5 @@
 use Rattle.std.proofs.Common.{take}
-use Rattle.policy_index.specs.Helps.Kept.{AreListed}
+use Rattle.policy_index.specs.Indexed.{AreListed}
 use Rattle.policy_index.proofs.making.places_of.Given as goal
 
 abbrev pub invariant-loop-at : goal.invariant-loop-at

@@ -1,27 +1,32 @@
-use Rattle.std.proofs.Common.{◌+◌, if◌then◌else◌, length, refl, ap, sym, ◌∙◌, arith}
-use Rattle.policy_index.specs.Indexed.{puts_text}
-use Rattle.policy_index.proofs.OwnLemmas.{fits_at, puts_more}
+use Rattle.std.proofs.Common.{◌≡◌, ◌+◌, List, length, take, refl, ap, subst, sym, ◌∙◌, true, arith}
+use Rattle.policy_table.specs.Changes.{flat}
+use Rattle.policy_table.specs.declared.change.Change.{Change}
+use Rattle.policy_index.specs.Indexed.{all_fit, puts}
+use Rattle.policy_index.proofs.ReserveLemmas.{fits_edit, puts_edit}
 use Rattle.policy_index.proofs.reserving.reserve.Goals as goal
 
-pub loop-change-init : goal.loop-change-init
-loop-change-init c = record {
+pub loop-edit-init : goal.loop-edit-init
+loop-edit-init c = record {
   places = λ text. refl;
   more = λ text. omega arith;
   counted = λ text. ap length (c.new-counts.ensures text);
   room = λ text. omega (arith, ap length (c.new-counts.ensures text));
 }
 
-pub reserve_one-requires : goal.reserve_one-requires
-reserve_one-requires c = fits_at c.args.column c.args.changes.now c.loop-change.change-index c.change-item.result c.requires c.loop-change-test.true (sym c.change-item.is)
+pub reserve_edit-requires : goal.reserve_edit-requires
+reserve_edit-requires c =
+    subst (λ (l : List Change). all_fit c.args.column l ≡ true) (sym c.as_slice.ensures)
+    (fits_edit c.args.column c.args.edits.now c.loop-edit.edit-index c.edit-item.result c.requires c.loop-edit-test.true (sym c.edit-item.is))
 
-pub loop-change-preserved : goal.loop-change-preserved
-loop-change-preserved c = record {
-  places = λ text. c.reserve_one.ensures.places text ∙ c.loop-change.invariant.places text;
-  more = λ text. omega (arith, c.reserve_one.ensures.more text, c.loop-change.invariant.more text);
+pub loop-edit-preserved : goal.loop-edit-preserved
+loop-edit-preserved c = record {
+  places = λ text. c.reserve_edit.ensures.places text ∙ c.loop-edit.invariant.places text;
+  more = λ text. omega (arith, c.reserve_edit.ensures.more text, c.loop-edit.invariant.more text);
   counted =
       λ text.
-      c.in_ok-reserve_one.ensures.counted text
-      ∙ ap (λ n. n + (if puts_text c.args.column text c.change-item.result then 1 else 0)) (c.loop-change.invariant.counted text)
-      ∙ sym (puts_more c.args.column text c.args.changes.now c.loop-change.change-index c.change-item.result c.loop-change-test.true (sym c.change-item.is));
-  room = λ text. c.in_ok-reserve_one.ensures.room text (c.loop-change.invariant.room text);
+      c.in_ok-reserve_edit.ensures.counted text
+      ∙ ap (λ n. n + puts c.args.column text c.as_slice.result.now) (c.loop-edit.invariant.counted text)
+      ∙ ap (λ (l : List Change). puts c.args.column text (flat (take c.loop-edit.edit-index c.args.edits.now)) + puts c.args.column text l) c.as_slice.ensures
+      ∙ sym (puts_edit c.args.column text c.args.edits.now c.loop-edit.edit-index c.edit-item.result c.loop-edit-test.true (sym c.edit-item.is));
+  room = λ text. c.in_ok-reserve_edit.ensures.room text (c.loop-edit.invariant.room text);
 }

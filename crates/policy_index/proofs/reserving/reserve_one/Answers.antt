@@ -1,4 +1,4 @@
-use Rattle.policy_index.proofs.OwnLemmas.{counted_one, on_ok}
+use Rattle.policy_index.proofs.ReserveLemmas.{counted_one, on_ok}
 use Rattle.policy_index.proofs.reserving.reserve_one.Goals as goal
 
 pub returns-clause-counted : goal.returns-clause-counted

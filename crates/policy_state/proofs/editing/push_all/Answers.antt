@@ -8,4 +8,4 @@ loop-edit-preserved c =
     let rest : c.loop-edit.edit-iterator.rest.items ≡ c.in-Some.edit ∷ c.next.new.self.rest.items = search rules in
     pushes_more c.args.edits.items c.args.log.now c.in-Some.edit c.next.new.self.rest.items c.loop-edit.log c.push.new.self
     (subst (λ (l : List (List Change)). Pushes c.args.edits.items c.args.log.now l c.loop-edit.log) rest c.loop-edit.invariant)
-    c.push.ensures.start c.push.ensures.base c.push.ensures.tail c.push.ensures.spare c.push.ensures.tables c.push.ensures.stands
+    c.push.ensures.start c.push.ensures.tail c.push.ensures.spare c.push.ensures.stands

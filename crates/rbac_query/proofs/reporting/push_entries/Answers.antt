@@ -1,5 +1,4 @@
 use Rattle.std.proofs.Common.{◌≡◌, ◌++◌, ◌∙◌, ◌∷◌, [], Err, ap, append_assoc, map, rules, subst, sym}
-use Rattle.role_domain.specs.Sections.{rows_in}
 use Rattle.rbac_query.specs.Helps.Entries.{IsEntry, StopsEntries, entry_text, subject_in}
 use Rattle.rbac_query.specs.Helps.Subjects.{shown}
 use Rattle.rbac_query.proofs.EntryLemmas.{adds_none}
@@ -10,7 +9,7 @@ use Rattle.rbac_query.proofs.reporting.push_entries.Goals as goal
 pub loop-subject-init : goal.loop-subject-init
 loop-subject-init c =
     let section = c.args.section.now in
-    ([], search rules, adds_none subject_in (IsEntry section.shape (rows_in section) section.limit) entry_text c.args.text.now.items, c.requires)
+    ([], search rules, λ rows of. adds_none subject_in (IsEntry section.shape rows section.limit) entry_text c.args.text.now.items, c.requires)
 
 pub loop-subject-preserved : goal.loop-subject-preserved
 loop-subject-preserved c =
@@ -21,7 +20,7 @@ loop-subject-preserved c =
     let parts : c.args.subjects.now.keys ≡ before.0 ++ key ∷ left = before.1 ∙ ap (λ (l : Keys). before.0 ++ l) c.in-Some.ensures.steps in (
       before.0 ++ key ∷ [],
       parts ∙ sym (append_assoc before.0 (key ∷ []) left),
-      entries_more section.shape (rows_in section) section.limit c.args.text.now.items before.0 key c.loop-subject.text.items before.2 c.push_subject.new.text.items c.in_ok-push_subject.ensures.took,
+      λ rows of. entries_more section.shape rows section.limit c.args.text.now.items before.0 key c.loop-subject.text.items (before.2 rows of) c.push_subject.new.text.items (c.in_ok-push_subject.ensures.took rows of),
       c.in_ok-push_subject.ensures.within,
     )
 
@@ -35,5 +34,5 @@ returns-in_err-push_subject-clause-stop c =
     let parts : c.args.subjects.now.keys ≡ before.0 ++ key ∷ left = before.1 ∙ ap (λ (l : Keys). before.0 ++ l) c.in-Some.ensures.steps in
     let stop : c.from_residual.result ≡ Err fault = search rules in
     rw stop
-    (subst (λ (keys : Keys). StopsEntries section.shape (rows_in section) section.limit c.args.most c.args.text.now.items (map shown keys) fault) (sym parts)
-    (entries_stop section.shape (rows_in section) section.limit c.args.text.now.items before.0 key c.loop-subject.text.items before.2 c.args.most fault left c.in_err-push_subject.ensures.stop))
+    (λ rows of. subst (λ (keys : Keys). StopsEntries section.shape rows section.limit c.args.most c.args.text.now.items (map shown keys) fault) (sym parts)
+    (entries_stop section.shape rows section.limit c.args.text.now.items before.0 key c.loop-subject.text.items (before.2 rows of) c.args.most fault left (c.in_err-push_subject.ensures.stop rows of)))

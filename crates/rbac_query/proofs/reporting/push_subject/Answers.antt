@@ -1,7 +1,8 @@
 use Rattle.std.proofs.Common.{◌≡◌, ◌∙◌, ℕ, List, ap, subst, sym}
 use Rattle.std.specs.Option.{option_copied}
 use Rattle.perm_base.specs.declared.shapes.RoleShape.{RoleShape}
-use Rattle.role_domain.specs.Sections.{rows_in}
+use Rattle.policy_table.specs.Tables.{Fields}
+use Rattle.role_domain.specs.Sections.{IsSectionOf}
 use Rattle.role_meaning.specs.Implied.{AreImplied}
 use Rattle.rbac_query.specs.Helps.Entries.{AddsRoles, AddsSubject, StopsRoles, StopsSubject, user_in}
 use Rattle.rbac_query.specs.Report.{asked}
@@ -18,11 +19,12 @@ returns-clause-took c =
     let old = c.args.text.now.items in
     let new = c.push_roles.new.text.items in
     let asked_is : domain ≡ asked section.shape c.args.domain.now = c.asked-asked.ensures.domain ∙ ap (λ (s : RoleShape). asked s c.args.domain.now) c.shape.ensures in
-    let listed : AreImplied section.shape (rows_in section) section.limit domain c.args.user.now names =
-    subst (AreImplied section.shape (rows_in section) section.limit domain c.args.user.now) (sym c.fields.ensures.value)
-    (subst (λ (u : List ℕ). AreImplied section.shape (rows_in section) section.limit domain u c.in_ok-names.names) c.as_bytes.ensures.value c.in_ok-names.ensures) in
-    on_ok c.push_roles.result (AddsRoles section.shape (rows_in section) subject old names new) (AddsSubject section.shape (rows_in section) section.limit subject old new)
-    (subject_adds section.shape (rows_in section) section.limit subject domain names asked_is listed old new) c.push_roles.ensures.took
+    let listed : (rows : List Fields) → IsSectionOf section rows → AreImplied section.shape rows section.limit domain c.args.user.now names =
+    λ rows of. subst (AreImplied section.shape rows section.limit domain c.args.user.now) (sym c.fields.ensures.value)
+    (subst (λ (u : List ℕ). AreImplied section.shape rows section.limit domain u c.in_ok-names.names) c.as_bytes.ensures.value (c.in_ok-names.ensures rows of)) in
+    on_ok c.push_roles.result ((rows : List Fields) → IsSectionOf section rows → AddsRoles section.shape rows subject old names new)
+    ((rows : List Fields) → IsSectionOf section rows → AddsSubject section.shape rows section.limit subject old new)
+    (λ adds rows of. subject_adds section.shape rows section.limit subject domain names asked_is (listed rows of) old new (adds rows of)) c.push_roles.ensures.took
 
 pub returns-clause-stop : goal.returns-clause-stop
 returns-clause-stop c =
@@ -32,8 +34,9 @@ returns-clause-stop c =
     let names = c.fields.result.now in
     let old = c.args.text.now.items in
     let asked_is : domain ≡ asked section.shape c.args.domain.now = c.asked-asked.ensures.domain ∙ ap (λ (s : RoleShape). asked s c.args.domain.now) c.shape.ensures in
-    let listed : AreImplied section.shape (rows_in section) section.limit domain c.args.user.now names =
-    subst (AreImplied section.shape (rows_in section) section.limit domain c.args.user.now) (sym c.fields.ensures.value)
-    (subst (λ (u : List ℕ). AreImplied section.shape (rows_in section) section.limit domain u c.in_ok-names.names) c.as_bytes.ensures.value c.in_ok-names.ensures) in
-    if_err c.push_roles.result (StopsRoles section.shape (rows_in section) subject c.args.most old names) (StopsSubject section.shape (rows_in section) section.limit subject c.args.most old)
-    (subject_stops section.shape (rows_in section) section.limit subject domain names asked_is listed c.args.most old) c.push_roles.ensures.stop
+    let listed : (rows : List Fields) → IsSectionOf section rows → AreImplied section.shape rows section.limit domain c.args.user.now names =
+    λ rows of. subst (AreImplied section.shape rows section.limit domain c.args.user.now) (sym c.fields.ensures.value)
+    (subst (λ (u : List ℕ). AreImplied section.shape rows section.limit domain u c.in_ok-names.names) c.as_bytes.ensures.value (c.in_ok-names.ensures rows of)) in
+    if_err c.push_roles.result (λ stop. (rows : List Fields) → IsSectionOf section rows → StopsRoles section.shape rows subject c.args.most old names stop)
+    (λ stop. (rows : List Fields) → IsSectionOf section rows → StopsSubject section.shape rows section.limit subject c.args.most old stop)
+    (λ stop stops rows of. subject_stops section.shape rows section.limit subject domain names asked_is (listed rows of) c.args.most old stop (stops rows of)) c.push_roles.ensures.stop

@@ -26,7 +26,7 @@ returns-clause-version g c =
     i.front c.in-Some.front c.again.result i.desk c.begin_publish.new.self c.end_publish.new.self
     c.self.invariant c.begin_publish.ensures.begun c.end_publish.ensures.published
     c.hand_over.ensures.same c.in_ok-hand_over.ensures.all c.in-Some.ensures.front c.in-Some.ensures.line c.in-Some.ensures.none_left c.in-Some.ensures.out c.again.ensures.same in
-    ap (λ (l : List (List (List Change))). version_of l) (sym c.again.ensures.same) ∙ sym (version_stands c.end_publish.new.self.state.log g.J.Naming.opening (edits_in c.again.result) kept.stands)
+    ap (λ (l : List (List (List Change))). version_of l) (sym c.again.ensures.same) ∙ sym (version_stands c.end_publish.new.self.state.log (edits_in c.again.result) kept.stands.log)
 
 pub returns-clause-published : goal.returns-clause-published
 returns-clause-published g c =

@@ -18,7 +18,7 @@ returns-clause-stands g c =
     subst (λ (f : List (List (List Change))). StandsFor c.state.result.now opening (edits_in f)) front (stands_whole opening first log c.state.result.now none c.state.ensures.stands)
 
 pub returns-clause-start : goal.returns-clause-start
-returns-clause-start g c = (returns-clause-stands g c).within
+returns-clause-start g c = (returns-clause-stands g c).log.within
 
 pub returns-clause-version : goal.returns-clause-version
-returns-clause-version g c = version_stands c.state.result.now.log g.J.Naming.opening (edits_in c.args.self.now.front) (returns-clause-stands g c)
+returns-clause-version g c = version_stands c.state.result.now.log (edits_in c.args.self.now.front) (returns-clause-stands g c).log

@@ -1,4 +1,4 @@
-use Rattle.std.proofs.Common.{refl, ◌∙◌}
+use Rattle.std.proofs.Common.{◌∙◌}
 use Rattle.live_pair.proofs.SideLemmas.{up_to_published}
 use Rattle.live_pair.proofs.side.Side.follow.Goals as goal
 

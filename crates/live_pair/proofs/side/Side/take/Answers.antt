@@ -1,4 +1,4 @@
-use Rattle.std.proofs.Common.{◌≡◌, ◌+◌, ◌≤◌, ◌++◌, ◌∷◌, [], List, length, refl, sym, ap, subst, ◌∙◌}
+use Rattle.std.proofs.Common.{◌≡◌, ◌+◌, ◌≤◌, ◌++◌, ◌∷◌, [], List, length, sym, ap, subst, ◌∙◌}
 use Rattle.live_pair.proofs.SideLemmas.{CanMake, can_make, up_to_staged}
 use Rattle.live_pair.proofs.StoryLemmas.{next_staged}
 use Rattle.live_pair.specs.declared.edits.Event.TheVariants.{Staged}

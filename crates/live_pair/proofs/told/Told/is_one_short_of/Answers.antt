@@ -1,4 +1,3 @@
-use Rattle.std.proofs.Common.{refl}
 use Rattle.live_pair.proofs.ShownLemmas.{no_longer, one_short}
 use Rattle.live_pair.proofs.told.Told.is_one_short_of.Goals as goal
 

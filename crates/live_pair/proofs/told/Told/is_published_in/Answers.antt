@@ -1,4 +1,3 @@
-use Rattle.std.proofs.Common.{refl}
 use Rattle.live_pair.proofs.ShownLemmas.{one_longer, publish_short}
 use Rattle.live_pair.proofs.told.Told.is_published_in.Goals as goal
 

@@ -1,9 +1,9 @@
-use Rattle.std.proofs.Common.{ap, ◌∙◌}
-use Rattle.perm_base.specs.declared.shapes.TableId.TheVariants.{P}
-use Rattle.policy_table.specs.Tables.{rows}
-use Rattle.policy_index.specs.Indexed.{Indexed}
+use Rattle.std.proofs.Common.{ap, subst, sym, ◌∙◌}
+use Rattle.policy_index.specs.Indexed.{Indexed, IsIndexOf}
 use Rattle.policy_index.specs.Places.{places_of}
 use Rattle.policy_index.proofs.index.Index.rows_of.Goals as goal
 
 pub returns : goal.returns
-returns c = c.of.ensures ∙ c.self.invariant.listed c.args.text.now ∙ ap (λ (i : Indexed). places_of i.column c.args.text.now (rows i.held.policy P)) c.self.view_is
+returns c = λ rules is.
+    let kept = subst (λ (i : Indexed). IsIndexOf i rules) (sym c.self.view_is) is in
+    c.of.ensures ∙ kept.listed c.args.text.now ∙ ap (λ (i : Indexed). places_of i.column c.args.text.now rules) c.self.view_is

@@ -1,13 +1,16 @@
-use Rattle.std.proofs.Common.{ℕ, sym, subst}
-use Rattle.std.specs.Prelude.{IfSome}
-use Rattle.perm_base.specs.declared.shapes.TableId.TheVariants.{P}
-use Rattle.policy_index.specs.Places.{HaveColumn}
-use Rattle.policy_table.specs.Tables.{Policy, rows}
-use Rattle.policy_state.proofs.IndexLemmas.{column_below, have_column}
+use Rattle.std.proofs.Common.{rules}
+use Rattle.policy_state.proofs.CopyLemmas.{sections_again}
 use Rattle.policy_state.proofs.state.PolicyState.copy.Goals as goal
 
-pub make_index-requires : goal.make_index-requires
-make_index-requires c =
-    subst (λ (p : Policy). IfSome c.self.inside.column (λ (n : ℕ). HaveColumn n (rows p P))) (sym c.in_ok-tables.ensures)
-    (have_column c.self.inside.shapes c.self.inside.tables.policy c.self.inside.column c.self.invariant.sound.shaped
-    (column_below c.self.inside.shapes c.self.inside.tables.policy c.self.inside.column c.self.inside.index c.self.invariant.column c.self.invariant.index))
+pub invariant_of-result : goal.invariant_of-result
+invariant_of-result c = record {
+  valid = search rules;
+  sound = search rules;
+  grown = search rules;
+  below = search rules;
+  column = search rules;
+  index = search rules;
+  sections =
+      sections_again c.self.inside.shapes c.in_ok-shapes.shapes c.self.inside.tables.policy c.in_ok-tables.tables.policy c.self.inside.sections c.in_ok-sections.sections c.in_ok-shapes.ensures c.in_ok-tables.ensures c.in_ok-sections.ensures
+      c.self.invariant.sections;
+}

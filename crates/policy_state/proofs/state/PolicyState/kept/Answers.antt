@@ -1,5 +1,5 @@
 use Rattle.std.proofs.Common.{All, subst}
-use Rattle.policy_state.proofs.NamedLemmas.{named_edits}
+use Rattle.policy_state.proofs.NamedLemmas.{named_grown}
 use Rattle.policy_state.specs.States.{State}
 use Rattle.version_log.specs.EditText.{NameRules}
 use Rattle.policy_state.proofs.state.PolicyState.kept.Goals as goal
@@ -7,4 +7,4 @@ use Rattle.policy_state.proofs.state.PolicyState.kept.Goals as goal
 pub returns-clause-names : goal.returns-clause-names
 returns-clause-names c =
     subst (λ (s : State). All NameRules s.log.tail) c.self.view_is
-    (named_edits c.self.inside.shapes c.self.inside.log.base c.self.inside.log.tail c.self.invariant.valid c.self.invariant.base.shaped c.self.invariant.admitted)
+    (named_grown c.self.inside.shapes c.self.inside.tables.policy c.self.inside.log.tail c.self.invariant.valid c.self.invariant.grown)

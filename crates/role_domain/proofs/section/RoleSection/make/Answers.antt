@@ -1,31 +1,47 @@
-use Rattle.std.proofs.Common.{◌≤◌, ◌∙◌, List, length, ap, subst, sym}
-use Rattle.perm_base.specs.declared.shapes.RoleShape.{RoleShape}
+use Rattle.std.proofs.Common.{◌∙◌, List, filter, ap, subst, sym}
 use Rattle.perm_base.specs.declared.shapes.TableId.TheVariants.{G}
-use Rattle.policy_table.specs.Changes.{edited}
-use Rattle.policy_table.specs.Tables.{Fields, Policy, rows}
-use Rattle.policy_table.specs.declared.change.Change.{Change}
-use Rattle.role_domain.specs.Relations.{HasFewPatterns}
-use Rattle.role_domain.specs.Sections.{own_of}
-use Rattle.role_domain.proofs.OnlyLemmas.{insert_columns, insert_made, insert_possible, insert_rows}
+use Rattle.policy_table.specs.Tables.{Fields, rows}
+use Rattle.role_domain.specs.Domains.{AreDomains, ArePatterns}
+use Rattle.role_domain.specs.Helps.Turns.{CanTurn, first_turn}
+use Rattle.role_domain.specs.Relations.{Relation, has_pattern, terms_of}
+use Rattle.role_domain.specs.declared.terms.Terms.{Terms}
+use Rattle.role_domain.proofs.SectionLemmas.{first_can, first_patterns, pattern_columns, two_of_each}
 use Rattle.role_domain.proofs.section.RoleSection.make.Goals as goal
 
-pub prepare-requires-clause-possible : goal.prepare-requires-clause-possible
-prepare-requires-clause-possible c = insert_possible c.new_section-section.result c.args.shape c.args.tables.now.policy c.from_ref.result.now c.in_ok-edit.edit c.rows.result.now c.requires.placed c.new_section-section.ensures.shape c.new_section-section.ensures.policy c.from_ref.ensures.value c.in_ok-edit.ensures c.rows.ensures.value (c.kept.ensures.once (G c.args.shape.number))
+pub fill-requires : goal.fill-requires
+fill-requires c =
+    let all : List Fields = rows c.args.tables.now.policy (G c.args.shape.number) in
+    let relation : Relation = record { terms = terms_of c.args.shape c.args.limit; rows = all } in
+    let are : ArePatterns relation c.in_ok-patterns.patterns.items =
+    first_patterns c.args.shape c.terms_of-terms.result c.args.limit (rows c.args.tables.now.policy (G c.args.shape.number)) c.in_ok-patterns.patterns.items c.terms_of-terms.ensures
+    (c.in_ok-patterns.ensures ∙ ap (filter (has_pattern c.terms_of-terms.result.domains)) c.rows-rows.ensures.value) c.requires.patterns in
+    subst (CanTurn (first_turn c.terms_of-terms.result c.rows-rows.result.now) c.new-domains.result) (sym c.deref.ensures.value)
+    (subst (λ (l : List Fields). CanTurn (first_turn c.terms_of-terms.result l) c.new-domains.result c.in_ok-patterns.patterns.items) (sym c.rows-rows.ensures.value)
+    (first_can c.args.shape c.terms_of-terms.result c.args.limit all c.in_ok-patterns.patterns.items c.new-domains.result c.terms_of-terms.ensures c.new-domains.ensures c.requires.some c.requires.most c.requires.columns c.requires.few are))
 
-pub prepare-requires-clause-columns : goal.prepare-requires-clause-columns
-prepare-requires-clause-columns c = insert_columns c.new_section-section.result c.args.shape c.args.tables.now.policy c.from_ref.result.now c.in_ok-edit.edit c.rows.result.now c.requires.placed c.new_section-section.ensures.shape c.new_section-section.ensures.policy c.from_ref.ensures.value c.in_ok-edit.ensures c.rows.ensures.value c.requires.columns
+pub invariant_of-result : goal.invariant_of-result
+invariant_of-result c =
+    let all : List Fields = rows c.args.tables.now.policy (G c.args.shape.number) in
+    let relation : Relation = record { terms = terms_of c.args.shape c.args.limit; rows = all } in
+    let are : ArePatterns relation c.in_ok-patterns.patterns.items =
+    first_patterns c.args.shape c.terms_of-terms.result c.args.limit (rows c.args.tables.now.policy (G c.args.shape.number)) c.in_ok-patterns.patterns.items c.terms_of-terms.ensures
+    (c.in_ok-patterns.ensures ∙ ap (filter (has_pattern c.terms_of-terms.result.domains)) c.rows-rows.ensures.value) c.requires.patterns in
+    record {
+      placed = c.requires.placed;
+      some = c.requires.some;
+      most = c.requires.most;
+      columns = pattern_columns relation c.in_ok-patterns.patterns.items are (two_of_each c.args.shape all c.requires.columns);
+      few = are.few;
+    }
 
-pub prepare-requires-clause-rows : goal.prepare-requires-clause-rows
-prepare-requires-clause-rows c = subst (λ (l : List Fields). length l ≤ 200000) (sym (insert_rows c.new_section-section.result c.args.shape c.args.tables.now.policy c.from_ref.result.now c.in_ok-edit.edit c.rows.result.now c.requires.placed c.new_section-section.ensures.shape c.new_section-section.ensures.policy c.from_ref.ensures.value c.in_ok-edit.ensures c.rows.ensures.value)) c.requires.few
-
-pub prepare-requires-clause-patterns : goal.prepare-requires-clause-patterns
-prepare-requires-clause-patterns c =
-    subst (HasFewPatterns c.new_section-section.result.shape) (sym (insert_rows c.new_section-section.result c.args.shape c.args.tables.now.policy c.from_ref.result.now c.in_ok-edit.edit c.rows.result.now c.requires.placed c.new_section-section.ensures.shape c.new_section-section.ensures.policy c.from_ref.ensures.value c.in_ok-edit.ensures c.rows.ensures.value))
-    (subst (λ (s : RoleShape). HasFewPatterns s (rows c.args.tables.now.policy (G c.args.shape.number))) (sym c.new_section-section.ensures.shape) c.requires.patterns)
-
-pub returns-clause-policy : goal.returns-clause-policy
-returns-clause-policy c =
-    c.commit.ensures.policy
-    ∙ ap (λ (l : List Change). edited l c.prepare.new.self.held.policy) c.in_ok-prepared.ensures.edits
-    ∙ ap (λ (p : Policy). edited (own_of c.new_section-section.result c.from_ref.result.now) p) c.in_ok-prepared.ensures.unchanged
-    ∙ insert_made c.new_section-section.result c.args.shape c.args.tables.now.policy c.from_ref.result.now c.in_ok-edit.edit c.rows.result.now c.requires.placed c.new_section-section.ensures.shape c.new_section-section.ensures.policy c.from_ref.ensures.value c.in_ok-edit.ensures c.rows.ensures.value
+pub returns-clause-section : goal.returns-clause-section
+returns-clause-section c =
+    let all : List Fields = rows c.args.tables.now.policy (G c.args.shape.number) in
+    record {
+      columns = c.requires.columns;
+      few = c.requires.few;
+      domains = subst (λ (t : Terms). AreDomains (record { terms = t; rows = all }) c.fill.new.self.entries) c.terms_of-terms.ensures
+          (subst (λ (l : List Fields). AreDomains (record { terms = c.terms_of-terms.result; rows = l }) c.fill.new.self.entries) c.rows-rows.ensures.value c.in_ok-fill.ensures);
+      patterns = first_patterns c.args.shape c.terms_of-terms.result c.args.limit (rows c.args.tables.now.policy (G c.args.shape.number)) c.in_ok-patterns.patterns.items c.terms_of-terms.ensures
+          (c.in_ok-patterns.ensures ∙ ap (filter (has_pattern c.terms_of-terms.result.domains)) c.rows-rows.ensures.value) c.requires.patterns;
+    }

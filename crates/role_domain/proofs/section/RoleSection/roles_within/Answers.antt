@@ -1,29 +1,31 @@
-use Rattle.std.proofs.Common.{◌≤◌, ◌∙◌, length, ap, subst, sym, arith}
+use Rattle.std.proofs.Common.{◌≤◌, ◌∙◌, List, length, ap, subst, sym, arith}
 use Rattle.std.specs.Prelude.{All}
 use Rattle.std.specs.Option.{option_copied}
 use Rattle.policy_table.specs.Tables.{Fields}
-use Rattle.role_domain.specs.Helps.Kept.{relation_in}
 use Rattle.role_domain.specs.Relations.{Tells, counted}
-use Rattle.role_domain.specs.Sections.{Section, rows_in}
+use Rattle.role_domain.specs.Sections.{IsSectionOf, Section}
 use Rattle.role_domain.specs.declared.terms.Terms.{Terms}
 use Rattle.role_domain.proofs.AskLemmas.{copied_some, implied_nowhere, implied_there}
-use Rattle.role_domain.proofs.SectionLemmas.{pattern_columns}
 use Rattle.role_graph.specs.Groups.{times}
 use Rattle.role_meaning.specs.Implied.{AreImplied}
 use Rattle.role_domain.proofs.section.RoleSection.roles_within.Goals as goal
 
+pub fitting-requires : goal.fitting-requires
+fitting-requires c = subst (All (λ (row : Fields). 2 ≤ length row)) (sym c.deref.ensures.value) c.self.invariant.columns
+
 pub returns-in-Some : goal.returns-in-Some
 returns-in-Some c =
-    subst (λ (s : Section). AreImplied s.shape (rows_in s) s.limit (option_copied c.args.domain) c.args.x.now c.in_ok-names.names) c.self.view_is
-    (implied_there c.self.inside.shape c.self.inside.limit c.self.inside.tables.policy c.self.inside.domains.entries c.self.inside.patterns.items c.self.invariant (option_copied c.args.domain) c.asked-text.result.now (copied_some c.args.domain ∙ c.requires ∙ sym (ap (λ (s : Section). s.shape.with_domain) c.self.view_is)) c.asked-text.ensures c.links_are_decided.ensures.fits c.in-Some.found.now c.in-Some.ensures c.args.x.now c.in_ok-names.names c.in_ok-names.ensures)
-
-pub fitting-requires : goal.fitting-requires
-fitting-requires c = subst (All (λ (row : Fields). 2 ≤ length row)) (sym c.deref.ensures.value) (pattern_columns c.self.inside.shape (relation_in c.self.inside.shape c.self.inside.limit c.self.inside.tables.policy) c.self.inside.patterns.items c.self.invariant.patterns c.self.invariant.columns)
+    subst
+    (λ (s : Section). (all : List Fields) → IsSectionOf s all → AreImplied s.shape all s.limit (option_copied c.args.domain) c.args.x.now c.in_ok-names.names)
+    c.self.view_is
+    (λ all sound. implied_there _ all sound (option_copied c.args.domain) c.asked-text.result.now (copied_some c.args.domain ∙ c.requires ∙ sym (ap (λ (s : Section). s.shape.with_domain) c.self.view_is)) c.asked-text.ensures c.links_are_decided.ensures.fits c.in-Some.found.now c.in-Some.ensures c.args.x.now c.in_ok-names.names c.in_ok-names.ensures)
 
 pub returns : goal.returns
 returns c =
-    subst (λ (s : Section). AreImplied s.shape (rows_in s) s.limit (option_copied c.args.domain) c.args.x.now c.in_ok-names-2.names) c.self.view_is
-    (implied_nowhere c.self.inside.shape c.self.inside.limit c.self.inside.tables.policy c.self.inside.domains.entries c.self.inside.patterns.items c.self.invariant (option_copied c.args.domain) c.asked-text.result.now (copied_some c.args.domain ∙ c.requires ∙ sym (ap (λ (s : Section). s.shape.with_domain) c.self.view_is)) c.asked-text.ensures c.in_default.ensures c.links_are_decided.ensures.fits c.in_ok-graph.graph c.args.x.now c.in_ok-names-2.names
+    subst
+    (λ (s : Section). (all : List Fields) → IsSectionOf s all → AreImplied s.shape all s.limit (option_copied c.args.domain) c.args.x.now c.in_ok-names-2.names)
+    c.self.view_is
+    (λ all sound. implied_nowhere _ all sound (option_copied c.args.domain) c.asked-text.result.now (copied_some c.args.domain ∙ c.requires ∙ sym (ap (λ (s : Section). s.shape.with_domain) c.self.view_is)) c.asked-text.ensures c.in_default.ensures c.links_are_decided.ensures.fits c.in_ok-graph.graph c.args.x.now c.in_ok-names-2.names
     (c.in_ok-graph.ensures.names ∙ ap (λ (t : Terms). t.names) c.terms_of-terms.ensures) c.in_ok-graph.ensures.limit
     (λ test tells one. omega (
       arith,

@@ -1,29 +1,32 @@
-use Rattle.std.proofs.Common.{◌≤◌, ◌∙◌, length, ap, subst, sym, arith}
+use Rattle.std.proofs.Common.{◌≤◌, ◌∙◌, length, refl, ap, subst, sym, arith}
 use Rattle.std.specs.Prelude.{All}
 use Rattle.std.specs.Option.{option_copied}
 use Rattle.policy_table.specs.Tables.{Fields}
-use Rattle.role_domain.specs.Helps.Kept.{relation_in}
 use Rattle.role_domain.specs.Relations.{Tells, counted}
-use Rattle.role_domain.specs.Sections.{Section, rows_in}
+use Rattle.role_domain.specs.Sections.{IsSectionOf, Section}
 use Rattle.role_domain.specs.declared.terms.Terms.{Terms}
 use Rattle.role_domain.proofs.AskLemmas.{copied_some, users_nowhere, users_there}
-use Rattle.role_domain.proofs.SectionLemmas.{pattern_columns}
 use Rattle.role_graph.specs.Groups.{times}
 use Rattle.role_meaning.specs.ImpliedUsers.{AreImpliedUsers}
 use Rattle.role_domain.proofs.section.RoleSection.users_within.Goals as goal
 
+pub fitting-requires : goal.fitting-requires
+fitting-requires c = subst (All (λ (row : Fields). 2 ≤ length row)) (sym c.deref.ensures.value) c.self.invariant.columns
+
 pub returns-in-Some : goal.returns-in-Some
 returns-in-Some c =
-    subst (λ (s : Section). AreImpliedUsers s.shape (rows_in s) s.limit (option_copied c.args.domain) c.args.x.now c.in_ok-names.names) c.self.view_is
-    (users_there c.self.inside.shape c.self.inside.limit c.self.inside.tables.policy c.self.inside.domains.entries c.self.inside.patterns.items c.self.invariant (option_copied c.args.domain) c.asked-text.result.now (copied_some c.args.domain ∙ c.requires ∙ sym (ap (λ (s : Section). s.shape.with_domain) c.self.view_is)) c.asked-text.ensures c.links_are_decided.ensures.fits c.in-Some.there.now c.in-Some.ensures c.args.x.now c.all_rows-among.result.now c.in_ok-names.names (c.all_rows-among.ensures.rows ∙ ap rows_in (sym c.self.view_is)) c.in_ok-names.ensures)
-
-pub fitting-requires : goal.fitting-requires
-fitting-requires c = subst (All (λ (row : Fields). 2 ≤ length row)) (sym c.deref.ensures.value) (pattern_columns c.self.inside.shape (relation_in c.self.inside.shape c.self.inside.limit c.self.inside.tables.policy) c.self.inside.patterns.items c.self.invariant.patterns c.self.invariant.columns)
+    subst
+    (λ (s : Section). IsSectionOf s c.args.rows.now → AreImpliedUsers s.shape c.args.rows.now s.limit (option_copied c.args.domain) c.args.x.now c.in_ok-names.names)
+    c.self.view_is
+    (λ sound. users_there _ c.args.rows.now sound (option_copied c.args.domain) c.asked-text.result.now (copied_some c.args.domain ∙ c.requires.asked ∙ sym (ap (λ (s : Section). s.shape.with_domain) c.self.view_is)) c.asked-text.ensures c.links_are_decided.ensures.fits c.in-Some.there.now c.in-Some.ensures c.args.x.now c.args.rows.now c.in_ok-names.names refl c.in_ok-names.ensures)
+    c.requires.rows
 
 pub returns : goal.returns
 returns c =
-    subst (λ (s : Section). AreImpliedUsers s.shape (rows_in s) s.limit (option_copied c.args.domain) c.args.x.now c.in_ok-names-2.names) c.self.view_is
-    (users_nowhere c.self.inside.shape c.self.inside.limit c.self.inside.tables.policy c.self.inside.domains.entries c.self.inside.patterns.items c.self.invariant (option_copied c.args.domain) c.asked-text.result.now (copied_some c.args.domain ∙ c.requires ∙ sym (ap (λ (s : Section). s.shape.with_domain) c.self.view_is)) c.asked-text.ensures c.in_default.ensures c.links_are_decided.ensures.fits c.in_ok-graph.graph c.args.x.now c.all_rows-among.result.now c.in_ok-names-2.names (c.all_rows-among.ensures.rows ∙ ap rows_in (sym c.self.view_is))
+    subst
+    (λ (s : Section). IsSectionOf s c.args.rows.now → AreImpliedUsers s.shape c.args.rows.now s.limit (option_copied c.args.domain) c.args.x.now c.in_ok-names-2.names)
+    c.self.view_is
+    (λ sound. users_nowhere _ c.args.rows.now sound (option_copied c.args.domain) c.asked-text.result.now (copied_some c.args.domain ∙ c.requires.asked ∙ sym (ap (λ (s : Section). s.shape.with_domain) c.self.view_is)) c.asked-text.ensures c.in_default.ensures c.links_are_decided.ensures.fits c.in_ok-graph.graph c.args.x.now c.args.rows.now c.in_ok-names-2.names refl
     (c.in_ok-graph.ensures.names ∙ ap (λ (t : Terms). t.names) c.terms_of-terms.ensures) c.in_ok-graph.ensures.limit
     (λ test tells one. omega (
       arith,
@@ -33,3 +36,4 @@ returns c =
       ap (counted test one) c.deref.ensures.value,
     ))
     c.in_ok-names-2.ensures)
+    c.requires.rows

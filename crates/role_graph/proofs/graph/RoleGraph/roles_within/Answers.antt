@@ -7,14 +7,13 @@ use Rattle.role_graph.specs.Helps.Kept.{linked_of}
 use Rattle.role_graph.proofs.Gathering.{counted_some, implied_few, implied_whole}
 use Rattle.role_graph.proofs.graph.RoleGraph.roles_within.Goals as goal
 
-pub rule_of-requires-clause-few : goal.rule_of-requires-clause-few
-rule_of-requires-clause-few c =
+pub from_vec-requires : goal.from_vec-requires
+from_vec-requires c =
     let few : length c.in_ok-names.names.items ≤ length c.args.self.now.rows = implied_few (shape_of c.args.self.now.names) c.args.self.now.rows c.args.self.now.limit c.args.x.now c.in_ok-names.names.items c.in_ok-names.ensures in
-    omega (arith, few, c.self.invariant.few, ap (λ (graph : Graph). length graph.rows) c.self.view_is)
-
-pub rule_of-requires-clause-whole_lines : goal.rule_of-requires-clause-whole_lines
-rule_of-requires-clause-whole_lines c =
-    implied_whole (shape_of c.args.self.now.names) c.args.self.now.rows c.args.self.now.limit c.args.x.now c.in_ok-names.names.items
-    (λ y stands. (c.len-names.ensures.names y
-    (omega (arith, c.self.invariant.counted y, counted_some y (map role_of (rows_of (linked_of c.self.inside.links).groups)) (subst (λ (graph : Graph). Contains (map role_of graph.rows) y) (sym c.self.view_is) stands)))).whole_line)
-    c.in_ok-names.ensures
+    record {
+      few = omega (arith, few, c.self.invariant.few, ap (λ (graph : Graph). length graph.rows) c.self.view_is);
+      whole_lines = implied_whole (shape_of c.args.self.now.names) c.args.self.now.rows c.args.self.now.limit c.args.x.now c.in_ok-names.names.items
+          (λ y stands. (c.len-names.ensures.names y
+          (omega (arith, c.self.invariant.counted y, counted_some y (map role_of (rows_of (linked_of c.self.inside.links).groups)) (subst (λ (graph : Graph). Contains (map role_of graph.rows) y) (sym c.self.view_is) stands)))).whole_line)
+          c.in_ok-names.ensures;
+    }

@@ -1,0 +1,6 @@
+mod CellLemmas
+mod PlacedLemmas
+mod CountedLemmas
+mod PackLemmas
+mod KeptLemmas
+mod CarryLemmas
