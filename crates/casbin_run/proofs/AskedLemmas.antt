@@ -1,5 +1,5 @@
 -- A run that stops at its words or its files has asked nothing of the input.
-use Rattle.std.proofs.Common.{◌≡◌, Bool, true, false, refl, ⊎_elim, sym, ap, ◌∙◌}
+use Rattle.std.proofs.Common.{◌≡◌, true, false, refl, ⊎_elim, sym, ap, ◌∙◌}
 use Rattle.log_ship.specs.declared.packet_fault.PacketFault.TheVariants as packet
 use Rattle.run_status.specs.Statuses.{status_of}
 use Rattle.run_status.specs.declared.part.Part.TheVariants.{Input, Report}
@@ -12,7 +12,8 @@ use Rattle.casbin_run.specs.Causes.{FailsAt, StopsAt}
 use Rattle.casbin_run.specs.Ends.{Ends, HasStopped, is_of_files}
 use Rattle.casbin_run.specs.Given.{Given}
 use Rattle.casbin_run.specs.Reached.{Reached, at_words, at_model, at_options, at_policy, at_task, reads_at}
-use Rattle.casbin_run.specs.Worlds.{Taken, World}
+use Rattle.loaded_work.specs.Sinks.{Taken}
+use Rattle.casbin_run.specs.Worlds.{World}
 
 module _ (g : Given) (before now : World) where
   given_before : (stop : Stop) (reached : Reached) → is_of_files (status_of stop) ≡ true → StopsAt g reached stop → reads_at reached ≡ false

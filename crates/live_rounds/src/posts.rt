@@ -1,0 +1,135 @@
+ghost use Rattle.std.specs.Prelude.{◌≡◌};
+ghost use Rattle.std.specs.Thread.{IsSync};
+ghost use Rattle.decision.specs.contracts.program.Program as program_type;
+ghost use Rattle.script_read.specs.contracts.script.Script as script_type;
+ghost use Rattle.decision.specs.Programs.{Suits};
+ghost use Rattle.live_rounds.specs.Helps.Posts.{AreServedPosts, IsServedPost};
+
+use crate::gate::Gate;
+use crate::items::items_of;
+use crate::serving::answer_part;
+use decision::Program;
+use live_pair::{Naming, Seat};
+use live_round::Answer;
+use regex_gate::Finder;
+use script_read::Script;
+use std::alloc::Global;
+use std::thread;
+use std::thread::Threads;
+
+/// A worker of a round: its seat, its finder, the places of its items, and what it answered to the requests among them.
+#[derive(Drop)]
+pub(crate) struct Post<J: Naming, P: Finder> {
+    pub seat: Seat<J>,
+    pub finder: P,
+    pub from: usize,
+    pub until: usize,
+    pub replies: Vec<Answer>,
+    pub ran_out: bool,
+}
+
+impl<J: Naming, P: Finder> Post<J, P> {
+    /// A post where nothing was answered yet.
+    pub(crate) fn new(
+        alloc: Global,
+        seat: Seat<J>,
+        finder: P,
+        from: usize,
+        until: usize,
+    ) -> Post<J, P>
+        ensures seat { result.seat ≡ seat }
+        ensures finder { result.finder ≡ finder }
+        ensures from { result.from ≡ from }
+        ensures until { result.until ≡ until }
+    {
+        Post {
+            seat,
+            finder,
+            from,
+            until,
+            replies: Vec::new(alloc),
+            ran_out: false,
+        }
+    }
+}
+
+/// Answers the requests of all posts, each in a thread of its own where one can be started.
+pub(crate) fn serve_all<J: Naming + Send + Sync, R: Threads + Sync, P: Finder, G: Gate>(
+    rt: &R,
+    alloc: Global,
+    program: &Program,
+    script: &Script,
+    gate: &G,
+    posts: &mut [Post<J, P>],
+)
+    requires suits { Suits program.now J.shapes }
+    ensures { AreServedPosts P.refusals program.now J.shapes J.opening script.now
+        posts.old posts.new }
+{
+    if posts.is_empty() {
+        return;
+    }
+    share_program(program);
+    share_script(script);
+    let threads = posts.len();
+    thread::for_each_mut(
+        rt,
+        posts,
+        threads,
+        &|worker, post: &mut Post<J, P>|
+            requires { Suits program.now J.shapes }
+        { serve(alloc, program, script, worker, gate, post) },
+    );
+}
+
+/// That threads may share a program, as a fact for the calls behind this one.
+pub(crate) fn share_program(program: &Program)
+    ensures { IsSync program_type.the_row }
+{
+    share(program);
+}
+
+/// The same of a script.
+pub(crate) fn share_script(script: &Script)
+    ensures { IsSync script_type.the_row }
+{
+    share(script);
+}
+
+// The same of whatever threads may share.
+fn share<T: Sync>(_value: &T)
+    ensures { IsSync T.row }
+{}
+
+// Answers the requests of a post.
+fn serve<J: Naming, P: Finder, G: Gate>(
+    alloc: Global,
+    program: &Program,
+    script: &Script,
+    worker: usize,
+    gate: &G,
+    post: &mut Post<J, P>,
+)
+    requires suits { Suits program.now J.shapes }
+    ensures { IsServedPost P.refusals program.now J.shapes J.opening script.now
+        post.old post.new }
+{
+    let worker = u32::try_from(worker).unwrap_or(u32::MAX);
+    let others = u32::try_from(post.from).unwrap_or(u32::MAX);
+    let items = items_of(script, post.from, post.until);
+    let finder = &mut post.finder;
+    let Ok(replies) = answer_part(
+        alloc,
+        &mut post.seat,
+        program,
+        items,
+        finder,
+        worker,
+        others,
+        gate,
+    ) else {
+        post.ran_out = true;
+        return;
+    };
+    post.replies = replies;
+}
