@@ -15,7 +15,6 @@ use policy_index::{Front, RowKey};
 use std::alloc::Global;
 
 /// By what the rows of p are found that may match, by the places of columns; what it leaves out comes to no match.
-#[derive(Drop)]
 pub(crate) struct KeptPlan {
     // The columns that are compared.
     pub(crate) pairs: Vec<PairPlaces>,
@@ -24,6 +23,18 @@ pub(crate) struct KeptPlan {
     pub(crate) key: RowKey,
     // The request's columns that have to be texts, so that no part of the matcher which counts fails.
     pub(crate) names: Vec<Option<u32>>,
+}
+
+// Written out, so that a caller's proof sees one call and not the drop of each field.
+impl Drop for KeptPlan {
+    fn drop(self) {
+        let KeptPlan {
+            pairs: _pairs,
+            by: _by,
+            key: _key,
+            names: _names,
+        } = self;
+    }
 }
 
 /// What a plan has beside the columns that are compared.
@@ -262,6 +273,18 @@ fn question_of(part: &Tree, model: &Model) -> Option<AskedPlaces>
         policy,
         domain,
     })
+}
+
+/// What the first role question of a matcher asks of each row, where it asks about a column of the request.
+pub(crate) fn question_in(tree: &Tree, model: &Model) -> Option<AskedPlaces> {
+    match tree {
+        Tree::Role { .. } => question_of(tree, model),
+        Tree::Binary { left, right, .. } => match question_in(left, model) {
+            Some(found) => Some(found),
+            None => question_in(right, model),
+        },
+        _ => None,
+    }
 }
 
 // Pushes the places of the request's columns that calls among parts name.

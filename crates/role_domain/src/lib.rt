@@ -2,6 +2,7 @@
 //! what is asked of names in a domain.
 #![tactic(auto)]
 
+mod builders;
 mod domain;
 mod domains;
 mod moves;
@@ -16,5 +17,5 @@ mod terms;
 mod walk;
 
 pub use prepared::Prepared;
-pub use role_graph::Steps;
+pub use role_graph::{Reach, Room, Steps};
 pub use section::RoleSection;

@@ -1,6 +1,7 @@
 mod Among
 mod Answering
 mod Bridging
+mod Building
 mod Chains
 mod Changing
 mod Closed
@@ -19,11 +20,14 @@ mod LinkLemmas
 mod Linking
 mod Marked
 mod Marking
+mod Mended
 mod Naming
 mod Nearest
 mod Picking
 mod Preparing
 mod Putting
+mod Reached
+mod Removals
 mod Rooms
 mod Resizing
 mod Seeking

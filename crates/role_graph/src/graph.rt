@@ -1,26 +1,33 @@
 //! The role graph of one domain.
 
-ghost use Rattle.std.specs.Prelude.{◌≡◌, ◌+◌, ◌≤◌, ◌↔◌, All, [], IfOk, OnOk, IsTrue, None, length, map};
+ghost use Rattle.std.specs.Prelude.{◌≡◌, ◌+◌, ◌≤◌, ◌↔◌, All, [], IfOk, OnOk, IsTrue, List, None, length, map, ℕ};
+ghost use Rattle.std.specs.List.{Contains};
 ghost use Rattle.role_meaning.specs.Depths.{IsDepth};
 ghost use Rattle.role_meaning.specs.Implied.{AreImplied};
 ghost use Rattle.role_meaning.specs.ImpliedUsers.{AreUsersOf};
 ghost use Rattle.role_meaning.specs.Links.{HasRoles, role_of, user_of};
 ghost use Rattle.policy_table.specs.Limits.{different};
 ghost use Rattle.policy_table.specs.Tables.{Fields};
-ghost use Rattle.role_graph.specs.Groups.{after, times};
+ghost use Rattle.role_graph.specs.Groups.{after, row, rows_of, rows_with, times};
 ghost use Rattle.role_graph.specs.Helps.Edits.{standing};
+ghost use Rattle.role_graph.specs.Helps.Kept.{linked_of};
+ghost use Rattle.role_graph.specs.Helps.Roles.{count_of};
+ghost use Rattle.role_graph.specs.Reach.{reached_in};
 ghost use Rattle.role_graph.specs.Graph.{GraphReaches, IsGraphFar, IsPreparedFor, asked_rows, most_rows, shape_of};
 
 use crate::asked::nearest;
-use crate::closure::refresh;
+use crate::closure::{refresh, square_of};
 use crate::edits::Edits;
 use crate::implied::implied;
 use crate::links::Links;
 use crate::listing::listed;
 use crate::prepared::{Prepared, names_of, roles_of};
+use crate::reach::{Reach, Room};
+use crate::reaching::{mark_kept, mark_walked};
+use crate::removing::remove_all;
 use crate::reserving::reserve_square;
 use crate::roles::Roles;
-use crate::touching::{MOST_NODES, touched};
+use crate::touching::touched;
 use crate::users::users_among;
 use crate::walk::{depth, distance};
 use dist_rows::{DistRows, Steps};
@@ -39,9 +46,8 @@ const TOO_FAR: u8 = 255;
 /// The rows of a role relation that count in one domain. Contracts see the rows, in an order of the
 /// graph's own, how names are compared with users, the hierarchy limit, and the room for more.
 ///
-/// Where at most 1,024 different roles stand, the distances between these are kept, a byte for each
-/// pair, and questions read them; where there are more, questions walk the rows.
-#[derive(Drop)]
+/// Where some role is below another, and at most 1,024 different roles stand, the distances between these
+/// are kept, a byte for each pair, and questions read them; else questions walk the rows.
 pub struct RoleGraph {
     alloc: Global,
     links: Links,
@@ -49,12 +55,26 @@ pub struct RoleGraph {
     // How many rows have each role, and how many rows there are.
     roles: Roles,
     count: usize,
-    // The distances between the roles, of which each is a node; none where there are too many.
+    // The distances between the roles, of which each is a node; none where none are kept.
     square: DistRows,
 }
 
+// Written out, so that a caller's proof sees one call and not the drop of each field.
+impl Drop for RoleGraph {
+    fn drop(self) {
+        let RoleGraph {
+            alloc: _alloc,
+            links: _links,
+            limit: _limit,
+            roles: _roles,
+            count: _count,
+            square: _square,
+        } = self;
+    }
+}
+
 impl Model for RoleGraph {
-    ghost use Rattle.std.specs.Prelude.{◌+◌, length, min};
+    ghost use Rattle.std.specs.Prelude.{min};
     ghost use Rattle.role_graph.specs.Graph.{Graph};
     ghost use Rattle.role_graph.specs.Groups.{rows_of};
     ghost use Rattle.role_graph.specs.Helps.Kept.{IsSound, linked_of};
@@ -67,7 +87,6 @@ impl Model for RoleGraph {
       limit = g.limit;
       spare = min g.links.plain.spare g.links.patterned.spare;
       spare_roles = g.roles.spare;
-      places = length g.square.cells + g.square.spare;
     } };
 
     ghost invariant = { λ g. IsSound g.links g.limit g.roles g.count g.square.cells };
@@ -89,6 +108,37 @@ pub fn new_graph(alloc: Global, names: Fit, limit: u8) -> RoleGraph
         count: 0,
         square: DistRows::empty(alloc),
     }
+}
+
+/// A graph of links, whose rows have these roles and are so many.
+pub(crate) fn graph_of(
+    alloc: Global,
+    links: Links,
+    limit: u8,
+    roles: Roles,
+    count: usize,
+) -> Result<RoleGraph, NoMemory>
+    requires few { length (rows_of (linked_of links).groups) ≤ most_rows }
+    requires some { 1 ≤ limit }
+    requires most { limit ≤ 250 }
+    requires counted { (role : List ℕ) → count_of roles role
+        ≡ rows_with role (rows_of (linked_of links).groups) }
+    requires number { count ≡ length (rows_of (linked_of links).groups) }
+    ensures rows { IfOk result (λ graph. graph.rows ≡ rows_of (linked_of links).groups) }
+    ensures names { IfOk result (λ graph. graph.names ≡ links.names) }
+    ensures limit { IfOk result (λ graph. graph.limit ≡ limit) }
+{
+    let _sound = links.len();
+    let _once = roles.len();
+    let square = square_of(alloc, &links, &roles)?;
+    Ok(RoleGraph {
+        alloc,
+        links,
+        limit,
+        roles,
+        count,
+        square,
+    })
 }
 
 impl RoleGraph {
@@ -137,13 +187,6 @@ impl RoleGraph {
         self.count
     }
 
-    /// Whether at most 1,024 different roles stand in the rows.
-    pub fn is_kept(&self) -> bool
-        ensures { IsTrue result ↔ (length (different (map role_of self.now.rows)) ≤ 1024) }
-    {
-        self.roles.different() <= MOST_NODES
-    }
-
     /// Whether the name has a role: whether it fits the user of some row. It takes no memory.
     pub fn has_roles(&self, x: &[u8]) -> bool
         ensures { IsTrue result
@@ -161,10 +204,40 @@ impl RoleGraph {
         ensures few_steps { length (different (map role_of self.now.rows)) ≤ 1024
             → steps.new ≤ steps.old + asked_rows self.now.names x.now self.now.rows + 1 }
     {
-        if self.is_kept() {
+        if self.square.size() > 0 {
             return nearest(&self.links, &self.roles, &self.square, x, y, steps) <= self.limit;
         }
         distance(&self.links, x, y, self.limit).is_some()
+    }
+
+    /// What the name reaches within the limit, found once; each question then reads it. It takes no
+    /// memory beside the room. Where distances are kept, it reads them for the rows of the name; where
+    /// not, it walks as far as the name reaches.
+    pub fn reach<'a>(&'a self, x: &'a [u8], room: &'a mut Room) -> Reach<'a>
+        ensures { result ≡ reached_in self.now x.now }
+    {
+        let limit = self.limit;
+        if self.square.size() > 0 {
+            mark_kept(
+                &self.links,
+                &self.roles,
+                &self.square,
+                x,
+                limit,
+                &mut room.marks,
+            );
+            return Reach::of(&self.links, &self.roles, x, limit, &room.marks);
+        }
+        mark_walked(&self.links, &self.roles, x, limit, &mut room.marks);
+        Reach::of(&self.links, &self.roles, x, limit, &room.marks)
+    }
+
+    /// The roles of the rows with this user, once for each row, in an order of the graph's own.
+    pub fn roles_of(&self, user: &[u8]) -> &[Text]
+        ensures { (role : List ℕ) → Contains result.now role
+            ↔ Contains self.now.rows (row user.now role) }
+    {
+        self.links.roles_of(user)
     }
 
     /// The least number of links by which the one name reaches the other, or 255 where it is above
@@ -175,7 +248,7 @@ impl RoleGraph {
         ensures few_steps { length (different (map role_of self.now.rows)) ≤ 1024
             → steps.new ≤ steps.old + asked_rows self.now.names x.now self.now.rows + 1 }
     {
-        if self.is_kept() {
+        if self.square.size() > 0 {
             return nearest(&self.links, &self.roles, &self.square, x, y, steps);
         }
         distance(&self.links, x, y, FARTHEST).unwrap_or(TOO_FAR)
@@ -207,7 +280,7 @@ impl RoleGraph {
         ensures { IfOk result (λ names. AreImplied (shape_of self.now.names) self.now.rows
             self.now.limit None x.now names.items) }
     {
-        if self.is_kept() {
+        if self.square.size() > 0 {
             return listed(&self.links, &self.roles, &self.square, alloc, x, self.limit);
         }
         implied(&self.links, alloc, x, self.limit)
@@ -246,7 +319,6 @@ impl RoleGraph {
         ensures same_limit { self.new.limit ≡ self.old.limit }
         ensures more { self.old.spare ≤ self.new.spare }
         ensures more_roles { self.old.spare_roles ≤ self.new.spare_roles }
-        ensures more_places { self.old.places ≤ self.new.places }
     {
         let mut edits = Edits::new(alloc);
         remove_all(&mut edits, &self.links, alloc, remove)?;
@@ -255,7 +327,15 @@ impl RoleGraph {
         let removed = roles_of(alloc, remove)?;
         self.links.reserve(edits.len())?;
         self.roles.reserve(added.len())?;
-        reserve_square(&mut self.square, alloc, &self.roles, &added, removed.len())?;
+        reserve_square(
+            &mut self.square,
+            alloc,
+            &self.links,
+            &self.roles,
+            &edits,
+            &added,
+            removed.len(),
+        )?;
         Ok(Prepared::new(edits, added, removed))
     }
 
@@ -268,9 +348,9 @@ impl RoleGraph {
         ensures limit { self.new.limit ≡ self.old.limit }
     {
         let (edits, added, removed) = prepared.into_parts();
+        let known = self.roles.len();
         self.count = self.count + added.len() - removed.len();
         let whole = self.roles.recount(added, &removed);
-        let known = self.square.size() as usize;
         let touched = touched(&self.roles, self.links.names(), &edits, known);
         self.links.change(edits);
         refresh(
@@ -285,24 +365,6 @@ impl RoleGraph {
 }
 
 impl Share for RoleGraph {}
-
-// Takes rows out that stand, one after the other.
-fn remove_all(
-    edits: &mut Edits,
-    links: &Links,
-    alloc: Global,
-    rows: &[Rule],
-) -> Result<(), NoMemory>
-    requires two { All (λ row. length row ≡ 2) rows.now }
-    requires stand { (row : Fields) → times row rows.now ≤ standing links.now edits.old row }
-    ensures { OnOk result ((row : Fields) → standing links.now edits.new row + times row rows.now
-        ≡ standing links.now edits.old row) }
-{
-    for row in rows {
-        edits.remove(links, alloc, row)?;
-    }
-    Ok(())
-}
 
 // Adds rows, one after the other.
 fn add_all(edits: &mut Edits, links: &Links, alloc: Global, rows: &[Rule]) -> Result<(), NoMemory>

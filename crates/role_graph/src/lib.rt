@@ -2,6 +2,7 @@
 #![tactic(auto)]
 
 mod asked;
+mod builder;
 mod closure;
 mod edits;
 mod graph;
@@ -12,8 +13,12 @@ mod law;
 mod links;
 mod listing;
 mod marks;
+mod mending;
 mod names;
 mod prepared;
+mod reach;
+mod reaching;
+mod removing;
 mod reserving;
 mod roles;
 mod short;
@@ -21,8 +26,10 @@ mod touching;
 mod users;
 mod walk;
 
+pub use builder::GraphBuilder;
 pub use dist_rows::Steps;
 pub use graph::{RoleGraph, new_graph};
 pub use law::{rows_as_often_reach_the_same, standing_rows_are_counted};
 pub use prepared::Prepared;
+pub use reach::{Reach, Room};
 pub use role_meaning::fits;

@@ -1,10 +1,9 @@
 //! The roles of a graph's rows.
 
-ghost use Rattle.std.specs.Prelude.{◌≡◌, false, ◌+◌, ◌++◌, ◌<◌, ◌≤◌, ◌⊎◌, ◌^◌, ◌↔◌, [], List, ℕ, IfNone, IfOk, IfSome, IsOk, IsTrue, OnOk, Some, get_or, if◌then◌else◌, length, slice_get};
+ghost use Rattle.std.specs.Prelude.{◌≡◌, false, true, ◌+◌, ◌++◌, ◌<◌, ◌≤◌, ◌⊎◌, ◌^◌, ◌↔◌, [], List, ℕ, IfNone, IfOk, IfSome, IsOk, IsTrue, OnOk, Some, get_or, if◌then◌else◌, length, slice_get};
 ghost use Rattle.std.specs.List.{Contains, IsDistinct, count_by, list_any};
 ghost use Rattle.std.specs.Str.{IsUtf8, bytes_eq};
 ghost use Rattle.perm_base.specs.LineEnds.{has_line_end};
-ghost use Rattle.policy_table.specs.Limits.{different};
 ghost use Rattle.role_graph.specs.Helps.Roles.{HasNames, HasNoZero, count_of, nodes_of};
 
 use crate::names::Names;
@@ -15,9 +14,15 @@ use std::marker::Model;
 use std::str;
 
 /// The different roles of rows, each with the number of its rows, at places of their own.
-#[derive(Drop)]
 pub(crate) struct Roles {
     counts: IndexMap<Vec<u8>, u64>,
+}
+
+// Written out, so that a caller's proof sees one call and not the drop of each field.
+impl Drop for Roles {
+    fn drop(self) {
+        let Roles { counts: _counts } = self;
+    }
 }
 
 impl Model for Roles {
@@ -124,15 +129,6 @@ impl Roles {
         self.counts.get_index_of(name)
     }
 
-    /// How many different roles there are.
-    pub(crate) fn different(&self) -> usize
-        ensures { (roles : List (List ℕ))
-            → ((role : List ℕ) → count_of self.now role ≡ count_by (bytes_eq role) roles)
-            → result ≡ length (different roles) }
-    {
-        self.len()
-    }
-
     /// Makes room for so many further roles.
     pub(crate) fn reserve(&mut self, count: usize) -> Result<(), NoMemory>
         ensures same { self.new.entries ≡ self.old.entries }
@@ -142,8 +138,8 @@ impl Roles {
         Ok(self.counts.reserve(count)?)
     }
 
-    // Counts a role once more; a new one gets the last place.
-    fn add(&mut self, role: Vec<u8>)
+    /// Counts a role once more; a new one gets the last place.
+    pub(crate) fn add(&mut self, role: Vec<u8>)
         requires few { count_of self.old role.items + 1 < 2 ^ 64 }
         requires whole_line { has_line_end role.items ≡ false }
         requires utf8 { IsUtf8 role.items }
@@ -158,6 +154,37 @@ impl Roles {
         let Ok(_before) = self.counts.insert(role, count) else {
             unreachable!()
         };
+    }
+
+    /// Counts a role once more; a new one is copied.
+    pub(crate) fn add_text(&mut self, alloc: Global, role: &[u8]) -> Result<(), NoMemory>
+        requires few { count_of self.old role.now + 1 < 2 ^ 64 }
+        requires whole_line { has_line_end role.now ≡ false }
+        requires utf8 { IsUtf8 role.now }
+        ensures { OnOk result ((name : List ℕ) → count_of self.new name
+            ≡ count_of self.old name + (if bytes_eq name role.now then 1 else 0)) }
+    {
+        if let Some(count) = self.counts.get_mut(role) {
+            *count += 1;
+            return Ok(());
+        }
+        let _none = self.counts.insert(Vec::from_slice(alloc, role)?, 1)?;
+        Ok(())
+    }
+
+    /// Counts a role once less, where it is counted; whether it was.
+    pub(crate) fn take_one(&mut self, role: &[u8]) -> bool
+        ensures taken { result ≡ true → (name : List ℕ) → count_of self.new name
+            + (if bytes_eq name role.now then 1 else 0) ≡ count_of self.old name }
+        ensures none { result ≡ false → count_of self.old role.now ≡ 0 }
+        ensures same { result ≡ false → (name : List ℕ)
+            → count_of self.new name ≡ count_of self.old name }
+    {
+        if self.count(role) == 0 {
+            return false;
+        }
+        self.take(role);
+        true
     }
 
     // Counts a role once less; the last one gets the place of one that is gone.
