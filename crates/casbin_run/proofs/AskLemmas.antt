@@ -69,7 +69,7 @@ module _ (law : HasVerdicts) (model : ModelParts) (shapes : Shapes) (opening : P
       by false = (answer.Arity (length values) (length model.request), refl)
   some_reply refused before (Err fault) = (answer.Request fault, refl)
 
-  some_line : (refused : List (List ℕ)) (before : List Said) (reading : Reading) → (is_decided model (asks reading) ≡ false → refused ≡ []) → (line : Line) × IsLine model shapes opening before (asks reading) refused line
+  pub some_line : (refused : List (List ℕ)) (before : List Said) (reading : Reading) → (is_decided model (asks reading) ≡ false → refused ≡ []) → (line : Line) × IsLine model shapes opening before (asks reading) refused line
   some_line refused before reading unasked =
       let reply = some_reply refused before reading in
       (record { number = number_behind (length before); answer = reply.0 }, record { number = refl; answer = reply.1; unasked = unasked })

@@ -1,11 +1,12 @@
 -- A run that stops at its words or its files has asked nothing of the input.
 use Rattle.std.proofs.Common.{◌≡◌, Bool, true, false, refl, ⊎_elim, sym, ap, ◌∙◌}
+use Rattle.log_ship.specs.declared.packet_fault.PacketFault.TheVariants as packet
 use Rattle.run_status.specs.Statuses.{status_of}
 use Rattle.run_status.specs.declared.part.Part.TheVariants.{Input, Report}
 use Rattle.run_status.specs.declared.status.Status.{Status}
 use Rattle.run_status.specs.declared.status.Status.TheVariants as statuses
 use Rattle.run_status.specs.declared.stop.Stop.{Stop}
-use Rattle.run_status.specs.declared.stop.Stop.TheVariants.{NoScript, CannotRead, CannotWrite, TooLong, NoMemory}
+use Rattle.run_status.specs.declared.stop.Stop.TheVariants.{NoScript, NoPackets, CannotRead, CannotWrite, TooLong, NoMemory}
 use Rattle.script_read.specs.declared.fault.ScriptFault.TheVariants as script
 use Rattle.casbin_run.specs.Causes.{FailsAt, StopsAt}
 use Rattle.casbin_run.specs.Ends.{Ends, HasStopped, is_of_files}
@@ -23,6 +24,8 @@ module _ (g : Given) (before now : World) where
   given_before (TooLong Report) (at_task job model policy) of stops = absurd cc
   given_before (NoScript script.NoMemory) (at_task job model policy) of stops = absurd cc
   given_before (NoScript fault) (at_task job model policy) of stops = absurd cc
+  given_before (NoPackets packet.NoMemory) (at_task job model policy) of stops = absurd cc
+  given_before (NoPackets fault) (at_task job model policy) of stops = absurd cc
   given_before _ (at_task job model policy) of stops = absurd stops
 
   outside_before : (stop : Stop) (reached : Reached) → is_of_files (status_of stop) ≡ true → FailsAt g before now reached stop → reads_at reached ≡ false

@@ -15,7 +15,8 @@ use Rattle.script_read.specs.Said.{Said}
 use Rattle.casbin_run.specs.Finders.{HasRefused}
 use Rattle.casbin_run.specs.Given.{SaysItems}
 use Rattle.casbin_run.specs.Helps.Caching.{CachedAll, CachedAnswered, PrintedCached}
-use Rattle.casbin_run.specs.Helps.Working.{DidAll, IsOpened, PrintedSome, ground}
+use Rattle.casbin_run.specs.Helps.Tasks.{DidAll, ground}
+use Rattle.casbin_run.specs.Helps.Working.{IsOpened, PrintedSome}
 use Rattle.casbin_run.specs.Worlds.{Taken}
 use Rattle.casbin_run.specs.declared.files.Loaded.{Loaded}
 use Rattle.casbin_run.specs.declared.job.Task.TheVariants.{Cached}
@@ -27,7 +28,7 @@ pub cached_done : (json : Bool) (capacity : ℕ) (loaded : Loaded) (left : Optio
     → DidAll (ground (Cached json capacity) loaded left) (HasRefused before now) out out_now err err_now
 cached_done json capacity loaded left IsSaid says before now out out_now err err_now all =
     let printed = all.printed.all.printed in
-    answered_all (ground (Cached json capacity) loaded left) (λ items refused pieces text lines. lines) tt IsSaid says before now out out_now err err_now all.printed.all (
+    answered_all (ground (Cached json capacity) loaded left) (λ items refused pieces text lines. lines) tt refl IsSaid says before now out out_now err err_now all.printed.all (
       all.hits,
       record { lines = printed.lines; plain = printed.plain; text_is = refl; after = all.printed.after; counts = all.printed.counts },
       all.line,

@@ -13,7 +13,7 @@ use Rattle.run_status.specs.declared.status.Status.{Status}
 use Rattle.run_status.specs.declared.status.Status.TheVariants as statuses
 use Rattle.run_status.specs.declared.part.Part.TheVariants.{Model, Policy, Input, Report}
 use Rattle.run_status.specs.declared.stop.Stop.{Stop}
-use Rattle.run_status.specs.declared.stop.Stop.TheVariants.{Words, NoModel, NoRelation, NoPolicy, NoScript, CannotRead, CannotWrite, TooLong, NoMemory}
+use Rattle.run_status.specs.declared.stop.Stop.TheVariants.{Words, NoModel, NoRelation, NoPolicy, NoScript, NoPackets, CannotRead, CannotWrite, TooLong, NoMemory}
 use Rattle.casbin_run.specs.Answered.{Answers, TookAll, TookFirst, TookSome}
 use Rattle.casbin_run.specs.Causes.{EndsBy, FailsAt, StopsAt, is_of_shelf}
 use Rattle.casbin_run.specs.Ends.{Ends, IsDone}
@@ -21,12 +21,12 @@ use Rattle.casbin_run.specs.Finders.{AreUsed, HaveRefused}
 use Rattle.casbin_run.specs.Given.{Given}
 use Rattle.casbin_run.specs.Helps.Loading.{IsLoaded, LoadStops}
 use Rattle.casbin_run.specs.Helps.Running.{ComesTo}
-use Rattle.casbin_run.specs.Helps.Working.{DidAll, DidFirst, DidSome, WorkStops, Worked, ground}
+use Rattle.casbin_run.specs.Helps.Tasks.{DidAll, DidFirst, DidSome, WorkStops, Worked, ground}
 use Rattle.casbin_run.specs.Jobs.{job_asked, reads_input}
 use Rattle.casbin_run.specs.Shown.{ReadsBack}
 use Rattle.casbin_run.specs.Reached.{HasAsked, IsReached, Reached, at_words, at_model, at_options, at_policy, at_task, fetches_to}
-use Rattle.casbin_run.specs.Texts.{HasRoom, IsTooLong, Tells, Writes}
 use Rattle.casbin_run.specs.Worlds.{InputRose, OutRose, Pulled, ShelfRose, Taken, World}
+use Rattle.casbin_run.specs.Written.{HasRoom, IsTooLong, Tells, Writes}
 use Rattle.casbin_run.specs.declared.files.Loaded.{Loaded}
 use Rattle.casbin_run.specs.declared.job.Job.{Job}
 use Rattle.casbin_run.proofs.FinderLemmas.{finders_same}
@@ -81,13 +81,15 @@ module _ (g : Given) (before now : World) (job : Job) (asked : job_asked g.words
           model = loaded.model;
           policy = loaded.tables.policy;
           items = worked.items;
+          packets = worked.packets;
           asked = asked;
           are_files = is.are_files;
           says = worked.says;
+          carries = worked.carries;
           room = subst (λ (shapes : Shapes). HasRoom job.task shapes loaded.tables.policy) is.shapes_are worked.room;
         };
         pieces = worked.pieces;
-        writes = subst (λ (shapes : Shapes). Writes job.task loaded.model shapes loaded.tables.policy worked.items worked.refused worked.pieces worked.text) is.shapes_are worked.writes;
+        writes = subst (λ (shapes : Shapes). Writes job.task loaded.model shapes loaded.tables.policy worked.items worked.packets worked.refused worked.pieces worked.text) is.shapes_are worked.writes;
       };
       logged = worked.logged;
     }
@@ -127,6 +129,7 @@ module _ (g : Given) (before now : World) (job : Job) (asked : job_asked g.words
       work_ends (CannotRead Input) stops = outside_stops g before now (CannotRead Input) here (asked, is.are_files) stops task_asked
       work_ends (TooLong Input) stops = given_stops g before now (TooLong Input) here (asked, is.are_files) stops task_asked
       work_ends (NoScript fault) stops = given_stops g before now (NoScript fault) here (asked, is.are_files) stops task_asked
+      work_ends (NoPackets fault) stops = given_stops g before now (NoPackets fault) here (asked, is.are_files) stops task_asked
       work_ends CannotWrite stops = outside_stops g before now CannotWrite here (asked, is.are_files) (took_some stops.0, stops.1) task_asked
       work_ends NoMemory stops = outside_stops g before now NoMemory here (asked, is.are_files) (⊎_elim (λ same. inl same) (λ first. inr (took_first first)) stops) task_asked
       work_ends _ stops = absurd stops

@@ -22,6 +22,7 @@ JobHas (Some job) = IsLimit (limit_in job.options)
 job_has : (asked : Command) → HasRanges asked → JobHas (job_of asked)
 job_has (command.Enforce files options json None) has = (has.0, has.1)
 job_has (command.Enforce files options json (Some capacity)) has = (has.0, has.1)
+job_has (command.Explain files options json most) has = (has.0, has.1)
 job_has (command.Session files options json workers) has = by (workers == 0)
   where
     by : (test : Bool) → JobHas (if test then Some (record { files = files; options = Some options; task = Serve json }) else None)
@@ -31,6 +32,8 @@ job_has (command.Check files) has = (omega arith, omega arith)
 job_has (command.Format files) has = (omega arith, omega arith)
 job_has (command.Implicit files subject options) has = has
 job_has (command.Report files options) has = has
+job_has (command.Ship files options) has = has
+job_has (command.Follow files options) has = has
 job_has (command.Demo count workers) has = tt
 
 -- the limit of what words ask for
@@ -49,6 +52,7 @@ Sized (Some job) = HasSize job.task
 job_sized : (asked : Command) → HasRanges asked → Sized (job_of asked)
 job_sized (command.Enforce files options json None) has = tt
 job_sized (command.Enforce files options json (Some capacity)) has = has.2
+job_sized (command.Explain files options json most) has = tt
 job_sized (command.Session files options json workers) has = by (workers == 0)
   where
     by : (test : Bool) → Sized (if test then Some (record { files = files; options = Some options; task = Serve json }) else None)
@@ -58,6 +62,8 @@ job_sized (command.Check files) has = tt
 job_sized (command.Format files) has = tt
 job_sized (command.Implicit files subject options) has = tt
 job_sized (command.Report files options) has = tt
+job_sized (command.Ship files options) has = tt
+job_sized (command.Follow files options) has = tt
 job_sized (command.Demo count workers) has = tt
 
 pub job_size : (words : List (List ℕ)) (job : Job) → job_asked words ≡ Some job → HasSize job.task

@@ -5,9 +5,14 @@ pub mod PrintLemmas
 pub mod FinderLemmas
 pub mod LoadLemmas
 pub mod CachedLemmas
+pub mod ShipLemmas
+pub mod FollowLemmas
 pub mod RolesLemmas
 pub mod WorkLemmas
 pub mod CachedWork
+pub mod PieceLemmas
+pub mod ExplainLemmas
+pub mod ExplainWork
 pub mod EndLemmas
 pub mod ReadingLemmas
 pub mod OneEnd

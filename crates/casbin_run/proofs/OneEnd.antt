@@ -1,8 +1,11 @@
 -- What is given has one end: what is read comes to one state at each part, and the states to one end.
-use Rattle.std.proofs.Common.{◌≡◌, ℕ, ◌<◌, ◌≤◌, Bool, true, List, [], inl, inr, length, refl, sym, ap, subst, ◌∙◌, arith}
+use Rattle.std.proofs.Common.{◌≡◌, ℕ, ◌<◌, ◌≤◌, Bool, true, false, List, [], inl, inr, length, refl, sym, ap, subst, ◌∙◌, arith}
 use Rattle.std.specs.Prelude.{◌⊎◌, IsSome, Option, Some, None}
 use Rattle.answer_lines.specs.declared.answer.Line.{Line}
 use Rattle.command_words.specs.FileNames.{SubjectName}
+use Rattle.log_ship.specs.PacketText.{ArePackets, IsPacketFault}
+use Rattle.log_ship.specs.declared.packet.Packet.{Packet}
+use Rattle.log_ship.specs.declared.packet_fault.PacketFault.{PacketFault}
 use Rattle.outside.specs.Files.{Files}
 use Rattle.model_conf.specs.Faults.{IsModelFault}
 use Rattle.model_conf.specs.ModelText.{ModelParts, IsModel}
@@ -16,21 +19,24 @@ use Rattle.run_status.specs.Parts.{limit_of}
 use Rattle.run_status.specs.declared.part.Part.TheVariants as part
 use Rattle.run_status.specs.declared.part.Part.TheVariants.{Model, Policy, Input}
 use Rattle.run_status.specs.declared.stop.Stop.{Stop}
-use Rattle.run_status.specs.declared.stop.Stop.TheVariants.{Words, NoModel, NoRelation, NoPolicy, NoScript, CannotRead, TooLong}
+use Rattle.run_status.specs.declared.stop.Stop.TheVariants.{Words, NoModel, NoRelation, NoPolicy, NoScript, NoPackets, CannotRead, TooLong}
 use Rattle.script_read.specs.Said.{Said}
 use Rattle.script_read.specs.Script.{IsRequests, IsScript, IsScriptFault}
 use Rattle.script_read.specs.declared.fault.ScriptFault.{ScriptFault}
 use Rattle.session_meaning.specs.Plain.{IsPlain, all_refused}
 use Rattle.casbin_run.specs.Answered.{IsCalmlyAnswered}
-use Rattle.casbin_run.specs.Causes.{Cause, HasFault, StopsAt}
-use Rattle.casbin_run.specs.Given.{AreFiles, FileIs, Fits, Given, IsInOrder, ModelIs, SaysItems}
+use Rattle.casbin_run.specs.Causes.{Cause, HasFault, HasPacketFault, StopsAt}
+use Rattle.casbin_run.specs.Explaining.{IsExplained}
+use Rattle.casbin_run.specs.Following.{IsFollowed}
+use Rattle.casbin_run.specs.Given.{AreFiles, FileIs, Fits, Given, IsInOrder, ModelIs, SaysItems, SaysPackets}
 use Rattle.casbin_run.specs.Jobs.{absent_in, job_asked, reads_input, shapes_with}
 use Rattle.casbin_run.specs.Reached.{IsReached, Reached, at_words, at_model, at_options, at_policy, at_task}
 use Rattle.casbin_run.specs.Roles.{IsImplied, IsLong, IsReported, IsShort}
-use Rattle.casbin_run.specs.Texts.{HasRoom, IsOfLines, IsTooLong, Writes, text_of_lines}
+use Rattle.casbin_run.specs.Texts.{IsOfLines, text_of_lines}
+use Rattle.casbin_run.specs.Written.{HasRoom, IsTooLong, Writes}
 use Rattle.casbin_run.specs.declared.job.Job.{Job}
 use Rattle.casbin_run.specs.declared.job.Task.{Task}
-use Rattle.casbin_run.specs.declared.job.Task.TheVariants.{Enforce, Cached, Serve, Check, Format, Implicit, Report}
+use Rattle.casbin_run.specs.declared.job.Task.TheVariants.{Enforce, Cached, Explain, Serve, Check, Format, Implicit, Report, Ship, Follow}
 
 -- what reading a part comes to
 data State (X F : Type 0) : Type 0 where
@@ -98,11 +104,14 @@ IsPolicyState content shapes state = IsState content (limit_of Policy) (IsPolicy
 abbrev SaysBytes : Task → List ℕ → List Said → Type 0
 SaysBytes (Enforce json) bytes items = IsRequests json bytes items
 SaysBytes (Cached json capacity) bytes items = IsRequests json bytes items
+SaysBytes (Explain json most) bytes items = IsRequests json bytes items
 SaysBytes (Serve json) bytes items = IsScript json bytes items
 SaysBytes Check bytes items = ⊥
 SaysBytes Format bytes items = ⊥
 SaysBytes (Implicit subject) bytes items = ⊥
 SaysBytes Report bytes items = ⊥
+SaysBytes Ship bytes items = IsScript false bytes items
+SaysBytes Follow bytes items = ⊥
 
 abbrev IsInputState : Option (List ℕ) → Task → InputState → Type 0
 IsInputState content task state = IsState content (limit_of Input) (SaysBytes task) (HasFault task) state
@@ -117,6 +126,22 @@ input_end (good items) = None
 abbrev InputEnds : Option (List ℕ) → Task → Option Stop → Type 0
 InputEnds input task end = (state : InputState) × IsInputState input task state × (end ≡ input_end state)
 
+-- what packets come to, and the end that they give
+abbrev PacketState : Type 0
+PacketState = State (List Packet) PacketFault
+
+abbrev IsPacketState : Option (List ℕ) → PacketState → Type 0
+IsPacketState content state = IsState content (limit_of Input) ArePackets IsPacketFault state
+
+abbrev packet_end : PacketState → Option Stop
+packet_end absent = Some (CannotRead Input)
+packet_end long = Some (TooLong Input)
+packet_end (bad fault) = Some (NoPackets fault)
+packet_end (good packets) = None
+
+abbrev PacketsEnd : Option (List ℕ) → Option Stop → Type 0
+PacketsEnd input end = (state : PacketState) × IsPacketState input state × (end ≡ packet_end state)
+
 -- the end that a report gives
 abbrev ReportEnds : Shapes → table.Policy → Option Stop → Type 0
 ReportEnds shapes policy end = (IsLong shapes policy × (end ≡ Some (TooLong part.Report))) ⊎ (IsShort shapes policy × (end ≡ None))
@@ -125,11 +150,14 @@ ReportEnds shapes policy end = (IsLong shapes policy × (end ≡ Some (TooLong p
 abbrev TaskEnds : Option (List ℕ) → Task → Shapes → table.Policy → Option Stop → Type 0
 TaskEnds input (Enforce json) shapes policy end = InputEnds input (Enforce json) end
 TaskEnds input (Cached json capacity) shapes policy end = InputEnds input (Cached json capacity) end
+TaskEnds input (Explain json most) shapes policy end = InputEnds input (Explain json most) end
 TaskEnds input (Serve json) shapes policy end = InputEnds input (Serve json) end
 TaskEnds input Check shapes policy end = end ≡ None
 TaskEnds input Format shapes policy end = end ≡ None
 TaskEnds input (Implicit subject) shapes policy end = end ≡ None
 TaskEnds input Report shapes policy end = ReportEnds shapes policy end
+TaskEnds input Ship shapes policy end = InputEnds input Ship end
+TaskEnds input Follow shapes policy end = PacketsEnd input end
 
 abbrev AfterPolicy : Option (List ℕ) → Task → Shapes → Option Stop → PolicyState → Type 0
 AfterPolicy input task shapes end absent = end ≡ Some (CannotRead Policy)
@@ -170,9 +198,15 @@ pub record SaysOnce : Type 0 where
   pub script_fault : (json : Bool) (bytes : List ℕ) (first second : ScriptFault) → IsScriptFault json bytes first → IsScriptFault json bytes second → first ≡ second
   pub script_either : (json : Bool) (bytes : List ℕ) (fault : ScriptFault) (items : List Said) → IsScriptFault json bytes fault → ¬ (IsScript json bytes items)
   pub requests : (json : Bool) (bytes : List ℕ) (first second : List Said) → IsRequests json bytes first → IsRequests json bytes second → first ≡ second
+  pub packets : (bytes : List ℕ) (first second : List Packet) → ArePackets bytes first → ArePackets bytes second → first ≡ second
+  pub packet_fault : (bytes : List ℕ) (first second : PacketFault) → IsPacketFault bytes first → IsPacketFault bytes second → first ≡ second
+  pub packet_either : (bytes : List ℕ) (fault : PacketFault) (packets : List Packet) → IsPacketFault bytes fault → ¬ (ArePackets bytes packets)
   pub lines : (model : ModelParts) (shapes : Shapes) (opening : table.Policy) (items : List Said) (refused others : List (List (List ℕ))) (first second : List Line) → IsPlain model shapes opening items refused first → IsPlain model shapes opening items others second
       → all_refused refused ≡ [] → all_refused others ≡ [] → first ≡ second
+  pub explained : (most : ℕ) (model : ModelParts) (shapes : Shapes) (opening : table.Policy) (items : List Said) (refused others : List (List (List ℕ))) (pieces more : List (List ℕ)) (first second : List ℕ) → IsExplained most model shapes opening items refused pieces first
+      → IsExplained most model shapes opening items others more second → all_refused refused ≡ [] → all_refused others ≡ [] → first ≡ second
   pub implied : (model : ModelParts) (shapes : Shapes) (policy : table.Policy) (subject : SubjectName) (first second : List ℕ) → IsImplied model shapes policy subject first → IsImplied model shapes policy subject second → first ≡ second
+  pub followed : (shapes : Shapes) (policy : table.Policy) (packets : List Packet) (first second : List ℕ) → IsFollowed shapes policy packets first → IsFollowed shapes policy packets second → first ≡ second
   pub reported : (shapes : Shapes) (policy : table.Policy) (first second : List ℕ) → IsReported shapes policy first → IsReported shapes policy second → first ≡ second
 
 module _ (once : SaysOnce) where
@@ -188,8 +222,20 @@ module _ (once : SaysOnce) where
   cached_are_one : (json : Bool) (capacity : ℕ) → IsOne (SaysBytes (Cached json capacity)) (HasFault (Cached json capacity))
   cached_are_one json capacity = record { said = once.requests json; fault = λ bytes f g p q. p.1 ∙ sym q.1; either = λ bytes x f p q. q.0 p.utf8 }
 
+  explained_are_one : (json : Bool) (most : ℕ) → IsOne (SaysBytes (Explain json most)) (HasFault (Explain json most))
+  explained_are_one json most = record { said = once.requests json; fault = λ bytes f g p q. p.1 ∙ sym q.1; either = λ bytes x f p q. q.0 p.utf8 }
+
   script_is_one : (json : Bool) → IsOne (SaysBytes (Serve json)) (HasFault (Serve json))
   script_is_one json = record { said = once.script json; fault = once.script_fault json; either = λ bytes x f p q. once.script_either json bytes f x q p }
+
+  shipped_is_one : IsOne (SaysBytes Ship) (HasFault Ship)
+  shipped_is_one = record { said = once.script false; fault = once.script_fault false; either = λ bytes x f p q. once.script_either false bytes f x q p }
+
+  packets_are_one : IsOne ArePackets IsPacketFault
+  packets_are_one = record { said = once.packets; fault = once.packet_fault; either = λ bytes x f p q. once.packet_either bytes f x q p }
+
+  packets_once : (input : Option (List ℕ)) (a b : Option Stop) → PacketsEnd input a → PacketsEnd input b → a ≡ b
+  packets_once input a b (s, s-is, a-is) (t, t-is, b-is) = a-is ∙ ap packet_end (one_state input (limit_of Input) _ _ packets_are_one s t s-is t-is) ∙ sym b-is
 
   input_once : (input : Option (List ℕ)) (task : Task) → IsOne (SaysBytes task) (HasFault task) → (a b : Option Stop) → InputEnds input task a → InputEnds input task b → a ≡ b
   input_once input task one a b (s, s-is, a-is) (t, t-is, b-is) = a-is ∙ ap input_end (one_state input (limit_of Input) _ _ one s t s-is t-is) ∙ sym b-is
@@ -206,11 +252,14 @@ module _ (once : SaysOnce) where
   task_once : (input : Option (List ℕ)) (task : Task) (shapes : Shapes) (policy : table.Policy) (a b : Option Stop) → TaskEnds input task shapes policy a → TaskEnds input task shapes policy b → a ≡ b
   task_once input (Enforce json) shapes policy a b p q = input_once input (Enforce json) (requests_are_one json) a b p q
   task_once input (Cached json capacity) shapes policy a b p q = input_once input (Cached json capacity) (cached_are_one json capacity) a b p q
+  task_once input (Explain json most) shapes policy a b p q = input_once input (Explain json most) (explained_are_one json most) a b p q
   task_once input (Serve json) shapes policy a b p q = input_once input (Serve json) (script_is_one json) a b p q
   task_once input Check shapes policy a b p q = p ∙ sym q
   task_once input Format shapes policy a b p q = p ∙ sym q
   task_once input (Implicit subject) shapes policy a b p q = p ∙ sym q
   task_once input Report shapes policy a b p q = report_once shapes policy a b p q
+  task_once input Ship shapes policy a b p q = input_once input Ship shipped_is_one a b p q
+  task_once input Follow shapes policy a b p q = packets_once input a b p q
 
   after_policy_once : (input : Option (List ℕ)) (task : Task) (shapes : Shapes) (a b : Option Stop) (state : PolicyState) → AfterPolicy input task shapes a state → AfterPolicy input task shapes b state → a ≡ b
   after_policy_once input task shapes a b absent p q = p ∙ sym q
@@ -258,33 +307,46 @@ module _ (shapes : Shapes) (policy : table.Policy) where
   long_input : (task : Task) (input : List ℕ) → reads_input task ≡ true → limit_of Input < length input → TaskEnds (Some input) task shapes policy (Some (TooLong Input))
   long_input (Enforce json) input reads wide = (long, (input, refl, wide), refl)
   long_input (Cached json capacity) input reads wide = (long, (input, refl, wide), refl)
+  long_input (Explain json most) input reads wide = (long, (input, refl, wide), refl)
   long_input (Serve json) input reads wide = (long, (input, refl, wide), refl)
   long_input Check input reads wide = absurd cc
   long_input Format input reads wide = absurd cc
   long_input (Implicit subject) input reads wide = absurd cc
   long_input Report input reads wide = absurd cc
+  long_input Ship input reads wide = (long, (input, refl, wide), refl)
+  long_input Follow input reads wide = (long, (input, refl, wide), refl)
 
   bad_input : (task : Task) (input bytes : List ℕ) (fault : ScriptFault) → reads_input task ≡ true → input ≡ bytes → length bytes ≤ limit_of Input → HasFault task bytes fault → TaskEnds (Some input) task shapes policy (Some (NoScript fault))
   bad_input (Enforce json) input bytes fault reads same within is = (bad fault, (bytes, ap (λ (b : List ℕ). Some b) same, within, is), refl)
   bad_input (Cached json capacity) input bytes fault reads same within is = (bad fault, (bytes, ap (λ (b : List ℕ). Some b) same, within, is), refl)
+  bad_input (Explain json most) input bytes fault reads same within is = (bad fault, (bytes, ap (λ (b : List ℕ). Some b) same, within, is), refl)
   bad_input (Serve json) input bytes fault reads same within is = (bad fault, (bytes, ap (λ (b : List ℕ). Some b) same, within, is), refl)
   bad_input Check input bytes fault reads same within is = absurd is
   bad_input Format input bytes fault reads same within is = absurd is
   bad_input (Implicit subject) input bytes fault reads same within is = absurd is
   bad_input Report input bytes fault reads same within is = absurd is
+  bad_input Ship input bytes fault reads same within is = (bad fault, (bytes, ap (λ (b : List ℕ). Some b) same, within, is), refl)
+  bad_input Follow input bytes fault reads same within is = absurd is
+
+  bad_packets : (task : Task) (input bytes : List ℕ) (fault : PacketFault) → input ≡ bytes → length bytes ≤ limit_of Input → HasPacketFault task bytes fault → TaskEnds (Some input) task shapes policy (Some (NoPackets fault))
+  bad_packets Follow input bytes fault same within is = (bad fault, (bytes, ap (λ (b : List ℕ). Some b) same, within, is), refl)
+  bad_packets _ input bytes fault same within is = absurd is
 
   long_report : (task : Task) (input : List ℕ) → IsTooLong task shapes policy → TaskEnds (Some input) task shapes policy (Some (TooLong part.Report))
   long_report Report input wide = inl (wide, refl)
   long_report _ input wide = absurd wide
 
-  good_task : (task : Task) (input : List ℕ) (items : List Said) → SaysItems task (Some input) items → HasRoom task shapes policy → TaskEnds (Some input) task shapes policy None
-  good_task (Enforce json) input items (bytes, same, within, says) room = (good items, (bytes, ap (λ (b : List ℕ). Some b) same, within, says), refl)
-  good_task (Cached json capacity) input items (bytes, same, within, says) room = (good items, (bytes, ap (λ (b : List ℕ). Some b) same, within, says), refl)
-  good_task (Serve json) input items (bytes, same, within, says) room = (good items, (bytes, ap (λ (b : List ℕ). Some b) same, within, says), refl)
-  good_task Check input items says room = refl
-  good_task Format input items says room = refl
-  good_task (Implicit subject) input items says room = refl
-  good_task Report input items says room = inr (room, refl)
+  good_task : (task : Task) (input : List ℕ) (items : List Said) (packets : List Packet) → SaysItems task (Some input) items → SaysPackets task (Some input) packets → HasRoom task shapes policy → TaskEnds (Some input) task shapes policy None
+  good_task (Enforce json) input items packets (bytes, same, within, says) carries room = (good items, (bytes, ap (λ (b : List ℕ). Some b) same, within, says), refl)
+  good_task (Cached json capacity) input items packets (bytes, same, within, says) carries room = (good items, (bytes, ap (λ (b : List ℕ). Some b) same, within, says), refl)
+  good_task (Explain json most) input items packets (bytes, same, within, says) carries room = (good items, (bytes, ap (λ (b : List ℕ). Some b) same, within, says), refl)
+  good_task (Serve json) input items packets (bytes, same, within, says) carries room = (good items, (bytes, ap (λ (b : List ℕ). Some b) same, within, says), refl)
+  good_task Check input items packets says carries room = refl
+  good_task Format input items packets says carries room = refl
+  good_task (Implicit subject) input items packets says carries room = refl
+  good_task Report input items packets says carries room = inr (room, refl)
+  good_task Ship input items packets (bytes, same, within, says) carries room = (good items, (bytes, ap (λ (b : List ℕ). Some b) same, within, says), refl)
+  good_task Follow input items packets says (bytes, same, within, carries) room = (good packets, (bytes, ap (λ (b : List ℕ). Some b) same, within, carries), refl)
 
 cause_at : (words : List (List ℕ)) (files : Files) (input : List ℕ) (stop : Stop) (reached : Reached) → IsReached (told words files input) reached → StopsAt (told words files input) reached stop → EndsIn words files (Some input) (Some stop)
 cause_at words files input Words at_words is none = (None, none, refl)
@@ -297,6 +359,7 @@ cause_at words files input (TooLong Policy) (at_policy job model) (asked, fits) 
 cause_at words files input (NoPolicy fault) (at_policy job model) (asked, fits) is = options_behind words files input job model (Some (NoPolicy fault)) asked fits (bad fault, is, refl)
 cause_at words files input (TooLong Input) (at_task job model policy) (asked, are) (reads, wide) = policy_behind words files input job model policy (Some (TooLong Input)) asked are (long_input (shapes_with job.options model) policy job.task input reads wide)
 cause_at words files input (NoScript fault) (at_task job model policy) (asked, are) (reads, (bytes, same, within, is)) = policy_behind words files input job model policy (Some (NoScript fault)) asked are (bad_input (shapes_with job.options model) policy job.task input bytes fault reads same within is)
+cause_at words files input (NoPackets fault) (at_task job model policy) (asked, are) (reads, (bytes, same, within, is)) = policy_behind words files input job model policy (Some (NoPackets fault)) asked are (bad_packets (shapes_with job.options model) policy job.task input bytes fault same within is)
 cause_at words files input (TooLong part.Report) (at_task job model policy) (asked, are) wide = policy_behind words files input job model policy (Some (TooLong part.Report)) asked are (long_report (shapes_with job.options model) policy job.task input wide)
 cause_at words files input _ at_words is stops = absurd stops
 cause_at words files input _ (at_model job) is stops = absurd stops
@@ -308,7 +371,7 @@ cause_ends : (words : List (List ℕ)) (files : Files) (input : List ℕ) (stop 
 cause_ends words files input stop (reached, is, stops) = cause_at words files input stop reached is stops
 
 in_order_ends : (words : List (List ℕ)) (files : Files) (input : List ℕ) → IsInOrder (told words files input) → EndsIn words files (Some input) None
-in_order_ends words files input is = policy_behind words files input is.job is.model is.policy None is.asked is.are_files (good_task (shapes_with is.job.options is.model) is.policy is.job.task input is.items is.says is.room)
+in_order_ends words files input is = policy_behind words files input is.job is.model is.policy None is.asked is.are_files (good_task (shapes_with is.job.options is.model) is.policy is.job.task input is.items is.packets is.says is.carries is.room)
 
 module _ (once : SaysOnce) (words : List (List ℕ)) (files : Files) (input : List ℕ) where
   told_one_cause : (first second : Stop) → Cause (told words files input) first → Cause (told words files input) second → first ≡ second
@@ -340,15 +403,18 @@ module _ (once : SaysOnce) (model : ModelParts) (shapes : Shapes) (policy : tabl
   lines_once : (refused others : List (List (List ℕ))) (pieces more : List (List ℕ)) (text written : List ℕ) → IsOfLines model shapes policy items refused pieces text → IsOfLines model shapes policy items others more written → all_refused refused ≡ [] → all_refused others ≡ [] → text ≡ written
   lines_once refused others pieces more text written p q none nothing = p.text_is ∙ ap text_of_lines (once.lines model shapes policy items refused others p.lines q.lines p.plain q.plain none nothing) ∙ sym q.text_is
 
-  written_once : (task : Task) (refused others : List (List (List ℕ))) (pieces more : List (List ℕ)) (text written : List ℕ) → Writes task model shapes policy items refused pieces text → Writes task model shapes policy items others more written
+  written_once : (task : Task) (packets : List Packet) (refused others : List (List (List ℕ))) (pieces more : List (List ℕ)) (text written : List ℕ) → Writes task model shapes policy items packets refused pieces text → Writes task model shapes policy items packets others more written
       → all_refused refused ≡ [] → all_refused others ≡ [] → text ≡ written
-  written_once (Enforce json) refused others pieces more text written p q none nothing = lines_once refused others pieces more text written p q none nothing
-  written_once (Cached json capacity) refused others pieces more text written p q none nothing = lines_once refused others pieces more text written p q none nothing
-  written_once (Serve json) refused others pieces more text written p q none nothing = lines_once refused others pieces more text written p q none nothing
-  written_once Check refused others pieces more text written p q none nothing = p.is ∙ sym q.is
-  written_once Format refused others pieces more text written p q none nothing = p.is ∙ sym q.is
-  written_once (Implicit subject) refused others pieces more text written p q none nothing = once.implied model shapes policy subject text written p.is q.is
-  written_once Report refused others pieces more text written p q none nothing = once.reported shapes policy text written p.is q.is
+  written_once (Enforce json) packets refused others pieces more text written p q none nothing = lines_once refused others pieces more text written p q none nothing
+  written_once (Cached json capacity) packets refused others pieces more text written p q none nothing = lines_once refused others pieces more text written p q none nothing
+  written_once (Explain json most) packets refused others pieces more text written p q none nothing = once.explained most model shapes policy items refused others pieces more text written p q none nothing
+  written_once (Serve json) packets refused others pieces more text written p q none nothing = lines_once refused others pieces more text written p q none nothing
+  written_once Check packets refused others pieces more text written p q none nothing = p.is ∙ sym q.is
+  written_once Format packets refused others pieces more text written p q none nothing = p.is ∙ sym q.is
+  written_once (Implicit subject) packets refused others pieces more text written p q none nothing = once.implied model shapes policy subject text written p.is q.is
+  written_once Report packets refused others pieces more text written p q none nothing = once.reported shapes policy text written p.is q.is
+  written_once Ship packets refused others pieces more text written p q none nothing = p.is ∙ sym q.is
+  written_once Follow packets refused others pieces more text written p q none nothing = once.followed shapes policy packets text written p.is q.is
 
 module _ (once : SaysOnce) (files : Files) (input : List ℕ) where
   model_same : (job : Job) (model other : ModelParts) → ModelIs (Some files) job model → ModelIs (Some files) job other → model ≡ other
@@ -362,38 +428,50 @@ module _ (once : SaysOnce) (files : Files) (input : List ℕ) where
   items_same : (task : Task) (items others : List Said) → SaysItems task (Some input) items → SaysItems task (Some input) others → items ≡ others
   items_same (Enforce json) items others (bytes, same, within, says) (more, told, few, say) = once.requests json more items others (subst (λ (b : List ℕ). IsRequests json b items) (sym same ∙ told) says) say
   items_same (Cached json capacity) items others (bytes, same, within, says) (more, told, few, say) = once.requests json more items others (subst (λ (b : List ℕ). IsRequests json b items) (sym same ∙ told) says) say
+  items_same (Explain json most) items others (bytes, same, within, says) (more, told, few, say) = once.requests json more items others (subst (λ (b : List ℕ). IsRequests json b items) (sym same ∙ told) says) say
   items_same (Serve json) items others (bytes, same, within, says) (more, told, few, say) = once.script json more items others (subst (λ (b : List ℕ). IsScript json b items) (sym same ∙ told) says) say
   items_same Check items others says say = says ∙ sym say
   items_same Format items others says say = says ∙ sym say
   items_same (Implicit subject) items others says say = says ∙ sym say
   items_same Report items others says say = says ∙ sym say
+  items_same Ship items others (bytes, same, within, says) (more, told, few, say) = once.script false more items others (subst (λ (b : List ℕ). IsScript false b items) (sym same ∙ told) says) say
+  items_same Follow items others says say = says ∙ sym say
+
+  packets_same : (task : Task) (packets others : List Packet) → SaysPackets task (Some input) packets → SaysPackets task (Some input) others → packets ≡ others
+  packets_same Follow packets others (bytes, same, within, says) (more, told, few, say) = once.packets more packets others (subst (λ (b : List ℕ). ArePackets b packets) (sym same ∙ told) says) say
+  packets_same _ packets others says say = says ∙ sym say
 
   -- what is read and written, apart from the words
-  record Reads (job : Job) (model : ModelParts) (policy : table.Policy) (items : List Said) (text : List ℕ) : Type 0 where
+  record Reads (job : Job) (model : ModelParts) (policy : table.Policy) (items : List Said) (packets : List Packet) (text : List ℕ) : Type 0 where
     are_files : AreFiles (Some files) job model policy
     says : SaysItems job.task (Some input) items
+    carries : SaysPackets job.task (Some input) packets
     refused : List (List (List ℕ))
     pieces : List (List ℕ)
-    writes : Writes job.task model (shapes_with job.options model) policy items refused pieces text
+    writes : Writes job.task model (shapes_with job.options model) policy items packets refused pieces text
     none : all_refused refused ≡ []
 
-  texts_same : (job : Job) (model : ModelParts) (policy : table.Policy) (items : List Said) (text : List ℕ) (other : ModelParts) (second : table.Policy) (said : List Said) (written : List ℕ) → Reads job model policy items text → Reads job other second said written → text ≡ written
-  texts_same job model policy items text other second said written p q =
+  texts_same : (job : Job) (model : ModelParts) (policy : table.Policy) (items : List Said) (packets : List Packet) (text : List ℕ) (other : ModelParts) (second : table.Policy) (said : List Said) (sent : List Packet) (written : List ℕ) → Reads job model policy items packets text → Reads job other second said sent written
+      → text ≡ written
+  texts_same job model policy items packets text other second said sent written p q =
       let same_model : other ≡ model = model_same job other model q.are_files.fits.is_model p.are_files.fits.is_model in
-      let at_model : Reads job model second said written = subst (λ (m : ModelParts). Reads job m second said written) same_model q in
+      let at_model : Reads job model second said sent written = subst (λ (m : ModelParts). Reads job m second said sent written) same_model q in
       let same_policy : second ≡ policy = policy_same job (shapes_with job.options model) second policy at_model.are_files.is_policy p.are_files.is_policy in
-      let at_policy : Reads job model policy said written = subst (λ (t : table.Policy). Reads job model t said written) same_policy at_model in
+      let at_policy : Reads job model policy said sent written = subst (λ (t : table.Policy). Reads job model t said sent written) same_policy at_model in
       let same_items : said ≡ items = items_same job.task said items at_policy.says p.says in
-      let at_items : Reads job model policy items written = subst (λ (i : List Said). Reads job model policy i written) same_items at_policy in
-      written_once once model (shapes_with job.options model) policy items job.task p.refused at_items.refused p.pieces at_items.pieces text written p.writes at_items.writes p.none at_items.none
+      let at_items : Reads job model policy items sent written = subst (λ (i : List Said). Reads job model policy i sent written) same_items at_policy in
+      let same_packets : sent ≡ packets = packets_same job.task sent packets at_items.carries p.carries in
+      let at_packets : Reads job model policy items packets written = subst (λ (l : List Packet). Reads job model policy items l written) same_packets at_items in
+      written_once once model (shapes_with job.options model) policy items job.task packets p.refused at_packets.refused p.pieces at_packets.pieces text written p.writes at_packets.writes p.none at_packets.none
 
   told_one_text : (words : List (List ℕ)) (first second : List ℕ) → IsCalmlyAnswered (told words files input) first → IsCalmlyAnswered (told words files input) second → first ≡ second
   told_one_text words first second p q =
       let x = p.answered.in_order in
       let y = q.answered.in_order in
       let job : y.job ≡ x.job = same_job (sym y.asked ∙ x.asked) in
-      let reads : Reads y.job y.model y.policy y.items second = record { are_files = y.are_files; says = y.says; refused = q.refused; pieces = q.answered.pieces; writes = q.answered.writes; none = q.none } in
-      texts_same x.job x.model x.policy x.items first y.model y.policy y.items second (record { are_files = x.are_files; says = x.says; refused = p.refused; pieces = p.answered.pieces; writes = p.answered.writes; none = p.none }) (subst (λ (j : Job). Reads j y.model y.policy y.items second) job reads)
+      let reads : Reads y.job y.model y.policy y.items y.packets second = record { are_files = y.are_files; says = y.says; carries = y.carries; refused = q.refused; pieces = q.answered.pieces; writes = q.answered.writes; none = q.none } in
+      texts_same x.job x.model x.policy x.items x.packets first y.model y.policy y.items y.packets second (record { are_files = x.are_files; says = x.says; carries = x.carries; refused = p.refused; pieces = p.answered.pieces; writes = p.answered.writes; none = p.none })
+      (subst (λ (j : Job). Reads j y.model y.policy y.items y.packets second) job reads)
     where
       same_job : {job other : Job} → Some job ≡ Some other → job ≡ other
       same_job e = cc

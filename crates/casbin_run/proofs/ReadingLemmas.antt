@@ -8,13 +8,16 @@ use Rattle.model_conf.specs.declared.fault.ModelFault.{ModelFault}
 use Rattle.model_conf.specs.declared.fault.ModelFault.TheVariants as model
 use Rattle.model_conf.specs.declared.shapes.ShapeFault.{ShapeFault}
 use Rattle.model_conf.specs.declared.shapes.ShapeFault.TheVariants as shape
+use Rattle.log_ship.specs.PacketText.{IsPacketFault}
+use Rattle.log_ship.specs.declared.packet_fault.PacketFault.{PacketFault}
+use Rattle.log_ship.specs.declared.packet_fault.PacketFault.TheVariants as packet
 use Rattle.outside.specs.Files.{Files, Holds}
 use Rattle.perm_base.specs.declared.shapes.Shapes.{Shapes}
 use Rattle.policy_csv.specs.Faults.{IsPolicyFault}
 use Rattle.policy_csv.specs.declared.fault.PolicyFault.{PolicyFault}
 use Rattle.policy_csv.specs.declared.fault.PolicyFault.TheVariants as policy
 use Rattle.run_status.specs.Parts.{limit_of}
-use Rattle.run_status.specs.Stops.{model_stop_of, policy_stop_of, script_stop_of, shape_stop_of}
+use Rattle.run_status.specs.Stops.{model_stop_of, packet_stop_of, policy_stop_of, script_stop_of, shape_stop_of}
 use Rattle.run_status.specs.declared.part.Part.TheVariants.{Model, Policy}
 use Rattle.script_read.specs.Script.{IsScriptFault}
 use Rattle.script_read.specs.declared.fault.ScriptFault.{ScriptFault}
@@ -24,7 +27,7 @@ use Rattle.casbin_run.specs.Helps.Loading.{InputStops, ModelStops, PolicyStops, 
 use Rattle.casbin_run.specs.Jobs.{absent_in, domains_in, limit_in, names_in, shapes_with}
 use Rattle.decision.specs.Programs.{Suits}
 use Rattle.model_conf.specs.Shapes.{AreNamedOnce}
-use Rattle.casbin_run.specs.declared.job.Task.TheVariants.{Serve}
+use Rattle.casbin_run.specs.declared.job.Task.TheVariants.{Serve, Follow}
 
 pub model_stops : (files : Option Files) (name : List ℕ) (told : Bool → Type 0) (rose : Type 0) (bytes : List ℕ) (e : ModelFault) → Holds files name bytes → length bytes ≤ limit_of Model → told false → (e ≢ model.NoMemory → IsModelFault bytes e) → ModelStops files name told rose (model_stop_of e)
 model_stops files name told rose bytes model.NoMemory holds within so fault = so
@@ -37,6 +40,10 @@ policy_stops files name shapes told rose bytes e holds within so fault = ((bytes
 pub script_stops : (json : Bool) (input : Option (List ℕ)) (rose : Type 0) (bytes : List ℕ) (e : ScriptFault) → InputIs input (λ told. told ≡ bytes) → (e ≢ script.NoMemory → IsScriptFault json bytes e) → InputStops (Serve json) input rose (script_stop_of e)
 script_stops json input rose bytes script.NoMemory is fault = tt
 script_stops json input rose bytes e is fault = (is.0, is.1, is.2, subst (λ (told : List ℕ). IsScriptFault json told e) (sym is.3) (fault (λ same. absurd cc)))
+
+pub packet_stops : (input : Option (List ℕ)) (rose : Type 0) (bytes : List ℕ) (e : PacketFault) → InputIs input (λ told. told ≡ bytes) → (e ≢ packet.NoMemory → IsPacketFault bytes e) → InputStops Follow input rose (packet_stop_of e)
+packet_stops input rose bytes packet.NoMemory is fault = tt
+packet_stops input rose bytes e is fault = (is.0, is.1, is.2, subst (λ (told : List ℕ). IsPacketFault told e) (sym is.3) (fault (λ same. absurd cc)))
 
 -- what making shapes comes to, from its clause
 abbrev pub TellsMissing : Option Options → ModelParts → Result Shapes ShapeFault → Type 0

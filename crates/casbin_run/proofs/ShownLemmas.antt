@@ -14,8 +14,9 @@ use Rattle.casbin_run.specs.Ends.{HasDone}
 use Rattle.casbin_run.specs.Given.{Given}
 use Rattle.casbin_run.specs.Jobs.{job_asked, shapes_with}
 use Rattle.casbin_run.specs.Shown.{ReadsBack, WroteModel, WrotePolicy}
-use Rattle.casbin_run.specs.Texts.{Writes, count_line, tables_of}
+use Rattle.casbin_run.specs.Texts.{count_line, tables_of}
 use Rattle.casbin_run.specs.Worlds.{World}
+use Rattle.casbin_run.specs.Written.{Writes}
 use Rattle.casbin_run.specs.declared.job.Job.{Job}
 use Rattle.casbin_run.specs.declared.job.Task.{Task}
 use Rattle.casbin_run.specs.declared.job.Task.TheVariants.{Check, Format}
@@ -32,9 +33,9 @@ module _ (g : Given) (before now : World) (job : Job) (done : HasDone g before n
     task_is = ap (λ (j : Job). j.task) same ∙ is
 
     wrote : let answers = done.all.answers in let order = answers.answered.in_order in
-        Writes task order.model (shapes_with order.job.options order.model) order.policy order.items answers.refused answers.answered.pieces answers.text
+        Writes task order.model (shapes_with order.job.options order.model) order.policy order.items order.packets answers.refused answers.answered.pieces answers.text
     wrote = let answers = done.all.answers in let order = answers.answered.in_order in
-        subst (λ (t : Task). Writes t order.model (shapes_with order.job.options order.model) order.policy order.items answers.refused answers.answered.pieces answers.text) task_is answers.answered.writes
+        subst (λ (t : Task). Writes t order.model (shapes_with order.job.options order.model) order.policy order.items order.packets answers.refused answers.answered.pieces answers.text) task_is answers.answered.writes
 
     back : ReadsBack task done.all.answers.answered.in_order.model (shapes_with done.all.answers.answered.in_order.job.options done.all.answers.answered.in_order.model) done.all.answers.answered.in_order.policy
     back = let order = done.all.answers.answered.in_order in

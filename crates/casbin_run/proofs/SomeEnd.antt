@@ -2,6 +2,9 @@
 use Rattle.std.proofs.Common.{◌≡◌, ℕ, ◌<◌, ◌≤◌, Bool, true, false, leb, List, [], length, inl, inr, refl, leb-true, leb-false}
 use Rattle.std.specs.Prelude.{◌⊎◌, IsSome, IsUtf8, Option, Some, None}
 use Rattle.model_conf.specs.ModelText.{ModelParts}
+use Rattle.log_ship.specs.PacketText.{ArePackets, IsPacketFault}
+use Rattle.log_ship.specs.declared.packet.Packet.{Packet}
+use Rattle.log_ship.specs.declared.packet_fault.PacketFault.{PacketFault}
 use Rattle.outside.specs.Files.{Files}
 use Rattle.perm_base.specs.declared.shapes.Shapes.{Shapes}
 use Rattle.policy_csv.specs.Faults.{IsPolicyFault}
@@ -12,7 +15,7 @@ use Rattle.run_status.specs.Parts.{limit_of}
 use Rattle.run_status.specs.declared.part.Part.TheVariants as part
 use Rattle.run_status.specs.declared.part.Part.TheVariants.{Model, Policy, Input}
 use Rattle.run_status.specs.declared.stop.Stop.{Stop}
-use Rattle.run_status.specs.declared.stop.Stop.TheVariants.{Words, NoModel, NoRelation, NoPolicy, NoScript, CannotRead, TooLong}
+use Rattle.run_status.specs.declared.stop.Stop.TheVariants.{Words, NoModel, NoRelation, NoPolicy, NoScript, NoPackets, CannotRead, TooLong}
 use Rattle.script_read.specs.Said.{Said}
 use Rattle.script_read.specs.Script.{IsRequests, IsScript, IsScriptFault}
 use Rattle.script_read.specs.declared.fault.ScriptFault.{ScriptFault}
@@ -24,7 +27,7 @@ use Rattle.casbin_run.specs.Reached.{at_words, at_model, at_options, at_policy, 
 use Rattle.casbin_run.specs.Roles.{IsLong, IsShort}
 use Rattle.casbin_run.specs.declared.job.Job.{Job}
 use Rattle.casbin_run.specs.declared.job.Task.{Task}
-use Rattle.casbin_run.specs.declared.job.Task.TheVariants.{Enforce, Cached, Serve, Check, Format, Implicit, Report}
+use Rattle.casbin_run.specs.declared.job.Task.TheVariants.{Enforce, Cached, Explain, Serve, Check, Format, Implicit, Report, Ship, Follow}
 use Rattle.casbin_run.proofs.ModelLemmas.{SomeModel}
 
 -- each text says something or has a fault
@@ -33,6 +36,7 @@ pub record SaysSome : Type 0 where
   pub policy : (shapes : Shapes) (bytes : List ℕ) → ((policy : table.Policy) × IsPolicy shapes bytes policy) ⊎ ((f : PolicyFault) × IsPolicyFault shapes bytes f)
   pub script : (json : Bool) (bytes : List ℕ) → ((items : List Said) × IsScript json bytes items) ⊎ ((f : ScriptFault) × IsScriptFault json bytes f)
   pub requests : (json : Bool) (bytes : List ℕ) → ((items : List Said) × IsRequests json bytes items) ⊎ (¬ (IsUtf8 bytes))
+  pub packets : (bytes : List ℕ) → ((packets : List Packet) × ArePackets bytes packets) ⊎ ((f : PacketFault) × IsPacketFault bytes f)
   pub report : (shapes : Shapes) (policy : table.Policy) → IsLong shapes policy ⊎ IsShort shapes policy
 
 -- what is given is in order or causes a stop
@@ -58,31 +62,49 @@ module _ (law : SaysSome) (words : List (List ℕ)) (files : Files) (input : Lis
     module _ (model : ModelParts) where
       module _ (policy : table.Policy) (are : AreFiles (Some files) job model policy) where
         by_requests : (json : Bool) → job.task ≡ Enforce json → length input ≤ limit_of Input → ((items : List Said) × IsRequests json input items) ⊎ (¬ (IsUtf8 input)) → Ended told
-        by_requests json task within (inl said) = inl (record { job = job; model = model; policy = policy; items = said.0; asked = asked; are_files = are; says = rw task (input, refl, within, said.1); room = rw task tt })
+        by_requests json task within (inl said) = inl (record { job = job; model = model; policy = policy; items = said.0; packets = []; asked = asked; are_files = are; says = rw task (input, refl, within, said.1); carries = rw task refl; room = rw task tt })
         by_requests json task within (inr none) = inr (NoScript NotUtf8, (at_task job model policy, (asked, are), (rw task refl, (input, refl, within, rw task (none, refl)))))
 
         by_cached : (json : Bool) (capacity : ℕ) → job.task ≡ Cached json capacity → length input ≤ limit_of Input → ((items : List Said) × IsRequests json input items) ⊎ (¬ (IsUtf8 input)) → Ended told
-        by_cached json capacity task within (inl said) = inl (record { job = job; model = model; policy = policy; items = said.0; asked = asked; are_files = are; says = rw task (input, refl, within, said.1); room = rw task tt })
+        by_cached json capacity task within (inl said) = inl (record { job = job; model = model; policy = policy; items = said.0; packets = []; asked = asked; are_files = are; says = rw task (input, refl, within, said.1); carries = rw task refl; room = rw task tt })
         by_cached json capacity task within (inr none) = inr (NoScript NotUtf8, (at_task job model policy, (asked, are), (rw task refl, (input, refl, within, rw task (none, refl)))))
 
+        by_explained : (json : Bool) (most : ℕ) → job.task ≡ Explain json most → length input ≤ limit_of Input → ((items : List Said) × IsRequests json input items) ⊎ (¬ (IsUtf8 input)) → Ended told
+        by_explained json most task within (inl said) = inl (record { job = job; model = model; policy = policy; items = said.0; packets = []; asked = asked; are_files = are; says = rw task (input, refl, within, said.1); carries = rw task refl; room = rw task tt })
+        by_explained json most task within (inr none) = inr (NoScript NotUtf8, (at_task job model policy, (asked, are), (rw task refl, (input, refl, within, rw task (none, refl)))))
+
         by_script : (json : Bool) → job.task ≡ Serve json → length input ≤ limit_of Input → ((items : List Said) × IsScript json input items) ⊎ ((f : ScriptFault) × IsScriptFault json input f) → Ended told
-        by_script json task within (inl said) = inl (record { job = job; model = model; policy = policy; items = said.0; asked = asked; are_files = are; says = rw task (input, refl, within, said.1); room = rw task tt })
+        by_script json task within (inl said) = inl (record { job = job; model = model; policy = policy; items = said.0; packets = []; asked = asked; are_files = are; says = rw task (input, refl, within, said.1); carries = rw task refl; room = rw task tt })
         by_script json task within (inr bad) = inr (NoScript bad.0, (at_task job model policy, (asked, are), (rw task refl, (input, refl, within, rw task bad.1))))
+
+        by_shipped : job.task ≡ Ship → length input ≤ limit_of Input → ((items : List Said) × IsScript false input items) ⊎ ((f : ScriptFault) × IsScriptFault false input f) → Ended told
+        by_shipped task within (inl said) = inl (record { job = job; model = model; policy = policy; items = said.0; packets = []; asked = asked; are_files = are; says = rw task (input, refl, within, said.1); carries = rw task refl; room = rw task tt })
+        by_shipped task within (inr bad) = inr (NoScript bad.0, (at_task job model policy, (asked, are), (rw task refl, (input, refl, within, rw task bad.1))))
+
+        by_packets : job.task ≡ Follow → length input ≤ limit_of Input → ((packets : List Packet) × ArePackets input packets) ⊎ ((f : PacketFault) × IsPacketFault input f) → Ended told
+        by_packets task within (inl sent) = inl (record { job = job; model = model; policy = policy; items = []; packets = sent.0; asked = asked; are_files = are; says = rw task refl; carries = rw task (input, refl, within, sent.1); room = rw task tt })
+        by_packets task within (inr bad) = inr (NoPackets bad.0, (at_task job model policy, (asked, are), (rw task refl, (input, refl, within, rw task bad.1))))
 
         by_report : job.task ≡ Report → IsLong (shapes_with job.options model) policy ⊎ IsShort (shapes_with job.options model) policy → Ended told
         by_report task (inl wide) = inr (TooLong part.Report, (at_task job model policy, (asked, are), rw task wide))
-        by_report task (inr short) = inl (record { job = job; model = model; policy = policy; items = []; asked = asked; are_files = are; says = rw task refl; room = rw task short })
+        by_report task (inr short) = inl (record { job = job; model = model; policy = policy; items = []; packets = []; asked = asked; are_files = are; says = rw task refl; carries = rw task refl; room = rw task short })
 
         by_input : (task : Task) → job.task ≡ task → Sized input (limit_of Input) → Ended told
         by_input (Enforce json) task (inl wide) = inr (TooLong Input, (at_task job model policy, (asked, are), (rw task refl, wide)))
         by_input (Enforce json) task (inr within) = by_requests json task within (law.requests json input)
         by_input (Cached json capacity) task (inl wide) = inr (TooLong Input, (at_task job model policy, (asked, are), (rw task refl, wide)))
         by_input (Cached json capacity) task (inr within) = by_cached json capacity task within (law.requests json input)
+        by_input (Explain json most) task (inl wide) = inr (TooLong Input, (at_task job model policy, (asked, are), (rw task refl, wide)))
+        by_input (Explain json most) task (inr within) = by_explained json most task within (law.requests json input)
         by_input (Serve json) task (inl wide) = inr (TooLong Input, (at_task job model policy, (asked, are), (rw task refl, wide)))
         by_input (Serve json) task (inr within) = by_script json task within (law.script json input)
-        by_input Check task size = inl (record { job = job; model = model; policy = policy; items = []; asked = asked; are_files = are; says = rw task refl; room = rw task tt })
-        by_input Format task size = inl (record { job = job; model = model; policy = policy; items = []; asked = asked; are_files = are; says = rw task refl; room = rw task tt })
-        by_input (Implicit subject) task size = inl (record { job = job; model = model; policy = policy; items = []; asked = asked; are_files = are; says = rw task refl; room = rw task tt })
+        by_input Check task size = inl (record { job = job; model = model; policy = policy; items = []; packets = []; asked = asked; are_files = are; says = rw task refl; carries = rw task refl; room = rw task tt })
+        by_input Format task size = inl (record { job = job; model = model; policy = policy; items = []; packets = []; asked = asked; are_files = are; says = rw task refl; carries = rw task refl; room = rw task tt })
+        by_input (Implicit subject) task size = inl (record { job = job; model = model; policy = policy; items = []; packets = []; asked = asked; are_files = are; says = rw task refl; carries = rw task refl; room = rw task tt })
+        by_input Ship task (inl wide) = inr (TooLong Input, (at_task job model policy, (asked, are), (rw task refl, wide)))
+        by_input Ship task (inr within) = by_shipped task within (law.script false input)
+        by_input Follow task (inl wide) = inr (TooLong Input, (at_task job model policy, (asked, are), (rw task refl, wide)))
+        by_input Follow task (inr within) = by_packets task within (law.packets input)
         by_input Report task size = by_report task (law.report (shapes_with job.options model) policy)
 
       module _ (fits : Fits (Some files) job model) where

@@ -1,5 +1,5 @@
 -- What a task comes to.
-use Rattle.std.proofs.Common.{◌≡◌, ℕ, ◌<◌, ◌≤◌, List, [], inl, inr, ⊎_elim, refl, sym, ap, subst, ◌∙◌, Bool, true, arith}
+use Rattle.std.proofs.Common.{◌≡◌, ℕ, ◌<◌, ◌≤◌, List, [], inl, inr, ⊎_elim, refl, sym, ap, subst, ◌∙◌, Bool, true, false, arith}
 use Rattle.std.specs.Prelude.{Option, Result, Err, IfErr, IfSome, OnOk, length, map, take}
 use Rattle.std.proofs.lemmas.List.{take-map}
 use Rattle.std.proofs.lemmas.List.Folds.{flat_map-map}
@@ -9,28 +9,35 @@ use Rattle.answer_lines.specs.declared.answer.Line.{Line}
 use Rattle.command_words.specs.FileNames.{SubjectName}
 use Rattle.decision.proofs.CallerLemmas.{suits_columns}
 use Rattle.decision.specs.Programs.{Suits}
+use Rattle.policy_index.specs.Keys.{KeyParts, is_below}
 use Rattle.live_round.specs.Scripts.{AreScriptLines}
+use Rattle.log_ship.specs.declared.packet.Packet.{Packet}
 use Rattle.model_conf.specs.ModelText.{ModelParts}
 use Rattle.outside.specs.Faults.{Rose}
 use Rattle.outside.specs.Told.{TookFront, with_back}
 use Rattle.perm_base.specs.declared.shapes.Shapes.{Shapes}
 use Rattle.policy_csv.specs.Printed.{printed}
 use Rattle.policy_table.specs.Tables as table
+use Rattle.regex_gate.proofs.CallerLemmas.{used_none}
 use Rattle.regex_gate.specs.Refusals.{IsUsed, Refusals}
 use Rattle.run_status.specs.declared.part.Part.TheVariants.{Input, Report}
 use Rattle.run_status.specs.declared.stop.Stop.{Stop}
-use Rattle.run_status.specs.declared.stop.Stop.TheVariants.{NoScript, CannotRead, CannotWrite, TooLong, NoMemory}
+use Rattle.run_status.specs.declared.stop.Stop.TheVariants.{NoScript, NoPackets, CannotRead, CannotWrite, TooLong, NoMemory}
 use Rattle.script_read.specs.Said.{Said}
 use Rattle.script_read.specs.Script.{IsRequests}
 use Rattle.session_meaning.specs.Plain.{all_refused}
 use Rattle.casbin_run.specs.Finders.{HasRefused}
-use Rattle.casbin_run.specs.Given.{InputIs, SaysItems}
+use Rattle.casbin_run.specs.Following.{IsFollowed}
+use Rattle.casbin_run.specs.Given.{InputIs, SaysItems, SaysPackets}
 use Rattle.casbin_run.specs.Helps.Loading.{BytesStop, InputStops}
-use Rattle.casbin_run.specs.Helps.Working.{AnswerStops, AreAnswered, DidAll, DidFirst, DidSome, Ground, IsQuiet, LinesOf, IsShortReport, LinesStop, PrintedAll, PrintedSome, ReportStops, ShowStops, Showed, TextStops, WorkStops, Worked, ground}
+use Rattle.casbin_run.specs.Helps.Tasks.{DidAll, DidFirst, DidSome, Ground, IsQuiet, WorkStops, Worked, ground}
+use Rattle.casbin_run.specs.Helps.Working.{AnswerStops, AreAnswered, LinesOf, IsShortReport, LinesStop, PrintedAll, PrintedSome, ReportStops, ShowStops, Showed, TextStops}
 use Rattle.casbin_run.specs.Jobs.{reads_input}
 use Rattle.casbin_run.specs.Roles.{IsImplied}
-use Rattle.casbin_run.specs.Texts.{HasRoom, IsOfLines, Tells, Writes, check_text, joined, text_of_lines}
+use Rattle.casbin_run.specs.Shipping.{ship_text}
+use Rattle.casbin_run.specs.Texts.{IsOfLines, check_text, joined, text_of_lines}
 use Rattle.casbin_run.specs.Worlds.{Taken}
+use Rattle.casbin_run.specs.Written.{HasRoom, Tells, Writes}
 use Rattle.casbin_run.specs.declared.files.Loaded.{Loaded}
 use Rattle.casbin_run.specs.declared.job.Task.{Task}
 use Rattle.casbin_run.specs.declared.job.Task.TheVariants as tasks
@@ -49,8 +56,18 @@ pub input_stops : (on : Ground) (IsLogged : List (List ℕ) → Type 0) (out : O
 input_stops on IsLogged out input_rose out_rose (CannotRead Input) reads stops = (reads, stops)
 input_stops on IsLogged out input_rose out_rose (TooLong Input) reads stops = (reads, stops)
 input_stops on IsLogged out input_rose out_rose (NoScript fault) reads stops = (reads, stops)
+input_stops on IsLogged out input_rose out_rose (NoPackets fault) reads stops = (reads, stops)
 input_stops on IsLogged out input_rose out_rose NoMemory reads stops = inl refl
 input_stops on IsLogged out input_rose out_rose _ reads stops = absurd stops
+
+-- a script that is shipped is read as one that is served
+pub shipped_stops : (input : Option (List ℕ)) (rose : Type 0) (stop : Stop) → InputStops (Serve false) input rose stop → InputStops tasks.Ship input rose stop
+shipped_stops input rose (CannotRead Input) stops = stops
+shipped_stops input rose (TooLong Input) stops = stops
+shipped_stops input rose (NoScript fault) stops = stops
+shipped_stops input rose (NoPackets fault) stops = stops
+shipped_stops input rose NoMemory stops = stops
+shipped_stops input rose _ stops = absurd stops
 
 -- the input is this text, of which the fact holds
 pub input_is : (input : Option (List ℕ)) (text : List ℕ) (fact : List ℕ → Type 0) → InputIs input (λ bytes. bytes ≡ text) → fact text → InputIs input fact
@@ -106,16 +123,18 @@ served_says json input script says items same = subst (λ (s : List Said). SaysI
 
 -- the text of the task is that of the lines of its items
 abbrev pub WritesLines : Ground → Type 0
-WritesLines on = (items : List Said) (refused : List (List (List ℕ))) (pieces : List (List ℕ)) (text : List ℕ) → IsOfLines on.model on.shapes on.policy items refused pieces text → Writes on.task on.model on.shapes on.policy items refused pieces text
+WritesLines on = (items : List Said) (refused : List (List (List ℕ))) (pieces : List (List ℕ)) (text : List ℕ) → IsOfLines on.model on.shapes on.policy items refused pieces text → Writes on.task on.model on.shapes on.policy items [] refused pieces text
 
-module _ (on : Ground) (writes : WritesLines on) (room : HasRoom on.task on.shapes on.policy) (IsSaid : List Said → Type 0) (says : (items : List Said) → IsSaid items → SaysItems on.task on.input items) (before now : Refusals) (out out_now : Option (List ℕ)) where
+module _ (on : Ground) (writes : WritesLines on) (room : HasRoom on.task on.shapes on.policy) (alone : SaysPackets on.task on.input []) (IsSaid : List Said → Type 0) (says : (items : List Said) → IsSaid items → SaysItems on.task on.input items) (before now : Refusals) (out out_now : Option (List ℕ)) where
   abbrev worked : LinesOf IsSaid on.model on.shapes on.policy (HasRefused before now) → Worked on (HasRefused before now)
   worked of = record {
     items = of.items;
+    packets = [];
     refused = of.refused;
     pieces = map line_text of.lines;
     text = text_of_lines of.lines;
     says = says of.items of.says;
+    carries = alone;
     room = room;
     writes = writes of.items of.refused (map line_text of.lines) (text_of_lines of.lines) (record { lines = of.lines; plain = of.plain; pieces_are = refl; text_is = refl });
     logged = of.logged;
@@ -153,17 +172,20 @@ show_quiet out out_now text out_rose CannotWrite stops quiet = absurd cc
 show_quiet out out_now text out_rose NoMemory stops quiet = stops
 show_quiet out out_now text out_rose _ stops quiet = absurd stops
 
--- ---- tasks that read no input
+-- ---- tasks that write one text
 
 -- a text that is written as a whole
 pub record Shows (on : Ground) (text : List ℕ) : Type 0 where
-  pub says : SaysItems on.task on.input []
+  pub items : List Said
+  pub packets : List Packet
+  pub says : SaysItems on.task on.input items
+  pub carries : SaysPackets on.task on.input packets
   pub room : HasRoom on.task on.shapes on.policy
-  pub writes : Writes on.task on.model on.shapes on.policy [] [] [] text
-  pub silent : (err : Taken) → Tells on.task on.model on.shapes on.policy [] [] text err err
+  pub writes : Writes on.task on.model on.shapes on.policy items packets [] [] text
+  pub silent : (err : Taken) → Tells on.task on.model on.shapes on.policy items [] text err err
 
 abbrev shown : (on : Ground) (refusals : Refusals) (text : List ℕ) → Shows on text → Worked on (HasRefused refusals refusals)
-shown on refusals text shows = record { items = []; refused = []; pieces = []; text = text; says = shows.says; room = shows.room; writes = shows.writes; logged = refl }
+shown on refusals text shows = record { items = shows.items; packets = shows.packets; refused = []; pieces = []; text = text; says = shows.says; carries = shows.carries; room = shows.room; writes = shows.writes; logged = refl }
 
 module _ (on : Ground) (refusals : Refusals) (text : List ℕ) (shows : Shows on text) (out out_now : Option (List ℕ)) where
   pub shown_all : (err : Taken) → out_now ≡ with_back out text → DidAll on (HasRefused refusals refusals) out out_now err err
@@ -173,6 +195,22 @@ module _ (on : Ground) (refusals : Refusals) (text : List ℕ) (shows : Shows on
   shown_stops input_rose out_rose CannotWrite stops = (record { worked = shown on refusals text shows; took = stops.0 }, stops.1)
   shown_stops input_rose out_rose NoMemory stops = inl stops
   shown_stops input_rose out_rose _ stops = absurd stops
+
+-- the finder was not asked meanwhile
+pub shown_still : (on : Ground) (refusals now : Refusals) (text : List ℕ) → Shows on text → now ≡ refusals → (out out_now : Option (List ℕ)) (err : Taken) → out_now ≡ with_back out text → DidAll on (HasRefused refusals now) out out_now err err
+shown_still on refusals now text shows still out out_now err took = subst (λ (r : Refusals). DidAll on (HasRefused refusals r) out out_now err err) (sym still) (shown_all on refusals text shows out out_now err took)
+
+pub stops_still : (on : Ground) (refusals now : Refusals) (text : List ℕ) → Shows on text → now ≡ refusals → (out out_now : Option (List ℕ)) (input_rose out_rose : Type 0) (stop : Stop) → ShowStops out out_now text out_rose stop → WorkStops on (HasRefused refusals now) out out_now input_rose out_rose stop
+stops_still on refusals now text shows still out out_now input_rose out_rose stop stops =
+    subst (λ (r : Refusals). WorkStops on (HasRefused refusals r) out out_now input_rose out_rose stop) (sym still) (shown_stops on refusals text shows out out_now input_rose out_rose stop stops)
+
+pub show_not_quiet : {A : Type 0} (out out_now : Option (List ℕ)) (text : List ℕ) (out_rose : Type 0) (stop : Stop) → ShowStops out out_now text out_rose stop → IsQuiet stop → A
+show_not_quiet out out_now text out_rose CannotWrite stops quiet = absurd cc
+show_not_quiet out out_now text out_rose NoMemory stops quiet = absurd cc
+show_not_quiet out out_now text out_rose _ stops quiet = absurd stops
+
+pub used_still : (refusals now : Refusals) → now ≡ refusals → IsUsed refusals now
+used_still refusals now still = subst (λ (r : Refusals). IsUsed refusals r) (sym still) (used_none refusals)
 
 -- a text that is told by what holds of it
 module _ (on : Ground) (refusals : Refusals) (Is : List ℕ → Type 0) (shows : (text : List ℕ) → Is text → Shows on text) (out out_now : Option (List ℕ)) where
@@ -184,19 +222,26 @@ module _ (on : Ground) (refusals : Refusals) (Is : List ℕ → Type 0) (shows :
   text_stops input_rose out_rose NoMemory stops = inl stops
   text_stops input_rose out_rose _ stops = absurd stops
 
--- what the tasks that read no input write
+-- what these tasks write
 module _ (loaded : Loaded) (input : Option (List ℕ)) where
   pub shows_check : Shows (ground Check loaded input) (check_text loaded.model loaded.tables.policy)
-  shows_check = record { says = refl; room = tt; writes = record { none_refused = refl; no_pieces = refl; is = refl }; silent = λ err. refl }
+  shows_check = record { items = []; packets = []; says = refl; carries = refl; room = tt; writes = record { none_refused = refl; no_pieces = refl; is = refl }; silent = λ err. refl }
 
   pub shows_format : Shows (ground Format loaded input) (printed loaded.tables.policy)
-  shows_format = record { says = refl; room = tt; writes = record { none_refused = refl; no_pieces = refl; is = refl }; silent = λ err. refl }
+  shows_format = record { items = []; packets = []; says = refl; carries = refl; room = tt; writes = record { none_refused = refl; no_pieces = refl; is = refl }; silent = λ err. refl }
 
   pub shows_implied : (subject : SubjectName) (text : List ℕ) → IsImplied loaded.model loaded.shapes loaded.tables.policy subject text → Shows (ground (Implicit subject) loaded input) text
-  shows_implied subject text is = record { says = refl; room = tt; writes = record { none_refused = refl; no_pieces = refl; is = is }; silent = λ err. refl }
+  shows_implied subject text is = record { items = []; packets = []; says = refl; carries = refl; room = tt; writes = record { none_refused = refl; no_pieces = refl; is = is }; silent = λ err. refl }
 
   pub shows_report : (text : List ℕ) → IsShortReport loaded.shapes loaded.tables.policy text → Shows (ground tasks.Report loaded input) text
-  shows_report text (is, short) = record { says = refl; room = short; writes = record { none_refused = refl; no_pieces = refl; is = is }; silent = λ err. refl }
+  shows_report text (is, short) = record { items = []; packets = []; says = refl; carries = refl; room = short; writes = record { none_refused = refl; no_pieces = refl; is = is }; silent = λ err. refl }
+
+-- what is shipped, and what packets come to
+pub shows_ship : (loaded : Loaded) (input : Option (List ℕ)) (items : List Said) → SaysItems tasks.Ship input items → Shows (ground tasks.Ship loaded input) (ship_text loaded.shapes loaded.tables.policy items)
+shows_ship loaded input items says = record { items = items; packets = []; says = says; carries = refl; room = tt; writes = record { none_refused = refl; no_pieces = refl; is = refl }; silent = λ err. refl }
+
+pub shows_follow : (loaded : Loaded) (input : Option (List ℕ)) (packets : List Packet) → SaysPackets tasks.Follow input packets → (text : List ℕ) → IsFollowed loaded.shapes loaded.tables.policy packets text → Shows (ground tasks.Follow loaded input) text
+shows_follow loaded input packets carries text is = record { items = []; packets = packets; says = refl; carries = carries; room = tt; writes = record { none_refused = refl; no_pieces = refl; is = is }; silent = λ err. refl }
 
 pub report_stops : (loaded : Loaded) (input : Option (List ℕ)) (refusals : Refusals) (out out_now : Option (List ℕ)) (input_rose out_rose : Type 0) (stop : Stop) → ReportStops loaded.shapes loaded.tables.policy out out_now out_rose stop
     → WorkStops (ground tasks.Report loaded input) (HasRefused refusals refusals) out out_now input_rose out_rose stop
@@ -220,7 +265,7 @@ report_quiet shapes policy out out_now out_rose _ stops quiet = absurd stops
 
 module _ (on : Ground) (IsLogged AreLogged : List (List ℕ) → Type 0) (more : (patterns : List (List ℕ)) → IsLogged patterns → AreLogged patterns) where
   worked_more : Worked on IsLogged → Worked on AreLogged
-  worked_more of = record { items = of.items; refused = of.refused; pieces = of.pieces; text = of.text; says = of.says; room = of.room; writes = of.writes; logged = more (all_refused of.refused) of.logged }
+  worked_more of = record { items = of.items; packets = of.packets; refused = of.refused; pieces = of.pieces; text = of.text; says = of.says; carries = of.carries; room = of.room; writes = of.writes; logged = more (all_refused of.refused) of.logged }
 
   pub all_more : (out out_now : Option (List ℕ)) (err err_now : Taken) → DidAll on IsLogged out out_now err err_now → DidAll on AreLogged out out_now err err_now
   unfolding worked_more
@@ -232,13 +277,15 @@ module _ (on : Ground) (IsLogged AreLogged : List (List ℕ) → Type 0) (more :
   stops_more out out_now input_rose out_rose (TooLong Input) stops = stops
   stops_more out out_now input_rose out_rose (TooLong Report) stops = stops
   stops_more out out_now input_rose out_rose (NoScript fault) stops = stops
+  stops_more out out_now input_rose out_rose (NoPackets fault) stops = stops
   stops_more out out_now input_rose out_rose CannotWrite stops = (record { worked = worked_more stops.0.worked; took = stops.0.took }, stops.1)
   stops_more out out_now input_rose out_rose NoMemory stops = ⊎_elim (λ same. inl same) (λ first. inr (record { worked = worked_more first.worked; count = first.count; took = first.took })) stops
   stops_more out out_now input_rose out_rose _ stops = absurd stops
 
 -- ---- making a policy's state
 
--- a column of a program's policy is one of the shapes that suit its model
-pub column_fits : (model program : ModelParts) (shapes : Shapes) (column : Option ℕ) → program ≡ model → Suits model shapes → IfSome column (λ (column : ℕ). column < length program.policy) → IfSome column (λ (column : ℕ). column < shapes.columns)
-column_fits model program shapes column same suits within =
-    subst (λ (size : ℕ). IfSome column (λ (column : ℕ). column < size)) (ap (λ (m : ModelParts). length m.policy) same ∙ sym (suits_columns model shapes suits)) within
+-- the columns of a program's key are those of shapes that suit its model
+pub key_fits : (model program : ModelParts) (shapes : Shapes) (key : Option KeyParts) → program ≡ model → Suits model shapes → IfSome key (λ (key : KeyParts). is_below (length program.policy) key ≡ true) → IfSome key (λ (key : KeyParts). is_below shapes.columns key ≡ true)
+key_fits model program shapes key same suits within =
+    let columns : length program.policy ≡ shapes.columns = ap (λ (m : ModelParts). length m.policy) same ∙ sym (suits_columns model shapes suits) in
+    subst (λ (n : ℕ). IfSome key (λ (key : KeyParts). is_below n key ≡ true)) columns within

@@ -5,14 +5,15 @@ use Rattle.session_meaning.specs.Plain.{all_refused}
 use Rattle.casbin_run.specs.Finders.{HaveRefused}
 use Rattle.casbin_run.specs.Given.{Given, IsInOrder}
 use Rattle.casbin_run.specs.Jobs.{shapes_with}
-use Rattle.casbin_run.specs.Texts.{Writes, joined}
+use Rattle.casbin_run.specs.Texts.{joined}
 use Rattle.casbin_run.specs.Worlds.{World}
+use Rattle.casbin_run.specs.Written.{Writes}
 
--- all is in order, and this is the text of the task on the model, the policy and the items, where these patterns were refused for each of them
+-- all is in order, and this is the text of the task on the model, the policy, and the items or packets, where these patterns were refused for each of them
 pub record IsAnswered (g : Given) (refused : List (List (List ℕ))) (text : List ℕ) : Type 0 where
   pub in_order : IsInOrder g
   pub pieces : List (List ℕ)
-  pub writes : Writes in_order.job.task in_order.model (shapes_with in_order.job.options in_order.model) in_order.policy in_order.items refused pieces text
+  pub writes : Writes in_order.job.task in_order.model (shapes_with in_order.job.options in_order.model) in_order.policy in_order.items in_order.packets refused pieces text
 
 -- such a text, where nothing was refused
 pub record IsCalmlyAnswered (g : Given) (text : List ℕ) : Type 0 where

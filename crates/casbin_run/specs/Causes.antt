@@ -1,5 +1,7 @@
 -- Why a run stops.
 use Rattle.std.specs.Prelude.{◌≡◌, ◌⊎◌, ◌<◌, Bool, true, false, List, ℕ, Some, None, IfSome, IsUtf8, length}
+use Rattle.log_ship.specs.PacketText.{IsPacketFault}
+use Rattle.log_ship.specs.declared.packet_fault.PacketFault.{PacketFault}
 use Rattle.outside.specs.Files.{Lacks, OfFile}
 use Rattle.model_conf.specs.Faults.{IsModelFault}
 use Rattle.policy_csv.specs.Faults.{IsPolicyFault}
@@ -7,28 +9,36 @@ use Rattle.run_status.specs.Parts.{limit_of}
 use Rattle.run_status.specs.declared.part.Part.TheVariants as part
 use Rattle.run_status.specs.declared.part.Part.TheVariants.{Model, Policy, Input}
 use Rattle.run_status.specs.declared.stop.Stop.{Stop}
-use Rattle.run_status.specs.declared.stop.Stop.TheVariants.{Words, NoModel, NoRelation, NoPolicy, NoScript, CannotRead, CannotWrite, TooLong, NoMemory}
+use Rattle.run_status.specs.declared.stop.Stop.TheVariants.{Words, NoModel, NoRelation, NoPolicy, NoScript, NoPackets, CannotRead, CannotWrite, TooLong, NoMemory}
 use Rattle.script_read.specs.Script.{IsScriptFault}
 use Rattle.script_read.specs.declared.fault.ScriptFault.{ScriptFault}
 use Rattle.script_read.specs.declared.fault.ScriptFault.TheVariants.{NotUtf8}
 use Rattle.casbin_run.specs.declared.job.Task.{Task}
-use Rattle.casbin_run.specs.declared.job.Task.TheVariants.{Enforce, Cached, Serve, Check, Format, Implicit, Report}
+use Rattle.casbin_run.specs.declared.job.Task.TheVariants.{Enforce, Cached, Explain, Serve, Check, Format, Implicit, Report, Ship, Follow}
 use Rattle.casbin_run.specs.Answered.{TookFirst, TookSome}
 use Rattle.casbin_run.specs.Given.{FileIs, Given, InputIs}
 use Rattle.casbin_run.specs.Jobs.{absent_in, job_asked, reads_input, shapes_with}
 use Rattle.casbin_run.specs.Reached.{HasAsked, IsReached, Reached, at_words, at_model, at_options, at_policy, at_task}
-use Rattle.casbin_run.specs.Texts.{IsTooLong}
 use Rattle.casbin_run.specs.Worlds.{InputRose, OutRose, ShelfRose, World}
+use Rattle.casbin_run.specs.Written.{IsTooLong}
 
 -- the input that a task reads has this fault
 abbrev pub HasFault : Task → List ℕ → ScriptFault → Type 0
 HasFault (Enforce json) bytes fault = ¬ (IsUtf8 bytes) × (fault ≡ NotUtf8)
 HasFault (Cached json capacity) bytes fault = ¬ (IsUtf8 bytes) × (fault ≡ NotUtf8)
+HasFault (Explain json most) bytes fault = ¬ (IsUtf8 bytes) × (fault ≡ NotUtf8)
 HasFault (Serve json) bytes fault = IsScriptFault json bytes fault
 HasFault Check bytes fault = ⊥
 HasFault Format bytes fault = ⊥
 HasFault (Implicit subject) bytes fault = ⊥
 HasFault Report bytes fault = ⊥
+HasFault Ship bytes fault = IsScriptFault false bytes fault
+HasFault Follow bytes fault = ⊥
+
+-- the packets that a task takes have this fault
+abbrev pub HasPacketFault : Task → List ℕ → PacketFault → Type 0
+HasPacketFault Follow bytes fault = IsPacketFault bytes fault
+HasPacketFault _ bytes fault = ⊥
 
 -- the task reads the input, of which the fact holds
 abbrev pub OfInput : Task → Type 0 → Type 0
@@ -46,6 +56,7 @@ StopsAt g (at_policy job model) (TooLong Policy) = OfFile g.files job.files.poli
 StopsAt g (at_policy job model) (NoPolicy fault) = FileIs g.files job.files.policy Policy (λ bytes. IsPolicyFault (shapes_with job.options model) bytes fault)
 StopsAt g (at_task job model policy) (TooLong Input) = OfInput job.task (IfSome g.input (λ bytes. limit_of Input < length bytes))
 StopsAt g (at_task job model policy) (NoScript fault) = OfInput job.task (InputIs g.input (λ bytes. HasFault job.task bytes fault))
+StopsAt g (at_task job model policy) (NoPackets fault) = OfInput job.task (InputIs g.input (λ bytes. HasPacketFault job.task bytes fault))
 StopsAt g (at_task job model policy) (TooLong part.Report) = IsTooLong job.task (shapes_with job.options model) policy
 StopsAt g _ _ = ⊥
 

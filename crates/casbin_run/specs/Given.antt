@@ -1,6 +1,8 @@
 -- What is given to a run, and what it says, part after part. Where files or an input are not told, some bytes stand for what
 -- was read.
-use Rattle.std.specs.Prelude.{◌≡◌, ℕ, ◌≤◌, List, [], Option, Some, None, length, ⊤}
+use Rattle.std.specs.Prelude.{◌≡◌, ℕ, ◌≤◌, false, List, [], Option, Some, None, length, ⊤}
+use Rattle.log_ship.specs.PacketText.{ArePackets}
+use Rattle.log_ship.specs.declared.packet.Packet.{Packet}
 use Rattle.outside.specs.Files.{Files, Holds}
 use Rattle.model_conf.specs.ModelText.{IsModel, ModelParts}
 use Rattle.policy_csv.specs.Policy.{IsPolicy}
@@ -12,9 +14,9 @@ use Rattle.script_read.specs.Said.{Said}
 use Rattle.script_read.specs.Script.{IsRequests, IsScript}
 use Rattle.casbin_run.specs.declared.job.Job.{Job}
 use Rattle.casbin_run.specs.declared.job.Task.{Task}
-use Rattle.casbin_run.specs.declared.job.Task.TheVariants.{Enforce, Cached, Serve, Check, Format, Implicit, Report}
+use Rattle.casbin_run.specs.declared.job.Task.TheVariants.{Enforce, Cached, Explain, Serve, Check, Format, Implicit, Report, Ship, Follow}
 use Rattle.casbin_run.specs.Jobs.{absent_in, job_asked, shapes_with}
-use Rattle.casbin_run.specs.Texts.{HasRoom}
+use Rattle.casbin_run.specs.Written.{HasRoom}
 
 -- the words, and the files and the input where they are told
 pub record Given : Type 0 where
@@ -56,11 +58,27 @@ pub record AreFiles (files : Option Files) (job : Job) (model : ModelParts) (pol
 abbrev pub SaysItems : Task → Option (List ℕ) → List Said → Type 0
 SaysItems (Enforce json) input items = InputIs input (λ bytes. IsRequests json bytes items)
 SaysItems (Cached json capacity) input items = InputIs input (λ bytes. IsRequests json bytes items)
+SaysItems (Explain json most) input items = InputIs input (λ bytes. IsRequests json bytes items)
 SaysItems (Serve json) input items = InputIs input (λ bytes. IsScript json bytes items)
 SaysItems Check input items = items ≡ []
 SaysItems Format input items = items ≡ []
 SaysItems (Implicit subject) input items = items ≡ []
 SaysItems Report input items = items ≡ []
+SaysItems Ship input items = InputIs input (λ bytes. IsScript false bytes items)
+SaysItems Follow input items = items ≡ []
+
+-- the input says these packets; none where it is no text of packets
+abbrev pub SaysPackets : Task → Option (List ℕ) → List Packet → Type 0
+SaysPackets (Enforce json) input packets = packets ≡ []
+SaysPackets (Cached json capacity) input packets = packets ≡ []
+SaysPackets (Explain json most) input packets = packets ≡ []
+SaysPackets (Serve json) input packets = packets ≡ []
+SaysPackets Check input packets = packets ≡ []
+SaysPackets Format input packets = packets ≡ []
+SaysPackets (Implicit subject) input packets = packets ≡ []
+SaysPackets Report input packets = packets ≡ []
+SaysPackets Ship input packets = packets ≡ []
+SaysPackets Follow input packets = InputIs input (λ bytes. ArePackets bytes packets)
 
 -- the words ask for this, files and input are in order, and what is written is not too long
 pub record IsInOrder (g : Given) : Type 0 where
@@ -68,7 +86,9 @@ pub record IsInOrder (g : Given) : Type 0 where
   pub model : ModelParts
   pub policy : table.Policy
   pub items : List Said
+  pub packets : List Packet
   pub asked : job_asked g.words ≡ Some job
   pub are_files : AreFiles g.files job model policy
   pub says : SaysItems job.task g.input items
+  pub carries : SaysPackets job.task g.input packets
   pub room : HasRoom job.task (shapes_with job.options model) policy

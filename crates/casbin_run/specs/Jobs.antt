@@ -11,7 +11,7 @@ use Rattle.perm_base.specs.declared.shapes.Fit.{Fit}
 use Rattle.perm_base.specs.declared.shapes.Shapes.{Shapes}
 use Rattle.casbin_run.specs.declared.job.Job.{Job}
 use Rattle.casbin_run.specs.declared.job.Task.{Task}
-use Rattle.casbin_run.specs.declared.job.Task.TheVariants.{Enforce, Cached, Serve, Check, Format, Implicit, Report}
+use Rattle.casbin_run.specs.declared.job.Task.TheVariants.{Enforce, Cached, Explain, Serve, Check, Format, Implicit, Report, Ship, Follow}
 
 -- requests are answered by way of a cache where its size is told
 abbrev pub enforcing : Bool → Option ℕ → Task
@@ -21,26 +21,32 @@ enforcing json (Some capacity) = Cached json capacity
 -- what a command is done on
 abbrev pub job_of : Command → Option Job
 job_of (command.Enforce files options json cache) = Some (record { files = files; options = Some options; task = enforcing json cache })
+job_of (command.Explain files options json most) = Some (record { files = files; options = Some options; task = Explain json most })
 job_of (command.Session files options json workers) = if workers == 0 then Some (record { files = files; options = Some options; task = Serve json }) else None
 job_of (command.Check files) = Some (record { files = files; options = None; task = Check })
 job_of (command.Format files) = Some (record { files = files; options = None; task = Format })
 job_of (command.Implicit files subject options) = Some (record { files = files; options = Some options; task = Implicit subject })
 job_of (command.Report files options) = Some (record { files = files; options = Some options; task = Report })
+job_of (command.Ship files options) = Some (record { files = files; options = Some options; task = Ship })
+job_of (command.Follow files options) = Some (record { files = files; options = Some options; task = Follow })
 job_of (command.Demo count workers) = None
 
 -- what the words ask for, where they are a command that is done
 abbrev pub job_asked : List (List ℕ) → Option Job
 job_asked words = option_and_then job_of (command_of words)
 
--- the input is read by the commands that answer its items
+-- the input is read by the commands that answer its items, do them or take its packets
 abbrev pub reads_input : Task → Bool
 reads_input (Enforce json) = true
 reads_input (Cached json capacity) = true
+reads_input (Explain json most) = true
 reads_input (Serve json) = true
 reads_input Check = false
 reads_input Format = false
 reads_input (Implicit subject) = false
 reads_input Report = false
+reads_input Ship = true
+reads_input Follow = true
 
 -- a cache has a size from 1 to 10,000
 abbrev pub HasSize : Task → Type 0

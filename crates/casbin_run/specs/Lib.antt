@@ -2,7 +2,11 @@ pub mod Jobs
 pub mod Given
 pub mod Roles
 pub mod Caching
+pub mod Explaining
+pub mod Shipping
+pub mod Following
 pub mod Texts
+pub mod Written
 pub mod Finders
 pub mod Worlds
 pub mod Reached

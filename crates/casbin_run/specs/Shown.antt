@@ -11,15 +11,18 @@ use Rattle.casbin_run.specs.Given.{AreFiles, Given}
 use Rattle.casbin_run.specs.Jobs.{shapes_with}
 use Rattle.casbin_run.specs.declared.job.Job.{Job}
 use Rattle.casbin_run.specs.declared.job.Task.{Task}
-use Rattle.casbin_run.specs.declared.job.Task.TheVariants.{Enforce, Cached, Serve, Check, Format, Implicit, Report}
+use Rattle.casbin_run.specs.declared.job.Task.TheVariants.{Enforce, Cached, Explain, Serve, Check, Format, Implicit, Report, Ship, Follow}
 
 -- the model that `check` prints is read back, unless its text is longer than a model may be; the policy that `format` prints is
 abbrev pub ReadsBack : Task → ModelParts → Shapes → table.Policy → Type 0
 ReadsBack (Enforce json) parts shapes tables = ⊤
 ReadsBack (Cached json capacity) parts shapes tables = ⊤
+ReadsBack (Explain json most) parts shapes tables = ⊤
 ReadsBack (Serve json) parts shapes tables = ⊤
 ReadsBack (Implicit subject) parts shapes tables = ⊤
 ReadsBack Report parts shapes tables = ⊤
+ReadsBack Ship parts shapes tables = ⊤
+ReadsBack Follow parts shapes tables = ⊤
 ReadsBack Check parts shapes tables = length (model_text.printed parts) ≤ most_bytes → IsModel (model_text.printed parts) parts
 ReadsBack Format parts shapes tables = IsPolicy shapes (policy_text.printed tables) tables
 

@@ -43,10 +43,19 @@ pub(crate) fn implicit<K: Sink>(
         (K.taken out.old) (K.taken out.new) (Rose (K.faults out.old) (K.faults out.new))) }
     ensures counted { K.faults out.old ≤ K.faults out.new }
 {
-    let state = open_state(alloc, loaded.shapes, loaded.tables)?;
-    let text = implied_text(alloc, &loaded.model, &state, subject)?;
+    let text = told_text(alloc, loaded, subject)?;
     push_all(out, text.as_bytes())?;
     Ok(())
+}
+
+// The lines of these, over what was loaded.
+fn told_text(alloc: Global, loaded: Loaded, subject: &Subject<'_>) -> Result<String, NoMemory>
+    requires { IsReady loaded }
+    ensures { IfOk result (λ text.
+        IsImplied loaded.model loaded.shapes loaded.tables.policy subject.now (string_bytes text)) }
+{
+    let state = open_state(alloc, loaded.shapes, loaded.tables)?;
+    implied_text(alloc, &loaded.model, &state, subject)
 }
 
 // The lines of these.

@@ -4,10 +4,11 @@ ghost use Rattle.outside.specs.Faults.{Rose};
 ghost use Rattle.script_read.specs.Named.{is_named};
 ghost use Rattle.script_read.specs.Said.{seen};
 ghost use Rattle.casbin_run.specs.Causes.{HasFault};
-ghost use Rattle.casbin_run.specs.Given.{InputIs, SaysItems};
+ghost use Rattle.casbin_run.specs.Given.{InputIs, SaysItems, SaysPackets};
 ghost use Rattle.casbin_run.specs.Helps.Loading.{BytesStop, InputStops};
-ghost use Rattle.casbin_run.specs.declared.job.Task.TheVariants.{Enforce, Serve};
+ghost use Rattle.casbin_run.specs.declared.job.Task.TheVariants.{Enforce, Serve, Follow};
 
+use log_ship::{Packets, read_packets};
 use perm_base::{ReadStop, Source, read_all};
 use run_status::{Part, Stop};
 use script_read::{Script, ScriptFault, items_are_named, read_script};
@@ -51,6 +52,20 @@ pub(crate) fn read_items<S: Source>(
     items_are_named();
     let bytes = read_bytes(alloc, input)?;
     Ok(read_script(alloc, &bytes, json)?)
+}
+
+/// Reads an input to its end as packets.
+pub(crate) fn read_shipped<S: Source>(alloc: Global, input: &mut S) -> Result<Packets, Stop>
+    ensures read { IfOk result (λ packets. SaysPackets Follow (S.left input.old) packets) }
+    ensures read_to_end { OnOk result (IfSome (S.left input.new) (λ rest. rest ≡ [])) }
+    ensures ended { OnOk result (S.ends input.new ≡ ends_after (S.ends input.old) true) }
+    ensures no_further { IsEndedOnce (S.ends input.old) (S.ends input.new) }
+    ensures stopped { IfErr result (InputStops Follow (S.left input.old)
+        (Rose (S.faults input.old) (S.faults input.new))) }
+    ensures counted { S.faults input.old ≤ S.faults input.new }
+{
+    let bytes = read_bytes(alloc, input)?;
+    Ok(read_packets(alloc, &bytes)?)
 }
 
 // Reads the bytes of an input to its end.

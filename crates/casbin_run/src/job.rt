@@ -12,6 +12,8 @@ pub(crate) enum Task<'a> {
     Enforce { json: bool },
     /// The requests of the input are answered by way of a cache of so many answers.
     Cached { json: bool, capacity: u32 },
+    /// The requests of the input are answered, each with so many of its near misses at most.
+    Explain { json: bool, most: u32 },
     /// The items of a script are done one after the other.
     Serve { json: bool },
     /// The model is printed, and the rules of its tables are counted.
@@ -22,6 +24,10 @@ pub(crate) enum Task<'a> {
     Implicit { subject: Subject<'a> },
     /// The implied roles of all names are reported.
     Report,
+    /// The edits that a script publishes are told as packets.
+    Ship,
+    /// Packets are taken.
+    Follow,
 }
 
 /// What a command is done on: its files, what it says of roles, where it may, and its task.
@@ -53,6 +59,12 @@ fn job_of(command: Command<'_>) -> Option<Job<'_>>
             json,
             cache,
         } => Some(job_on(files, Some(options), enforcing(json, cache))),
+        Command::Explain {
+            files,
+            options,
+            json,
+            most,
+        } => Some(job_on(files, Some(options), Task::Explain { json, most })),
         Command::Session {
             files,
             options,
@@ -73,6 +85,8 @@ fn job_of(command: Command<'_>) -> Option<Job<'_>>
             options,
         } => Some(job_on(files, Some(options), Task::Implicit { subject })),
         Command::Report { files, options } => Some(job_on(files, Some(options), Task::Report)),
+        Command::Ship { files, options } => Some(job_on(files, Some(options), Task::Ship)),
+        Command::Follow { files, options } => Some(job_on(files, Some(options), Task::Follow)),
         Command::Demo { .. } => None,
     }
 }

@@ -14,8 +14,10 @@ ghost use Rattle.casbin_run.specs.declared.job.Job.{Job};
 ghost use Rattle.casbin_run.specs.declared.job.Task.TheVariants.{Check, Format};
 ghost use Rattle.casbin_run.specs.Worlds.{InputRose, OutRose, ShelfRose, Taken, World};
 
+use log_ship::{bytes_say_packets_once, every_input_is_packets_or_at_fault, texts_read_in_one_way};
 use matcher_read::every_text_is_a_matcher_or_at_fault;
 use model_conf::{faulty_text_is_no_model, text_has_one_model_fault, text_says_one_model};
+use near_miss::{near_misses_are_one, parts_are_one};
 use policy_csv::{
     every_text_is_a_policy_or_at_fault, faulty_text_is_no_policy, text_has_one_policy_fault,
     text_says_one_policy,
@@ -55,7 +57,12 @@ pub fn one_end()
     text_has_one_script_fault();
     faulty_text_is_no_script();
     input_says_one_list_of_requests();
+    every_input_is_packets_or_at_fault();
+    bytes_say_packets_once();
+    texts_read_in_one_way();
     lines_are_one();
+    near_misses_are_one();
+    parts_are_one();
     implied_roles_are_one();
     implied_users_are_one();
     permissions_are_one();

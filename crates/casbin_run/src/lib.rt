@@ -3,7 +3,9 @@
 
 mod cached;
 mod enforce;
+mod explaining;
 mod files;
+mod following;
 mod gather;
 mod implied;
 mod input;
@@ -13,7 +15,9 @@ mod opening;
 mod report;
 mod run;
 mod session;
+mod shipping;
 mod showing;
+mod taken_lines;
 
 pub use law::{input_is_read_last, one_end, runs_end_as_given, shown_files_are_read};
 pub use run::run_casbin;

@@ -24,7 +24,8 @@ pub(crate) fn open_loaded(alloc: Global, loaded: Loaded) -> Result<Opened, NoMem
 {
     states_stand_for_their_history();
     let program = make_program(alloc, loaded.model)?;
-    let state = make_state(alloc, loaded.shapes, program.index_column(), loaded.tables)?;
+    let key = program.index_key(alloc)?;
+    let state = make_state(alloc, loaded.shapes, key, loaded.tables)?;
     Ok(Opened { program, state })
 }
 

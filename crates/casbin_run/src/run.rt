@@ -7,19 +7,23 @@ ghost use Rattle.casbin_run.specs.Ends.{Ends, may_write};
 ghost use Rattle.casbin_run.specs.Finders.{AreUsed, HasRefused};
 ghost use Rattle.casbin_run.specs.Given.{given};
 ghost use Rattle.casbin_run.specs.Helps.Running.{ComesTo};
-ghost use Rattle.casbin_run.specs.Helps.Working.{DidAll, IsQuiet, IsReady, WorkStops, ground};
+ghost use Rattle.casbin_run.specs.Helps.Tasks.{DidAll, IsQuiet, WorkStops, ground};
+ghost use Rattle.casbin_run.specs.Helps.Working.{IsReady};
 ghost use Rattle.casbin_run.specs.Jobs.{HasSize, ask_for_input, reads_input};
 ghost use Rattle.casbin_run.specs.Shown.{ReadsBack};
 ghost use Rattle.casbin_run.specs.Worlds.{fetched, pulled, taken, world};
 
 use crate::cached::enforce_cached;
 use crate::enforce::enforce;
+use crate::explaining::explain;
 use crate::files::{Loaded, load};
+use crate::following::follow;
 use crate::implied::implicit;
-use crate::input::{read_items, read_text};
+use crate::input::{read_items, read_shipped, read_text};
 use crate::job::{Task, read_job};
 use crate::report::report;
 use crate::session::serve;
+use crate::shipping::ship;
 use crate::showing::{check, format};
 use perm_base::{Shelf, Sink, Source};
 use regex_gate::Finder;
@@ -30,12 +34,16 @@ use std::alloc::Global;
 /// the options are tried against it before the policy is fetched, and the input is read last, to its end.
 ///
 /// - `enforce MODEL POLICY` answers each request of the input by a line; with a cache it tells on `err` how many were answered from it.
+/// - `explain MODEL POLICY` answers each request by its line and the first near misses below it: the rules of p that lack one part
+///   of the matcher alone.
 /// - `session MODEL POLICY` does the items of a script one after the other, each by a line.
 /// - `check MODEL POLICY` prints the model, an empty line, and a line `TABLE ROWS` for p and each role relation.
 /// - `format MODEL POLICY` prints the policy.
 /// - `implicit MODEL POLICY NAME [DOMAIN]` tells the implied roles of a name in g, the users that have it as a role, and the rules of
 ///   p that count for it.
 /// - `report MODEL POLICY` writes a record for each implied role of each user in g.
+/// - `ship MODEL POLICY` does the calls, publishes and keeps of a script, and writes the edits that are kept then as packets.
+/// - `follow MODEL POLICY` takes the packets of the input one after the other, and writes what became of each, and the policy.
 ///
 /// `check`, `format`, `implicit` and `report` read no input. `command_words` says which options there are. A session is run on one thread: `--workers` with
 /// another number than 0, and `demo`, are no command here. Of the finders the first is asked. Exactly where a cause is said to
@@ -184,6 +192,10 @@ fn do_task<S: Source, K: Sink, E: Sink, P: Finder>(
                 finder,
             )
         }
+        Task::Explain { json, most } => {
+            let text = read_text(alloc, input, json)?;
+            explain(alloc, loaded, json, most, text.as_str(), out, finder)
+        }
         Task::Serve { json } => {
             let script = read_items(alloc, input, json)?;
             serve(alloc, loaded, &script, out, finder)
@@ -192,5 +204,13 @@ fn do_task<S: Source, K: Sink, E: Sink, P: Finder>(
         Task::Format => format(alloc, &loaded, out),
         Task::Implicit { subject } => implicit(alloc, loaded, &subject, out),
         Task::Report => report(alloc, loaded, out),
+        Task::Ship => {
+            let script = read_items(alloc, input, false)?;
+            ship(alloc, loaded, &script, out, finder)
+        }
+        Task::Follow => {
+            let packets = read_shipped(alloc, input)?;
+            follow(alloc, loaded, &packets, out)
+        }
     }
 }

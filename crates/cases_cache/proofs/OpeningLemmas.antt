@@ -1,7 +1,8 @@
 -- The shapes of a model's policies, without options.
-use Rattle.std.proofs.Common.{◌≡◌, ℕ, ◌<◌, [], length, Option, IfSome, arith, refl, sym, ap, subst, ◌∙◌}
+use Rattle.std.proofs.Common.{◌≡◌, ℕ, true, [], length, Option, IfSome, arith, refl, sym, ap, subst, ◌∙◌}
 use Rattle.decision.proofs.CallerLemmas.{suits_columns}
 use Rattle.decision.specs.Programs.{Suits}
+use Rattle.policy_index.specs.Keys.{KeyParts, is_below}
 use Rattle.model_conf.specs.ModelText.{ModelParts}
 use Rattle.model_conf.specs.Shapes.{first_absent, shapes_of}
 use Rattle.perm_base.specs.declared.shapes.Shapes.{Shapes}
@@ -21,7 +22,8 @@ suits_plain model shapes is = record {
   shapes_are = is;
 }
 
--- a column of a program's policy is one of the shapes that suit its model
-pub column_fits : (model program : ModelParts) (shapes : Shapes) (column : Option ℕ) → program ≡ model → Suits model shapes → IfSome column (λ (column : ℕ). column < length program.policy) → IfSome column (λ (column : ℕ). column < shapes.columns)
-column_fits model program shapes column same suits within =
-    subst (λ (size : ℕ). IfSome column (λ (column : ℕ). column < size)) (ap (λ (m : ModelParts). length m.policy) same ∙ sym (suits_columns model shapes suits)) within
+-- the columns of a program's key are those of shapes that suit its model
+pub key_fits : (model program : ModelParts) (shapes : Shapes) (key : Option KeyParts) → program ≡ model → Suits model shapes → IfSome key (λ (key : KeyParts). is_below (length program.policy) key ≡ true) → IfSome key (λ (key : KeyParts). is_below shapes.columns key ≡ true)
+key_fits model program shapes key same suits within =
+    let columns : length program.policy ≡ shapes.columns = ap (λ (m : ModelParts). length m.policy) same ∙ sym (suits_columns model shapes suits) in
+    subst (λ (n : ℕ). IfSome key (λ (key : KeyParts). is_below n key ≡ true)) columns within

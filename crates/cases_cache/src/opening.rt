@@ -35,7 +35,10 @@ pub fn open(alloc: Global, case: &Case) -> Result<Opened>
     let Ok(program) = make_program(alloc, model) else {
         bail!("memory ran out");
     };
-    let Ok(state) = make_state(alloc, shapes, program.index_column(), tables) else {
+    let Ok(key) = program.index_key(alloc) else {
+        bail!("memory ran out");
+    };
+    let Ok(state) = make_state(alloc, shapes, key, tables) else {
         bail!("memory ran out");
     };
     Ok(Opened { program, state })

@@ -1,6 +1,6 @@
 //! Changes of tables, made one by one.
 
-use crate::shown::{rules, table_of};
+use crate::shown::{push_rule, rules, table_of};
 use crate::words::{change, filter};
 use anyhow::{Context, Result, ensure};
 use case_list::{Case, answer_each, cut};
@@ -8,6 +8,7 @@ use case_tables::{empty_tables, is_ranked, rule};
 use perm_base::{Rule, TableId};
 use policy_table::{Change, Edit, Tables, fits_filter};
 use std::alloc::Global;
+use std::fmt::Write as _;
 use std::io::Write;
 
 /// Makes the changes of a case in tables that are empty before, and writes each line with what it comes to.
@@ -31,6 +32,8 @@ fn answer_line(alloc: Global, tables: &mut Tables, line: &str) -> Result<String>
     match word {
         "rows" => rules(alloc, tables.rows(table)),
         "copied_rows" => copied_rows(alloc, tables, table),
+        "slots" => slots(alloc, tables, table),
+        "number" => number(alloc, tables, table, fields),
         "has" => {
             let found = tables.has(table, &rule(alloc, fields)?);
             Ok(format!(in alloc; "{found}")?)
@@ -79,4 +82,27 @@ fn insert(alloc: Global, tables: &mut Tables, rule: Rule) -> Result<String> {
 fn copied_rows(alloc: Global, tables: &Tables, table: TableId) -> Result<String> {
     let copy = tables.copy(alloc).ok().context("memory ran out")?;
     rules(alloc, copy.rows(table))
+}
+
+// The rules by their slots, each with its place.
+fn slots(alloc: Global, tables: &Tables, table: TableId) -> Result<String> {
+    let rules = tables.by_slot(table);
+    let mut text = String::new(alloc);
+    for slot in 0..rules.len() {
+        if slot > 0 {
+            text.push_str(" | ")?;
+        }
+        push_rule(alloc, &mut text, &rules[slot])?;
+        let place = tables.place_of_slot(table, slot as u32);
+        write!(text, ":{place}")?;
+    }
+    Ok(text)
+}
+
+// The place of a rule, where it stands.
+fn number(alloc: Global, tables: &Tables, table: TableId, fields: &str) -> Result<String> {
+    match tables.number_of(table, &rule(alloc, fields)?) {
+        Some(number) => Ok(format!(in alloc; "{number}")?),
+        None => Ok(String::from_str(alloc, "none")?),
+    }
 }

@@ -2,7 +2,7 @@
 
 use anyhow::{Context, Result};
 use perm_base::{Rule, TableId, print_fields};
-use policy_table::{Change, Edit};
+use policy_table::{Change, Edit, Rows};
 use std::alloc::Global;
 use std::fmt::Write;
 
@@ -38,7 +38,7 @@ pub fn escaped(alloc: Global, bytes: &[u8]) -> Result<String> {
 }
 
 /// The rules, with `|` between two.
-pub fn rules(alloc: Global, rules: &[Rule]) -> Result<String> {
+pub fn rules(alloc: Global, rules: Rows<'_>) -> Result<String> {
     let mut text = String::new(alloc);
     for rule in rules {
         if !text.is_empty() {
@@ -85,7 +85,8 @@ fn push_line(
     push_rule(alloc, text, rule)
 }
 
-fn push_rule(alloc: Global, text: &mut String, rule: &Rule) -> Result<()> {
+/// Appends a rule, or how long it is where it is long.
+pub fn push_rule(alloc: Global, text: &mut String, rule: &Rule) -> Result<()> {
     let line = print_fields(alloc, rule).ok().context("memory ran out")?;
     let line = line.as_str();
     if line.len() > LONGEST_SHOWN {

@@ -15,6 +15,7 @@ use edit_calls::Call;
 use perm_base::{Rule, Rules, TableId, Text, print_fields};
 use policy_desk::Desk;
 use policy_state::PolicyState;
+use policy_table::Rows;
 use role_domain::{RoleSection, Steps};
 use std::alloc::Global;
 use std::io::Write;
@@ -81,7 +82,6 @@ fn chain(alloc: Global, links: u32) -> Result<Rules> {
 // What the relation answers. Where its rows have a domain, the last field is one.
 fn asked(alloc: Global, state: &PolicyState, word: &str, fields: &[Text]) -> Result<String> {
     let section = section_of(state)?;
-    let rows = state.tables().rows(TableId::G(RELATION));
     let (names, domain) = parted(section, fields)?;
     ensure!(
         domain.is_some() == section.shape().with_domain,
@@ -100,7 +100,10 @@ fn asked(alloc: Global, state: &PolicyState, word: &str, fields: &[Text]) -> Res
             let kept = section.is_kept(domain);
             Ok(format!(in alloc; "{kept}")?)
         }
-        (_, [x]) => asked_of(alloc, section, rows, word, x.bytes(), domain),
+        (_, [x]) => {
+            let rows = state.tables().rows(TableId::G(RELATION));
+            asked_of(alloc, section, rows, word, x.bytes(), domain)
+        }
         _ => bail!("no question has these names"),
     }
 }
@@ -109,13 +112,13 @@ fn asked(alloc: Global, state: &PolicyState, word: &str, fields: &[Text]) -> Res
 fn asked_of(
     alloc: Global,
     section: &RoleSection,
-    rows: &[Rule],
+    rows: Rows<'_>,
     word: &str,
     x: &[u8],
     domain: Option<&[u8]>,
 ) -> Result<String>
     requires asked { is_some domain ≡ section.now.shape.with_domain }
-    requires rows { IsSectionOf section.now rows.now }
+    requires rows { IsSectionOf section.now rows }
 {
     match word {
         "roles" => {

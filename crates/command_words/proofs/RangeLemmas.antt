@@ -5,13 +5,13 @@ use Rattle.std.proofs.lemmas.Option.{option_and_then_some}
 use Rattle.std.specs.List.{after_first, before_first}
 use Rattle.std.specs.Str.Parse.{digits_value}
 use Rattle.perm_base.specs.declared.shapes.Fit.{Fit}
-use Rattle.command_words.specs.Commands.{cache_in, command_of, command_with, count_of, enforcing, implying, kind_named, limit_in, on_files, options_with, serving, showing, value_or, workers_in}
+use Rattle.command_words.specs.Commands.{cache_in, command_of, command_with, count_of, enforcing, explaining, implying, kind_named, limit_in, most_in, on_files, options_with, serving, showing, value_or, workers_in}
 use Rattle.command_words.specs.FileNames.{FileNames, SubjectName}
 use Rattle.command_words.specs.Items.{Item, is_dashes, items, operands, value_of}
 use Rattle.command_words.specs.Values.{is_numeral, is_within, number_between}
 use Rattle.command_words.specs.declared.command.Command.{Command}
 use Rattle.command_words.specs.declared.command.Options.{Options}
-use Rattle.command_words.specs.declared.command.Command.TheVariants.{Enforce, Session, Check, Format, Implicit, Report, Demo}
+use Rattle.command_words.specs.declared.command.Command.TheVariants.{Enforce, Explain, Session, Check, Format, Implicit, Report, Ship, Follow, Demo}
 use Rattle.command_words.specs.declared.kind.Kind.{Kind}
 use Rattle.command_words.specs.declared.kind.Kind.TheVariants as kind
 
@@ -23,11 +23,14 @@ CacheHas (Some size) = (0 < size) × (size ≤ 10000)
 -- a limit is from 1 to 250, workers are at most 8, and a count is from 1 to 100,000
 abbrev pub HasRanges : Command → Type 0
 HasRanges (Enforce files options json cache) = (0 < options.limit) × (options.limit ≤ 250) × CacheHas cache
+HasRanges (Explain files options json most) = (0 < options.limit) × (options.limit ≤ 250) × ((0 < most) × (most ≤ 1000))
 HasRanges (Session files options json workers) = (0 < options.limit) × (options.limit ≤ 250) × (workers ≤ 8)
 HasRanges (Check files) = Unit {0}
 HasRanges (Format files) = Unit {0}
 HasRanges (Implicit files subject options) = (0 < options.limit) × (options.limit ≤ 250)
 HasRanges (Report files options) = (0 < options.limit) × (options.limit ≤ 250)
+HasRanges (Ship files options) = (0 < options.limit) × (options.limit ≤ 250)
+HasRanges (Follow files options) = (0 < options.limit) × (options.limit ≤ 250)
 HasRanges (Demo count workers) = (0 < count) × (count ≤ 100000) × (workers ≤ 8)
 
 number_within : (digits least most : ℕ) (text : List ℕ) (number : ℕ) → number_between digits least most text ≡ Some number → (least ≤ number) × (number ≤ most)
@@ -48,6 +51,11 @@ value_within default digits least most (Some text) number within is = number_wit
 limit_within : (items : List Item) (limit : ℕ) → limit_in items ≡ Some limit → (0 < limit) × (limit ≤ 250)
 limit_within items limit is =
     let within = value_within 10 3 1 250 (value_of (codes "limit") items) limit (omega arith, omega arith) is in
+    (omega (arith, within.0), within.1)
+
+most_within : (items : List Item) (most : ℕ) → most_in items ≡ Some most → (0 < most) × (most ≤ 1000)
+most_within items most is =
+    let within = value_within 10 4 1 1000 (value_of (codes "most") items) most (omega arith, omega arith) is in
     (omega (arith, within.0), within.1)
 
 workers_within : (items : List Item) (workers : ℕ) → workers_in items ≡ Some workers → workers ≤ 8
@@ -82,6 +90,14 @@ enforce_within json (Some files) (Some limit) (Some names) (Some domains) (Some 
     let within = small limit refl in
     subst HasRanges same (within.0, within.1, few cache refl)
 enforce_within _ _ _ _ _ _ _ _ _ is = absurd cc
+
+explain_within : (json : Bool) (files : Option FileNames) (limit : Option ℕ) (names domains : Option (List (ℕ × Fit))) (most : Option ℕ) (command : Command) → ((n : ℕ) → limit ≡ Some n → (0 < n) × (n ≤ 250)) → ((n : ℕ) → most ≡ Some n → (0 < n) × (n ≤ 1000))
+    → explaining json files (options_with limit names domains) most ≡ Some command → HasRanges command
+explain_within json (Some files) (Some limit) (Some names) (Some domains) (Some most) command small few is =
+    let same : Explain files (record { limit = limit; names = names; domains = domains }) json most ≡ command = cc in
+    let within = small limit refl in
+    subst HasRanges same (within.0, within.1, few most refl)
+explain_within _ _ _ _ _ _ _ _ _ is = absurd cc
 
 session_within : (json : Bool) (files : Option FileNames) (limit : Option ℕ) (names domains : Option (List (ℕ × Fit))) (workers : Option ℕ) (command : Command) → ((n : ℕ) → limit ≡ Some n → (0 < n) × (n ≤ 250)) → ((n : ℕ) → workers ≡ Some n → n ≤ 8)
     → serving json files (options_with limit names domains) workers ≡ Some command → HasRanges command
@@ -123,11 +139,14 @@ format_within (Some files) command is = let same : Format files ≡ command = cc
 
 command_within : (which : Kind) (items : List Item) (words : List (List ℕ)) (command : Command) → command_with which items words ≡ Some command → HasRanges command
 command_within kind.Enforce items words command is = enforce_within _ _ (limit_in items) _ _ (cache_in items) command (limit_within items) (cache_within items) is
+command_within kind.Explain items words command is = explain_within _ _ (limit_in items) _ _ (most_in items) command (limit_within items) (most_within items) is
 command_within kind.Session items words command is = session_within _ _ (limit_in items) _ _ (workers_in items) command (limit_within items) (workers_within items) is
 command_within kind.Check items words command is = check_within _ command is
 command_within kind.Format items words command is = format_within _ command is
 command_within kind.Implicit items words command is = implicit_within _ _ (limit_in items) _ _ command (limit_within items) is
 command_within kind.Report items words command is = files_within Report (λ files options has. has) _ (limit_in items) _ _ command (limit_within items) is
+command_within kind.Ship items words command is = files_within Ship (λ files options has. has) _ (limit_in items) _ _ command (limit_within items) is
+command_within kind.Follow items words command is = files_within Follow (λ files options has. has) _ (limit_in items) _ _ command (limit_within items) is
 command_within kind.Demo items words command is = demo_within (count_of words) (workers_in items) command (count_within words) (workers_within items) is
 
 taken_within : (which : Kind) (items : List Item) (others : List (List ℕ)) (command : Command) (taken : Bool) → cond taken (command_with which items (operands items ++ others)) None ≡ Some command → HasRanges command

@@ -10,17 +10,20 @@ use Rattle.command_words.specs.declared.command.Command.{Command}
 use Rattle.command_words.specs.declared.command.Command.TheVariants as asked
 use Rattle.command_words.specs.declared.command.Options.{Options}
 use Rattle.command_words.specs.declared.kind.Kind.{Kind}
-use Rattle.command_words.specs.declared.kind.Kind.TheVariants.{Enforce, Session, Check, Format, Implicit, Report, Demo}
+use Rattle.command_words.specs.declared.kind.Kind.TheVariants.{Enforce, Explain, Session, Check, Format, Implicit, Report, Ship, Follow, Demo}
 
 -- the command of that name
 abbrev pub kind_named : List ℕ → Option Kind
 kind_named name =
     if bytes_eq name (codes "enforce") then Some Enforce
+    else if bytes_eq name (codes "explain") then Some Explain
     else if bytes_eq name (codes "session") then Some Session
     else if bytes_eq name (codes "check") then Some Check
     else if bytes_eq name (codes "format") then Some Format
     else if bytes_eq name (codes "implicit") then Some Implicit
     else if bytes_eq name (codes "report") then Some Report
+    else if bytes_eq name (codes "ship") then Some Ship
+    else if bytes_eq name (codes "follow") then Some Follow
     else if bytes_eq name (codes "demo") then Some Demo
     else None
 
@@ -31,21 +34,27 @@ role_options = codes "limit" ∷ codes "match" ∷ codes "domain-match" ∷ []
 -- the options that a command has
 abbrev pub options_of : Kind → List (List ℕ)
 options_of Enforce = codes "cache" ∷ role_options
+options_of Explain = codes "most" ∷ role_options
 options_of Session = codes "workers" ∷ role_options
 options_of Check = []
 options_of Format = []
 options_of Implicit = role_options
 options_of Report = role_options
+options_of Ship = role_options
+options_of Follow = role_options
 options_of Demo = codes "workers" ∷ []
 
 -- whether it has the flag
 abbrev pub has_json : Kind → Bool
 has_json Enforce = true
+has_json Explain = true
 has_json Session = true
 has_json Check = false
 has_json Format = false
 has_json Implicit = false
 has_json Report = false
+has_json Ship = false
+has_json Follow = false
 has_json Demo = false
 
 -- whether it takes the item
@@ -67,6 +76,10 @@ workers_in items = value_or 0 (number_between 3 0 8) (value_of (codes "workers")
 -- `--cache`: 1 to 10,000, and none unless it is told
 abbrev pub cache_in : List Item → Option (Option ℕ)
 cache_in items = value_or None (λ text. option_map (λ count. Some count) (number_between 5 1 10000 text)) (value_of (codes "cache") items)
+
+-- `--most`: 1 to 1,000, and 10 unless it is told
+abbrev pub most_in : List Item → Option ℕ
+most_in items = value_or 10 (number_between 4 1 1000) (value_of (codes "most") items)
 
 -- `--limit`: 1 to 250, and 10 unless it is told
 abbrev pub limit_in : List Item → Option ℕ
@@ -111,6 +124,10 @@ abbrev pub enforcing : Bool → Option FileNames → Option Options → Option (
 enforcing json (Some files) (Some options) (Some cache) = Some (asked.Enforce files options json cache)
 enforcing _ _ _ _ = None
 
+abbrev pub explaining : Bool → Option FileNames → Option Options → Option ℕ → Option Command
+explaining json (Some files) (Some options) (Some most) = Some (asked.Explain files options json most)
+explaining _ _ _ _ = None
+
 abbrev pub serving : Bool → Option FileNames → Option Options → Option ℕ → Option Command
 serving json (Some files) (Some options) (Some workers) = Some (asked.Session files options json workers)
 serving _ _ _ _ = None
@@ -130,11 +147,14 @@ showing _ _ = None
 -- the command's operands are files, but for `implicit MODEL POLICY NAME [DOMAIN]` and `demo N`; its options stand among the items
 abbrev pub command_with : Kind → List Item → List (List ℕ) → Option Command
 command_with Enforce items operands = enforcing (list_any (is_same flag) items) (files_of operands) (options_in items) (cache_in items)
+command_with Explain items operands = explaining (list_any (is_same flag) items) (files_of operands) (options_in items) (most_in items)
 command_with Session items operands = serving (list_any (is_same flag) items) (files_of operands) (options_in items) (workers_in items)
 command_with Check items operands = option_map asked.Check (files_of operands)
 command_with Format items operands = option_map asked.Format (files_of operands)
 command_with Implicit items operands = implying (first_files operands) (subject_of operands) (options_in items)
 command_with Report items operands = on_files asked.Report (files_of operands) (options_in items)
+command_with Ship items operands = on_files asked.Ship (files_of operands) (options_in items)
+command_with Follow items operands = on_files asked.Follow (files_of operands) (options_in items)
 command_with Demo items operands = showing (count_of operands) (workers_in items)
 
 -- by the items before the first `--` and the words behind it: the command takes each item, and none stands twice

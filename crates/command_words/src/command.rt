@@ -59,6 +59,13 @@ pub enum Command<'a> {
         json: bool,
         cache: Option<u32>,
     },
+    /// Requests are answered, each with its first near misses, from 1 to 1,000 at most; 10 unless it is told.
+    Explain {
+        files: Files<'a>,
+        options: Options,
+        json: bool,
+        most: u32,
+    },
     /// A script of requests and edits is answered, with 0 to 8 workers; 0 unless it is told.
     Session {
         files: Files<'a>,
@@ -78,6 +85,16 @@ pub enum Command<'a> {
     },
     /// The implied roles of all names are reported.
     Report {
+        files: Files<'a>,
+        options: Options,
+    },
+    /// The edits that a script publishes are told as packets.
+    Ship {
+        files: Files<'a>,
+        options: Options,
+    },
+    /// Packets are taken.
+    Follow {
         files: Files<'a>,
         options: Options,
     },

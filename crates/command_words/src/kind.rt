@@ -10,11 +10,14 @@ use crate::items::Item;
 #[derive(Clone, Copy)]
 pub(crate) enum Kind {
     Enforce,
+    Explain,
     Session,
     Check,
     Format,
     Implicit,
     Report,
+    Ship,
+    Follow,
     Demo,
 }
 
@@ -25,11 +28,14 @@ impl Kind {
     {
         match name {
             "enforce" => Some(Kind::Enforce),
+            "explain" => Some(Kind::Explain),
             "session" => Some(Kind::Session),
             "check" => Some(Kind::Check),
             "format" => Some(Kind::Format),
             "implicit" => Some(Kind::Implicit),
             "report" => Some(Kind::Report),
+            "ship" => Some(Kind::Ship),
+            "follow" => Some(Kind::Follow),
             "demo" => Some(Kind::Demo),
             _ => None,
         }
@@ -51,8 +57,9 @@ impl Kind {
         ensures { result ≡ has_json self }
     {
         match self {
-            Kind::Enforce | Kind::Session => true,
-            Kind::Check | Kind::Format | Kind::Implicit | Kind::Report | Kind::Demo => false,
+            Kind::Enforce | Kind::Explain | Kind::Session => true,
+            Kind::Check | Kind::Format | Kind::Implicit | Kind::Report => false,
+            Kind::Ship | Kind::Follow | Kind::Demo => false,
         }
     }
 
@@ -61,7 +68,8 @@ impl Kind {
     {
         match self {
             Kind::Enforce => name == "cache" || is_of_roles(name),
-            Kind::Implicit | Kind::Report => is_of_roles(name),
+            Kind::Explain => name == "most" || is_of_roles(name),
+            Kind::Implicit | Kind::Report | Kind::Ship | Kind::Follow => is_of_roles(name),
             Kind::Session => name == "workers" || is_of_roles(name),
             Kind::Check | Kind::Format => false,
             Kind::Demo => name == "workers",

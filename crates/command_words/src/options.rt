@@ -1,5 +1,5 @@
 ghost use Rattle.std.specs.Prelude.{◌≡◌};
-ghost use Rattle.command_words.specs.Commands.{cache_in, fits_at, limit_in, options_in, workers_in};
+ghost use Rattle.command_words.specs.Commands.{cache_in, fits_at, limit_in, most_in, options_in, workers_in};
 ghost use Rattle.command_words.specs.Items.{items, texts};
 
 use crate::command::Options;
@@ -13,6 +13,8 @@ const MOST_WORKERS: u32 = 8;
 const MOST_LIMIT: u32 = 250;
 
 const MOST_CACHED: u32 = 10_000;
+
+const MOST_MISSES: u32 = 1_000;
 
 /// What the words say of roles.
 pub(crate) fn options_in(words: &[String]) -> Option<Options>
@@ -48,6 +50,16 @@ pub(crate) fn cache_in(words: &[String]) -> Option<Option<u32>>
     };
     let number = number_between(text, 5, 1, MOST_CACHED)?;
     Some(Some(number))
+}
+
+/// How many near misses are told at most, 10 unless it is told.
+pub(crate) fn most_in(words: &[String]) -> Option<u32>
+    ensures { result ≡ most_in (items (texts words.now)) }
+{
+    let Some(text) = value_of(words, "most") else {
+        return Some(10);
+    };
+    number_between(text, 4, 1, MOST_MISSES)
 }
 
 // The greatest number of links, 10 unless it is told.

@@ -7,7 +7,7 @@ use crate::command::{Command, Files, Subject};
 use crate::items::{Item, first_item, operand, stands};
 use crate::kind::Kind;
 use crate::numbers::number_between;
-use crate::options::{cache_in, options_in, workers_in};
+use crate::options::{cache_in, most_in, options_in, workers_in};
 
 const MOST_COUNT: u32 = 100_000;
 
@@ -18,15 +18,18 @@ const MOST_COUNT: u32 = 100_000;
 /// neither the flag nor an option stands twice. A value in a word of its own does not begin with `-`.
 ///
 /// - `enforce MODEL POLICY [--limit L] [--match LIST] [--domain-match LIST] [--cache C] [--json]`
+/// - `explain MODEL POLICY [--most K] [--limit L] [--match LIST] [--domain-match LIST] [--json]`
 /// - `session MODEL POLICY [--workers W] [--limit L] [--match LIST] [--domain-match LIST] [--json]`
 /// - `check MODEL POLICY`
 /// - `format MODEL POLICY`
 /// - `implicit MODEL POLICY NAME [DOMAIN] [--limit L] [--match LIST] [--domain-match LIST]`
 /// - `report MODEL POLICY [--limit L] [--match LIST] [--domain-match LIST]`
+/// - `ship MODEL POLICY [--limit L] [--match LIST] [--domain-match LIST]`
+/// - `follow MODEL POLICY [--limit L] [--match LIST] [--domain-match LIST]`
 /// - `demo N [--workers W]`
 ///
 /// `L` is a number from 1 to 250 and `W` one from 0 to 8, each in one to three decimal digits; `C` is one from 1 to 10,000, in one
-/// to five, and `N` one from 1 to 100,000, in one to six. `LIST` is one `RELATION=FUNCTION` or more, joined by `,`, where the relations are `g` and `g2` to `g8`, none of
+/// to five, `K` one from 1 to 1,000, in one to four, and `N` one from 1 to 100,000, in one to six. `LIST` is one `RELATION=FUNCTION` or more, joined by `,`, where the relations are `g` and `g2` to `g8`, none of
 /// them twice, and the functions are Casbin's `keyMatch`, `keyMatch2`, `keyMatch3` and `globMatch`.
 pub fn read_words(words: &[String]) -> Option<Command<'_>>
     ensures { result ≡ command_of (texts words.now) }
@@ -46,11 +49,14 @@ fn command_from<'a>(kind: Kind, before: &'a [String], behind: &'a [String]) -> O
     }
     match kind {
         Kind::Enforce => enforce(before, behind),
+        Kind::Explain => explain(before, behind),
         Kind::Session => session(before, behind),
         Kind::Check => check(before, behind),
         Kind::Format => format(before, behind),
         Kind::Implicit => implicit(before, behind),
         Kind::Report => report(before, behind),
+        Kind::Ship => ship(before, behind),
+        Kind::Follow => follow(before, behind),
         Kind::Demo => demo(before, behind),
     }
 }
@@ -85,6 +91,21 @@ fn enforce<'a>(before: &'a [String], behind: &'a [String]) -> Option<Command<'a>
         options,
         json: stands(&Item::Flag, before),
         cache,
+    })
+}
+
+fn explain<'a>(before: &'a [String], behind: &'a [String]) -> Option<Command<'a>>
+    ensures { let given = items (texts before.now) in
+        result ≡ command_with Kind.Explain given (operands given ++ texts behind.now) }
+{
+    let files = files_of(before, behind)?;
+    let options = options_in(before)?;
+    let most = most_in(before)?;
+    Some(Command::Explain {
+        files,
+        options,
+        json: stands(&Item::Flag, before),
+        most,
     })
 }
 
@@ -140,6 +161,24 @@ fn report<'a>(before: &'a [String], behind: &'a [String]) -> Option<Command<'a>>
     let files = files_of(before, behind)?;
     let options = options_in(before)?;
     Some(Command::Report { files, options })
+}
+
+fn ship<'a>(before: &'a [String], behind: &'a [String]) -> Option<Command<'a>>
+    ensures { let given = items (texts before.now) in
+        result ≡ command_with Kind.Ship given (operands given ++ texts behind.now) }
+{
+    let files = files_of(before, behind)?;
+    let options = options_in(before)?;
+    Some(Command::Ship { files, options })
+}
+
+fn follow<'a>(before: &'a [String], behind: &'a [String]) -> Option<Command<'a>>
+    ensures { let given = items (texts before.now) in
+        result ≡ command_with Kind.Follow given (operands given ++ texts behind.now) }
+{
+    let files = files_of(before, behind)?;
+    let options = options_in(before)?;
+    Some(Command::Follow { files, options })
 }
 
 fn demo<'a>(before: &'a [String], behind: &'a [String]) -> Option<Command<'a>>

@@ -1,15 +1,17 @@
 -- Rows that are looked at in place of all, and what follows from those of them.
-use Rattle.std.proofs.Common.{◌≡◌, ◌⊎◌, inl, inr, ℕ, zero, suc, ◌+◌, ◌<◌, ◌≤◌, Bool, true, false, cond, if◌then◌else◌, List, [], ◌∷◌, ◌++◌, drop, find, get_or, length, All, Option, Some, None, Ok, refl, sym, ap, ◌∙◌, subst, arith}
-use Rattle.std.specs.List.{AllByRecursion, AllZip, Contains}
+use Rattle.std.proofs.Common.{◌≡◌, ◌⊎◌, inl, inr, ℕ, zero, suc, ◌+◌, ◌<◌, ◌≤◌, ◌==◌, ◌||◌, Bool, true, false, cond, List, [], ◌∷◌, ◌++◌, drop, find, get_or, length, All, Option, Some, None, Ok, refl, sym, ap, ◌∙◌, subst, arith}
+use Rattle.std.specs.Prelude.{AllPairs, nat_eq, slice_get}
+use Rattle.std.specs.List.{AllByRecursion, AllZip, Contains, list_any}
+use Rattle.std.proofs.lemmas.Bool.{eqb-true, ne_eqb}
+use Rattle.std.proofs.lemmas.Bool.Decides.{nat_tests}
 use Rattle.std.proofs.lemmas.List.Elements.{All-from_recursion, recursion_from_All}
 use Rattle.effect_fold.specs.Verdict.{Taken, allow_by, allows, ends, unsettled, verdict, verdict_at}
 use Rattle.effect_fold.specs.declared.effect.Effect.{Effect}
 use Rattle.effect_fold.specs.declared.effect.Effect.TheVariants as effect
 use Rattle.effect_fold.specs.declared.outcome.Outcome.TheVariants.{Unmatched}
 use Rattle.effect_fold.specs.declared.verdict.Verdict.{Verdict}
-use Rattle.policy_index.specs.Places.{has_text, places_from, places_of}
 use Rattle.policy_table.specs.Tables.{Fields}
-use Rattle.role_meaning.proofs.CallerLemmas.{stands_behind, stands_cases, stands_here}
+use Rattle.role_meaning.proofs.CallerLemmas.{pairs_head, pairs_tail, stands_behind, stands_cases, stands_here}
 use Rattle.matcher_meaning.specs.Cases.{Case}
 use Rattle.matcher_meaning.specs.Order.{Numbered, in_order_of, numbered, numbered_from}
 use Rattle.matcher_meaning.specs.Perm.{Refusal, refused_at}
@@ -49,6 +51,18 @@ first_behind (one ∷ table) (suc at) fields rest e =
     let found = first_behind table at fields rest e in
     (omega (arith, found.0), found.1, found.2)
 
+-- nothing stands behind so many elements
+nothing_behind : (table : List Fields) (at : ℕ) → drop at table ≡ [] → length table ≤ at
+nothing_behind [] at e = omega arith
+nothing_behind (one ∷ table) zero e = absurd cc
+nothing_behind (one ∷ table) (suc at) e = omega (arith, nothing_behind table at e)
+
+row_there : (table : List Fields) (at : ℕ) (fields : Fields) (rest : List Fields) → drop at table ≡ fields ∷ rest → slice_get table at ≡ Some fields
+row_there [] zero fields rest e = absurd cc
+row_there [] (suc at) fields rest e = absurd cc
+row_there (one ∷ table) zero fields rest e = let same : one ≡ fields = cc in ap (λ (r : Fields). Some r) same
+row_there (one ∷ table) (suc at) fields rest e = row_there table at fields rest e
+
 -- the row at this place of the table
 at_place : (table : List Fields) (at number : ℕ) (fields : Fields) (rest : List Fields) → number ≡ suc at → drop at table ≡ fields ∷ rest → get_or (numbered_from 1 table) at (numbered (suc at) []) ≡ numbered number fields
 at_place table at number fields rest is e =
@@ -56,45 +70,71 @@ at_place table at number fields rest is e =
     let same : 1 + at ≡ number = omega (arith, is) in
     numbered_at 1 table at (numbered (suc at) []) [] found.0 ∙ ap (λ (n : ℕ). numbered n (get_or table at [])) same ∙ ap (numbered number) found.1
 
--- the rows with the text are looked at, of those behind the first places
-covers_rest : (case : Case) (column : ℕ) (text : List ℕ) (table : List Fields) (first number : ℕ) (rest : List Fields) → number ≡ suc first → drop first table ≡ rest → AllByRecursion (λ (fields : Fields). has_text column text fields ≡ false → IsLeftOut case fields) rest
-    → Covers case (numbered_from number rest) (in_order_of (places_from first column text rest) (numbered_from 1 table))
-covers_rest case column text table first number [] is e others = tt
-covers_rest case column text table first number (fields ∷ rest) is e others =
-    by (has_text column text fields) refl
-    (covers_rest case column text table (first + 1) (suc number) rest (omega (arith, is)) (next ∙ (first_behind table first fields rest e).2) others.1)
+-- a place before all others is none of them
+none_of : (place : ℕ) (places : List ℕ) → AllByRecursion (λ (at : ℕ). place < at) places → list_any (nat_eq place) places ≡ false
+none_of place [] later = refl
+none_of place (at ∷ places) later = ap (λ (b : Bool). b || list_any (nat_eq place) places) (ne_eqb place at (λ e. absurd (omega (arith, later.0, e)))) ∙ none_of place places later.1
+
+-- the first of rising places, and those behind it
+rising_parts : (at : ℕ) (places : List ℕ) → AllPairs (λ (first second : ℕ). first < second) (at ∷ places) → AllByRecursion (λ (other : ℕ). at < other) places × AllPairs (λ (first second : ℕ). first < second) places
+rising_parts at places rising = (
+  recursion_from_All (λ (other : ℕ). at < other) places (pairs_head (λ (first second : ℕ). first < second) at places rising),
+  pairs_tail (λ (first second : ℕ). first < second) at places rising,
+)
+
+-- the rows at rising places are looked at, of those behind the first places
+covers_rest : (case : Case) (table : List Fields) (all places : List ℕ) (first number : ℕ) (rest : List Fields) → number ≡ suc first → drop first table ≡ rest → AllPairs (λ (one other : ℕ). one < other) places → AllByRecursion (λ (place : ℕ). first ≤ place) places
+    → AllByRecursion (λ (place : ℕ). place < length table) places → ((place : ℕ) → first ≤ place → list_any (nat_eq place) all ≡ list_any (nat_eq place) places)
+    → ((place : ℕ) (fields : Fields) → slice_get table place ≡ Some fields → list_any (nat_eq place) all ≡ false → IsLeftOut case fields) → Covers case (numbered_from number rest) (in_order_of places (numbered_from 1 table))
+covers_rest case table all [] first number [] is e rising low within same out = tt
+covers_rest case table all (place ∷ places) first number [] is e rising low within same out = absurd (omega (arith, within.0, low.0, nothing_behind table first e))
+covers_rest case table all [] first number (fields ∷ rest) is e rising low within same out = (
+  out first fields (row_there table first fields rest e) (same first (omega arith)),
+  covers_rest case table all [] (suc first) (suc number) rest (omega (arith, is)) (first_behind table first fields rest e).2 rising tt tt (λ place later. same place (omega (arith, later))) out,
+)
+covers_rest case table all (place ∷ places) first number (fields ∷ rest) is e rising low within same out =
+    by (first == place) refl
+    (λ equal.
+    covers_rest case table all places (suc first) (suc number) rest (omega (arith, is)) (first_behind table first fields rest e).2 parts.1
+    (each_weaker (λ (other : ℕ). place < other) (λ (other : ℕ). suc first ≤ other) places (λ other less. omega (arith, less, equal)) parts.0) within.1
+    (λ other later. same other (omega (arith, later)) ∙ ap (λ (b : Bool). b || list_any (nat_eq other) places) (ne_eqb other place (λ e. absurd (omega (arith, later, equal, e))))) out)
+    (λ less.
+    covers_rest case table all (place ∷ places) (suc first) (suc number) rest (omega (arith, is)) (first_behind table first fields rest e).2 rising
+    (less, each_weaker (λ (other : ℕ). place < other) (λ (other : ℕ). suc first ≤ other) places (λ other more. omega (arith, less, more)) parts.0) within (λ other later. same other (omega (arith, later))) out)
   where
-    next : drop (first + 1) table ≡ drop (suc first) table
-    next = let same : first + 1 ≡ suc first = omega arith in ap (λ (n : ℕ). drop n table) same
+    parts : AllByRecursion (λ (other : ℕ). place < other) places × AllPairs (λ (one other : ℕ). one < other) places
+    parts = rising_parts place places rising
 
-    places : List ℕ
-    places = places_from (first + 1) column text rest
+    below : (m n : ℕ) → m ≤ n → (m == n) ≡ false → m < n
+    below m n low differs = grind (arith, nat_tests)
 
-    by : (b : Bool) → has_text column text fields ≡ b → Covers case (numbered_from (suc number) rest) (in_order_of places (numbered_from 1 table))
-        → Covers case (numbered number fields ∷ numbered_from (suc number) rest) (in_order_of (if b then first ∷ places else places) (numbered_from 1 table))
-    by true is_text covers = inl (at_place table first number fields rest is e, covers)
-    by false is_text covers = covers_more case (numbered number fields) (numbered_from (suc number) rest) (in_order_of places (numbered_from 1 table)) (others.0 is_text) covers
+    by : (b : Bool) → (first == place) ≡ b → (first ≡ place → Covers case (numbered_from (suc number) rest) (in_order_of places (numbered_from 1 table)))
+        → (first < place → Covers case (numbered_from (suc number) rest) (in_order_of (place ∷ places) (numbered_from 1 table)))
+        → Covers case (numbered number fields ∷ numbered_from (suc number) rest) (in_order_of (place ∷ places) (numbered_from 1 table))
+    by true here looked passed =
+        let equal : first ≡ place = eqb-true first place here in
+        inl (
+          ap (λ (n : ℕ). get_or (numbered_from 1 table) n (numbered (suc n) [])) (sym equal) ∙ at_place table first number fields rest is e,
+          looked equal,
+        )
+    by false differs looked passed =
+        let less : first < place = below first place low.0 differs in
+        covers_more case (numbered number fields) (numbered_from (suc number) rest) (in_order_of (place ∷ places) (numbered_from 1 table))
+        (out first fields (row_there table first fields rest e)
+        (same first (omega arith) ∙ none_of first (place ∷ places) (less, each_weaker (λ (other : ℕ). place < other) (λ (other : ℕ). first < other) places (λ other more. omega (arith, less, more)) parts.0)))
+        (passed less)
 
 -- the rows at the places that matter are looked at
 pub covers_places : (case : Case) (table : List Fields) (places : List ℕ) → AreAllThatMatter case table places → Covers case (numbered_from 1 table) (in_order_of places (numbered_from 1 table))
 covers_places case table places matter =
-    subst (λ (at : List ℕ). Covers case (numbered_from 1 table) (in_order_of at (numbered_from 1 table))) (sym matter.places_are)
-    (covers_rest case matter.column matter.text table 0 1 table refl refl (recursion_from_All (λ (fields : Fields). has_text matter.column matter.text fields ≡ false → IsLeftOut case fields) table matter.others))
-
--- places are those of rows
-places_below : (size first column : ℕ) (text : List ℕ) (rest : List Fields) → first + length rest ≤ size → AllByRecursion (λ (place : ℕ). place < size) (places_from first column text rest)
-places_below size first column text [] few = tt
-places_below size first column text (fields ∷ rest) few = by (has_text column text fields) (places_below size (first + 1) column text rest (omega (arith, few)))
+    covers_rest case table places places 0 1 table refl refl matter.rising (all_low places) (recursion_from_All (λ (place : ℕ). place < length table) places matter.within) (λ place low. refl) matter.others
   where
-    by : (b : Bool) → AllByRecursion (λ (place : ℕ). place < size) (places_from (first + 1) column text rest)
-        → AllByRecursion (λ (place : ℕ). place < size) (if b then first ∷ places_from (first + 1) column text rest else places_from (first + 1) column text rest)
-    by true others = (omega (arith, few), others)
-    by false others = others
+    all_low : (l : List ℕ) → AllByRecursion (λ (place : ℕ). 0 ≤ place) l
+    all_low [] = tt
+    all_low (x ∷ xs) = (omega arith, all_low xs)
 
 pub places_within : (case : Case) (table : List Fields) (places : List ℕ) → AreAllThatMatter case table places → All (λ (place : ℕ). place < length table) places
-places_within case table places matter =
-    subst (All (λ (place : ℕ). place < length table)) (sym matter.places_are)
-    (All-from_recursion (λ (place : ℕ). place < length table) (places_of matter.column matter.text table) (places_below (length table) 0 matter.column matter.text table (omega arith)))
+places_within case table places matter = matter.within
 
 -- what holds of places holds of those behind the first
 pub places_behind : (table : List Fields) (all places : List ℕ) (place : ℕ) → all ≡ place ∷ places → All (λ (at : ℕ). at < length table) all → All (λ (at : ℕ). at < length table) places

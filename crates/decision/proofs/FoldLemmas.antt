@@ -1,5 +1,5 @@
 -- The verdict of a fold over the outcomes of rows.
-use Rattle.std.proofs.Common.{◌≡◌, inl, inr, ℕ, ◌<◌, ◌==◌, Bool, true, false, true≢false, List, [], ◌∷◌, ◌++◌, Option, Some, None, refl, sym, ap, ◌∙◌, subst, arith, append_assoc, append-nil}
+use Rattle.std.proofs.Common.{◌≡◌, inl, inr, ℕ, ◌<◌, ◌==◌, Bool, true, false, true≢false, List, [], ◌∷◌, ◌++◌, Option, Some, None, refl, sym, ◌∙◌, subst, arith, append_assoc, append-nil}
 use Rattle.std.specs.List.{AllByRecursion, AllZip}
 use Rattle.std.proofs.lemmas.Bool.{eq-eqb, ne_eqb}
 use Rattle.effect_fold.specs.Folds.{HasTaken, is_settled}
@@ -16,7 +16,7 @@ use Rattle.policy_table.specs.Tables.{Fields}
 use Rattle.matcher_meaning.proofs.CallerLemmas.{SomeTruthAt, each_some, row_outcome_some}
 use Rattle.matcher_meaning.specs.Cases.{Case}
 use Rattle.matcher_meaning.specs.Order.{Numbered, numbered_from}
-use Rattle.matcher_meaning.specs.Perm.{Refusal, refusal_fault}
+use Rattle.matcher_meaning.specs.Perm.{Refusal}
 use Rattle.matcher_meaning.specs.Verdicts.{HasOneOutcome, RowHasOutcome}
 use Rattle.decision.proofs.CoverLemmas.{numbers_before}
 use Rattle.decision.proofs.RowLemmas.{zip_append}

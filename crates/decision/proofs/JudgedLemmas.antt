@@ -1,5 +1,5 @@
 -- The verdict on the rows of a policy, from that on their outcomes.
-use Rattle.std.proofs.Common.{◌≡◌, inl, inr, ℕ, Bool, true, false, true≢false, IfOk, IfSome, List, map, subst, Option, Some, None, Result, Ok, Err, refl, sym, ◌∙◌}
+use Rattle.std.proofs.Common.{◌≡◌, inl, inr, ℕ, Bool, true, false, true≢false, IfOk, IfSome, List, map, subst, Option, Some, None, Result, Ok, Err, refl, sym}
 use Rattle.std.specs.List.{AllZip}
 use Rattle.effect_fold.specs.Verdict.{Taken}
 use Rattle.effect_fold.specs.declared.effect.Effect.{Effect}

@@ -1,33 +1,43 @@
--- Why the matcher does not hold for a row whose column is another text than the request's value: all conjuncts before the equality come to a truth, and it comes to false.
+-- Why the matcher does not hold for a row that a part of it excludes: all parts before it come to a truth, and it comes to false.
 use Rattle.std.proofs.Common.{◌≡◌, ℕ, ◌&&◌, ◌||◌, ◌==◌, Bool, true, false, true≢false, List, [], ◌∷◌, ◌++◌, length, map, Option, Some, None, Result, Ok, refl, sym, ap, ◌∙◌, subst, cond, inl, inr, ◌⊎◌, ◌+◌, arith}
-use Rattle.std.specs.Prelude.{option_and_then, option_map}
+use Rattle.std.specs.Prelude.{is_some, option_and_then, option_map}
 use Rattle.std.specs.List.{AllByRecursion, list_all, list_any}
 use Rattle.std.specs.Option.{option_or}
 use Rattle.std.specs.Str.{bytes_eq}
-use Rattle.std.proofs.lemmas.Bool.{and_parts, false_from_ne_true}
+use Rattle.std.proofs.lemmas.Bool.{and_parts, eqb-true, false_from_ne_true}
 use Rattle.std.proofs.lemmas.Bool.Decides.{nat_tests}
 use Rattle.std.proofs.lemmas.List.{append_assoc}
-use Rattle.std.proofs.lemmas.Option.{some_pair_parts}
+use Rattle.std.proofs.lemmas.Option.{same_Some, some_pair_parts}
 use Rattle.std.proofs.lemmas.List.Folds.{list_all-append}
 use Rattle.effect_fold.specs.declared.fault.Fault.{Fault}
 use Rattle.perm_value.specs.Datum.{Datum}
 use Rattle.perm_value.specs.Datum as datum
 use Rattle.perm_value.specs.Equality.{datum_eq}
 use Rattle.perm_value.specs.Helps.EqualityLaws.{datum_eq-Decides}
-use Rattle.matcher_read.specs.Expression.{relation, Expression, text, whole, truth, request, policy, evaluated, negation, opposite, binary, among, call, Expressions, no_more, one_more, count, place}
+use Rattle.key_match.specs.Names.{CoversAlike}
+use Rattle.key_match.specs.Patterns.{brace_pieces, colon_pieces, glob_pieces}
+use Rattle.key_match.specs.Pieces.{Covers}
+use Rattle.key_match.specs.Stars.{AgreesToStar}
+use Rattle.policy_index.specs.Keys.{may_fit}
+use Rattle.policy_index.specs.declared.key.FrontKind.{FrontKind}
+use Rattle.policy_index.specs.declared.key.FrontKind.TheVariants as fronts
+use Rattle.policy_index.proofs.CallerLemmas.{alike_may, brace_may, colon_may, cut_may, glob_may, star_may}
+use Rattle.matcher_read.specs.Expression.{function, relation, Expression, text, whole, truth, request, policy, evaluated, negation, opposite, binary, among, call, Expressions, no_more, one_more, count, place}
+use Rattle.matcher_read.specs.declared.tree.Function.{Function}
+use Rattle.matcher_read.specs.declared.tree.Function.TheVariants as f
 use Rattle.matcher_read.specs.declared.tree.Operator.TheVariants as op
 use Rattle.model_conf.specs.ModelText.{ModelParts}
 use Rattle.model_conf.specs.Uses.{Use, of_request, is_declared, uses}
 use Rattle.matcher_meaning.specs.Answers as answers
 use Rattle.matcher_meaning.specs.Answers.{Evaluation, After, Unless}
-use Rattle.matcher_meaning.specs.Calls.{text_before, texts_of}
+use Rattle.matcher_meaning.specs.Calls.{IsWhether, OfTwo, text_before, texts_of, without_query}
 use Rattle.matcher_meaning.specs.CaseCalls.{GivesForTexts}
-use Rattle.matcher_meaning.specs.Cases.{Case, asked_value, row_text}
+use Rattle.matcher_meaning.specs.Cases.{Case, IsLinkedBy, asked_value, row_text}
 use Rattle.matcher_meaning.specs.Comes.{ComesTo, ComeToBy, Evaluates, TruthIs}
 use Rattle.matcher_meaning.specs.Meaning.{along, truth_at}
 use Rattle.matcher_meaning.specs.Operators.{settled, joined}
-use Rattle.decision.specs.Indexed.{are_asked, are_names, asked_column, both_columns, compared, conjuncts, first_equality, is_name, is_operand, is_quiet, policy_column}
-use Rattle.decision.specs.Helps.Indexing.{Part, equality, quiet, other, part_by, part_of, column_before, asked_among, asked_of, where_quiet, asked_before}
+use Rattle.decision.specs.Plans.{Fitted, Questioned, are_asked, are_names, asked_column, both_columns, compared, conjuncts, fitted, is_name, is_operand, is_quiet, kind_of, policy_column, question, questioned, quiet_front}
+use Rattle.decision.specs.Helps.Planning.{asked_among, asked_in, asked_of, column_before}
 
 -- each of these uses is declared by the model
 abbrev pub are_declared : ModelParts → List Use → Bool
@@ -224,125 +234,358 @@ quiet_question case at number es quiet_is texts r (x, come, after) =
     subst (λ (a : Result (List Datum) Fault). After a (λ ds. GivesForTexts case at (relation number) (texts_of ds) r) r) names.1 after in
     question_gives case at number names.0 many r (subst (λ (ts : Option (List (List ℕ))). GivesForTexts case at (relation number) ts r) (texts_are names.0) gives)
 
+-- ---- a function of two names
+
+-- what a function says of two texts, where its patterns have fronts
+abbrev pub Fits : Function → (word pattern : List ℕ) → Type 0
+Fits f.KeyMatch word pattern = AgreesToStar word pattern
+Fits f.KeyMatch2 word pattern = Covers (colon_pieces pattern) word
+Fits f.KeyMatch3 word pattern = Covers (brace_pieces pattern) word
+Fits f.KeyMatch4 word pattern = CoversAlike (brace_pieces pattern) word
+Fits f.KeyMatch5 word pattern = Covers (brace_pieces pattern) (without_query word)
+Fits f.GlobMatch word pattern = Covers (glob_pieces pattern) word
+Fits _ word pattern = Unit {0}
+
+-- it comes to whether the text fits
+fits_whether : (refused : Option (ℕ × List ℕ)) (at : ℕ) (called : Function) (word pattern : List ℕ) (r : Evaluation) → is_some (kind_of called) ≡ true → OfTwo refused at called word pattern r → IsWhether (Fits called word pattern) r
+fits_whether refused at f.KeyMatch word pattern r some is = is
+fits_whether refused at f.KeyMatch2 word pattern r some is = is
+fits_whether refused at f.KeyMatch3 word pattern r some is = is
+fits_whether refused at f.KeyMatch4 word pattern r some is = is
+fits_whether refused at f.KeyMatch5 word pattern r some is = is
+fits_whether refused at f.GlobMatch word pattern r some is = is
+fits_whether refused at f.RegexMatch word pattern r some is = never some
+fits_whether refused at f.IpMatch word pattern r some is = never some
+fits_whether refused at f.KeyGet word pattern r some is = never some
+fits_whether refused at f.KeyGet2 word pattern r some is = never some
+fits_whether refused at f.KeyGet3 word pattern r some is = never some
+
+-- a text that fits may fit by the front of the pattern
+pub fitting_may : (called : Function) (kind : FrontKind) (word pattern : List ℕ) → kind_of called ≡ Some kind → Fits called word pattern → may_fit kind pattern word ≡ true
+fitting_may f.KeyMatch kind word pattern is fits = subst (λ (k : FrontKind). may_fit k pattern word ≡ true) (same_Some fronts.Star kind is) (star_may pattern word fits)
+fitting_may f.KeyMatch2 kind word pattern is fits = subst (λ (k : FrontKind). may_fit k pattern word ≡ true) (same_Some fronts.Colon kind is) (colon_may pattern word fits)
+fitting_may f.KeyMatch3 kind word pattern is fits = subst (λ (k : FrontKind). may_fit k pattern word ≡ true) (same_Some fronts.Brace kind is) (brace_may pattern word fits)
+fitting_may f.KeyMatch4 kind word pattern is fits = subst (λ (k : FrontKind). may_fit k pattern word ≡ true) (same_Some fronts.Brace kind is) (alike_may pattern word fits)
+fitting_may f.KeyMatch5 kind word pattern is fits = subst (λ (k : FrontKind). may_fit k pattern word ≡ true) (same_Some fronts.CutBrace kind is) (cut_may pattern word fits)
+fitting_may f.GlobMatch kind word pattern is fits = subst (λ (k : FrontKind). may_fit k pattern word ≡ true) (same_Some fronts.Glob kind is) (glob_may pattern word fits)
+fitting_may f.RegexMatch kind word pattern is fits = absurd cc
+fitting_may f.IpMatch kind word pattern is fits = absurd cc
+fitting_may f.KeyGet kind word pattern is fits = absurd cc
+fitting_may f.KeyGet2 kind word pattern is fits = absurd cc
+fitting_may f.KeyGet3 kind word pattern is fits = absurd cc
+
+-- a call of two texts comes to a truth
+pair_gives : (case : Case) (at : ℕ) (called : Function) (ts : List (List ℕ)) → is_some (kind_of called) ≡ true → length ts ≡ 2 → (r : Evaluation) → GivesForTexts case at (function called) (Some ts) r → (b : Bool) × (r ≡ Ok (datum.truth b))
+pair_gives case at called [] some are r gives = absurd (omega (arith, are))
+pair_gives case at called (s ∷ []) some are r gives = absurd (omega (arith, are))
+pair_gives case at called (s ∷ t ∷ []) some are r gives = let whether = fits_whether case.refused at called s t r some gives in (whether.0, whether.2)
+pair_gives case at called (s ∷ t ∷ u ∷ more) some are r gives = absurd (omega (arith, are))
+
+quiet_call : (case : Case) (at : ℕ) (called : Function) (es : Expressions) → (is_some (kind_of called) && (count es == 2 && are_names es)) ≡ true → AllByRecursion (HoldsText case) (asked_among es)
+    → (r : Evaluation) → ComesTo case (call at (function called) es) r → (b : Bool) × (r ≡ Ok (datum.truth b))
+quiet_call case at called es quiet_is texts r (x, come, after) =
+    let outer = and_parts (is_some (kind_of called)) (count es == 2 && are_names es) quiet_is in
+    let are = and_parts (count es == 2) (are_names es) outer.1 in
+    let names = names_come case es are.1 texts x come in
+    let two : length names.0 ≡ 2 = names.2 ∙ eqb-true (count es) 2 are.0 in
+    let gives : GivesForTexts case at (function called) (texts_of (map datum.text names.0)) r =
+    subst (λ (a : Result (List Datum) Fault). After a (λ ds. GivesForTexts case at (function called) (texts_of ds) r) r) names.1 after in
+    pair_gives case at called names.0 outer.0 two r (subst (λ (ts : Option (List (List ℕ))). GivesForTexts case at (function called) ts r) (texts_are names.0) gives)
+
+-- ---- what two known columns come to
+
+-- the arguments of a call of a request's column and one of the policy
+two_come : (case : Case) (e g : Expression) (columns : List ℕ × List ℕ) (t : List ℕ) → both_columns e g ≡ Some columns → asked_value case columns.0 ≡ Some (datum.text t)
+    → (r : Result (List Datum) Fault) → ComeToBy case (Evaluates case) (one_more e (one_more g no_more)) r → r ≡ Ok (datum.text t ∷ datum.text (row_text case columns.1) ∷ [])
+two_come case e g columns t is value r (x, first, after) =
+    let are = both_are (asked_column e) (policy_column g) columns.0 columns.1 is in
+    let behind : (y : Result (List Datum) Fault) × ComeToBy case (Evaluates case) (one_more g no_more) y × (r ≡ answers.with_first (datum.text t) y) =
+    side_is {Y = List Datum} x (datum.text t) (λ d s. (y : Result (List Datum) Fault) × ComeToBy case (Evaluates case) (one_more g no_more) y × (s ≡ answers.with_first d y)) r (column_comes case e columns.0 (datum.text t) are.0 value x first) after in
+    behind.2 ∙ ap (answers.with_first (datum.text t)) (one_comes behind.0 behind.1 are.1)
+  where
+    one_comes : (y : Result (List Datum) Fault) → ComeToBy case (Evaluates case) (one_more g no_more) y → policy_column g ≡ Some columns.1 → y ≡ Ok (datum.text (row_text case columns.1) ∷ [])
+    one_comes y (z, second, rest) field =
+        let last : (w : Result (List Datum) Fault) × (w ≡ Ok []) × (y ≡ answers.with_first (datum.text (row_text case columns.1)) w) =
+        side_is {Y = List Datum} z (datum.text (row_text case columns.1)) (λ d s. (w : Result (List Datum) Fault) × (w ≡ Ok []) × (s ≡ answers.with_first d w)) y (field_comes case g columns.1 field z second) rest in
+        last.2 ∙ ap (answers.with_first (datum.text (row_text case columns.1))) last.1
+
+-- a call that says whether a fact holds that does not
+whether_not : (Fact : Type 0) (r : Evaluation) → IsWhether Fact r → (Fact → ⊥) → r ≡ Ok (datum.truth false)
+whether_not Fact r (true, holds, is) differs = absurd (differs (holds.0 refl))
+whether_not Fact r (false, holds, is) differs = is
+
+-- a text of the request that does not fit the pattern of the row
+abbrev pub NotFitting : Case → Fitted → Type 0
+NotFitting case is = (t : List ℕ) × (asked_value case is.asked ≡ Some (datum.text t)) × (Fits is.called t (row_text case is.column) → ⊥)
+
+fitted_comes : (case : Case) (e : Expression) (is : Fitted) → fitted e ≡ Some is → is_quiet e ≡ true → NotFitting case is → (r : Evaluation) → ComesTo case e r → r ≡ Ok (datum.truth false)
+fitted_comes case (call at (function called) (one_more e (one_more g no_more))) is found quiet_is (t, value, differs) r (x, come, after) = by (kind_of called) refl found
+  where
+    some : is_some (kind_of called) ≡ true
+    some = (and_parts (is_some (kind_of called)) (count (one_more e (one_more g no_more)) == 2 && are_names (one_more e (one_more g no_more))) quiet_is).0
+
+    made : FrontKind → List ℕ × List ℕ → Fitted
+    made way columns = record { called = called; kind = way; asked = columns.0; column = columns.1 }
+
+    by : (k : Option FrontKind) → kind_of called ≡ k → option_and_then (λ (way : FrontKind). option_map (made way) (both_columns e g)) k ≡ Some is → r ≡ Ok (datum.truth false)
+    by None e-is found = absurd cc
+    by (Some way) e-is found = columns (both_columns e g) refl found
+      where
+        columns : (o : Option (List ℕ × List ℕ)) → both_columns e g ≡ o → option_map (made way) o ≡ Some is → r ≡ Ok (datum.truth false)
+        columns None o-is found = absurd cc
+        columns (Some pair) o-is found =
+            let mine : made way pair ≡ is = same_Some (made way pair) is found in
+            let asked : asked_value case pair.0 ≡ Some (datum.text t) = ap (λ (one : Fitted). asked_value case one.asked) mine ∙ value in
+            let args : x ≡ Ok (datum.text t ∷ datum.text (row_text case pair.1) ∷ []) = two_come case e g pair t o-is asked x come in
+            let gives : OfTwo case.refused at called t (row_text case pair.1) r = subst (λ (a : Result (List Datum) Fault). After a (λ ds. GivesForTexts case at (function called) (texts_of ds) r) r) args after in
+            whether_not (Fits called t (row_text case pair.1)) r (fits_whether case.refused at called t (row_text case pair.1) r some gives)
+            (λ fits. differs (subst (λ (one : Fitted). Fits one.called t (row_text case one.column)) mine fits))
+fitted_comes case _ is found quiet_is differs r comes = absurd cc
+
+-- a name of the request that has not the role of the row
+abbrev pub IsDomainIn : Case → Option (List ℕ) → Option (List ℕ) → Type 0
+IsDomainIn case None domain = domain ≡ None
+IsDomainIn case (Some column) domain = (t : List ℕ) × (asked_value case column ≡ Some (datum.text t)) × (domain ≡ Some t)
+
+abbrev pub NotLinked : Case → Questioned → Type 0
+NotLinked case is =
+    (t : List ℕ) × (asked_value case is.asked ≡ Some (datum.text t)) × (domain : Option (List ℕ)) × IsDomainIn case is.domain domain
+    × (IsLinkedBy case.shapes case.policy is.number t (row_text case is.column) domain → ⊥)
+
+-- the third argument of a question, which is a column of the request
+three_come : (case : Case) (e g d : Expression) (columns : List ℕ × List ℕ) (column t u : List ℕ) → both_columns e g ≡ Some columns → asked_column d ≡ Some column → asked_value case columns.0 ≡ Some (datum.text t) → asked_value case column ≡ Some (datum.text u)
+    → (r : Result (List Datum) Fault) → ComeToBy case (Evaluates case) (one_more e (one_more g (one_more d no_more))) r → r ≡ Ok (datum.text t ∷ datum.text (row_text case columns.1) ∷ datum.text u ∷ [])
+three_come case e g d columns column t u is third value domain r (x, first, after) =
+    let are = both_are (asked_column e) (policy_column g) columns.0 columns.1 is in
+    let behind : (y : Result (List Datum) Fault) × ComeToBy case (Evaluates case) (one_more g (one_more d no_more)) y × (r ≡ answers.with_first (datum.text t) y) =
+    side_is {Y = List Datum} x (datum.text t) (λ v s. (y : Result (List Datum) Fault) × ComeToBy case (Evaluates case) (one_more g (one_more d no_more)) y × (s ≡ answers.with_first v y)) r (column_comes case e columns.0 (datum.text t) are.0 value x first) after in
+    behind.2 ∙ ap (answers.with_first (datum.text t)) (two_left behind.0 behind.1 are.1)
+  where
+    one_left : (w : Result (List Datum) Fault) → ComeToBy case (Evaluates case) (one_more d no_more) w → w ≡ Ok (datum.text u ∷ [])
+    one_left w (z, comes, rest) =
+        let last : (v : Result (List Datum) Fault) × (v ≡ Ok []) × (w ≡ answers.with_first (datum.text u) v) =
+        side_is {Y = List Datum} z (datum.text u) (λ q s. (v : Result (List Datum) Fault) × (v ≡ Ok []) × (s ≡ answers.with_first q v)) w (column_comes case d column (datum.text u) third domain z comes) rest in
+        last.2 ∙ ap (answers.with_first (datum.text u)) last.1
+
+    two_left : (y : Result (List Datum) Fault) → ComeToBy case (Evaluates case) (one_more g (one_more d no_more)) y → policy_column g ≡ Some columns.1 → y ≡ Ok (datum.text (row_text case columns.1) ∷ datum.text u ∷ [])
+    two_left y (z, second, rest) field =
+        let next : (w : Result (List Datum) Fault) × ComeToBy case (Evaluates case) (one_more d no_more) w × (y ≡ answers.with_first (datum.text (row_text case columns.1)) w) =
+        side_is {Y = List Datum} z (datum.text (row_text case columns.1)) (λ v s. (w : Result (List Datum) Fault) × ComeToBy case (Evaluates case) (one_more d no_more) w × (s ≡ answers.with_first v w)) y (field_comes case g columns.1 field z second) rest in
+        next.2 ∙ ap (answers.with_first (datum.text (row_text case columns.1))) (one_left next.0 next.1)
+
+questioned_comes : (case : Case) (e : Expression) (is : Questioned) → questioned e ≡ Some is → NotLinked case is → (r : Evaluation) → ComesTo case e r → r ≡ Ok (datum.truth false)
+questioned_comes case (call at (relation number) (one_more e (one_more g no_more))) is found (t, value, domain, named, differs) r (x, come, after) = columns (both_columns e g) refl found
+  where
+    columns : (o : Option (List ℕ × List ℕ)) → both_columns e g ≡ o → option_map (question number None) o ≡ Some is → r ≡ Ok (datum.truth false)
+    columns None o-is found = absurd cc
+    columns (Some pair) o-is found =
+        let mine : question number None pair ≡ is = same_Some (question number None pair) is found in
+        let asked : asked_value case pair.0 ≡ Some (datum.text t) = ap (λ (one : Questioned). asked_value case one.asked) mine ∙ value in
+        let none : domain ≡ None = subst (λ (one : Questioned). IsDomainIn case one.domain domain) (sym mine) named in
+        let args : x ≡ Ok (datum.text t ∷ datum.text (row_text case pair.1) ∷ []) = two_come case e g pair t o-is asked x come in
+        let gives : IsWhether (IsLinkedBy case.shapes case.policy number t (row_text case pair.1) None) r = subst (λ (a : Result (List Datum) Fault). After a (λ ds. GivesForTexts case at (relation number) (texts_of ds) r) r) args after in
+        whether_not (IsLinkedBy case.shapes case.policy number t (row_text case pair.1) None) r gives
+        (λ linked. differs (subst (λ (one : Questioned). IsLinkedBy case.shapes case.policy one.number t (row_text case one.column) domain) mine (subst (IsLinkedBy case.shapes case.policy number t (row_text case pair.1)) (sym none) linked)))
+questioned_comes case (call at (relation number) (one_more e (one_more g (one_more d no_more)))) is found (t, value, domain, named, differs) r (x, come, after) = third (asked_column d) refl found
+  where
+    third : (o : Option (List ℕ)) → asked_column d ≡ o → option_and_then (λ (column : List ℕ). option_map (question number (Some column)) (both_columns e g)) o ≡ Some is → r ≡ Ok (datum.truth false)
+    third None d-is found = absurd cc
+    third (Some column) d-is found = columns (both_columns e g) refl found
+      where
+        columns : (o : Option (List ℕ × List ℕ)) → both_columns e g ≡ o → option_map (question number (Some column)) o ≡ Some is → r ≡ Ok (datum.truth false)
+        columns None o-is found = absurd cc
+        columns (Some pair) o-is found =
+            let mine : question number (Some column) pair ≡ is = same_Some (question number (Some column) pair) is found in
+            let asked : asked_value case pair.0 ≡ Some (datum.text t) = ap (λ (one : Questioned). asked_value case one.asked) mine ∙ value in
+            let there : (u : List ℕ) × (asked_value case column ≡ Some (datum.text u)) × (domain ≡ Some u) = subst (λ (one : Questioned). IsDomainIn case one.domain domain) (sym mine) named in
+            let args : x ≡ Ok (datum.text t ∷ datum.text (row_text case pair.1) ∷ datum.text there.0 ∷ []) = three_come case e g d pair column t there.0 o-is d-is asked there.1 x come in
+            let gives : IsWhether (IsLinkedBy case.shapes case.policy number t (row_text case pair.1) (Some there.0)) r = subst (λ (a : Result (List Datum) Fault). After a (λ ds. GivesForTexts case at (relation number) (texts_of ds) r) r) args after in
+            whether_not (IsLinkedBy case.shapes case.policy number t (row_text case pair.1) (Some there.0)) r gives
+            (λ linked. differs (subst (λ (one : Questioned). IsLinkedBy case.shapes case.policy one.number t (row_text case one.column) domain) mine (subst (IsLinkedBy case.shapes case.policy number t (row_text case pair.1)) (sym there.2) linked)))
+questioned_comes case _ is found differs r comes = absurd cc
+
 -- ---- a conjunct
 
 quiet_comes : (case : Case) (e : Expression) → HasValues case → is_quiet e ≡ true → are_declared case.model (uses e) ≡ true → AllByRecursion (HoldsText case) (asked_of e)
     → (r : Evaluation) → ComesTo case e r → (b : Bool) × (r ≡ Ok (datum.truth b))
-quiet_comes case (binary at op.Equal e f) has is declared texts r comes = quiet_equality case at e f has is declared r comes
+quiet_comes case (binary at op.Equal e g) has is declared texts r comes = quiet_equality case at e g has is declared r comes
 quiet_comes case (call at (relation number) es) has is declared texts r comes = quiet_question case at number es is texts r comes
+quiet_comes case (call at (function called) es) has is declared texts r comes = quiet_call case at called es is texts r comes
 quiet_comes case _ has is declared texts r comes = never is
 
--- what an expression comes to, by what its conjuncts are
-abbrev Says : Case → Part → Evaluation → Type 0
-Says case quiet r = (b : Bool) × (r ≡ Ok (datum.truth b))
-Says case (equality asked column) r = Differs case asked column → r ≡ Ok (datum.truth false)
-Says case other r = Unit {0}
+-- a conjunct that does not hold: its columns differ, its text does not fit, or its name has not the role
+pub data Excludes (case : Case) (e : Expression) : Type 0 where
+  by_columns : (columns : List ℕ × List ℕ) → compared e ≡ Some columns → Differs case columns.0 columns.1 → Excludes case e
+  by_pattern : (is : Fitted) → fitted e ≡ Some is → NotFitting case is → Excludes case e
+  by_role : (is : Questioned) → questioned e ≡ Some is → NotLinked case is → Excludes case e
 
-conjunct_says : (case : Case) (e : Expression) → HasValues case → are_declared case.model (uses e) ≡ true → AllByRecursion (HoldsText case) (where_quiet (part_of e) (asked_of e ++ [])) → (r : Evaluation) → ComesTo case e r → Says case (part_of e) r
-conjunct_says case e has declared texts r comes = by (compared e) refl (is_quiet e) refl texts
-  where
-    by : (columns : Option (List ℕ × List ℕ)) → compared e ≡ columns → (silent : Bool) → is_quiet e ≡ silent → AllByRecursion (HoldsText case) (where_quiet (part_by columns silent) (asked_of e ++ [])) → Says case (part_by columns silent) r
-    by (Some (asked, column)) is silent quiet_is held = λ differs. compared_comes case e asked column is differs r comes
-    by None is true quiet_is held = quiet_comes case e has quiet_is declared (each_parts (HoldsText case) (asked_of e) [] held).0 r comes
-    by None is false quiet_is held = tt
+excluded_comes : (case : Case) (e : Expression) → is_quiet e ≡ true → Excludes case e → (r : Evaluation) → ComesTo case e r → r ≡ Ok (datum.truth false)
+excluded_comes case e quiet_is (by_columns columns is differs) r comes = compared_comes case e columns.0 columns.1 is differs r comes
+excluded_comes case e quiet_is (by_pattern is found differs) r comes = fitted_comes case e is found quiet_is differs r comes
+excluded_comes case e quiet_is (by_role is found differs) r comes = questioned_comes case e is found differs r comes
+
+-- one of conjuncts does not hold
+abbrev pub SomeExcludes : Case → List Expression → Type 0
+SomeExcludes case [] = ⊥
+SomeExcludes case (e ∷ es) = Excludes case e ⊎ SomeExcludes case es
 
 -- ---- conjuncts, one after the other
 
--- what those before a conjunct and those from it on are
-abbrev onto : Part → Part → Part
-onto quiet part = part
-onto (equality asked column) part = equality asked column
-onto other part = other
+-- each of them is quiet
+abbrev pub all_quiet : List Expression → Bool
+all_quiet es = list_all is_quiet es
 
--- what conjuncts are
-abbrev pub parts_in : List Expression → Part
-parts_in [] = quiet
-parts_in (e ∷ es) = onto (part_of e) (parts_in es)
+-- those in front of the first that may fail, of two lists
+front_append : (es gs : List Expression) (b : Bool) → all_quiet es ≡ b → quiet_front (es ++ gs) ≡ cond b (es ++ quiet_front gs) (quiet_front es)
+front_append [] gs true is = refl
+front_append [] gs false is = absurd (true≢false is)
+front_append (e ∷ es) gs b is = by (is_quiet e) is (λ all. front_append es gs b all)
+  where
+    by : (q : Bool) → (q && all_quiet es) ≡ b → (all_quiet es ≡ b → quiet_front (es ++ gs) ≡ cond b (es ++ quiet_front gs) (quiet_front es)) → cond q (e ∷ quiet_front (es ++ gs)) [] ≡ cond b (e ∷ es ++ quiet_front gs) (cond q (e ∷ quiet_front es) [])
+    by true all rest = ap (λ (l : List Expression). e ∷ l) (rest all) ∙ inside b
+      where
+        inside : (c : Bool) → e ∷ cond c (es ++ quiet_front gs) (quiet_front es) ≡ cond c (e ∷ es ++ quiet_front gs) (e ∷ quiet_front es)
+        inside true = refl
+        inside false = refl
+    by false all rest = subst (λ (c : Bool). [] ≡ cond c (e ∷ es ++ quiet_front gs) []) all refl
 
-onto_onto : (a b c : Part) → onto (onto a b) c ≡ onto a (onto b c)
-onto_onto quiet b c = refl
-onto_onto (equality asked column) b c = refl
-onto_onto other b c = refl
+front_all : (es : List Expression) → all_quiet es ≡ true → quiet_front es ≡ es
+front_all [] is = refl
+front_all (e ∷ es) is =
+    let parts = and_parts (is_quiet e) (all_quiet es) is in
+    ap (λ (b : Bool). cond b (e ∷ quiet_front es) []) parts.0 ∙ ap (λ (l : List Expression). e ∷ l) (front_all es parts.1)
 
-onto_quiet : (a : Part) → onto a quiet ≡ a
-onto_quiet quiet = refl
-onto_quiet (equality asked column) = refl
-onto_quiet other = refl
+asked_append : (es gs : List Expression) → asked_in (es ++ gs) ≡ asked_in es ++ asked_in gs
+asked_append [] gs = refl
+asked_append (e ∷ es) gs = ap (λ (l : List (List ℕ)). asked_of e ++ l) (asked_append es gs) ∙ sym (append_assoc (asked_of e) (asked_in es) (asked_in gs))
 
-parts_append : (es fs : List Expression) → parts_in (es ++ fs) ≡ onto (parts_in es) (parts_in fs)
-parts_append [] fs = refl
-parts_append (e ∷ es) fs = ap (onto (part_of e)) (parts_append es fs) ∙ sym (onto_onto (part_of e) (parts_in es) (parts_in fs))
+excludes_parts : (case : Case) (es gs : List Expression) → SomeExcludes case (es ++ gs) → SomeExcludes case es ⊎ SomeExcludes case gs
+excludes_parts case [] gs some = inr some
+excludes_parts case (e ∷ es) gs (inl here) = inl (inl here)
+excludes_parts case (e ∷ es) gs (inr later) = by (excludes_parts case es gs later)
+  where
+    by : SomeExcludes case es ⊎ SomeExcludes case gs → SomeExcludes case (e ∷ es) ⊎ SomeExcludes case gs
+    by (inl some) = inl (inr some)
+    by (inr some) = inr some
 
-asked_more : (part rest : Part) (own front back both : List (List ℕ)) → both ≡ front ++ where_quiet rest back → where_quiet part (own ++ both) ≡ where_quiet part (own ++ front) ++ where_quiet (onto part rest) back
-asked_more quiet rest own front back both is = ap (λ (l : List (List ℕ)). own ++ l) is ∙ sym (append_assoc own front (where_quiet rest back))
-asked_more (equality asked column) rest own front back both is = refl
-asked_more other rest own front back both is = refl
+-- what conjuncts come to: a truth where none may fail, and false where one in front of the first that may fail does not hold
+pub record Says (case : Case) (es : List Expression) (r : Evaluation) : Type 0 where
+  pub truth : all_quiet es ≡ true → (b : Bool) × (r ≡ Ok (datum.truth b))
+  pub denied : SomeExcludes case (quiet_front es) → r ≡ Ok (datum.truth false)
 
-asked_append : (es fs : List Expression) → asked_before (es ++ fs) ≡ asked_before es ++ where_quiet (parts_in es) (asked_before fs)
-asked_append [] fs = refl
-asked_append (e ∷ es) fs = asked_more (part_of e) (parts_in es) (asked_of e) (asked_before es) (asked_before fs) (asked_before (es ++ fs)) (asked_append es fs)
-
--- the columns of the part that conjuncts are
-abbrev columns_in : Part → Option (List ℕ × List ℕ)
-columns_in (equality asked column) = Some (asked, column)
-columns_in quiet = None
-columns_in other = None
-
-first_in : (columns rest : Option (List ℕ × List ℕ)) (silent : Bool) (part : Part) → rest ≡ columns_in part → option_or columns (cond silent rest None) ≡ columns_in (onto (part_by columns silent) part)
-first_in (Some (asked, column)) rest silent part is = refl
-first_in None rest true part is = is
-first_in None rest false part is = refl
-
-first_is : (es : List Expression) → first_equality es ≡ columns_in (parts_in es)
-first_is [] = refl
-first_is (e ∷ es) = first_in (compared e) (first_equality es) (is_quiet e) (parts_in es) (first_is es)
-
-equality_is : (part : Part) (asked column : List ℕ) → columns_in part ≡ Some (asked, column) → part ≡ equality asked column
-equality_is (equality own field) asked column is =
-    let same = some_pair_parts own asked field column is in
-    ap (λ (l : List ℕ). equality l field) same.0 ∙ ap (equality asked) same.1
-equality_is quiet asked column is = absurd cc
-equality_is other asked column is = absurd cc
-
--- ---- an expression
-
-false_says : (case : Case) (part : Part) (r : Evaluation) → r ≡ Ok (datum.truth false) → Says case part r
-false_says case quiet r is = (false, is)
-false_says case (equality asked column) r is = λ differs. is
-false_says case other r is = tt
-
--- the answer of the right side is that of `&&`
-next_says : (case : Case) (part : Part) (at : ℕ) (y r : Evaluation) → Says case part y → r ≡ answers.then y (joined at op.And (datum.truth true)) → Says case part r
-next_says case quiet at y r (b, is) e = (b, e ∙ ap (λ (a : Evaluation). answers.then a (joined at op.And (datum.truth true))) is)
-next_says case (equality asked column) at y r says e = λ differs. e ∙ ap (λ (a : Evaluation). answers.then a (joined at op.And (datum.truth true))) (says differs)
-next_says case other at y r says e = tt
+-- the texts that they want are there
+abbrev HaveNames : Case → List Expression → Type 0
+HaveNames case es = AllByRecursion (HoldsText case) (asked_in (quiet_front es))
 
 -- what is said of `&&` behind its left side
 abbrev Behind : Case → ℕ → Expression → Datum → Evaluation → Type 0
-Behind case at f d r = Unless (settled at op.And d) ((y : Evaluation) × ComesTo case f y × (r ≡ answers.then y (joined at op.And d))) r
+Behind case at g d r = Unless (settled at op.And d) ((y : Evaluation) × ComesTo case g y × (r ≡ answers.then y (joined at op.And d))) r
 
-truth_ends : (case : Case) (at : ℕ) (f : Expression) (part : Part) (b : Bool) (r : Evaluation) → Behind case at f (datum.truth b) r → ((y : Evaluation) → ComesTo case f y → Says case part y) → Says case part r
-truth_ends case at f part false r is says = false_says case part r is
-truth_ends case at f part true r (y, comes, e) says = next_says case part at y r (says y comes) e
+one_says : (case : Case) (e : Expression) → HasValues case → are_declared case.model (uses e) ≡ true → HaveNames case (e ∷ []) → (r : Evaluation) → ComesTo case e r → Says case (e ∷ []) r
+one_says case e has declared texts r comes = by (is_quiet e) refl
+  where
+    by : (b : Bool) → is_quiet e ≡ b → Says case (e ∷ []) r
+    by true is = record {
+      truth = λ all.
+          quiet_comes case e has is declared
+          (each_parts (HoldsText case) (asked_of e) [] (subst (λ (l : List Expression). AllByRecursion (HoldsText case) (asked_in l)) (ap (λ (b : Bool). cond b (e ∷ []) []) is) texts)).0 r comes;
+      denied = λ some. only (subst (SomeExcludes case) (ap (λ (b : Bool). cond b (e ∷ []) []) is) some);
+    }
+      where
+        only : SomeExcludes case (e ∷ []) → r ≡ Ok (datum.truth false)
+        only (inl here) = excluded_comes case e is here r comes
+        only (inr nowhere) = absurd nowhere
+    by false is = record {
+      truth = λ all. absurd (true≢false (sym (and_parts (is_quiet e) true all).0 ∙ is));
+      denied = λ some. absurd (subst (SomeExcludes case) (ap (λ (b : Bool). cond b (e ∷ []) []) is) some);
+    }
 
-both_say : (case : Case) (at : ℕ) (f : Expression) (first second : Part) (columns : List (List ℕ)) (x r : Evaluation) → Says case first x → After x (λ d. Behind case at f d r) r
-    → AllByRecursion (HoldsText case) (where_quiet first columns) → (AllByRecursion (HoldsText case) columns → (y : Evaluation) → ComesTo case f y → Says case second y) → Says case (onto first second) r
-both_say case at f quiet second columns x r (b, is) after texts says = truth_ends case at f second b r (side_is x (datum.truth b) (Behind case at f) r is after) (says texts)
-both_say case at f (equality asked column) second columns x r left after texts says = λ differs. side_is x (datum.truth false) (Behind case at f) r (left differs) after
-both_say case at f other second columns x r left after texts says = tt
+-- the answer of `&&` where the left side is true
+right_is : (at : ℕ) (y r : Evaluation) (b : Bool) → r ≡ answers.then y (joined at op.And (datum.truth true)) → y ≡ Ok (datum.truth b) → r ≡ Ok (datum.truth b)
+right_is at y r b e is = e ∙ ap (λ (a : Evaluation). answers.then a (joined at op.And (datum.truth true))) is
 
-pub expression_says : (case : Case) (e : Expression) → HasValues case → are_declared case.model (uses e) ≡ true → AllByRecursion (HoldsText case) (asked_before (conjuncts e)) → (r : Evaluation) → ComesTo case e r → Says case (parts_in (conjuncts e)) r
-expression_says case (binary at op.And e f) has declared texts r (x, comes, after) =
-    let named = declared_parts case.model (uses e) (uses f) declared in
-    let held = each_parts (HoldsText case) (asked_before (conjuncts e)) (where_quiet (parts_in (conjuncts e)) (asked_before (conjuncts f))) (subst (AllByRecursion (HoldsText case)) (asked_append (conjuncts e) (conjuncts f)) texts) in
-    subst (λ (part : Part). Says case part r) (sym (parts_append (conjuncts e) (conjuncts f)))
-    (both_say case at f (parts_in (conjuncts e)) (parts_in (conjuncts f)) (asked_before (conjuncts f)) x r (expression_says case e has named.0 held.0 x comes) after held.1 (λ right. expression_says case f has named.1 right))
-expression_says case e has declared texts r comes = subst (λ (part : Part). Says case part r) (sym (onto_quiet (part_of e))) (conjunct_says case e has declared texts r comes)
+both_say : (case : Case) (at : ℕ) (g : Expression) (es gs : List Expression) (x r : Evaluation) → Says case es x → After x (λ d. Behind case at g d r) r → (all_quiet es ≡ true → (y : Evaluation) → ComesTo case g y → Says case gs y) → Says case (es ++ gs) r
+both_say case at g es gs x r left after right = record { truth = truth; denied = not_held }
+  where
+    behind : (d : Datum) → x ≡ Ok d → Behind case at g d r
+    behind d is = side_is x d (Behind case at g) r is after
 
--- the matcher does not hold where its first equality differs
-pub left_out : (case : Case) (e : Expression) (asked column : List ℕ) → HasValues case → are_declared case.model (uses e) ≡ true → AllByRecursion (HoldsText case) (asked_before (conjuncts e))
-    → first_equality (conjuncts e) ≡ Some (asked, column) → Differs case asked column → (t : Result Bool Fault) × TruthIs case e t → TruthIs case e (Ok false)
-left_out case e asked column has declared texts first differs (t, (x, comes, is)) =
-    let part : parts_in (conjuncts e) ≡ equality asked column = equality_is (parts_in (conjuncts e)) asked column (sym (first_is (conjuncts e)) ∙ first) in
-    let answer : x ≡ Ok (datum.truth false) = subst (λ (p : Part). Says case p x) part (expression_says case e has declared texts x comes) differs in
+    truth : all_quiet (es ++ gs) ≡ true → (b : Bool) × (r ≡ Ok (datum.truth b))
+    truth all = by (left.truth parts.0)
+      where
+        parts : (all_quiet es ≡ true) × (all_quiet gs ≡ true)
+        parts = and_parts (all_quiet es) (all_quiet gs) (sym (list_all-append is_quiet es gs) ∙ all)
+
+        by : (b : Bool) × (x ≡ Ok (datum.truth b)) → (b : Bool) × (r ≡ Ok (datum.truth b))
+        by (false, is) = (false, behind (datum.truth false) is)
+        by (true, is) =
+            let next : (y : Evaluation) × ComesTo case g y × (r ≡ answers.then y (joined at op.And (datum.truth true))) = behind (datum.truth true) is in
+            let said = (right parts.0 next.0 next.1).truth parts.1 in
+            (said.0, right_is at next.0 r said.0 next.2 said.1)
+
+    not_held : SomeExcludes case (quiet_front (es ++ gs)) → r ≡ Ok (datum.truth false)
+    not_held some = by (all_quiet es) refl
+      where
+        from_left : SomeExcludes case (quiet_front es) → r ≡ Ok (datum.truth false)
+        from_left there = behind (datum.truth false) (left.denied there)
+
+        by : (b : Bool) → all_quiet es ≡ b → r ≡ Ok (datum.truth false)
+        by false is = from_left (subst (SomeExcludes case) (front_append es gs false is) some)
+        by true is = either (excludes_parts case es (quiet_front gs) (subst (SomeExcludes case) (front_append es gs true is) some))
+          where
+            either : SomeExcludes case es ⊎ SomeExcludes case (quiet_front gs) → r ≡ Ok (datum.truth false)
+            either (inl there) = from_left (subst (SomeExcludes case) (sym (front_all es is)) there)
+            either (inr later) = from_right (left.truth is)
+              where
+                from_right : (b : Bool) × (x ≡ Ok (datum.truth b)) → r ≡ Ok (datum.truth false)
+                from_right (false, x-is) = behind (datum.truth false) x-is
+                from_right (true, x-is) =
+                    let next : (y : Evaluation) × ComesTo case g y × (r ≡ answers.then y (joined at op.And (datum.truth true))) = behind (datum.truth true) x-is in
+                    right_is at next.0 r false next.2 ((right is next.0 next.1).denied later)
+
+-- ---- an expression
+
+-- the texts that the two sides of `&&` want
+left_names : (case : Case) (es gs : List Expression) → HaveNames case (es ++ gs) → HaveNames case es
+left_names case es gs held = by (all_quiet es) refl
+  where
+    by : (b : Bool) → all_quiet es ≡ b → HaveNames case es
+    by true is =
+        subst (λ (l : List Expression). AllByRecursion (HoldsText case) (asked_in l)) (sym (front_all es is))
+        (each_parts (HoldsText case) (asked_in es) (asked_in (quiet_front gs))
+        (subst (AllByRecursion (HoldsText case)) (ap asked_in (front_append es gs true is) ∙ asked_append es (quiet_front gs)) held)).0
+    by false is = subst (λ (l : List Expression). AllByRecursion (HoldsText case) (asked_in l)) (front_append es gs false is) held
+
+right_names : (case : Case) (es gs : List Expression) → all_quiet es ≡ true → HaveNames case (es ++ gs) → HaveNames case gs
+right_names case es gs is held =
+    (each_parts (HoldsText case) (asked_in es) (asked_in (quiet_front gs)) (subst (AllByRecursion (HoldsText case)) (ap asked_in (front_append es gs true is) ∙ asked_append es (quiet_front gs)) held)).1
+
+pub expression_says : (case : Case) (e : Expression) → HasValues case → are_declared case.model (uses e) ≡ true → HaveNames case (conjuncts e) → (r : Evaluation) → ComesTo case e r → Says case (conjuncts e) r
+expression_says case (binary at op.And e g) has declared texts r (x, comes, after) =
+    let named = declared_parts case.model (uses e) (uses g) declared in
+    both_say case at g (conjuncts e) (conjuncts g) x r (expression_says case e has named.0 (left_names case (conjuncts e) (conjuncts g) texts) x comes) after
+    (λ all right. expression_says case g has named.1 (right_names case (conjuncts e) (conjuncts g) all texts) right)
+expression_says case e has declared texts r comes = one_says case e has declared texts r comes
+
+-- the matcher does not hold where a part that counts does not
+pub left_out : (case : Case) (e : Expression) → HasValues case → are_declared case.model (uses e) ≡ true → AllByRecursion (HoldsText case) (asked_in (quiet_front (conjuncts e)))
+    → SomeExcludes case (quiet_front (conjuncts e)) → (t : Result Bool Fault) × TruthIs case e t → TruthIs case e (Ok false)
+left_out case e has declared texts some (t, (x, comes, is)) =
+    let answer : x ≡ Ok (datum.truth false) = (expression_says case e has declared texts x comes).denied some in
     (x, comes, sym (ap (λ (a : Evaluation). answers.then a (truth_at (place e))) answer))
+
+-- the function of a fitted text has patterns of that kind
+pub kind_is : (e : Expression) (is : Fitted) → fitted e ≡ Some is → kind_of is.called ≡ Some is.kind
+kind_is (call at (function called) (one_more e (one_more g no_more))) is found = by (kind_of called) refl found
+  where
+    made : FrontKind → List ℕ × List ℕ → Fitted
+    made way columns = record { called = called; kind = way; asked = columns.0; column = columns.1 }
+
+    by : (k : Option FrontKind) → kind_of called ≡ k → option_and_then (λ (way : FrontKind). option_map (made way) (both_columns e g)) k ≡ Some is → kind_of is.called ≡ Some is.kind
+    by None e-is found = absurd cc
+    by (Some way) e-is found = columns (both_columns e g) found
+      where
+        columns : (o : Option (List ℕ × List ℕ)) → option_map (made way) o ≡ Some is → kind_of is.called ≡ Some is.kind
+        columns None found = absurd cc
+        columns (Some pair) found = subst (λ (one : Fitted). kind_of one.called ≡ Some one.kind) (same_Some (made way pair) is found) e-is
+kind_is _ is found = absurd cc

@@ -7,7 +7,11 @@ mod FirstLemmas
 mod JudgedLemmas
 mod SuitLemmas
 mod NamedRowLemmas
-mod IndexLemmas
+mod NameLemmas
 mod LeftOutLemmas
+mod PlanLemmas
+mod KeyLemmas
+mod GatherLemmas
 mod LookLemmas
+mod LookedLemmas
 pub mod CallerLemmas

@@ -23,7 +23,7 @@ use Rattle.matcher_code.specs.declared.stop.Stop.{Stop}
 use Rattle.matcher_code.specs.declared.stop.Stop.TheVariants as stop
 use Rattle.decision.specs.Helps.Outcomes.{ComesTo, SaysTruth, truth_in, word_of_row}
 use Rattle.decision.specs.Helps.Parts.{IsProgram}
-use Rattle.decision.specs.declared.index.Index.{Index}
+use Rattle.decision.specs.declared.plan.KeptPlan.{KeptPlan}
 
 -- an answer of which more is known
 answer_weaker : {X : Type 0} (Says SaysToo : Option (ℕ × List ℕ) → Evaluation → Type 0) (value : X → Datum) (Refused : Option (List ℕ) → Type 0) → ((refused : Option (ℕ × List ℕ)) (answer : Evaluation) → Says refused answer → SaysToo refused answer) → (r : Result X Stop)
@@ -34,9 +34,9 @@ answer_weaker Says SaysToo value Refused weaker (Err (stop.Fault failed)) (inr (
 answer_weaker Says SaysToo value Refused weaker (Err stop.NoMemory) none = none
 
 -- what the code of a program comes to is the truth of its matcher
-truth_of_value : (case : Case) (code : CodeParts) (by_row : Bool) (effect domain : Option ℕ) (index : Option Index) → IsProgram case.model code by_row effect domain index → (Refused : Option (List ℕ) → Type 0) (r : Result View Stop)
+truth_of_value : (case : Case) (code : CodeParts) (by_row : Bool) (effect domain : Option ℕ) (plan : Option KeptPlan) → IsProgram case.model code by_row effect domain plan → (Refused : Option (List ℕ) → Type 0) (r : Result View Stop)
     → IsValueOf case code.ops Refused r → IsAnswer (SaysTruth case) datum_of_view Refused r
-truth_of_value case code by_row effect domain index program Refused r is =
+truth_of_value case code by_row effect domain plan program Refused r is =
     answer_weaker (λ refused answer. CodeComesTo (where_refused case refused) code.ops answer) (SaysTruth case) datum_of_view Refused
     (λ refused answer comes. program.truth (where_refused case refused) answer refl comes) r is
 
@@ -57,16 +57,16 @@ said_truth case v (t, is, truth) = by t is
     by (Err fault) e = absurd cc
 
 -- the truth that a run gives
-pub truth_given : (case : Case) (code : CodeParts) (by_row : Bool) (effect domain : Option ℕ) (index : Option Index) → IsProgram case.model code by_row effect domain index → (Refused : Option (List ℕ) → Type 0) (v : View) (b : Bool) → b ≡ truth_in v
+pub truth_given : (case : Case) (code : CodeParts) (by_row : Bool) (effect domain : Option ℕ) (plan : Option KeptPlan) → IsProgram case.model code by_row effect domain plan → (Refused : Option (List ℕ) → Type 0) (v : View) (b : Bool) → b ≡ truth_in v
     → IsValueOf case code.ops Refused (Ok v) → IsAnswer (SaysTruth case) datums.truth Refused (Ok b)
-truth_given case code by_row effect domain index program Refused v b e is =
-    let whole = truth_of_value case code by_row effect domain index program Refused (Ok v) is in
+truth_given case code by_row effect domain plan program Refused v b e is =
+    let whole = truth_of_value case code by_row effect domain plan program Refused (Ok v) is in
     let said : SaysTruth case None (Ok (datum_of_view v)) = whole.1 in
     (whole.0, subst (λ (d : Datum). SaysTruth case None (Ok d)) (said_truth case v said ∙ ap (λ (c : Bool). datums.truth c) (sym e)) said)
 
 -- or why it gives none
-pub stop_given : (case : Case) (code : CodeParts) (by_row : Bool) (effect domain : Option ℕ) (index : Option Index) → IsProgram case.model code by_row effect domain index → (Refused : Option (List ℕ) → Type 0) (why : Stop) → IsValueOf case code.ops Refused (Err why) → IsAnswer {X = Bool} (SaysTruth case) datums.truth Refused (Err why)
-stop_given case code by_row effect domain index program Refused why is = by why (truth_of_value case code by_row effect domain index program Refused (Err why) is)
+pub stop_given : (case : Case) (code : CodeParts) (by_row : Bool) (effect domain : Option ℕ) (plan : Option KeptPlan) → IsProgram case.model code by_row effect domain plan → (Refused : Option (List ℕ) → Type 0) (why : Stop) → IsValueOf case code.ops Refused (Err why) → IsAnswer {X = Bool} (SaysTruth case) datums.truth Refused (Err why)
+stop_given case code by_row effect domain plan program Refused why is = by why (truth_of_value case code by_row effect domain plan program Refused (Err why) is)
   where
     by : (why : Stop) → IsAnswer {X = View} (SaysTruth case) datum_of_view Refused (Err why) → IsAnswer {X = Bool} (SaysTruth case) datums.truth Refused (Err why)
     by (stop.Fault failed) said = said

@@ -3,6 +3,7 @@ pub mod Parts
 pub mod Asked
 pub mod Outcomes
 pub mod Firsts
-pub mod Indexing
+pub mod Planning
 pub mod Leaving
+pub mod Gathering
 pub mod Covering

@@ -1,4 +1,4 @@
 pub mod Programs
-pub mod Indexed
+pub mod Plans
 pub mod Judging
 pub mod Helps

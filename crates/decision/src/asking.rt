@@ -1,4 +1,4 @@
-use crate::index::Index;
+use crate::plan::KeptPlan;
 use matcher_code::Code;
 use model_conf::Model;
 use perm_value::Request;
@@ -16,8 +16,8 @@ pub(crate) struct Asking<'a> {
     // The places of the policy's columns `eft` and `dom`.
     pub(crate) effect_place: Option<u32>,
     pub(crate) domain_place: Option<u32>,
-    // What is kept of the column of the index.
-    pub(crate) index: Option<&'a Index>,
+    // By what rows are found.
+    pub(crate) plan: Option<&'a KeptPlan>,
     pub(crate) state: &'a PolicyState,
     pub(crate) request: &'a Request,
 }

@@ -2,10 +2,12 @@ ghost use Rattle.std.specs.Prelude.{◌≡◌, IfErr, IfOk, false, true};
 ghost use Rattle.regex_gate.specs.Refusals.{IsUsed, RefusedOnly};
 ghost use Rattle.matcher_meaning.specs.Comes.{takes_memory};
 ghost use Rattle.decision.specs.Helps.Asked.{CanRun, case_in, rows_of};
+ghost use Rattle.decision.specs.Helps.Leaving.{LeavesOut};
 ghost use Rattle.decision.specs.Helps.Outcomes.{HasOutcomesInOrder, IsJudgedOn, is_by_subjects};
 
 use crate::asking::Asking;
 use crate::candidates::Candidates;
+use crate::looking::Looked;
 use crate::outcome::outcome;
 use effect_fold::{Fold, Verdict};
 use matcher_code::Stack;
@@ -16,10 +18,12 @@ use regex_gate::Finder;
 /// The verdict of the rows, in the order of the table.
 pub(crate) fn verdict_by_rows<'a, P: Finder, const N: usize>(
     asking: &Asking<'a>,
+    looked: Looked<'a>,
     finder: &mut P,
     stack: &mut Stack<'a, N>,
 ) -> Result<Verdict, NoMemory>
     requires run { CanRun asking.now N }
+    requires leaves { LeavesOut (case_in asking.now) (rows_of asking.now) looked }
     requires effect { is_by_subjects asking.now.model.now.effect ≡ false }
     ensures judged { IfOk result (IsJudgedOn (case_in asking.now)
         (HasOutcomesInOrder (case_in asking.now) (rows_of asking.now))
@@ -29,7 +33,7 @@ pub(crate) fn verdict_by_rows<'a, P: Finder, const N: usize>(
 {
     case_answer_is_there();
     let mut fold = Fold::new(asking.model.effect());
-    let mut candidates = Candidates::of(asking);
+    let mut candidates = Candidates::of(asking, looked);
     while let Some((number, row)) = candidates.next() {
         let outcome = outcome(asking, Some(row), finder, stack)?;
         if fold.take(Some(number), outcome) {

@@ -4,11 +4,13 @@ ghost use Rattle.matcher_meaning.specs.Comes.{takes_memory};
 ghost use Rattle.matcher_meaning.specs.Order.{numbered};
 ghost use Rattle.decision.specs.Helps.Asked.{CanRun, IsAsked, case_in, rows_of};
 ghost use Rattle.decision.specs.Helps.Firsts.{IsFirstWith, IsKnownIn, first_of, verdict_of_first};
+ghost use Rattle.decision.specs.Helps.Leaving.{LeavesOut};
 ghost use Rattle.decision.specs.Helps.Outcomes.{HasOutcomesInOrder, IsJudgedOn, is_by_subjects};
 
 use crate::asking::Asking;
 use crate::candidates::Candidates;
 use crate::depths::{Known, depth_of};
+use crate::looking::Looked;
 use crate::outcome::outcome;
 use effect_fold::{Outcome, Verdict};
 use matcher_code::Stack;
@@ -29,10 +31,12 @@ pub(crate) struct First {
 /// or fail, and of one depth that of the earliest.
 pub(crate) fn verdict_by_subjects<'a, P: Finder, const N: usize>(
     asking: &Asking<'a>,
+    looked: Looked<'a>,
     finder: &mut P,
     stack: &mut Stack<'a, N>,
 ) -> Result<Verdict, NoMemory>
     requires run { CanRun asking.now N }
+    requires leaves { LeavesOut (case_in asking.now) (rows_of asking.now) looked }
     requires effect { is_by_subjects asking.now.model.now.effect ≡ true }
     ensures judged { IfOk result (IsJudgedOn (case_in asking.now)
         (HasOutcomesInOrder (case_in asking.now) (rows_of asking.now))
@@ -47,7 +51,7 @@ pub(crate) fn verdict_by_subjects<'a, P: Finder, const N: usize>(
     order_by_depth();
     let mut first = None;
     let mut last = None;
-    let mut candidates = Candidates::of(asking);
+    let mut candidates = Candidates::of(asking, looked);
     while let Some((number, row)) = candidates.next() {
         let outcome = outcome(asking, Some(row), finder, stack)?;
         first = first_with(asking, first, number, row, outcome, &mut last);

@@ -1,83 +1,91 @@
 ghost use Rattle.std.specs.Prelude.{◌≡◌, [], ◌∷◌, MatchOption};
 ghost use Rattle.matcher_meaning.specs.Order.{numbered, numbered_from};
-ghost use Rattle.decision.specs.Helps.Asked.{IsAsked, case_in, rows_of};
+ghost use Rattle.decision.specs.Helps.Asked.{case_in, rows_of};
 ghost use Rattle.decision.specs.Helps.Covering.{Covers};
+ghost use Rattle.decision.specs.Helps.Leaving.{LeavesOut};
 
 use crate::asking::Asking;
-use crate::looking::{Looked, looked_at};
+use crate::looking::Looked;
 use perm_base::{Rule, TableId};
+use policy_table::{Rows, Tables};
 use std::marker::Model;
 
 /// The rows of p that may decide, each with its number, in the order of the table. Contracts see what is left of them.
 #[derive(Drop)]
 pub(crate) struct Candidates<'a> {
-    table: &'a [Rule],
-    left: Left<'a>,
-}
-
-/// Which rows of a table are left to look at: all behind so many, or those at these places.
-#[derive(Clone, Copy)]
-pub(crate) enum Left<'a> {
-    Behind(u32),
-    At(&'a [u32]),
+    tables: &'a Tables,
+    // Those behind so many, where all are looked at.
+    rows: Rows<'a>,
+    passed: u32,
+    // Those at these places, where only some are.
+    places: Option<&'a [u32]>,
 }
 
 impl<'a> Model for Candidates<'a> {
     ghost use Rattle.std.specs.Prelude.{List};
+    ghost use Rattle.std.specs.Option.{option_copied};
     ghost use Rattle.matcher_meaning.specs.Order.{Numbered};
+    ghost use Rattle.perm_base.specs.declared.shapes.TableId.TheVariants.{P};
+    ghost use Rattle.policy_table.specs.Tables as policy;
     ghost use Rattle.decision.specs.Helps.Covering.{AreInTable, rows_left};
 
     ghost Value = { List Numbered };
 
-    ghost view = { λ c. rows_left c.table.now c.left };
+    ghost view = { λ c. rows_left (policy.rows c.tables.now.policy P) c.rows c.passed
+        (option_copied c.places) };
 
-    ghost invariant = { λ c. AreInTable c.table.now c.left };
+    ghost invariant = { λ c. AreInTable (policy.rows c.tables.now.policy P) c.rows c.passed
+        (option_copied c.places) };
 }
 
 impl<'a> Candidates<'a> {
     /// Those of what is asked for. It takes no memory.
-    pub(crate) fn of(asking: &Asking<'a>) -> Candidates<'a>
-        requires { IsAsked asking.now }
+    pub(crate) fn of(asking: &Asking<'a>, looked: Looked<'a>) -> Candidates<'a>
+        requires { LeavesOut (case_in asking.now) (rows_of asking.now) looked }
         ensures { Covers (case_in asking.now) (numbered_from 1 (rows_of asking.now)) result }
     {
-        let table = asking.state.tables().rows(TableId::P);
-        match looked_at(asking) {
+        let tables = asking.state.tables();
+        let rows = tables.rows(TableId::P);
+        match looked {
             Looked::All => Candidates {
-                table,
-                left: Left::Behind(0),
+                tables,
+                rows,
+                passed: 0,
+                places: None,
             },
             Looked::Nothing => Candidates {
-                table,
-                left: Left::At(&[]),
+                tables,
+                rows,
+                passed: 0,
+                places: Some(&[]),
             },
             Looked::At(places) => Candidates {
-                table,
-                left: Left::At(places),
+                tables,
+                rows,
+                passed: 0,
+                places: Some(places),
             },
         }
     }
 
-    /// The next one, and its number, counted from 1. Its time does not grow with the rows between.
+    /// The next one, and its number, counted from 1. Where all rows are looked at, its time does not grow with the table;
+    /// else a row is found by halving.
     pub(crate) fn next(&mut self) -> Option<(u32, &'a Rule)>
         ensures { MatchOption result (self.old ≡ [])
             (λ found. self.old ≡ numbered found.0 found.1.now ∷ self.new) }
     {
-        match self.left {
-            Left::Behind(passed) => {
-                let Some(row) = self.table.get(passed as usize) else {
-                    return None;
-                };
-                self.left = Left::Behind(passed + 1);
-                Some((passed + 1, row))
-            }
-            Left::At(places) => {
-                let Some((place, places)) = places.split_first() else {
-                    return None;
-                };
-                let row = &self.table[*place as usize];
-                self.left = Left::At(places);
-                Some((*place + 1, row))
-            }
-        }
+        let Some(places) = self.places else {
+            let Some(row) = self.rows.next() else {
+                return None;
+            };
+            self.passed += 1;
+            return Some((self.passed, row));
+        };
+        let Some((place, places)) = places.split_first() else {
+            return None;
+        };
+        let row = self.tables.row(TableId::P, *place);
+        self.places = Some(places);
+        Some((*place + 1, row))
     }
 }

@@ -6,6 +6,7 @@ ghost use Rattle.matcher_meaning.specs.Comes.{takes_memory};
 ghost use Rattle.matcher_meaning.specs.Perm.{names_policy};
 ghost use Rattle.matcher_meaning.specs.Verdicts.{HasOneOutcome, HasOutcomesOver, IsJudged};
 ghost use Rattle.decision.specs.Helps.Asked.{CanRun, IsAsked, case_in, rows_of};
+ghost use Rattle.decision.specs.Helps.Leaving.{LeavesOut};
 ghost use Rattle.decision.specs.Helps.Outcomes.{IsJudgedOn, is_by_subjects};
 ghost use Rattle.decision.specs.Judging.{IsJudgedWith, RefusedIn};
 ghost use Rattle.decision.specs.Programs.{Suits};
@@ -13,6 +14,7 @@ ghost use Rattle.decision.specs.Programs.{Suits};
 use crate::asking::Asking;
 use crate::by_rows::verdict_by_rows;
 use crate::by_subjects::verdict_by_subjects;
+use crate::looking::{Looked, looked_at};
 use crate::outcome::outcome;
 use crate::program::Program;
 use crate::scratch::Scratch;
@@ -52,15 +54,21 @@ pub fn decide<P: Finder>(
     ensures used { IsUsed (P.refusals finder.old) (P.refusals finder.new) }
 {
     let asking = program.asking(scratch.alloc(), state, request);
+    let looked = looked_at(&asking, &mut scratch.found);
     if asking.code.height() <= NARROW {
-        return on_narrow_stack(&asking, finder);
+        return on_narrow_stack(&asking, looked, finder);
     }
-    on_wide_stack(&asking, finder)
+    on_wide_stack(&asking, looked, finder)
 }
 
 // The verdict, on a stack of 8 places.
-fn on_narrow_stack<P: Finder>(asking: &Asking, finder: &mut P) -> Result<Verdict, NoMemory>
+fn on_narrow_stack<P: Finder>(
+    asking: &Asking,
+    looked: Looked<'_>,
+    finder: &mut P,
+) -> Result<Verdict, NoMemory>
     requires asked { IsAsked asking.now }
+    requires leaves { LeavesOut (case_in asking.now) (rows_of asking.now) looked }
     requires room { asking.now.code.now.height ≤ 8 }
     ensures judged { IfOk result (IsJudgedOn (case_in asking.now)
         (λ refused. HasOutcomesOver (case_in asking.now) refused
@@ -71,13 +79,18 @@ fn on_narrow_stack<P: Finder>(asking: &Asking, finder: &mut P) -> Result<Verdict
     ensures used { IsUsed (P.refusals finder.old) (P.refusals finder.new) }
 {
     let mut stack: Stack<8> = Stack::new();
-    verdict_of(asking, finder, &mut stack)
+    verdict_of(asking, looked, finder, &mut stack)
 }
 
 // The verdict, on a stack with room for each matcher, which no other call is to pay for.
 #[inline(never)]
-fn on_wide_stack<P: Finder>(asking: &Asking, finder: &mut P) -> Result<Verdict, NoMemory>
-    requires { IsAsked asking.now }
+fn on_wide_stack<P: Finder>(
+    asking: &Asking,
+    looked: Looked<'_>,
+    finder: &mut P,
+) -> Result<Verdict, NoMemory>
+    requires asked { IsAsked asking.now }
+    requires leaves { LeavesOut (case_in asking.now) (rows_of asking.now) looked }
     ensures judged { IfOk result (IsJudgedOn (case_in asking.now)
         (λ refused. HasOutcomesOver (case_in asking.now) refused
         (names_policy asking.now.model.now.matcher) (rows_of asking.now))
@@ -87,16 +100,18 @@ fn on_wide_stack<P: Finder>(asking: &Asking, finder: &mut P) -> Result<Verdict, 
     ensures used { IsUsed (P.refusals finder.old) (P.refusals finder.new) }
 {
     let mut stack: WideStack = Stack::new();
-    verdict_of(asking, finder, &mut stack)
+    verdict_of(asking, looked, finder, &mut stack)
 }
 
 // The verdict, by rows or once.
 fn verdict_of<'a, P: Finder, const N: usize>(
     asking: &Asking<'a>,
+    looked: Looked<'a>,
     finder: &mut P,
     stack: &mut Stack<'a, N>,
 ) -> Result<Verdict, NoMemory>
-    requires { CanRun asking.now N }
+    requires run { CanRun asking.now N }
+    requires leaves { LeavesOut (case_in asking.now) (rows_of asking.now) looked }
     ensures judged { IfOk result (IsJudgedOn (case_in asking.now)
         (λ refused. HasOutcomesOver (case_in asking.now) refused
         (names_policy asking.now.model.now.matcher) (rows_of asking.now))
@@ -112,9 +127,9 @@ fn verdict_of<'a, P: Finder, const N: usize>(
         return verdict_once(asking, finder, stack);
     }
     if is_by_subjects(asking.model.effect()) {
-        return verdict_by_subjects(asking, finder, stack);
+        return verdict_by_subjects(asking, looked, finder, stack);
     }
-    verdict_by_rows(asking, finder, stack)
+    verdict_by_rows(asking, looked, finder, stack)
 }
 
 // The verdict of the one evaluation that goes without a row.

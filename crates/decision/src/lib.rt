@@ -7,11 +7,13 @@ mod by_subjects;
 mod candidates;
 mod deciding;
 mod depths;
-mod index;
+mod gathering;
 mod links;
 mod looking;
 mod names;
 mod outcome;
+mod parts;
+mod plan;
 mod program;
 mod scratch;
 

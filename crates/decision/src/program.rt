@@ -1,13 +1,15 @@
-ghost use Rattle.std.specs.Prelude.{◌≡◌, ◌↔◌, ◌≢◌, ◌<◌, IfErr, IfOk, IfSome, Ok, length};
-ghost use Rattle.decision.specs.Indexed.{index_column};
+ghost use Rattle.std.specs.Prelude.{◌≡◌, ◌↔◌, ◌≢◌, IfErr, IfOk, IfSome, Ok, length, true};
+ghost use Rattle.policy_index.specs.Keys.{is_below};
+ghost use Rattle.decision.specs.Plans.{index_key};
 
 use crate::asking::Asking;
-use crate::index::{Index, index_of};
 use crate::names::names_policy;
+use crate::plan::{KeptPlan, plan_of};
 use matcher_code::{Code, build};
 use model_conf::Model;
 use perm_base::{NoMemory, Share};
 use perm_value::Request;
+use policy_index::RowKey;
 use policy_state::PolicyState;
 use std::alloc::Global;
 
@@ -21,8 +23,8 @@ pub struct Program {
     // The places of the policy's columns `eft` and `dom`.
     effect_place: Option<u32>,
     domain_place: Option<u32>,
-    // What is kept of the column of the index.
-    index: Option<Index>,
+    // By what rows are found that may match.
+    plan: Option<KeptPlan>,
 }
 
 impl std::marker::Model for Program {
@@ -38,7 +40,7 @@ impl std::marker::Model for Program {
     ghost view = { λ p. p.model };
 
     ghost invariant = { λ p.
-        IsProgram p.model p.code p.by_row p.effect_place p.domain_place p.index };
+        IsProgram p.model p.code p.by_row p.effect_place p.domain_place p.plan };
 }
 
 impl Share for Program {}
@@ -58,14 +60,14 @@ pub fn make_program(alloc: Global, model: Model) -> Result<Program, NoMemory>
     let by_row = names_policy(model.matcher());
     let effect_place = model.policy_columns().place_of(b"eft");
     let domain_place = model.policy_columns().place_of(b"dom");
-    let index = index_of(alloc, &model)?;
+    let plan = plan_of(alloc, &model)?;
     Ok(Program {
         model,
         code,
         by_row,
         effect_place,
         domain_place,
-        index,
+        plan,
     })
 }
 
@@ -77,13 +79,16 @@ impl Program {
         &self.model
     }
 
-    /// The column of the policy, counted from 0, by which an index finds the rows that may match; where there is none, all
-    /// may. It takes no memory.
-    pub fn index_column(&self) -> Option<u32>
-        ensures column { result ≡ index_column self.now }
-        ensures within { IfSome result (λ column. column < length self.now.policy) }
+    /// The key of the index by which the rows that may match are found; where there is none, all may.
+    pub fn index_key(&self, alloc: Global) -> Result<Option<RowKey>, NoMemory>
+        ensures key { IfOk result (λ key. key ≡ index_key self.now) }
+        ensures within { IfOk result (λ key. IfSome key (λ key.
+            is_below (length self.now.policy) key ≡ true)) }
     {
-        Some(self.index.as_ref()?.policy)
+        match &self.plan {
+            Some(plan) => Ok(Some(plan.key.copy(alloc)?)),
+            None => Ok(None),
+        }
     }
 
     /// Whether a request has as many values as the model has columns for it.
@@ -123,7 +128,7 @@ impl Program {
             by_row: self.by_row,
             effect_place: self.effect_place,
             domain_place: self.domain_place,
-            index: self.index.as_ref(),
+            plan: self.plan.as_ref(),
             state,
             request,
         }

@@ -4,7 +4,7 @@ ghost use Rattle.policy_table.specs.Tables.{rows, stands};
 ghost use Rattle.policy_table.specs.declared.change.Change.TheVariants as change;
 
 use perm_base::{NoMemory, Rule, TableId};
-use policy_table::{Change, Tables, fits_filter};
+use policy_table::{Change, Rows, Tables, fits_filter};
 use std::alloc::Global;
 
 /// The changes that put rules into a table.
@@ -94,13 +94,13 @@ pub(crate) fn replaces(
 pub(crate) fn removes_fitting(
     alloc: Global,
     table: TableId,
-    rows: &[Rule],
+    rows: Rows<'_>,
     at: u32,
     values: &Rule,
 ) -> Result<Vec<Change>, NoMemory>
-    requires { All (λ rule. at + length values.now ≤ length rule) rows.now }
+    requires { All (λ rule. at + length values.now ≤ length rule) rows }
     ensures { IfOk result (λ changes. changes.items
-        ≡ removes table (fitting at values.now rows.now)) }
+        ≡ removes table (fitting at values.now rows.entry)) }
 {
     let mut changes = Vec::new(alloc);
     for row in rows {
@@ -117,13 +117,13 @@ pub(crate) fn push_removes_with(
     alloc: Global,
     changes: &mut Vec<Change>,
     table: TableId,
-    rows: &[Rule],
+    rows: Rows<'_>,
     column: u32,
     name: &[u8],
 ) -> Result<(), NoMemory>
-    requires { All (λ rule. column < length rule) rows.now }
+    requires { All (λ rule. column < length rule) rows }
     ensures { OnOk result (changes.new.items
-        ≡ changes.old.items ++ removes table (rows_with column name.now rows.now)) }
+        ≡ changes.old.items ++ removes table (rows_with column name.now rows.entry)) }
 {
     for row in rows {
         if name == row.field(column) {

@@ -7,6 +7,7 @@ use edit_calls::Call;
 use live_pair::{Admin, Front, Naming};
 use perm_base::{NoMemory, RoleShapes, Rule, Rules, Shapes, TableId, Text};
 use policy_desk::{Desk, open_desk};
+use policy_index::RowKey;
 use policy_state::make_state;
 use policy_table::no_tables;
 use std::alloc::Global;
@@ -25,7 +26,11 @@ pub fn desk(alloc: Global) -> Result<Desk, NoMemory>
         limit: 10,
         ranked: false,
     };
-    open_desk(alloc, make_state(alloc, shapes, Some(0), no_tables(alloc))?)
+    let key = RowKey::of_column(alloc, 0)?;
+    open_desk(
+        alloc,
+        make_state(alloc, shapes, Some(key), no_tables(alloc))?,
+    )
 }
 
 /// The rule that a subject may read data1.

@@ -37,6 +37,5 @@ fn rule_at(state: &PolicyState, row: Option<u32>) -> Option<&Rule>
     ensures { option_copied result ≡ rule_at (tables state.now) row }
 {
     let row = row?;
-    let rules = state.tables().rows(TableId::P);
-    rules.get(row.saturating_sub(1) as usize)
+    state.tables().get(TableId::P, row.saturating_sub(1))
 }

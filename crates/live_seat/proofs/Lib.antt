@@ -1,2 +1,3 @@
 pub mod DecidedLemmas
+mod CacheLemmas
 pub mod CallerLemmas

@@ -1,3 +1,4 @@
+use answer_cache::CachedAnswer;
 use effect_fold::Verdict;
 use perm_base::NoMemory;
 
@@ -6,6 +7,13 @@ use perm_base::NoMemory;
 pub struct Answered {
     pub version: u32,
     pub verdict: Verdict,
+}
+
+/// The answer to a request by way of a cache, and the version of the policy that it is of.
+#[derive(Clone, Copy, Debug, PartialEq, Eq)]
+pub struct SeatAnswer {
+    pub version: u32,
+    pub answer: CachedAnswer,
 }
 
 /// Why a request was not decided at a seat.

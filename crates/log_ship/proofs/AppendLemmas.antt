@@ -55,11 +55,11 @@ all_admitted shapes policy (edit ∷ edits) are =
 -- ---- what a policy holds behind a commit
 
 -- a policy to which edits were committed, and whose log starts where it did, has them behind the others
-pub appended_state : (before ready after : State) (edits : List (List Change)) (start : ℕ) → IsSameState before ready → after.shapes ≡ ready.shapes → after.column ≡ ready.column → start ≡ before.log.start → after.log.start ≡ start
+pub appended_state : (before ready after : State) (edits : List (List Change)) (start : ℕ) → IsSameState before ready → after.shapes ≡ ready.shapes → after.key ≡ ready.key → start ≡ before.log.start → after.log.start ≡ start
     → after.log.tail ≡ drop (start - ready.log.start) ready.log.tail ++ edits → tables after ≡ replay edits (tables ready) → IsSameState (with_edits edits before) after
-appended_state before ready after edits start same shapes column from begun tail made = record {
+appended_state before ready after edits start same shapes key from begun tail made = record {
   shapes = shapes ∙ same.shapes;
-  column = column ∙ same.column;
+  key = key ∙ same.key;
   start = begun ∙ from;
   tail =
       let none : start - ready.log.start ≡ 0 = omega (arith, from, same.start) in
@@ -76,7 +76,7 @@ pub same_version : (before now : State) → IsSameState before now → versions 
 same_version before now same = omega (arith, same.start, ap (λ (l : List (List Change)). length l) same.tail)
 
 pub same_itself : (state : State) → IsSameState state state
-same_itself state = record { shapes = refl; column = refl; start = refl; tail = refl; tables_are = refl }
+same_itself state = record { shapes = refl; key = refl; start = refl; tail = refl; tables_are = refl }
 
 pub same_stands : (before now : State) (opening : Policy) (history : List (List Change)) → IsSameState before now → StandsFor before opening history → StandsFor now opening history
 same_stands before now opening history same stands = stands_same before now opening history same.start same.tail same.tables_are stands

@@ -1,5 +1,6 @@
 mod PartLemmas
 mod ReadLemmas
+mod DecideLemmas
 mod WaitLemmas
 mod AcceptLemmas
 mod AppendLemmas

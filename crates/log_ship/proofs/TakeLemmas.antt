@@ -253,7 +253,7 @@ module _ (before : Following) (edit : List Change) (count : ℕ) (state : State)
       record {
         state = record {
           shapes = done.state_is.shapes;
-          column = done.state_is.column;
+          key = done.state_is.key;
           start = done.state_is.start;
           tail = done.state_is.tail ∙ ap (λ (l : List (List Change)). before.state.log.tail ++ l) empty ∙ append-nil before.state.log.tail;
           tables_are = done.state_is.tables_are ∙ ap (λ (l : List (List Change)). replay l (tables before.state)) empty;

@@ -32,7 +32,7 @@ pub record IsFollowing (follower : Following) : Type 0 where
 -- the policy is as it was, its room aside
 pub record IsSameState (before now : State) : Type 0 where
   pub shapes : now.shapes ≡ before.shapes
-  pub column : now.column ≡ before.column
+  pub key : now.key ≡ before.key
   pub start : now.log.start ≡ before.log.start
   pub tail : now.log.tail ≡ before.log.tail
   pub tables_are : tables now ≡ tables before

@@ -1,4 +1,4 @@
-ghost use Rattle.std.specs.Prelude.{◌≡◌, ℕ, List};
+ghost use Rattle.std.specs.Prelude.{◌≡◌, ◌⊎◌, ℕ, List};
 ghost use Rattle.std.specs.List.{AllByRecursion};
 ghost use Rattle.log_ship.specs.Followers.{Following};
 ghost use Rattle.log_ship.specs.Honest.{AppliesLeast, Follows, IsFair, IsHistory, IsHonest};
@@ -50,6 +50,12 @@ pub fn texts_read_in_one_way()
 {
     every_text_is_an_edit_or_at_fault();
 }
+
+/// The law that all bytes are packets or at fault.
+pub fn every_input_is_packets_or_at_fault()
+    ensures { (bytes : List ℕ) → ((packets : List Packet) × ArePackets bytes packets)
+        ⊎ ((fault : PacketFault) × IsPacketFault bytes fault) }
+{}
 
 /// The law that bytes say one list of packets at most, have one fault at most, and never both.
 pub fn bytes_say_packets_once()

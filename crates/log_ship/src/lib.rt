@@ -16,8 +16,8 @@ mod waiting;
 
 pub use follower::Follower;
 pub use laws::{
-    bytes_say_packets_once, followers_hold_a_front, packets_are_applied_to_the_least_gap,
-    texts_read_in_one_way,
+    bytes_say_packets_once, every_input_is_packets_or_at_fault, followers_hold_a_front,
+    packets_are_applied_to_the_least_gap, texts_read_in_one_way,
 };
 pub use packet::{Packet, Packets};
 pub use packet_fault::PacketFault;

@@ -4,3 +4,5 @@ mod RowLemmas
 mod MissLemmas
 mod PartLemmas
 mod LineLemmas
+mod OneLemmas
+pub mod CallerLemmas

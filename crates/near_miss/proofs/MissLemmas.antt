@@ -66,3 +66,11 @@ module _ (shapes : Shapes) (policy : Policy) (request : List Datum) where
         zip_whole R (rows policy P) so.lacks rest.0 at so.have rest.1,
         sym (ap (take most) whole ∙ take-append-le most misses more full ∙ take_all most misses few),
       )
+
+  -- no row is left
+  pub found_end : (IsBad : List ℕ → Type 0) (parts : List ModelParts) (at most : ℕ) (misses : List NearMiss) → length (rows policy P) ≤ at → length misses ≤ most → IsFound shapes policy request IsBad parts at misses → AreNearMisses shapes policy request IsBad parts most misses
+  found_end IsBad parts at most misses past few so = (
+    so.lacks,
+    subst (λ (l : List Fields). AllZip (Lacks shapes policy request IsBad parts) l so.lacks) (take_all at (rows policy P) past) so.have,
+    sym (take_all most misses few) ∙ ap (take most) so.are,
+  )

@@ -16,7 +16,7 @@ use Rattle.model_conf.specs.Printed.{printed, role_lines}
 use Rattle.model_conf.specs.declared.fault.ModelFault.{ModelFault}
 use Rattle.model_conf.specs.declared.fault.ModelFault.TheVariants.{NoMemory}
 use Rattle.model_conf.proofs.PrintLemmas.{printed-parts}
-use Rattle.decision.specs.Indexed.{conjuncts}
+use Rattle.decision.specs.Plans.{conjuncts}
 use Rattle.near_miss.specs.Parts.{AreParts, HasNoModel, IsPart, is_told, part_text, with_matcher}
 use Rattle.near_miss.specs.Written.{written}
 use Rattle.near_miss.specs.Helps.Making.{IsUnread, seen}

@@ -6,7 +6,7 @@ use Rattle.matcher_read.specs.declared.tree.Operator.TheVariants.{And}
 use Rattle.model_conf.specs.ModelText.{ModelParts, IsModel}
 use Rattle.model_conf.specs.Printed.{printed}
 use Rattle.matcher_meaning.specs.Perm.{names_policy}
-use Rattle.decision.specs.Indexed.{conjuncts}
+use Rattle.decision.specs.Plans.{conjuncts}
 use Rattle.near_miss.specs.Written.{written}
 
 -- parts that `&&` joins

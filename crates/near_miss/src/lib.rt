@@ -2,6 +2,7 @@
 #![tactic(auto)]
 
 mod explainer;
+mod laws;
 mod lines;
 mod links;
 mod making;
@@ -12,5 +13,6 @@ mod row;
 mod words;
 
 pub use explainer::{Explainer, make_explainer};
+pub use laws::{near_misses_are_one, near_misses_are_there, parts_are_one};
 pub use lines::push_near_misses;
 pub use misses::{NearMiss, near_misses};

@@ -13,8 +13,9 @@ use crate::part::Part;
 use crate::words::push_word;
 use itoa::Buffer;
 use outside::NoMemory;
-use perm_base::{Rule, TableId, push_fields};
+use perm_base::{TableId, push_fields};
 use policy_state::PolicyState;
+use policy_table::Tables;
 
 /// Appends a line for each near miss, as `  p#2 alice, data2, read lacks r.obj == p.obj`: the row, its rule as
 /// `print_fields` prints it, and the part that it lacks. It takes memory for the text alone.
@@ -27,9 +28,8 @@ pub fn push_near_misses(
     ensures { OnOk result (string_bytes text.new ≡ string_bytes text.old
         ++ miss_lines explainer.now (rows (tables state.now) P) misses.now) }
 {
-    let rules = state.tables().rows(TableId::P);
     for miss in misses {
-        push_miss(text, explainer.parts.as_slice(), rules, *miss)?;
+        push_miss(text, explainer.parts.as_slice(), state.tables(), *miss)?;
     }
     Ok(())
 }
@@ -38,15 +38,16 @@ pub fn push_near_misses(
 fn push_miss(
     text: &mut String,
     parts: &[Part],
-    rules: &[Rule],
+    tables: &Tables,
     miss: NearMiss,
 ) -> Result<(), NoMemory>
-    ensures { OnOk result (Appends text.old text.new (miss_line parts.now rules.now miss)) }
+    ensures { OnOk result (Appends text.old text.new
+        (miss_line parts.now (rows tables.now.policy P) miss)) }
 {
     text.push_str("  p#")?;
     push_number(text, miss.row)?;
     text.push_str(" ")?;
-    push_rule(text, rules, miss.row)?;
+    push_rule(text, tables, miss.row)?;
     text.push_str(" lacks ")?;
     push_part(text, parts, miss.part)?;
     text.push_str("\n")?;
@@ -63,11 +64,11 @@ fn push_number(text: &mut String, number: u32) -> Result<(), NoMemory>
 }
 
 // Appends the rule of this number.
-fn push_rule(text: &mut String, rules: &[Rule], number: u32) -> Result<(), NoMemory>
+fn push_rule(text: &mut String, tables: &Tables, number: u32) -> Result<(), NoMemory>
     ensures { OnOk result (Appends text.old text.new
-        (printed (slice_index_or rules.now (number - 1) []))) }
+        (printed (slice_index_or (rows tables.now.policy P) (number - 1) []))) }
 {
-    match rules.get(number.saturating_sub(1) as usize) {
+    match tables.get(TableId::P, number.saturating_sub(1)) {
         Some(rule) => push_fields(text, rule),
         None => Ok(()),
     }

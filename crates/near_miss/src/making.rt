@@ -4,7 +4,7 @@ ghost use Rattle.std.specs.Prelude.{◌≡◌, ◌↔◌, ◌++◌, ◌∷◌, [
 ghost use Rattle.std.specs.List.{AllZip};
 ghost use Rattle.matcher_read.specs.Expression.{expression};
 ghost use Rattle.model_conf.specs.Printed.{printed};
-ghost use Rattle.decision.specs.Indexed.{conjuncts};
+ghost use Rattle.decision.specs.Plans.{conjuncts};
 ghost use Rattle.near_miss.specs.Parts.{HasNoModel, IsPart, is_conjunction, is_told, part_text, with_matcher};
 ghost use Rattle.near_miss.specs.Written.{written};
 ghost use Rattle.near_miss.specs.Helps.Making.{IsUnread, seen};

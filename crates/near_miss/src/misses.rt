@@ -48,12 +48,14 @@ pub fn near_misses<P: Finder>(
     };
     let mut stack: WideStack = Stack::new();
     let mut misses = Vec::new(alloc);
-    for (at, row) in state.tables().rows(TableId::P).iter().enumerate() {
+    let mut number = 0;
+    for row in state.tables().rows(TableId::P) {
         if misses.len() >= most as usize {
             return Ok(misses);
         }
+        number += 1;
         let lack = lack(&asking, row, finder, &mut stack)?;
-        push_lack(&mut misses, at as u32 + 1, lack)?;
+        push_lack(&mut misses, number, lack)?;
     }
     Ok(misses)
 }

@@ -41,14 +41,14 @@ pub drafted_is : (now inside : Work) (edit : List Change) (pending : List (List 
 drafted_is now inside edit pending drafts is more made = (λ j. record inside { pending = more j; drafts = made j }) ∙ ap (after_call (Ok (Some edit))) is
 
 -- a publish is begun
-pub begun_from : (now inside : Work) (state : State) (floor : ℕ) → inside ≡ now → floor ≡ floor_after now → state.shapes ≡ inside.state.shapes → state.column ≡ inside.state.column
+pub begun_from : (now inside : Work) (state : State) (floor : ℕ) → inside ≡ now → floor ≡ floor_after now → state.shapes ≡ inside.state.shapes → state.key ≡ inside.state.key
     → state.log.start ≡ inside.state.log.start → state.log.tail ≡ inside.state.log.tail → tables state ≡ tables inside.state → IsBegun now (record inside { state = state; floor = floor })
-begun_from now inside state floor is raised shapes column start tail same =
+begun_from now inside state floor is raised shapes key start tail same =
     subst (λ (d : Work). IsBegun d (record inside { state = state; floor = floor })) is
     (record {
       state = record {
         shapes = shapes;
-        column = column;
+        key = key;
         start = start;
         tail = tail;
         tables_are = same;
@@ -58,17 +58,17 @@ begun_from now inside state floor is raised shapes column start tail same =
     })
 
 -- it is made
-pub made_from : (now inside : Work) (ready : Ready) (state : State) (pending : List (List Change)) → pending ≡ [] → inside ≡ now → IsDesk inside → IsPreparedFor now ready → state.shapes ≡ inside.state.shapes → state.column ≡ inside.state.column → state.log.start ≡ ready.start
+pub made_from : (now inside : Work) (ready : Ready) (state : State) (pending : List (List Change)) → pending ≡ [] → inside ≡ now → IsDesk inside → IsPreparedFor now ready → state.shapes ≡ inside.state.shapes → state.key ≡ inside.state.key → state.log.start ≡ ready.start
     → ((opening : Policy) (history : List (List Change)) → StandsFor inside.state opening history → StandsFor state opening (history ++ ready.edits))
     → tables state ≡ replay ready.edits (tables inside.state) → versions state.log ≡ versions inside.state.log + length ready.edits
     → IsPublished now.floor now (record inside { state = state; pending = pending })
-made_from now inside ready state pending none is kept prepared shapes column start stands tables_are more =
+made_from now inside ready state pending none is kept prepared shapes key start stands tables_are more =
     let here : IsPreparedFor inside ready = subst (λ (d : Work). IsPreparedFor d ready) (sym is) prepared in
     subst (λ (d : Work). IsPublished d.floor d (record inside { state = state; pending = pending })) is
     (record {
       state = record {
         shapes = shapes;
-        column = column;
+        key = key;
         stands = λ opening history before. subst (λ (p : List (List Change)). StandsFor state opening (history ++ p)) here.edits (stands opening history before);
         more = more ∙ ap (λ (p : List (List Change)). versions inside.state.log + length p) here.edits;
       };
@@ -82,7 +82,7 @@ pub published_from : (before ready now : Work) → IsBegun before ready → IsPu
 published_from before ready now begun made = record {
   state = record {
     shapes = made.state.shapes ∙ begun.state.shapes;
-    column = made.state.column ∙ begun.state.column;
+    key = made.state.key ∙ begun.state.key;
     stands = λ opening history stands. subst (λ (p : List (List Change)). StandsFor now.state opening (history ++ p)) pending (made.state.stands opening history (begun.state.stands opening history stands));
     more = omega (arith, made.state.more, begun.state.start, ap (λ (l : List (List Change)). length l) begun.state.tail, ap (λ (l : List (List Change)). length l) pending);
   };

@@ -15,7 +15,7 @@ after_call answered desk = record desk { pending = pending_after answered desk.p
 -- the policy is as it was, its room aside
 pub record IsSame (before now : State) : Type 0 where
   pub shapes : now.shapes ≡ before.shapes
-  pub column : now.column ≡ before.column
+  pub key : now.key ≡ before.key
   pub start : now.log.start ≡ before.log.start
   pub tail : now.log.tail ≡ before.log.tail
   pub tables_are : tables now ≡ tables before
@@ -24,7 +24,7 @@ pub record IsSame (before now : State) : Type 0 where
 -- the policy has these edits behind the others
 pub record HasMore (edits : List (List Change)) (before now : State) : Type 0 where
   pub shapes : now.shapes ≡ before.shapes
-  pub column : now.column ≡ before.column
+  pub key : now.key ≡ before.key
   pub stands : (opening : Policy) (history : List (List Change)) → StandsFor before opening history → StandsFor now opening (history ++ edits)
   pub more : versions now.log ≡ versions before.log + length edits
 

@@ -1,8 +1,14 @@
+mod HashLemmas
+mod LawLemmas
 mod ListLemmas
 mod CopyLemmas
-mod PlaceLemmas
-mod CountLemmas
+mod MarkLemmas
 mod CommitLemmas
 mod ReserveLemmas
-mod LawLemmas
-mod IndexLemmas
+mod FollowLemmas
+mod FindLemmas
+mod FoundLemmas
+mod AddLemmas
+mod OrderLemmas
+mod FoundRowsLemmas
+pub mod CallerLemmas

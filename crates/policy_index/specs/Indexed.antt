@@ -1,74 +1,74 @@
--- What contracts see of an index, of which rules it is one, and which changes of tables are ready to be made in it.
-use Rattle.std.specs.Prelude.{◌≡◌, ℕ, ◌<◌, ◌≤◌, ◌^◌, Bool, true, false, not, ◌&&◌, ◌||◌, nat_lt, List, length}
+-- What contracts see of an index, of which rows it is one, and for which changes of tables it has room. An index knows rows by
+-- their slots; it keeps no text of theirs.
+use Rattle.std.specs.Prelude.{◌≡◌, ℕ, ◌+◌, ◌<◌, ◌≤◌, ◌^◌, Bool, true, false, not, ◌&&◌, ◌||◌, ◌==◌, List, length, if◌then◌else◌}
 use Rattle.std.specs.List.{count_by, list_all}
 use Rattle.perm_base.specs.declared.shapes.TableId.TheVariants.{P}
-use Rattle.policy_table.specs.Changes.{applies, edited, is_table}
-use Rattle.policy_table.specs.Tables.{Fields, IsKept, Policy, rows}
+use Rattle.policy_table.specs.Changes.{is_table, table_of}
+use Rattle.policy_table.specs.Held.{Held}
+use Rattle.policy_table.specs.Slots.{slots, slots_after}
+use Rattle.policy_table.specs.Tables.{Fields}
 use Rattle.policy_table.specs.declared.change.Change.{Change}
 use Rattle.policy_table.specs.declared.change.Change.TheVariants.{Insert, Remove, Replace}
-use Rattle.policy_index.specs.Lists.{Lists, places_at, room_at}
-use Rattle.policy_index.specs.Places.{HaveColumn, has_text, places_of}
+use Rattle.policy_index.specs.Hashes.{mark_of, marks_of}
+use Rattle.policy_index.specs.Keys.{HaveColumns, KeyParts, is_below}
+use Rattle.policy_index.specs.Lists.{Lists, room_at}
+use Rattle.policy_index.specs.declared.mark.Mark.{Mark}
 
--- the column, the number of rules, and the places of each text with their room
+-- the key, what is kept of the row in each slot, for how many more slots there is room, and the slots by their hashes
 pub record Indexed : Type 0 where
-  pub column : ℕ
-  pub count : ℕ
+  pub key : KeyParts
+  pub marks : List Mark
+  pub spare : ℕ
   pub lists : Lists
 
--- the places of each text are those of the rules with the text in the column
-abbrev pub AreListed : ℕ → List Fields → Lists → Type 0
-AreListed column rules lists = (text : List ℕ) → places_at lists text ≡ places_of column text rules
+-- the index is of these rows by their slots: they are few, have the columns of the key, and what is kept of each is its own
+pub record IsIndexOf (index : Indexed) (by_slot : List Fields) : Type 0 where
+  pub few : length by_slot < 2 ^ 32
+  pub columns : HaveColumns index.key by_slot
+  pub marks : index.marks ≡ marks_of index.key by_slot
 
--- the index is of these rules: they are few, each has the column, and the number and the places are theirs
-pub record IsIndexOf (index : Indexed) (rules : List Fields) : Type 0 where
-  pub few : length rules < 2 ^ 32
-  pub columns : HaveColumn index.column rules
-  pub count : index.count ≡ length rules
-  pub listed : AreListed index.column rules index.lists
+-- the index is of the rows of p of tables
+abbrev pub IsIndexIn : Indexed → Held → Type 0
+IsIndexIn index held = IsIndexOf index (slots held P)
 
--- a rule that the change puts into p has the column
-abbrev pub fits_column : ℕ → Change → Bool
-fits_column column (Insert table rule) = not (is_table P table) || nat_lt column (length rule)
-fits_column column (Remove table rule) = true
-fits_column column (Replace table old new) = not (is_table P table) || nat_lt column (length new)
+-- a rule that the change puts into p has the columns of the key
+abbrev pub fits_key : KeyParts → Change → Bool
+fits_key key (Insert table rule) = not (is_table P table) || is_below (length rule) key
+fits_key key (Remove table rule) = true
+fits_key key (Replace table old new) = not (is_table P table) || is_below (length new) key
 
--- each rule that the changes put into p has the column
-abbrev pub all_fit : ℕ → List Change → Bool
-all_fit column changes = list_all (fits_column column) changes
+-- each rule that the changes put into p has them
+abbrev pub all_fit : KeyParts → List Change → Bool
+all_fit key changes = list_all (fits_key key) changes
 
--- the change puts a rule with the text into p
-abbrev pub puts_text : ℕ → List ℕ → Change → Bool
-puts_text column text (Insert table rule) = is_table P table && has_text column text rule
-puts_text column text (Remove table rule) = false
-puts_text column text (Replace table old new) = is_table P table && has_text column text new
+-- the change puts a rule into p that is found under the hash
+abbrev pub puts_hash : KeyParts → ℕ → Change → Bool
+puts_hash key hash (Insert table rule) = is_table P table && ((mark_of key rule).hash == hash)
+puts_hash key hash (Remove table rule) = false
+puts_hash key hash (Replace table old new) = is_table P table && ((mark_of key new).hash == hash)
 
--- how many rules with the text the changes put into p
-abbrev pub puts : ℕ → List ℕ → List Change → ℕ
-puts column text changes = count_by (puts_text column text) changes
+-- how many rules under it the changes put into p
+abbrev pub puts : KeyParts → ℕ → List Change → ℕ
+puts key hash changes = count_by (puts_hash key hash) changes
 
--- the change takes no rule out of p
-abbrev pub keeps_rules : Change → Bool
-keeps_rules (Insert table rule) = true
-keeps_rules (Remove table rule) = not (is_table P table)
-keeps_rules (Replace table old new) = not (is_table P table)
+-- the change takes a further slot of p
+abbrev pub takes_slot : Change → Bool
+takes_slot (Insert table rule) = is_table P table
+takes_slot (Remove table rule) = false
+takes_slot (Replace table old new) = false
 
--- the changes take none out
-abbrev pub all_keep : List Change → Bool
-all_keep changes = list_all keeps_rules changes
+-- how many further slots the changes take
+abbrev pub slots_taken : List Change → ℕ
+slots_taken changes = count_by takes_slot changes
 
--- the changes are ready to be made in the index: the rules that they put into p have the column, there is room for the
--- places of these, and what is prepared says whether the changes take no rule out of p
-pub record IsPreparedFor (index : Indexed) (changes : List Change) (prepared : Bool) : Type 0 where
-  pub columns : all_fit index.column changes ≡ true
-  pub room : (text : List ℕ) → puts index.column text changes ≤ room_at index.lists text
-  pub keep : prepared ≡ all_keep changes
+-- the changes can be made in the index: the rules that they put into p have the columns, there are never too many, and there
+-- is room for them
+pub record IsReadyFor (index : Indexed) (changes : List Change) : Type 0 where
+  pub columns : all_fit index.key changes ≡ true
+  pub few : length index.marks + slots_taken changes < 2 ^ 32
+  pub spare : slots_taken changes ≤ index.spare
+  pub room : (hash : ℕ) → puts index.key hash changes ≤ room_at index.lists hash
 
--- the tables are those of which it is an index, after changes that were prepared for it
-pub record Follows (index : Indexed) (prepared : Bool) (after : Policy) : Type 0 where
-  pub before : Policy
-  pub changes : List Change
-  pub kept : IsKept before
-  pub stood : IsIndexOf index (rows before P)
-  pub ready : IsPreparedFor index changes prepared
-  pub possible : applies changes before ≡ true
-  pub made : after ≡ edited changes before
+-- the rows of p by their slots after a change of tables
+abbrev pub slots_behind : Change → List Fields → List Fields
+slots_behind change by_slot = if is_table P (table_of change) then slots_after change by_slot else by_slot

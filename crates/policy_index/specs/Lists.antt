@@ -1,22 +1,21 @@
--- The places of rows by a text: a list for each text, and the room of each.
-use Rattle.std.specs.Prelude.{ℕ, List, []}
+-- The slots of rows by a hash: a list for each hash, and the room of each.
+use Rattle.std.specs.Prelude.{ℕ, List, [], nat_eq}
 use Rattle.std.specs.Map.{lookup}
 use Rattle.std.specs.Option.{option_map_or}
-use Rattle.std.specs.Str.{bytes_eq}
 
--- places, and how many more are taken without memory
+-- slots, and how many more are taken without memory
 pub record Listed : Type 0 where
-  pub places : List ℕ
+  pub slots : List ℕ
   pub room : ℕ
 
--- the same for each text
+-- the same for each hash
 abbrev pub Lists : Type 0
-Lists = List (List ℕ × Listed)
+Lists = List (ℕ × Listed)
 
--- the places of a text, or none
-abbrev pub places_at : Lists → List ℕ → List ℕ
-places_at lists text = option_map_or (λ (listed : Listed). listed.places) (lookup (bytes_eq text) lists) []
+-- the slots of a hash, or none
+abbrev pub slots_at : Lists → ℕ → List ℕ
+slots_at lists hash = option_map_or (λ (listed : Listed). listed.slots) (lookup (nat_eq hash) lists) []
 
--- how many further places are taken for a text without memory
-abbrev pub room_at : Lists → List ℕ → ℕ
-room_at lists text = option_map_or (λ (listed : Listed). listed.room) (lookup (bytes_eq text) lists) 0
+-- how many further slots are taken for a hash without memory
+abbrev pub room_at : Lists → ℕ → ℕ
+room_at lists hash = option_map_or (λ (listed : Listed). listed.room) (lookup (nat_eq hash) lists) 0

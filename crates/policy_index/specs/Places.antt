@@ -21,3 +21,7 @@ places_of column text rules = places_from 0 column text rules
 -- each rule has the column
 abbrev pub HaveColumn : ℕ → List Fields → Type 0
 HaveColumn column rules = All (λ (rule : Fields). column < length rule) rules
+
+-- the rule at a place has this text in the column
+abbrev pub has_text_at : ℕ → List ℕ → List Fields → ℕ → Bool
+has_text_at column text rules place = option_map_or (has_text column text) (slice_get rules place) false

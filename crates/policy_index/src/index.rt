@@ -1,108 +1,118 @@
-ghost use Rattle.std.specs.Prelude.{◌≡◌, Bool, IfOk, List, true};
+ghost use Rattle.std.specs.Prelude.{◌≡◌, IfOk, List, OnOk, true};
 ghost use Rattle.perm_base.specs.declared.shapes.TableId.TheVariants.{P};
 ghost use Rattle.policy_table.specs.Changes.{flat};
 ghost use Rattle.policy_table.specs.Tables.{Fields, rows};
 ghost use Rattle.policy_table.specs.declared.change.Change.{Change};
-ghost use Rattle.policy_index.specs.Indexed.{Follows, IsIndexOf, IsPreparedFor, all_fit};
-ghost use Rattle.policy_index.specs.Places.{HaveColumn, places_of};
+ghost use Rattle.policy_index.specs.Indexed.{IsIndexIn, IsIndexOf, IsReadyFor, all_fit};
+ghost use Rattle.policy_index.specs.Keys.{HaveColumns};
 
-use crate::filling::{fill, first_to_fill, only_append};
-use crate::keeping::all_keep;
-use crate::making::places_of;
-use crate::places::Places;
-use crate::prepared::Prepared;
-use crate::reserving::reserve;
+use crate::fronts::Fronts;
+use crate::key::RowKey;
+use crate::mark::{Mark, mark_of};
+use crate::reserving::{count_taken, reserve};
+use crate::slots::Slots;
 use perm_base::{NoMemory, Share, TableId};
 use policy_table::{Edit, Tables};
 use std::alloc::Global;
 use std::marker::Model;
 
-/// An index of p by one column: the places of the rows by their text in it. It keeps no rules: its contracts name those of
-/// which it is an index. They see the column, the number of the rules, and the places with their room.
+/// An index of p by a key: of each row it keeps a hash of the key, by the row's slot, and the slots by these hashes. It keeps no
+/// text; contracts name the rows of which it is an index. They see the key, what is kept of each row, and the room.
 #[derive(Drop)]
 pub struct Index {
-    column: u32,
-    count: u32,
-    places: Places,
+    pub(crate) key: RowKey,
+    pub(crate) marks: Vec<Mark>,
+    pub(crate) slots: Slots,
+    pub(crate) fronts: Fronts,
+    // Hashes whose last slot went since they were last let go.
+    pub(crate) emptied: Vec<u64>,
 }
 
 impl Model for Index {
+    ghost use Rattle.std.specs.Prelude.{◌-◌, vec_capacity, vec_len};
+    ghost use Rattle.policy_index.specs.Helps.Kept.{IsIndex};
     ghost use Rattle.policy_index.specs.Indexed.{Indexed};
 
     ghost Value = { Indexed };
 
     ghost view = { λ i. record {
-      column = i.column;
-      count = i.count;
-      lists = i.places;
+      key = i.key;
+      marks = i.marks.items;
+      spare = vec_capacity i.marks - vec_len i.marks;
+      lists = i.slots;
     } };
+
+    ghost invariant = { λ i. IsIndex i.marks.items i.slots i.fronts };
 }
 
 impl Index {
-    /// The index of p of these tables by a column, counted from 0.
-    pub fn make(alloc: Global, tables: &Tables, column: u32) -> Result<Index, NoMemory>
-        requires { HaveColumn column (rows tables.now.policy P) }
-        ensures column { IfOk result (λ index. index.column ≡ column) }
-        ensures rules { IfOk result (λ index. IsIndexOf index (rows tables.now.policy P)) }
+    /// The index of p of these tables by a key. Its time is linear in the rows.
+    pub fn make(alloc: Global, tables: &Tables, key: RowKey) -> Result<Index, NoMemory>
+        requires { HaveColumns key (rows tables.now.policy P) }
+        ensures key { IfOk result (λ index. index.key ≡ key) }
+        ensures rows { IfOk result (λ index. IsIndexIn index tables.now) }
     {
-        let rules = tables.rows(TableId::P);
-        let places = places_of(alloc, rules, column)?;
-        Ok(Index {
-            column,
-            count: rules.len() as u32,
-            places,
-        })
+        let mut index = Index {
+            key,
+            marks: Vec::new(alloc),
+            slots: Slots::new(alloc),
+            fronts: Fronts::new(),
+            emptied: Vec::new(alloc),
+        };
+        for rule in tables.by_slot(TableId::P) {
+            let mark = mark_of(&index.key, rule);
+            index.add(alloc, mark)?;
+        }
+        Ok(index)
     }
 
     /// The same index once more, its room aside. Its time is linear in the rows.
     pub fn copy(&self, alloc: Global) -> Result<Index, NoMemory>
-        ensures column { IfOk result (λ copy. copy.column ≡ self.now.column) }
-        ensures rules { IfOk result (λ copy. (rules : List Fields)
-            → IsIndexOf self.now rules → IsIndexOf copy rules) }
+        ensures key { IfOk result (λ copy. copy.key ≡ self.now.key) }
+        ensures rows { IfOk result (λ copy. (by_slot : List Fields)
+            → IsIndexOf self.now by_slot → IsIndexOf copy by_slot) }
     {
-        let places = self.places.copy(alloc)?;
+        let key = self.key.copy(alloc)?;
+        let marks = Vec::from_slice(alloc, self.marks.as_slice())?;
+        let slots = self.slots.copy(alloc)?;
+        let fronts = self.fronts.copy();
+        let emptied = Vec::new(alloc);
         Ok(Index {
-            column: self.column,
-            count: self.count,
-            places,
+            key,
+            marks,
+            slots,
+            fronts,
+            emptied,
         })
     }
 
-    /// The rising places, counted from 0, of the rows of p whose column equals a text. It takes no memory, and its time
-    /// does not grow with p.
-    pub fn rows_of(&self, text: &[u8]) -> &[u32]
-        ensures { (rules : List Fields) → IsIndexOf self.now rules
-            → result.now ≡ places_of self.now.column text.now rules }
+    /// By what it finds rows.
+    pub fn key(&self) -> &RowKey
+        ensures { result.now ≡ self.now.key }
     {
-        self.places.of(text)
+        &self.key
     }
 
-    /// Makes the changes of p of edits ready, so that `commit` needs no memory; changes of other tables are passed over.
-    /// The index is of the same rules as before, whatever the answer, and edits that were prepared before stay so.
-    pub fn prepare(&mut self, alloc: Global, edits: &[Edit]) -> Result<Prepared, NoMemory>
-        requires columns { all_fit self.old.column (flat edits.now) ≡ true }
-        ensures column { self.new.column ≡ self.old.column }
-        ensures stays { (rules : List Fields) → IsIndexOf self.old rules → IsIndexOf self.new rules }
-        ensures ready { IfOk result (IsPreparedFor self.new (flat edits.now)) }
-        ensures prepared { (changes : List Change) (prepared : Bool)
-            → IsPreparedFor self.old changes prepared → IsPreparedFor self.new changes prepared }
+    /// Makes room for the changes of p of edits, so that to follow them takes no memory; changes of other tables are passed over.
+    /// The index is of the same rows as before, whatever the answer, and room that was made for other edits stays. Its time
+    /// grows with the edits alone.
+    pub fn prepare(&mut self, alloc: Global, edits: &[Edit]) -> Result<(), NoMemory>
+        requires columns { all_fit self.old.key (flat edits.now) ≡ true }
+        ensures key { self.new.key ≡ self.old.key }
+        ensures stays { (by_slot : List Fields)
+            → IsIndexOf self.old by_slot → IsIndexOf self.new by_slot }
+        ensures ready { OnOk result (IsReadyFor self.new (flat edits.now)) }
+        ensures others { (changes : List Change)
+            → IsReadyFor self.old changes → IsReadyFor self.new changes }
     {
-        reserve(&mut self.places, alloc, self.column, edits)?;
-        Ok(Prepared::new(all_keep(edits)))
-    }
-
-    /// Takes over what tables became by edits that were prepared for this index as it stands. It takes no memory. Where rows
-    /// were only appended its time does not grow with p; else all places are filled in anew, in one pass over p.
-    pub fn commit(&mut self, prepared: Prepared, tables: &Tables)
-        requires { Follows self.old prepared tables.now.policy }
-        ensures column { self.new.column ≡ self.old.column }
-        ensures rules { IsIndexOf self.new (rows tables.now.policy P) }
-    {
-        let appends = only_append(&prepared, tables);
-        let from = first_to_fill(&mut self.places, appends, self.count as usize);
-        let rules = tables.rows(TableId::P);
-        fill(&mut self.places, rules, self.column, from);
-        self.count = rules.len() as u32;
+        reserve(&mut self.slots, alloc, &self.key, edits)?;
+        let taken = count_taken(edits)?;
+        if taken > u32::MAX - self.marks.len() as u32 {
+            return Err(NoMemory);
+        }
+        self.marks.reserve(taken as usize)?;
+        self.emptied.reserve(edits.len())?;
+        Ok(())
     }
 }
 

@@ -1,16 +1,22 @@
-//! An index of a policy: which rows of p have a text in one column.
+//! An index of a policy: which rows of p can have the texts of some columns, and a pattern that a text fits.
 #![tactic(auto)]
 
-mod filling;
+mod finding;
+mod following;
+mod fronts;
+mod hashes;
 mod index;
-mod keeping;
+mod key;
 mod law;
-mod making;
-mod place_list;
-mod places;
-mod prepared;
+mod mark;
+mod ordering;
 mod reserving;
+mod slot_list;
+mod slots;
 
+pub use hashes::{hash_with, start_hash};
 pub use index::Index;
-pub use law::places_are_exact;
-pub use prepared::Prepared;
+pub use key::{Front, FrontKind, RowKey};
+pub use law::{fitting_text_may_fit, places_are_exact};
+pub use mark::Mark;
+pub use ordering::put_in_order;

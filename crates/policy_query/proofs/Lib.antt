@@ -1,2 +1,3 @@
 mod ShapeLemmas
 mod NameLemmas
+mod RowLemmas

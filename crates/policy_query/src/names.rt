@@ -9,7 +9,7 @@ ghost use Rattle.policy_query.specs.Names.{is_asked, is_of, named_columns, names
 use crate::refused::QueryRefused;
 use indexmap::IndexSet;
 use perm_base::{NoMemory, Rule, Shapes, TableId, Text};
-use policy_table::Tables;
+use policy_table::{Rows, Tables};
 use std::alloc::Global;
 
 // The columns of a relation's rules.
@@ -93,19 +93,19 @@ fn named_columns(with_domain: bool) -> u32
 // The names in the column `told` of the rules that have a name in the column `asked`, each once.
 fn names_beside(
     alloc: Global,
-    rules: &[Rule],
+    rules: Rows<'_>,
     asked: u32,
     told: u32,
     name: &[u8],
     domain: Option<&[u8]>,
 ) -> Result<Rule, NoMemory>
-    requires few { length rules.now < 2 ^ 32 }
+    requires few { length rules < 2 ^ 32 }
     requires columns { All (λ rule. named_columns (is_some (option_copied domain)) < length rule)
-        rules.now }
+        rules }
     requires asked { asked ≤ 1 }
     requires told { told ≤ 1 }
     ensures { IfOk result (λ names. names
-        ≡ names_beside asked told name.now (option_copied domain.entry) rules.now) }
+        ≡ names_beside asked told name.now (option_copied domain.entry) rules.entry) }
 {
     let mut names = IndexSet::new(alloc);
     for rule in rules {

@@ -6,7 +6,7 @@ ghost use Rattle.policy_query.specs.Rules.{filter_refusal, has_answer, rows_answ
 
 use crate::refused::QueryRefused;
 use perm_base::{NoMemory, Rule, Rules, Shapes, TableId};
-use policy_table::{Tables, columns_of, fits_filter};
+use policy_table::{Rows, Tables, columns_of, fits_filter};
 use std::alloc::Global;
 
 /// Whether a rule stands in a table (Casbin, HasPolicy and HasGroupingPolicy). Refused are a table that the shapes lack
@@ -67,11 +67,11 @@ fn filter_refusal(shapes: &Shapes, table: TableId, at: u32, values: &Rule) -> Op
 }
 
 // The rules that fit a filter.
-fn fitting(alloc: Global, rules: &[Rule], at: u32, values: &Rule) -> Result<Rules, NoMemory>
-    requires within { All (λ rule. at + length values.now ≤ length rule) rules.now }
-    requires few { length rules.now < 2 ^ 32 }
+fn fitting(alloc: Global, rules: Rows<'_>, at: u32, values: &Rule) -> Result<Rules, NoMemory>
+    requires within { All (λ rule. at + length values.now ≤ length rule) rules }
+    requires few { length rules < 2 ^ 32 }
     ensures { IfOk result (λ fitting. fitting
-        ≡ filter (λ rule. fits_filter rule at values.now) rules.now) }
+        ≡ filter (λ rule. fits_filter rule at values.now) rules.entry) }
 {
     let mut fitting = Vec::new(alloc);
     for rule in rules {

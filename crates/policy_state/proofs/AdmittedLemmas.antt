@@ -1,9 +1,8 @@
 -- Edits that are admitted one after the other.
-use Rattle.std.proofs.Common.{◌≡◌, ℕ, ◌<◌, Bool, true, false, not, ◌==◌, ◌&&◌, ◌||◌, cond, List, [], ◌∷◌, ◌++◌, length, Option, Some, None, refl, sym, ap, subst, ◌∙◌, arith}
-use Rattle.std.specs.Prelude.{nat_lt}
+use Rattle.std.proofs.Common.{◌≡◌, ℕ, Bool, true, false, not, ◌==◌, ◌&&◌, ◌||◌, cond, List, [], ◌∷◌, ◌++◌, length, Option, Some, None, refl, sym, ap, subst, ◌∙◌}
 use Rattle.std.specs.List.{list_all}
 use Rattle.std.specs.Option.{option_map_or}
-use Rattle.std.proofs.lemmas.Bool.{and_parts, eqb-true, lt-ltb}
+use Rattle.std.proofs.lemmas.Bool.{and_parts, eqb-true}
 use Rattle.std.proofs.lemmas.Bool.Decides.{Decides-eqb}
 use Rattle.std.proofs.lemmas.Option.{same_Some}
 use Rattle.edit_calls.specs.Admitted.{AreAdmitted, admits, is_fitting, may_stand}
@@ -12,7 +11,8 @@ use Rattle.perm_base.specs.declared.shapes.RoleShape.{RoleShape}
 use Rattle.perm_base.specs.declared.shapes.Shapes.{Shapes}
 use Rattle.perm_base.specs.declared.shapes.TableId.{TableId}
 use Rattle.perm_base.specs.declared.shapes.TableId.TheVariants.{G, P}
-use Rattle.policy_index.specs.Indexed.{all_fit, fits_column}
+use Rattle.policy_index.specs.Indexed.{all_fit, fits_key}
+use Rattle.policy_index.specs.Keys.{KeyParts, is_below}
 use Rattle.policy_table.specs.Changes.{applies, edited, flat, is_table, own, replay, table_of}
 use Rattle.policy_table.specs.Limits.{AreSound, columns_of, role_columns}
 use Rattle.policy_table.specs.Tables.{Fields, Policy}
@@ -105,22 +105,22 @@ own_pass shapes table test passes (change ∷ changes) fit = by (is_table table 
     by true e rest = ap (λ (b : Bool). b && list_all test (own table changes)) (passes change (same_table table (table_of change) e) parts.0) ∙ rest
     by false e rest = rest
 
--- changes that put in rules which may stand there have a column of p below the number of its columns
-pub all_have_column : (shapes : Shapes) (column : ℕ) (changes : List Change) → column < shapes.columns → list_all (is_fitting shapes) changes ≡ true → all_fit column changes ≡ true
-all_have_column shapes column [] below fit = refl
-all_have_column shapes column (change ∷ changes) below fit =
-    ap (λ (b : Bool). b && all_fit column changes) (passes change parts.0) ∙ all_have_column shapes column changes below parts.1
+-- changes that put in rules which may stand there have the columns of a key that are below the number of p's columns
+pub all_fit_key : (shapes : Shapes) (key : KeyParts) (changes : List Change) → is_below shapes.columns key ≡ true → list_all (is_fitting shapes) changes ≡ true → all_fit key changes ≡ true
+all_fit_key shapes key [] below fit = refl
+all_fit_key shapes key (change ∷ changes) below fit =
+    ap (λ (b : Bool). b && all_fit key changes) (passes change parts.0) ∙ all_fit_key shapes key changes below parts.1
   where
     parts : (is_fitting shapes change ≡ true) × (list_all (is_fitting shapes) changes ≡ true)
     parts = and_parts (is_fitting shapes change) (list_all (is_fitting shapes) changes) fit
 
-    wide : (table : TableId) (rule : Fields) (b : Bool) → is_table P table ≡ b → may_stand shapes table rule ≡ true → (not b || nat_lt column (length rule)) ≡ true
+    wide : (table : TableId) (rule : Fields) (b : Bool) → is_table P table ≡ b → may_stand shapes table rule ≡ true → (not b || is_below (length rule) key) ≡ true
     wide table rule false e may = refl
     wide table rule true e may =
         let size : length rule ≡ shapes.columns = columns_known shapes table rule shapes.columns (ap (columns_of shapes) (sym (same_table P table e))) may in
-        lt-ltb column (length rule) (omega (arith, size, below))
+        ap (λ (n : ℕ). is_below n key) size ∙ below
 
-    passes : (change : Change) → is_fitting shapes change ≡ true → fits_column column change ≡ true
+    passes : (change : Change) → is_fitting shapes change ≡ true → fits_key key change ≡ true
     passes (Insert table rule) may = wide table rule (is_table P table) refl may
     passes (Remove table rule) may = refl
     passes (Replace table old new) may = wide table new (is_table P table) refl may

@@ -5,6 +5,7 @@ mod AdmittedLemmas
 mod CopyLemmas
 mod NamedLemmas
 mod IndexLemmas
+mod IndexStepLemmas
 mod SectionLemmas
 mod LogLemmas
 mod StateLemmas

@@ -1,8 +1,8 @@
 -- Edits that are ready to be made in a policy, and the version at which its log is to start afterwards.
-use Rattle.std.specs.Prelude.{◌≡◌, ℕ, ◌+◌, ◌≤◌, Bool, List, [], ◌∷◌, length, Option, Some, None, ⊤}
+use Rattle.std.specs.Prelude.{◌≡◌, ℕ, ◌+◌, ◌≤◌, IfSome, List, [], ◌∷◌, length, Option, ⊤}
 use Rattle.edit_calls.specs.Admitted.{AreAdmitted}
 use Rattle.perm_base.specs.declared.shapes.TableId.TheVariants.{G}
-use Rattle.policy_index.specs.Indexed.{Indexed, IsPreparedFor as CanBeIndexed}
+use Rattle.policy_index.specs.Indexed.{Indexed, IsReadyFor}
 use Rattle.policy_state.specs.States.{State}
 use Rattle.policy_table.specs.Changes.{edited, flat}
 use Rattle.policy_table.specs.Held.{IsPreparedFor as CanBeMade}
@@ -11,10 +11,9 @@ use Rattle.policy_table.specs.declared.change.Change.{Change}
 use Rattle.role_domain.specs.Sections.{Draft, Section, IsPreparedFor as CanBeLinked}
 use Rattle.version_log.specs.Log.{most_versions, versions}
 
--- what is ready in each part of the state: the changes of the tables, what the index takes over, and a draft for each section
+-- what is ready in each part of the state: the changes of the tables, and a draft for each section
 pub record ReadyParts : Type 0 where
   pub tables : List Change
-  pub index : Option Bool
   pub sections : List Draft
 
 -- the edits, the version of the start, and the parts
@@ -24,11 +23,8 @@ pub record Ready : Type 0 where
   pub parts : ReadyParts
 
 -- the changes can be made in the index, where there is one
-abbrev pub CanIndex : List Change → Option Indexed → Option Bool → Type 0
-CanIndex changes None None = ⊤
-CanIndex changes (Some index) (Some prepared) = CanBeIndexed index changes prepared
-CanIndex changes None (Some prepared) = ⊥
-CanIndex changes (Some index) None = ⊥
+abbrev pub CanIndex : List Change → Option Indexed → Type 0
+CanIndex changes index = IfSome index (λ (i : Indexed). IsReadyFor i changes)
 
 -- each draft makes of the section beside it that of its relation in these tables
 abbrev pub CanLink : Policy → List Section → List Draft → Type 0
@@ -47,5 +43,5 @@ pub record IsPreparedFor (state : State) (ready : Ready) : Type 0 where
   pub until : ready.start ≤ versions state.log
   pub tables : CanBeMade state.parts.held ready.parts.tables
   pub changes : ready.parts.tables ≡ flat ready.edits
-  pub index : CanIndex (flat ready.edits) state.parts.index ready.parts.index
+  pub index : CanIndex (flat ready.edits) state.parts.index
   pub sections : CanLink (edited (flat ready.edits) state.parts.held.policy) state.parts.sections ready.parts.sections

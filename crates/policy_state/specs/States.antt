@@ -1,9 +1,10 @@
--- What contracts see of a policy as a whole: the shapes of its tables, the column of its index, the log of its edits, and the
+-- What contracts see of a policy as a whole: the shapes of its tables, the key of its index, the log of its edits, and the
 -- tables after these (Casbin, the enforcer's model and policy).
-use Rattle.std.specs.Prelude.{◌≡◌, ℕ, List, Option}
+use Rattle.std.specs.Prelude.{◌≡◌, List, Option}
 use Rattle.edit_calls.specs.Admitted.{AreAdmitted}
 use Rattle.perm_base.specs.declared.shapes.Shapes.{Shapes}
 use Rattle.policy_index.specs.Indexed.{Indexed}
+use Rattle.policy_index.specs.Keys.{KeyParts}
 use Rattle.policy_table.specs.Changes.{replay}
 use Rattle.policy_table.specs.Held.{Held}
 use Rattle.policy_table.specs.Limits.{AreSound}
@@ -18,11 +19,11 @@ pub record Parts : Type 0 where
   pub index : Option Indexed
   pub sections : List Section
 
--- the column of p by which an index is kept, or none; of what is kept beside, the tables are read, and the rest by
+-- the key by which an index of p is kept, or none; of what is kept beside, the tables are read, and the rest by
 -- `IsPreparedFor` alone
 pub record State : Type 0 where
   pub shapes : Shapes
-  pub column : Option ℕ
+  pub key : Option KeyParts
   pub log : Logged
   pub parts : Parts
 

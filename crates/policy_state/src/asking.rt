@@ -1,8 +1,9 @@
-ghost use Rattle.std.specs.Prelude.{◌≡◌, ◌↔◌, ◌+◌, ◌≤◌, Bool, IfOk, IfSome, IfNone, IsSome, IsTrue, Some};
+ghost use Rattle.std.specs.Prelude.{◌≡◌, ◌↔◌, ◌+◌, ◌≤◌, Bool, IfOk, IsSome, IsTrue, Some};
 ghost use Rattle.std.specs.Option.{option_copied};
 ghost use Rattle.perm_base.specs.RoleShapes.{shape_of};
 ghost use Rattle.perm_base.specs.declared.shapes.RoleShape.{RoleShape};
 ghost use Rattle.perm_base.specs.declared.shapes.TableId.TheVariants.{G, P};
+ghost use Rattle.policy_index.specs.Keys.{of_column};
 ghost use Rattle.policy_index.specs.Places.{places_of};
 ghost use Rattle.policy_state.specs.Asked.{IsAskedOf};
 ghost use Rattle.policy_state.specs.States.{tables};
@@ -19,18 +20,26 @@ use std::alloc::Global;
 use std::sync::ledger::Ledger;
 
 impl PolicyState {
-    /// The rising places, counted from 0, of the rows of p whose column equals a text, where an index is kept by that column.
-    /// It takes no memory, and its time does not grow with p.
-    pub fn index_rows(&self, column: u32, text: &[u8]) -> Option<&[u32]>
-        ensures none { IfNone result (¬ (self.now.column ≡ Some column)) }
-        ensures kept { IfSome result (λ _. self.now.column ≡ Some column) }
-        ensures rows { IfSome result (λ places. places.now
+    /// Whether an index is kept by this column alone. Then the rising places, counted from 0, of the rows of p whose column equals
+    /// a text take the place of what `places` held; its time does not grow with p.
+    pub fn index_rows(
+        &self,
+        column: u32,
+        text: &[u8],
+        places: &mut Vec<u32>,
+    ) -> Result<bool, NoMemory>
+        ensures kept { IfOk result (λ kept. IsTrue kept ↔ (self.now.key ≡ Some (of_column column))) }
+        ensures rows { IfOk result (λ kept. IsTrue kept → places.new.items
             ≡ places_of column text.now (rows (tables self.now) P)) }
     {
-        if self.column != Some(column) {
-            return None;
+        let Some(index) = &self.index else {
+            return Ok(false);
+        };
+        if !index.key().is_column(column) {
+            return Ok(false);
         }
-        Some(self.index.as_ref()?.rows_of(text))
+        index.rows_of(&self.tables, column, text, places)?;
+        Ok(true)
     }
 
     /// The section of a role relation.

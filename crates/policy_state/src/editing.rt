@@ -7,7 +7,7 @@ ghost use Rattle.policy_table.specs.Tables.{Policy};
 ghost use Rattle.policy_table.specs.declared.change.Change.{Change};
 ghost use Rattle.version_log.specs.Log.{Stands, most_versions, versions};
 
-use crate::indexing::{commit_index, prepare_index};
+use crate::indexing::{make_all, prepare_index};
 use crate::prepared::Prepared;
 use crate::state::PolicyState;
 use edit_calls::admitted_edits_keep_sound;
@@ -31,7 +31,7 @@ impl PolicyState {
         requires from { self.old.log.start ≤ start }
         requires until { start ≤ versions self.old.log }
         ensures shapes { self.new.shapes ≡ self.old.shapes }
-        ensures column { self.new.column ≡ self.old.column }
+        ensures key { self.new.key ≡ self.old.key }
         ensures log_start { self.new.log.start ≡ self.old.log.start }
         ensures tail { self.new.log.tail ≡ self.old.log.tail }
         ensures tables { tables self.new ≡ tables self.old }
@@ -42,13 +42,12 @@ impl PolicyState {
         admitted_edits_keep_sound();
         self.tables.kept();
         let tables = self.tables.prepare(alloc, edits)?;
-        let index = prepare_index(&mut self.index, alloc, edits)?;
+        prepare_index(&mut self.index, alloc, edits)?;
         let sections = self.sections.prepare(alloc, edits, &self.tables)?;
         self.log.reserve(edits.len() as u32)?;
         let edits = copy_edits(alloc, edits)?;
         Ok(Prepared {
             tables,
-            index,
             sections,
             start,
             edits,
@@ -60,7 +59,7 @@ impl PolicyState {
     pub fn commit(&mut self, prepared: Prepared)
         requires ready { IsPreparedFor self.old prepared }
         ensures shapes { self.new.shapes ≡ self.old.shapes }
-        ensures column { self.new.column ≡ self.old.column }
+        ensures key { self.new.key ≡ self.old.key }
         ensures start { self.new.log.start ≡ prepared.start }
         ensures tail { self.new.log.tail
             ≡ drop (prepared.start - self.old.log.start) self.old.log.tail ++ prepared.edits }
@@ -73,7 +72,6 @@ impl PolicyState {
     {
         let Prepared {
             tables,
-            index,
             sections,
             start,
             edits,
@@ -81,8 +79,7 @@ impl PolicyState {
         admitted_edits_keep_sound();
         self.tables.kept();
         self.log.move_start(start);
-        self.tables.commit(tables);
-        commit_index(&mut self.index, index, &self.tables);
+        make_all(&mut self.tables, &mut self.index, tables);
         self.sections.commit(sections);
         push_all(&mut self.log, edits);
     }

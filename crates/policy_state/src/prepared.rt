@@ -6,7 +6,6 @@ use std::marker::Model;
 #[derive(Drop)]
 pub struct Prepared {
     pub(crate) tables: policy_table::Prepared,
-    pub(crate) index: Option<policy_index::Prepared>,
     pub(crate) sections: Vec<role_domain::Prepared>,
     pub(crate) start: u32,
     pub(crate) edits: Vec<Edit>,
@@ -22,7 +21,6 @@ impl Model for Prepared {
       start = p.start;
       parts = record {
         tables = p.tables;
-        index = p.index;
         sections = p.sections.items;
       };
     } };

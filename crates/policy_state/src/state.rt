@@ -1,29 +1,31 @@
-ghost use Rattle.std.specs.Prelude.{◌≡◌, ◌<◌, ◌≤◌, [], All, IfOk, IfSome, List};
+ghost use Rattle.std.specs.Prelude.{◌≡◌, ◌≤◌, [], All, IfOk, IfSome, List, option_copied, true};
 ghost use Rattle.perm_base.specs.Shapes.{AreValid};
+ghost use Rattle.policy_index.specs.Keys.{is_below};
+ghost use Rattle.policy_state.specs.Helps.Kept.{AreIndexed, key_of};
 ghost use Rattle.policy_state.specs.States.{IsGrown, StandsFor, tables};
+ghost use Rattle.perm_base.specs.declared.shapes.TableId.TheVariants.{P};
 ghost use Rattle.policy_table.specs.Limits.{AreSound};
-ghost use Rattle.policy_table.specs.Tables.{Policy};
+ghost use Rattle.policy_table.specs.Slots.{AreSlots, slots};
+ghost use Rattle.policy_table.specs.Tables.{Policy, rows};
 ghost use Rattle.policy_table.specs.declared.change.Change.{Change};
 ghost use Rattle.version_log.specs.EditText.{NameRules};
 ghost use Rattle.version_log.specs.Log.{most_versions, versions};
 
 use crate::indexing::{copy_index, make_index};
 use crate::sections::Sections;
-use perm_base::{NoMemory, RoleShapes, Shapes, Share};
-use policy_index::Index;
+use perm_base::{NoMemory, RoleShapes, Shapes, Share, TableId};
+use policy_index::{Index, RowKey};
 use policy_table::Tables;
 use std::alloc::Global;
 use std::marker::Model;
 use version_log::{Log, new_log};
 
-/// A policy as a whole (Casbin, the enforcer's model and policy): tables of given shapes, an index of p by one column or none,
-/// the role relations, and the log of the edits that led to these tables. Each rule is kept in the tables alone. Contracts see
-/// the shapes, the column, the log, and what is kept beside it.
+/// A policy as a whole (Casbin, the enforcer's model and policy): tables of given shapes, an index of p by a key or none, the role
+/// relations, and the log of the edits that led to these tables. Each rule is kept in the tables alone. Contracts see the shapes,
+/// the key, the log, and what is kept beside it.
 #[derive(Drop)]
 pub struct PolicyState {
     pub(crate) shapes: Shapes,
-    // The column of the index, where there is one.
-    pub(crate) column: Option<u32>,
     pub(crate) tables: Tables,
     pub(crate) index: Option<Index>,
     pub(crate) sections: Sections,
@@ -31,45 +33,44 @@ pub struct PolicyState {
 }
 
 impl Model for PolicyState {
-    ghost use Rattle.policy_state.specs.Helps.Kept.{IsState, parts_of};
+    ghost use Rattle.policy_state.specs.Helps.Kept.{IsState, key_of, parts_of};
     ghost use Rattle.policy_state.specs.States.{State};
 
     ghost Value = { State };
 
     ghost view = { λ s. record {
       shapes = s.shapes;
-      column = s.column;
+      key = key_of s.index;
       log = s.log;
       parts = parts_of s.tables s.index s.sections;
     } };
 
     ghost invariant = { λ s.
-        IsState s.shapes s.column s.log (parts_of s.tables s.index s.sections) };
+        IsState s.shapes s.log (parts_of s.tables s.index s.sections) };
 }
 
 /// The policy with these tables, at version 0. Its time is linear in the rows.
 pub fn make_state(
     alloc: Global,
     shapes: Shapes,
-    column: Option<u32>,
+    key: Option<RowKey>,
     tables: Tables,
 ) -> Result<PolicyState, NoMemory>
     requires valid { AreValid shapes }
     requires sound { AreSound shapes tables.policy }
-    requires column { IfSome column (λ column. column < shapes.columns) }
+    requires key { IfSome key (λ key. is_below shapes.columns key ≡ true) }
     ensures shapes { IfOk result (λ state. state.shapes ≡ shapes) }
-    ensures column { IfOk result (λ state. state.column ≡ column) }
+    ensures key { IfOk result (λ state. state.key ≡ key) }
     ensures stands { IfOk result (λ state. StandsFor state tables.policy []) }
     ensures start { IfOk result (λ state. state.log.start ≡ 0) }
     ensures tables { IfOk result (λ state. state.parts.held.policy ≡ tables.policy) }
     ensures tail { IfOk result (λ state. state.log.tail ≡ []) }
 {
-    let index = make_index(alloc, column, &tables)?;
+    let index = make_index(alloc, key, &tables)?;
     let sections = Sections::make(alloc, &shapes, &tables)?;
     let log = new_log(alloc);
     Ok(PolicyState {
         shapes,
-        column,
         tables,
         index,
         sections,
@@ -82,7 +83,7 @@ impl PolicyState {
     /// in the edits of the log.
     pub fn copy(&self, alloc: Global) -> Result<PolicyState, NoMemory>
         ensures shapes { IfOk result (λ copy. copy.shapes ≡ self.now.shapes) }
-        ensures column { IfOk result (λ copy. copy.column ≡ self.now.column) }
+        ensures key { IfOk result (λ copy. copy.key ≡ self.now.key) }
         ensures start { IfOk result (λ copy. copy.log.start ≡ self.now.log.start) }
         ensures tail { IfOk result (λ copy. copy.log.tail ≡ self.now.log.tail) }
         ensures tables { IfOk result (λ copy. tables copy ≡ tables self.now) }
@@ -91,13 +92,11 @@ impl PolicyState {
     {
         let shapes = copy_shapes(alloc, &self.shapes)?;
         let tables = self.tables.copy(alloc)?;
-        let column = self.column;
         let index = copy_index(alloc, &self.index)?;
         let sections = self.sections.copy(alloc)?;
         let log = self.log.copy(alloc)?;
         Ok(PolicyState {
             shapes,
-            column,
             tables,
             index,
             sections,
@@ -123,6 +122,7 @@ impl PolicyState {
     /// The tables after all edits.
     pub fn tables(&self) -> &Tables
         ensures policy { result.now.policy ≡ tables self.now }
+        ensures held { result.now ≡ self.now.parts.held }
     {
         &self.tables
     }
@@ -134,11 +134,14 @@ impl PolicyState {
         &self.shapes
     }
 
-    /// The column of p, counted from 0, by which an index is kept.
-    pub fn index_column(&self) -> Option<u32>
-        ensures column { result ≡ self.now.column }
+    /// The index of p, where one is kept.
+    pub fn index(&self) -> Option<&Index>
+        ensures key { key_of (option_copied result) ≡ self.now.key }
+        ensures rows { AreIndexed (option_copied result) (slots self.now.parts.held P) }
+        ensures slots { AreSlots (slots self.now.parts.held P) (rows (tables self.now) P) }
     {
-        self.column
+        let _by_slot = self.tables.by_slot(TableId::P);
+        self.index.as_ref()
     }
 
     /// What it keeps: the shapes are valid, the tables are sound, and they have grown by the edits of the log, each of which was

@@ -8,6 +8,10 @@ pub use Rattle.policy_table.proofs.SoundLemmas.{Puts, PutAll, all_edited, are_li
 pub use Rattle.policy_table.proofs.DomainLemmas.{among_different, any_counted, distinct_different, keys_different}
 pub use Rattle.policy_table.proofs.LimitLemmas.{different_fewer, different_none, different_push, passing_push}
 pub use Rattle.policy_table.proofs.RoleLemmas.{sum_passing}
+pub use Rattle.policy_table.proofs.TableLemmas.{slots_other, slots_own}
+pub use Rattle.policy_table.proofs.SlotLemmas.{HasSlot, first_slot, found_first, found_slot, same_slot}
+pub use Rattle.policy_table.proofs.SwapLemmas.{found_swap}
+pub use Rattle.policy_table.proofs.WalkLemmas.{IsRow, next_row, no_more_rows}
 use Rattle.std.proofs.Common.{◌≡◌, ◌+◌, ◌<◌, ◌^◌, true, List, [], ◌∷◌, ◌++◌, length, refl, sym, ap, subst, ◌∙◌}
 use Rattle.policy_table.specs.Changes.{applies, edited, is_possible, table_of}
 use Rattle.policy_table.specs.Tables.{AreLists, Policy, rows}

@@ -1,5 +1,5 @@
 -- The counts of domains beside the rules that have them.
-use Rattle.std.proofs.Common.{◌≡◌, ℕ, ◌+◌, ◌<◌, ◌^◌, Bool, true, false, not, cond, if◌then◌else◌, List, [], ◌∷◌, ◌++◌, length, filter, drop, get_or, refl, sym, ap, subst, ◌∙◌, arith}
+use Rattle.std.proofs.Common.{◌≡◌, ℕ, ◌+◌, ◌<◌, ◌^◌, Bool, true, false, not, cond, if◌then◌else◌, List, [], ◌∷◌, ◌++◌, length, drop, get_or, refl, sym, ap, subst, ◌∙◌, arith}
 use Rattle.std.specs.List.{IsDistinct, count_by, sum_by}
 use Rattle.std.proofs.lemmas.List.{drop_more, length-map}
 use Rattle.std.proofs.lemmas.List.Sums.{count_by-le-length, sum_by-append, sum_by-cons}
@@ -7,11 +7,10 @@ use Rattle.std.specs.Str.{bytes_eq}
 use Rattle.perm_base.specs.Patterns.{is_pattern}
 use Rattle.policy_table.specs.Changes.{inserted, replaced, without}
 use Rattle.policy_table.specs.Helps.Domains.{AreCounted, CanCount, Counted, domain_of}
-use Rattle.policy_table.specs.Helps.Steps.{all_stand}
 use Rattle.policy_table.specs.Limits.{domains_of}
 use Rattle.policy_table.specs.Tables.{Fields, same, stands}
 use Rattle.policy_table.proofs.DomainLemmas.{count_cons, recounted}
-use Rattle.policy_table.proofs.SumLemmas.{sum_inserted, sum_removed, sum_replaced, sum_without}
+use Rattle.policy_table.proofs.SumLemmas.{sum_inserted, sum_replaced, sum_without}
 
 -- whether a rule's domain passes, as a number
 abbrev pub one : (List ℕ → Bool) → Fields → ℕ
@@ -51,21 +50,7 @@ counted_unless ranked new rule rules after counted told made are = by (stands ru
         subst (λ (l : List Fields). AreCounted (domains_of l) counted) (sym m)
         (counted_inserted ranked rule rules counted (subst (λ (b : Bool). AreCounted (if b then domain_of rule ∷ domains_of rules else domains_of rules) counted) t are))
 
--- rules that are to go are counted beside those that stay
-pub counted_parts : (gone rules : List Fields) (counted : Counted) → IsDistinct same rules → all_stand gone rules ≡ true → AreCounted (domains_of rules) counted
-    → AreCounted (domains_of gone ++ domains_of (filter (λ (other : Fields). not (stands other gone)) rules)) counted
-counted_parts gone rules counted distinct all are =
-    recounted _ _ counted are
-    (λ q. omega (
-      arith,
-      count_both q (domains_of gone) (domains_of (filter (λ (other : Fields). not (stands other gone)) rules)),
-      domains_sum q gone,
-      domains_sum q (filter (λ (other : Fields). not (stands other gone)) rules),
-      domains_sum q rules,
-      sum_removed (one q) gone rules distinct all,
-    ))
-
--- and so is one
+-- a rule that is to go is counted beside those that stay
 pub counted_part : (rule : Fields) (rules : List Fields) (counted : Counted) → IsDistinct same rules → stands rule rules ≡ true → AreCounted (domains_of rules) counted
     → AreCounted (domain_of rule ∷ domains_of (without rule rules)) counted
 counted_part rule rules counted distinct some are =
@@ -93,30 +78,24 @@ domains_from rules i rule others within here =
     ap (λ (l : List Fields). domains_of l ++ others) (drop_more rules i rule within) ∙ ap (λ (r : Fields). domain_of r ∷ (domains_of (drop (i + 1) rules) ++ others)) (sym here)
 
 -- a rule with its domain is put in
-pub counted_pushed : (ranked counted : Bool) (rule put : Fields) (domain : List ℕ) (rules after : List Fields) (d : Counted) → counted ≡ true → rule ≡ put → domain ≡ domain_of put → after ≡ inserted ranked rule rules
+pub counted_pushed : (ranked counted : Bool) (rule : Fields) (domain : List ℕ) (rules after : List Fields) (d : Counted) → counted ≡ true → domain ≡ domain_of rule → after ≡ inserted ranked rule rules
     → AreCounted (if counted then domain ∷ domains_of rules else domains_of rules) d → AreCounted (domains_of after) d
-counted_pushed ranked counted rule put domain rules after d is same named made are =
-    subst (λ (l : List Fields). AreCounted (domains_of l) d) (sym (made ∙ ap (λ (r : Fields). inserted ranked r rules) same))
-    (counted_inserted ranked put rules d
+counted_pushed ranked counted rule domain rules after d is named made are =
+    subst (λ (l : List Fields). AreCounted (domains_of l) d) (sym made)
+    (counted_inserted ranked rule rules d
     (subst (λ (t : List ℕ). AreCounted (t ∷ domains_of rules) d) named (subst (λ (b : Bool). AreCounted (if b then domain ∷ domains_of rules else domains_of rules) d) is are)))
 
--- rules that are to go, in a list of their own
-pub counted_listed : (listed gone rules : List Fields) (counted : Counted) → listed ≡ gone → IsDistinct same rules → all_stand gone rules ≡ true → AreCounted (domains_of rules) counted
-    → AreCounted (domains_of listed ++ domains_of (filter (λ (other : Fields). not (stands other gone)) rules)) counted
-counted_listed listed gone rules counted is distinct all are =
-    subst (λ (l : List Fields). AreCounted (domains_of l ++ domains_of (filter (λ (other : Fields). not (stands other gone)) rules)) counted) (sym is) (counted_parts gone rules counted distinct all are)
-
--- and one
+-- in a list of its own
 pub counted_alone : (listed : List Fields) (rule : Fields) (rules : List Fields) (counted : Counted) → listed ≡ rule ∷ [] → IsDistinct same rules → stands rule rules ≡ true → AreCounted (domains_of rules) counted
     → AreCounted (domains_of listed ++ domains_of (without rule rules)) counted
 counted_alone listed rule rules counted is distinct some are =
     subst (λ (l : List Fields). AreCounted (domains_of l ++ domains_of (without rule rules)) counted) (sym is) (counted_part rule rules counted distinct some are)
 
 -- a rule with its domain is put in for an old one
-pub counted_put : (ranked counted : Bool) (old rule put : Fields) (domain : List ℕ) (rules after : List Fields) (d : Counted) → counted ≡ true → rule ≡ put → domain ≡ domain_of put → after ≡ replaced ranked old rule rules
+pub counted_put : (ranked counted : Bool) (old new : Fields) (domain : List ℕ) (rules after : List Fields) (d : Counted) → counted ≡ true → domain ≡ domain_of new → after ≡ replaced ranked old new rules
     → IsDistinct same rules → stands old rules ≡ true → AreCounted (if counted then domain ∷ domains_of (without old rules) else domains_of (without old rules)) d → AreCounted (domains_of after) d
-counted_put ranked counted old rule put domain rules after d is same named made distinct some are =
-    subst (λ (l : List Fields). AreCounted (domains_of l) d) (sym (made ∙ ap (λ (r : Fields). replaced ranked old r rules) same))
-    (counted_replaced ranked old put rules d distinct some
+counted_put ranked counted old new domain rules after d is named made distinct some are =
+    subst (λ (l : List Fields). AreCounted (domains_of l) d) (sym made)
+    (counted_replaced ranked old new rules d distinct some
     (subst (λ (t : List ℕ). AreCounted (t ∷ domains_of (without old rules)) d) named
     (subst (λ (b : Bool). AreCounted (if b then domain ∷ domains_of (without old rules) else domains_of (without old rules)) d) is are)))

@@ -5,12 +5,11 @@ use Rattle.std.proofs.Math.ListN.{set}
 use Rattle.std.proofs.lemmas.List.{map-set, get_or-map, set-get_or}
 use Rattle.outside.specs.declared.fault.NoMemory.{NoMemory}
 use Rattle.perm_base.specs.declared.shapes.TableId.{TableId}
-use Rattle.policy_table.specs.Changes.{changed, edited, inserted, is_possible}
+use Rattle.policy_table.specs.Changes.{changed, inserted, is_possible}
 use Rattle.policy_table.specs.Held.{Held}
-use Rattle.policy_table.specs.Helps.Rows.{AreTables, Rows, lists_of, policy_of, spare_of}
+use Rattle.policy_table.specs.Helps.Rows.{AreTables, Rows, held_of, lists_of, policy_of, slots_of}
 use Rattle.policy_table.specs.Tables.{Fields, IsKept, is_ranked, place, rows, stands}
 use Rattle.policy_table.specs.declared.change.Change.TheVariants as change
-use Rattle.policy_table.specs.declared.prepared.Action.TheVariants as action
 use Rattle.policy_table.proofs.RuleLemmas.{changed_few}
 use Rattle.policy_table.proofs.LawLemmas.{kept_of, order_of, ordered_changed}
 use Rattle.policy_table.proofs.TableLemmas.{counted_after, policy_after, rows_here}
@@ -22,12 +21,19 @@ same_lists tables at after d within same =
     ∙ ap (set (lists_of tables) at) (same ∙ sym (get_or-map (λ (r : Rows). r.rules) tables at d [] within))
     ∙ set-get_or (lists_of tables) at []
 
+-- and those by slots
+pub same_slots : (tables : List Rows) (at : ℕ) (after d : Rows) → at < length tables → after.slots ≡ (get_or tables at d).slots → slots_of (set tables at after) ≡ slots_of tables
+same_slots tables at after d within same =
+    map-set (λ (r : Rows). r.slots) tables at after
+    ∙ ap (set (slots_of tables) at) (same ∙ sym (get_or-map (λ (r : Rows). r.slots) tables at d [] within))
+    ∙ set-get_or (slots_of tables) at []
+
 -- the tables before are seen as held, and a table has its place among them
 pub record IsAt (ranked here_ranked : Bool) (tables : List Rows) (at : ℕ) (table : TableId) (held : Held) : Type 0 where
   pub here : place table ≡ Some at
   pub within : at < length tables
   pub told : here_ranked ≡ is_ranked (policy_of ranked tables) table
-  pub view : record { policy = policy_of ranked tables; spare = spare_of tables } ≡ held
+  pub view : held_of ranked tables ≡ held
 
 module _ (ranked here_ranked : Bool) (tables : List Rows) (at : ℕ) (table : TableId) (held : Held) (is : IsAt ranked here_ranked tables at table held) (rule : Fields) (after d : Rows) where
   -- the tables with the same rules there
@@ -36,8 +42,7 @@ module _ (ranked here_ranked : Bool) (tables : List Rows) (at : ℕ) (table : Ta
 
   -- or with one more
   with_one : after.rules ≡ inserted here_ranked rule (get_or tables at d).rules → policy_of ranked (set tables at after) ≡ changed (change.Insert table rule) (policy_of ranked tables)
-  unfolding edited
-  with_one made = policy_after ranked here_ranked tables at after d table (action.Insert rule) is.here is.within is.told made
+  with_one made = policy_after ranked here_ranked tables at after d (change.Insert table rule) is.here is.within is.told made
 
   -- unless it stands there
   pub policy_unless : after.rules ≡ (if stands rule (get_or tables at d).rules then (get_or tables at d).rules else inserted here_ranked rule (get_or tables at d).rules)

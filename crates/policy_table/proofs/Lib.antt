@@ -1,4 +1,10 @@
 mod RowLemmas
+mod OrderLemmas
+mod WalkLemmas
+mod SlotLemmas
+mod SwapLemmas
+mod RankingLemmas
+mod EditLemmas
 mod NumberLemmas
 mod RankLemmas
 mod PlaceLemmas

@@ -21,7 +21,7 @@ same-Decides first second = slice_eq-Decides bytes_eq-Decides first second (same
 
 module _ {T : Type 0} (test : T → Bool) where
   -- the first that passes is one of those where one passes
-  position_or_len-within : (keys : List T) → list_any test keys ≡ true → position_or_len test keys < length keys
+  pub position_or_len-within : (keys : List T) → list_any test keys ≡ true → position_or_len test keys < length keys
   position_or_len-within [] some = absurd (true≢false (sym some))
   position_or_len-within (x ∷ xs) some = by (test x) refl (position_or_len-within xs)
     where

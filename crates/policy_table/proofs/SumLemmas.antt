@@ -1,5 +1,5 @@
 -- Sums over the rules of a table before and after changes that suit them.
-use Rattle.std.proofs.Common.{◌≡◌, ℕ, ◌+◌, Bool, true, false, ◌&&◌, ◌||◌, not, cond, if◌then◌else◌, List, [], ◌∷◌, filter, refl, sym, ap, subst, ◌∙◌, arith, true≢false}
+use Rattle.std.proofs.Common.{◌≡◌, ℕ, ◌+◌, Bool, true, false, ◌&&◌, ◌||◌, not, cond, if◌then◌else◌, List, [], ◌∷◌, refl, sym, ap, subst, ◌∙◌, arith, true≢false}
 use Rattle.std.specs.Prelude.{is_some}
 use Rattle.std.specs.List.{IsDistinct, sum_by}
 use Rattle.std.proofs.lemmas.Bool.{and_parts}
@@ -10,11 +10,10 @@ use Rattle.policy_table.specs.Changes.{applies, changed, changed_rules, edited, 
 use Rattle.policy_table.specs.Ranks.{is_level}
 use Rattle.policy_table.specs.Tables.{AreOrdered, Fields, Policy, is_ranked, place, rows, same, stands}
 use Rattle.policy_table.specs.Helps.Counts.{out_of, put_by, put_into, taken_by}
-use Rattle.policy_table.specs.Helps.Steps.{all_stand}
 use Rattle.policy_table.specs.declared.change.Change.{Change}
 use Rattle.policy_table.specs.declared.change.Change.TheVariants.{Insert, Remove, Replace}
 use Rattle.policy_table.proofs.RowLemmas.{apart_from, renamed-absent, without-absent}
-use Rattle.policy_table.proofs.RuleLemmas.{distinct_filter, inserted-IsPermutation, keeps_all, out_and_out, same-Decides}
+use Rattle.policy_table.proofs.RuleLemmas.{inserted-IsPermutation, same-Decides}
 use Rattle.policy_table.proofs.LawLemmas.{first_possible, ordered_changed, rest_possible, rows_other, rows_possible}
 use Rattle.policy_table.proofs.PlaceLemmas.{same_table}
 
@@ -35,14 +34,6 @@ module _ (f : Fields → ℕ) where
           let left : sum_by f (without rule rules) ≡ sum_by f rules = ap (sum_by f) (without-absent same rule rules (apart_from same same-Decides rule x rules e distinct.0)) in
           omega (arith, left, ap f ((same-Decides rule x).0 e), sum_by-cons f x rules)
       by false e is rest = omega (arith, rest is, sum_by-cons f x (without rule rules), sum_by-cons f x rules)
-
-  -- without several that stand at their turn
-  pub sum_removed : (gone rules : List Fields) → IsDistinct same rules → all_stand gone rules ≡ true → sum_by f (filter (λ (other : Fields). not (stands other gone)) rules) + sum_by f gone ≡ sum_by f rules
-  sum_removed [] rules distinct all = omega (arith, ap (sum_by f) (keeps_all rules))
-  sum_removed (rule ∷ gone) rules distinct all =
-      let both = and_parts (stands rule rules) (all_stand gone (without rule rules)) all in
-      let rest = sum_removed gone (without rule rules) (distinct_filter (λ (other : Fields). not (same rule other)) rules distinct) both.1 in
-      omega (arith, rest, ap (sum_by f) (out_and_out rule gone rules), sum_without rule rules distinct both.0, sum_by-cons f rule gone)
 
   -- with a new one in the place of an old one
   sum_in_place : (old new : Fields) (rules : List Fields) → IsDistinct same rules → stands old rules ≡ true → sum_by f (in_place old new rules) + f old ≡ sum_by f rules + f new

@@ -1,16 +1,18 @@
--- What contracts see of tables beside their rules: the room, which is how many further rules a table takes without memory.
+-- What contracts see of tables beside their rules: the room, which is how many further rules a table takes without memory, and
+-- the rules by their slots.
 use Rattle.std.specs.Prelude.{◌≡◌, ℕ, ◌==◌, ◌<◌, ◌≤◌, Bool, true, false, List, length, filter, get_or}
 use Rattle.std.specs.Option.{option_map_or}
 use Rattle.perm_base.specs.declared.shapes.TableId.{TableId}
 use Rattle.policy_table.specs.Changes.{applies, edited}
-use Rattle.policy_table.specs.Tables.{AreLists, Policy, most_tables, place}
+use Rattle.policy_table.specs.Tables.{AreLists, Lists, Policy, most_tables, place}
 use Rattle.policy_table.specs.declared.change.Change.{Change}
 use Rattle.policy_table.specs.declared.change.Change.TheVariants.{Insert, Remove, Replace}
 
--- the tables, and the room of each
+-- the tables, the room of each, and the rules of each by their slots
 pub record Held : Type 0 where
   pub policy : Policy
   pub spare : List ℕ
+  pub slots : Lists
 
 -- the table stands at this place
 abbrev pub is_at : ℕ → TableId → Bool

@@ -1,6 +1,6 @@
 -- What only private functions and proofs say.
 pub mod Rows
-pub mod Steps
+pub mod Orders
 pub mod Counts
 pub mod Domains
 pub mod Moves

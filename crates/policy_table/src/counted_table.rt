@@ -1,16 +1,20 @@
-ghost use Rattle.std.specs.Prelude.{◌≡◌, ◌+◌, ◌<◌, ◌≤◌, ◌^◌, [], ◌∷◌, ◌++◌, List, ℕ, true, false, not, IfOk, OnErr, OnOk, filter, if◌then◌else◌, length};
+ghost use Rattle.std.specs.Prelude.{◌≡◌, ◌+◌, ◌<◌, ◌≤◌, ◌^◌, [], ◌∷◌, ◌++◌, true, false, not, IfOk, OnErr, OnOk, Some, filter, if◌then◌else◌, length, position, slice_get};
 ghost use Rattle.std.specs.List.{IsDistinct, count_by};
 ghost use Rattle.std.specs.Str.{bytes_eq};
 ghost use Rattle.perm_base.specs.Patterns.{is_pattern};
-ghost use Rattle.policy_table.specs.Changes.{by_rank, inserted, replaced};
-ghost use Rattle.policy_table.specs.Helps.Domains.{AreCounted, CanCount};
+ghost use Rattle.indexmap.specs.IndexMap.{swap_remove_by};
+ghost use Rattle.policy_table.specs.Changes.{by_rank, changed_rules, in_place, inserted, replaced, suits, without};
+ghost use Rattle.policy_table.specs.Helps.Domains.{domain_of};
+ghost use Rattle.policy_table.specs.Helps.Moves.{put_domain, puts};
 ghost use Rattle.policy_table.specs.Helps.Rows.{RiseWhere};
-ghost use Rattle.policy_table.specs.Helps.Steps.{acted, all_stand, may_act, puts};
 ghost use Rattle.policy_table.specs.Limits.{different, domains_of};
+ghost use Rattle.policy_table.specs.Slots.{AreSlots, slots_after};
 ghost use Rattle.policy_table.specs.Tables.{same, stands};
 
-use crate::domains::{Domains, domain_or, domain_text};
-use crate::prepared::{Action, Put};
+use crate::change::Change;
+use crate::domains::{Domains, domain_text};
+use crate::prepared::Step;
+use crate::rows::Rows;
 use crate::table::Table;
 use perm_base::{Fit, NoMemory, Rule, Text};
 use std::alloc::Global;
@@ -33,6 +37,7 @@ impl Model for CountedTable {
 
     ghost view = { λ t. record {
       rules = t.table.rules;
+      slots = t.table.slots;
       spare = room_of t.counted t.table.spare t.domains.spare;
       counted = t.counted;
     } };
@@ -43,6 +48,7 @@ impl Model for CountedTable {
 impl CountedTable {
     pub(crate) fn new(alloc: Global, counted: bool) -> CountedTable
         ensures rules { result.rules ≡ [] }
+        ensures slots { result.slots ≡ [] }
         ensures counted { result.counted ≡ counted }
     {
         CountedTable {
@@ -53,11 +59,28 @@ impl CountedTable {
     }
 
     /// The rules in their order.
-    pub(crate) fn rules(&self) -> &[Rule]
-        ensures value { result.now ≡ self.now.rules }
+    pub(crate) fn rows(&self) -> Rows<'_>
+        ensures value { result ≡ self.now.rules }
         ensures once { IsDistinct same self.now.rules }
+        ensures few { length self.now.rules < 2 ^ 32 }
     {
-        self.table.rules()
+        self.table.rows()
+    }
+
+    /// The rules by their slots.
+    pub(crate) fn by_slot(&self) -> &[Rule]
+        ensures value { result.now ≡ self.now.slots }
+        ensures stand { AreSlots self.now.slots self.now.rules }
+        ensures few { length self.now.slots < 2 ^ 32 }
+    {
+        self.table.by_slot()
+    }
+
+    pub(crate) fn len(&self) -> u32
+        ensures value { result ≡ length self.now.rules }
+        ensures few { length self.now.rules < 2 ^ 32 }
+    {
+        self.table.len()
     }
 
     pub(crate) fn has(&self, rule: &Rule) -> bool
@@ -66,9 +89,50 @@ impl CountedTable {
         self.table.has(rule)
     }
 
+    /// The rule at a place.
+    pub(crate) fn row(&self, at: u32) -> &Rule
+        requires { at < length self.now.rules }
+        ensures { slice_get self.now.rules at ≡ Some result.now }
+    {
+        self.table.row(at)
+    }
+
+    /// The slot of a rule, where it stands.
+    pub(crate) fn slot_of(&self, rule: &Rule) -> Option<u32>
+        ensures { result ≡ position (same rule.now) self.now.slots }
+    {
+        self.table.slot_of(rule)
+    }
+
+    /// The place of a rule, where it stands.
+    pub(crate) fn number_of(&self, rule: &Rule) -> Option<u32>
+        ensures { result ≡ position (same rule.now) self.now.rules }
+    {
+        self.table.number_of(rule)
+    }
+
+    /// The place of the rule in a slot.
+    pub(crate) fn place_of_slot(&self, slot: u32) -> u32
+        requires { slot < length self.now.slots }
+        ensures within { result < length self.now.rules }
+        ensures same { slice_get self.now.rules result ≡ slice_get self.now.slots slot }
+    {
+        self.table.place_of_slot(slot)
+    }
+
+    /// The slot of the rule at a place.
+    pub(crate) fn slot_at(&self, at: u32) -> u32
+        requires { at < length self.now.rules }
+        ensures within { result < length self.now.slots }
+        ensures same { slice_get self.now.slots result ≡ slice_get self.now.rules at }
+    {
+        self.table.slot_at(at)
+    }
+
     /// Makes room for so many further rules.
     pub(crate) fn reserve(&mut self, count: usize) -> Result<(), NoMemory>
         ensures rules { self.new.rules ≡ self.old.rules }
+        ensures slots { self.new.slots ≡ self.old.slots }
         ensures counted { self.new.counted ≡ self.old.counted }
         ensures room { OnOk result (count ≤ self.new.spare) }
         ensures more { self.old.spare ≤ self.new.spare }
@@ -98,65 +162,86 @@ impl CountedTable {
         Ok(new)
     }
 
-    // Puts an absent rule in.
-    fn push(&mut self, ranked: bool, put: Put)
+    // Puts an absent rule in, whose domain is this.
+    fn push(&mut self, ranked: bool, rule: Rule, domain: Text)
+        requires domain { domain ≡ domain_of rule }
         requires rising { RiseWhere ranked self.old.rules }
-        requires absent { stands put self.old.rules ≡ false }
+        requires absent { stands rule self.old.rules ≡ false }
         requires room { 0 < self.old.spare }
-        ensures rules { self.new.rules ≡ inserted ranked put self.old.rules }
+        ensures rules { self.new.rules ≡ inserted ranked rule self.old.rules }
+        ensures slots { self.new.slots ≡ self.old.slots ++ rule ∷ [] }
         ensures counted { self.new.counted ≡ self.old.counted }
         ensures spare { self.old.spare ≤ self.new.spare + 1 }
     {
-        let (rule, domain) = put.into_parts();
         let _few = self.table.len();
         self.domains.add_if(self.counted, domain);
         self.table.push(ranked, rule);
     }
 
-    // Takes rules out, each of which stands.
-    fn remove(&mut self, gone: &Table)
-        requires { all_stand gone.now.rules self.old.rules ≡ true }
-        ensures rules { self.new.rules
-            ≡ filter (λ other. not (stands other gone.now.rules)) self.old.rules }
+    // Takes a rule out that stands.
+    fn remove(&mut self, rule: &Rule)
+        requires { stands rule.now self.old.rules ≡ true }
+        ensures rules { self.new.rules ≡ without rule.now self.old.rules }
+        ensures slots { self.new.slots ≡ swap_remove_by (same rule.now) self.old.slots }
         ensures counted { self.new.counted ≡ self.old.counted }
         ensures spare { self.old.spare ≤ self.new.spare }
     {
         let _once = self.table.len();
-        self.domains.take_if(self.counted, gone.rules());
-        self.table.remove_these(gone);
+        self.domains
+            .take_if(self.counted, std::slice::from_ref(rule));
+        self.table.remove(rule);
     }
 
-    // Puts an absent rule in for one that stands.
-    fn replace(&mut self, ranked: bool, old: &Rule, new: Put)
+    // Puts an absent rule, whose domain is this, in for one that stands.
+    fn replace(&mut self, ranked: bool, old: &Rule, new: Rule, domain: Text)
+        requires domain { domain ≡ domain_of new }
         requires rising { RiseWhere ranked self.old.rules }
         requires stands { stands old.now self.old.rules ≡ true }
         requires absent { stands new self.old.rules ≡ false }
         requires room { 0 < self.old.spare }
         ensures rules { self.new.rules ≡ replaced ranked old.now new self.old.rules }
+        ensures slots { self.new.slots ≡ in_place old.now new self.old.slots }
         ensures counted { self.new.counted ≡ self.old.counted }
         ensures spare { self.old.spare ≤ self.new.spare + 1 }
     {
-        let (rule, domain) = new.into_parts();
         let _few = self.table.len();
         self.domains
             .take_if(self.counted, std::slice::from_ref(old));
         self.domains.add_if(self.counted, domain);
-        self.table.replace(ranked, old, rule);
+        self.table.replace(ranked, old, new);
     }
 
-    /// Does what an action says.
-    pub(crate) fn make(&mut self, ranked: bool, action: Action)
+    /// Makes a change.
+    pub(crate) fn make(&mut self, ranked: bool, step: Step)
         requires rising { RiseWhere ranked self.old.rules }
-        requires possible { may_act action self.old.rules ≡ true }
-        requires room { puts action ≤ self.old.spare }
-        ensures rules { self.new.rules ≡ acted ranked action self.old.rules }
+        requires possible { suits step self.old.rules ≡ true }
+        requires room { puts step ≤ self.old.spare }
+        ensures rules { self.new.rules ≡ changed_rules ranked step self.old.rules }
+        ensures slots { self.new.slots ≡ slots_after step self.old.slots }
+        ensures few { length self.new.rules < 2 ^ 32 }
         ensures counted { self.new.counted ≡ self.old.counted }
-        ensures spare { self.old.spare ≤ self.new.spare + puts action }
+        ensures spare { self.old.spare ≤ self.new.spare + puts step }
     {
-        match action {
-            Action::Insert(put) => self.push(ranked, put),
-            Action::Remove(gone) => self.remove(&gone),
-            Action::Replace { old, new } => self.replace(ranked, &old, new),
+        let (change, domain) = step.into_parts();
+        self.make_change(ranked, change, domain);
+        let _few = self.len();
+    }
+
+    // Makes a change, the domain of whose new rule is this.
+    fn make_change(&mut self, ranked: bool, change: Change, domain: Text)
+        requires domain { domain ≡ put_domain change }
+        requires rising { RiseWhere ranked self.old.rules }
+        requires possible { suits change self.old.rules ≡ true }
+        requires room { puts change ≤ self.old.spare }
+        ensures rules { self.new.rules ≡ changed_rules ranked change self.old.rules }
+        ensures slots { self.new.slots ≡ slots_after change self.old.slots }
+        ensures counted { self.new.counted ≡ self.old.counted }
+        ensures spare { self.old.spare ≤ self.new.spare + puts change }
+    {
+        match change {
+            Change::Insert { rule, .. } => self.push(ranked, rule, domain),
+            Change::Remove { rule, .. } => self.remove(&rule),
+            Change::Replace { old, new, .. } => self.replace(ranked, &old, new, domain),
         }
     }
 
@@ -195,6 +280,7 @@ impl CountedTable {
 
     pub(crate) fn copy(&self, alloc: Global) -> Result<CountedTable, NoMemory>
         ensures rules { IfOk result (λ copy. copy.rules ≡ self.now.rules) }
+        ensures slots { IfOk result (λ copy. copy.slots ≡ self.now.slots) }
         ensures counted { IfOk result (λ copy. copy.counted ≡ self.now.counted) }
     {
         let table = self.table.copy(alloc)?;

@@ -14,8 +14,11 @@ mod passed;
 mod patterns;
 mod prepared;
 mod rank;
+mod ranking;
+mod rows;
 mod rows_after;
 mod table;
+mod table_edits;
 mod tables;
 
 pub use change::{Change, Edit, copy_edit};
@@ -25,5 +28,6 @@ pub use laws::{
     tables_within_limits_are_lists,
 };
 pub use limit::{Limit, columns_of, has_short_fields};
-pub use prepared::Prepared;
+pub use prepared::{Prepared, Step};
+pub use rows::Rows;
 pub use tables::{Tables, no_tables, ranked_tables};

@@ -1,14 +1,12 @@
-ghost use Rattle.std.specs.Prelude.{◌≡◌, ℕ, ◌+◌, ◌<◌, ◌≤◌, ◌++◌, ◌∷◌, IfOk, OnOk, if◌then◌else◌, length, map, take};
-ghost use Rattle.policy_table.specs.Changes.{flat};
-ghost use Rattle.policy_table.specs.Held.{needed};
-ghost use Rattle.policy_table.specs.Helps.Domains.{domain_of};
-ghost use Rattle.policy_table.specs.Helps.Steps.{all_changes, changes_of};
+ghost use Rattle.std.specs.Prelude.{◌≡◌, ◌++◌, IfOk, OnOk};
+ghost use Rattle.policy_table.specs.Changes.{flat, table_of};
+ghost use Rattle.policy_table.specs.Held.{is_at, needed, puts_at};
+ghost use Rattle.policy_table.specs.Helps.Moves.{put_domain};
 
 use crate::change::{Change, Edit};
 use crate::domains::domain_text;
-use crate::table::Table;
 use crate::tables::place;
-use perm_base::{NoMemory, Rule, TableId, Text};
+use perm_base::{NoMemory, TableId, Text};
 use std::alloc::Global;
 use std::marker::Model;
 
@@ -20,63 +18,31 @@ pub struct Prepared {
 
 impl Model for Prepared {
     ghost use Rattle.std.specs.Prelude.{List};
-    ghost use Rattle.policy_table.specs.Helps.Steps.{all_changes};
     ghost use Rattle.policy_table.specs.declared.change.Change.{Change};
 
     ghost Value = { List Change };
 
-    ghost view = { λ p. all_changes p.steps.items };
+    ghost view = { λ p. p.steps.items };
 }
 
-/// What is done to one table.
+/// A change that is ready to be made. Contracts see the change.
 #[derive(Drop)]
-pub(crate) struct Step {
-    pub(crate) table: TableId,
-    pub(crate) action: Action,
-}
-
-/// A change of a table's rules, or several rules that are taken out at once.
-#[derive(Drop)]
-pub(crate) enum Action {
-    Insert(Put),
-    Remove(Table),
-    Replace { old: Rule, new: Put },
-}
-
-/// A rule that is put in, and its domain. Contracts see the rule.
-#[derive(Drop)]
-pub(crate) struct Put {
-    rule: Rule,
+pub struct Step {
+    change: Change,
+    // That of the rule that it puts in, where it puts one in.
     domain: Text,
 }
 
-impl Model for Put {
-    ghost use Rattle.std.specs.Prelude.{◌≡◌, List, ℕ};
-    ghost use Rattle.policy_table.specs.Helps.Domains.{domain_of};
+impl Model for Step {
+    ghost use Rattle.std.specs.Prelude.{◌≡◌};
+    ghost use Rattle.policy_table.specs.Helps.Moves.{put_domain};
+    ghost use Rattle.policy_table.specs.declared.change.Change.{Change};
 
-    ghost Value = { List (List ℕ) };
+    ghost Value = { Change };
 
-    ghost view = { λ p. p.rule };
+    ghost view = { λ s. s.change };
 
-    ghost invariant = { λ p. p.domain ≡ domain_of p.rule };
-}
-
-impl Put {
-    fn copy_of(alloc: Global, rule: &Rule) -> Result<Put, NoMemory>
-        ensures { IfOk result (λ put. put ≡ rule.now) }
-    {
-        let domain = domain_text(alloc, rule)?;
-        let rule = rule.copy(alloc)?;
-        Ok(Put { rule, domain })
-    }
-
-    /// The rule and its domain.
-    pub(crate) fn into_parts(self) -> (Rule, Text)
-        ensures rule { result.0 ≡ self }
-        ensures domain { result.1 ≡ domain_of self }
-    {
-        (self.rule, self.domain)
-    }
+    ghost invariant = { λ s. s.domain ≡ put_domain s.change };
 }
 
 impl Prepared {
@@ -104,89 +70,84 @@ impl Prepared {
         count
     }
 
-    pub(crate) fn into_steps(self) -> Vec<Step>
-        ensures { all_changes result.items ≡ self }
+    /// The changes one after the other, each of them ready to be made at its turn. It takes no memory.
+    pub fn into_steps(self) -> Vec<Step>
+        ensures { result.items ≡ self }
     {
         self.steps
     }
 }
 
 impl Step {
-    fn new(table: TableId, action: Action) -> Step
-        ensures { result ≡ record { table = table; action = action } }
+    // The step that makes a change.
+    fn of(alloc: Global, change: &Change) -> Result<Step, NoMemory>
+        ensures { IfOk result (λ step. step ≡ change.now) }
     {
-        Step { table, action }
+        let domain = put_domain(alloc, change)?;
+        let change = change.copy(alloc)?;
+        Ok(Step { change, domain })
+    }
+
+    /// The change that it makes.
+    pub fn change(&self) -> &Change
+        ensures { result.now ≡ self.now }
+    {
+        &self.change
+    }
+
+    /// The table of the change.
+    pub fn table(&self) -> TableId
+        ensures { result ≡ table_of self.now }
+    {
+        self.change.table()
+    }
+
+    /// The change, and the domain of the rule that it puts in.
+    pub(crate) fn into_parts(self) -> (Change, Text)
+        ensures change { result.0 ≡ self }
+        ensures domain { result.1 ≡ put_domain self }
+    {
+        (self.change, self.domain)
     }
 
     // Whether it puts a rule into the table at a place.
     fn puts_at(&self, at: usize) -> bool
-        ensures { needed at (changes_of self.now) ≡ (if result then 1 else 0) }
+        ensures { result ≡ puts_at at self.now }
     {
-        match &self.action {
-            Action::Insert(_) | Action::Replace { .. } => place(self.table) == Some(at),
-            Action::Remove(_) => false,
+        match &self.change {
+            Change::Insert { table, .. } | Change::Replace { table, .. } => is_at(at, *table),
+            Change::Remove { .. } => false,
         }
     }
 }
 
 // Adds the steps that make these changes.
 fn push_steps(alloc: Global, steps: &mut Vec<Step>, changes: &[Change]) -> Result<(), NoMemory>
-    ensures { OnOk result
-        (all_changes steps.new.items ≡ all_changes steps.old.items ++ changes.now) }
+    ensures { OnOk result (steps.new.items ≡ steps.old.items ++ changes.now) }
 {
-    let mut at = 0;
-    while at < changes.len() {
-        let (step, count) = first_step(alloc, &changes[at..])?;
-        steps.push(step)?;
-        at += count;
+    for change in changes {
+        steps.push(Step::of(alloc, change)?)?;
     }
     Ok(())
 }
 
-// The step of the first changes, and how many it makes: all that take rules out of one table go in one step.
-fn first_step(alloc: Global, changes: &[Change]) -> Result<(Step, usize), NoMemory>
-    requires { 0 < length changes.now }
-    ensures some { IfOk result (λ first. (0 < first.1) × (first.1 ≤ length changes.now)) }
-    ensures made { IfOk result (λ first. changes_of first.0 ≡ take first.1 changes.now) }
+// The domain of the rule that a change puts in, and an empty text where it puts none in.
+fn put_domain(alloc: Global, change: &Change) -> Result<Text, NoMemory>
+    ensures { IfOk result (λ text. text ≡ put_domain change.now) }
 {
-    match &changes[0] {
-        Change::Insert { table, rule } => {
-            let action = Action::Insert(Put::copy_of(alloc, rule)?);
-            Ok((Step::new(*table, action), 1))
-        }
-        Change::Remove { table, rule } => {
-            let gone = removed_rules(alloc, *table, rule, &changes[1..])?;
-            let count = gone.rules().len();
-            Ok((Step::new(*table, Action::Remove(gone)), count))
-        }
-        Change::Replace { table, old, new } => {
-            let (old, new) = (old.copy(alloc)?, Put::copy_of(alloc, new)?);
-            Ok((Step::new(*table, Action::Replace { old, new }), 1))
-        }
+    match change {
+        Change::Insert { rule, .. } => domain_text(alloc, rule),
+        Change::Remove { .. } => Ok(Text::from_string(String::new(alloc))),
+        Change::Replace { new, .. } => domain_text(alloc, new),
     }
 }
 
-// A rule and those that the first of these changes take out of the same table, up to one that is named before.
-fn removed_rules(
-    alloc: Global,
-    table: TableId,
-    rule: &Rule,
-    changes: &[Change],
-) -> Result<Table, NoMemory>
-    ensures { IfOk result (λ gone. (n : ℕ) × (n ≤ length changes.now)
-        × (length gone.rules ≡ n + 1)
-        × (map (λ r. Change.Remove table r) gone.rules
-        ≡ Change.Remove table rule.now ∷ take n changes.now)) }
+// Whether a table stands at a place.
+fn is_at(at: usize, table: TableId) -> bool
+    ensures { result ≡ is_at at table }
 {
-    let mut gone = Table::new(alloc);
-    let _new = gone.insert(false, rule.copy(alloc)?)?;
-    for change in changes {
-        let Change::Remove { table: other, rule } = change else {
-            break;
-        };
-        if *other != table || !gone.insert(false, rule.copy(alloc)?)? {
-            break;
-        }
+    match place(table) {
+        Some(there) => there == at,
+        None => false,
     }
-    Ok(gone)
 }

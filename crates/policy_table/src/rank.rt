@@ -1,7 +1,6 @@
-ghost use Rattle.std.specs.Prelude.{◌≡◌, ◌≤◌, drop, filter, length, not, take};
+ghost use Rattle.std.specs.Prelude.{◌≡◌};
 ghost use Rattle.std.specs.Ordering.{is_lt};
 ghost use Rattle.policy_table.specs.Ranks.{is_above, is_above_rank, integer_of, rank};
-ghost use Rattle.policy_table.specs.Tables.{AreRising};
 
 use perm_base::Rule;
 use std::cmp::Ordering;
@@ -14,18 +13,6 @@ pub(crate) fn rank(rule: &Rule) -> Option<i64>
         return None;
     }
     integer_of(rule.text(0))
-}
-
-/// How many of rising rules are not above a rank.
-pub(crate) fn count_up_to(rules: &[Rule], limit: Option<i64>) -> usize
-    requires { AreRising rules.now }
-    ensures few { result ≤ length rules.now }
-    ensures low { take result rules.now
-        ≡ filter (λ rule. not (is_above_rank (rank rule) limit)) rules.now }
-    ensures high { drop result rules.now
-        ≡ filter (λ rule. is_above_rank (rank rule) limit) rules.now }
-{
-    rules.partition_point(|rule| !is_above_rank(rank(rule), limit))
 }
 
 /// Whether one rank is above another.

@@ -1,19 +1,21 @@
-ghost use Rattle.std.specs.Prelude.{◌≡◌, ℕ, ◌+◌, ◌<◌, ◌≤◌, ◌^◌, [], IfOk, IsSome, List, OnErr, OnOk, Some, false, filter, if◌then◌else◌, get_or, length, not, replicate, slice_get, true};
+ghost use Rattle.std.specs.Prelude.{◌≡◌, ℕ, ◌+◌, ◌<◌, ◌≤◌, ◌^◌, [], ◌∷◌, IfOk, IsSome, List, OnErr, OnOk, Some, false, filter, if◌then◌else◌, get_or, length, not, position, replicate, slice_get, true};
 ghost use Rattle.std.specs.List.{IsDistinct, count_by};
+ghost use Rattle.std.specs.Option.{option_copied};
 ghost use Rattle.std.specs.Str.{bytes_eq};
 ghost use Rattle.perm_base.specs.Patterns.{is_pattern};
 ghost use Rattle.perm_base.specs.declared.shapes.TableId.TheVariants as table;
 ghost use Rattle.policy_table.specs.Changes.{applies, changed, edited, flat, is_possible, ranked_policy};
-ghost use Rattle.policy_table.specs.Held.{HasRoom, IsPreparedFor, needed};
-ghost use Rattle.policy_table.specs.Helps.Rows.{counted_of, counting, lists_of, policy_of, spare_of};
-ghost use Rattle.policy_table.specs.Helps.Steps.{changes_of};
+ghost use Rattle.policy_table.specs.Held.{HasRoom, IsPreparedFor};
+ghost use Rattle.policy_table.specs.Helps.Rows.{counted_of, counting, lists_of, slots_of, spare_of};
 ghost use Rattle.policy_table.specs.Limits.{different, domains_of};
-ghost use Rattle.policy_table.specs.Tables.{AreLists, AreOrdered, IsKept, Policy, is_ranked, most_tables, place, rows, same, stands, without_rules};
+ghost use Rattle.policy_table.specs.Slots.{AreSlots, slots, slots_changed, slots_edited};
+ghost use Rattle.policy_table.specs.Tables.{AreLists, IsKept, Policy, is_ranked, most_tables, place, rows, same, stands, without_rules};
 ghost use Rattle.policy_table.specs.declared.change.Change.{Change};
 
 use crate::change::{Change, Edit};
 use crate::counted_table::CountedTable;
 use crate::prepared::{Prepared, Step};
+use crate::rows::Rows;
 use perm_base::{Fit, NoMemory, Rule, Share, TableId, Text};
 use std::alloc::Global;
 use std::marker::Model;
@@ -22,7 +24,10 @@ const TABLES: usize = 9;
 
 /// The tables of a policy: for p and for each of the relations g to g8 an ordered list of rules without repeats, fewer
 /// than 2^32. p may be ranked: then its rules stand in rising order of rank, the number of their first field, and a rule
-/// whose first field is no number ranks behind every number. Contracts see the lists, the mark, and the room of each.
+/// whose first field is no number ranks behind every number. Each rule is kept in a slot, a number below that of the
+/// rules, which stays whatever happens to other rules, but for one case: where a rule is taken out, that of the last slot
+/// comes into its slot. Contracts see the lists, the mark, the room of each, and the rules by their slots. A change costs
+/// about a block of 512 rows and the number of blocks, and finds the place of a rank by halving.
 #[derive(Drop)]
 pub struct Tables {
     // That of p, then those of g to g8.
@@ -33,14 +38,11 @@ pub struct Tables {
 
 impl Model for Tables {
     ghost use Rattle.policy_table.specs.Held.{Held};
-    ghost use Rattle.policy_table.specs.Helps.Rows.{AreTables, policy_of, spare_of};
+    ghost use Rattle.policy_table.specs.Helps.Rows.{AreTables, held_of};
 
     ghost Value = { Held };
 
-    ghost view = { λ t. record {
-      policy = policy_of t.ranked t.tables;
-      spare = spare_of t.tables;
-    } };
+    ghost view = { λ t. held_of t.ranked t.tables };
 
     ghost invariant = { λ t. AreTables t.ranked t.tables };
 }
@@ -102,29 +104,103 @@ impl Tables {
     {
         let tables = &self.tables;
         match place(table) {
-            Some(at) => tables[at].rules().len() as u32,
+            Some(at) => tables[at].len(),
             None => 0,
         }
     }
 
-    /// The rule of a table at a place, counted from 0.
+    /// The rule of a table at a place, counted from 0, where there is one. It is found by halving; to go over all rules,
+    /// `rows` is for.
+    pub fn get(&self, table: TableId, at: u32) -> Option<&Rule>
+        ensures { option_copied result ≡ slice_get (rows self.now.policy table) at }
+    {
+        if at >= self.len(table) {
+            return None;
+        }
+        Some(self.row(table, at))
+    }
+
+    /// The rule of a table at a place, counted from 0. It is found by halving.
     pub fn row(&self, table: TableId, at: u32) -> &Rule
         requires { at < length (rows self.now.policy table) }
         ensures { slice_get (rows self.now.policy table) at ≡ Some result.now }
     {
-        &self.rows(table)[at as usize]
+        let Some(there) = place(table) else {
+            unreachable!()
+        };
+        self.tables[there].row(at)
     }
 
-    /// The rules of a table in their order, none of them twice.
-    pub fn rows(&self, table: TableId) -> &[Rule]
-        ensures value { result.now ≡ rows self.now.policy table }
+    /// The rules of a table in their order, none of them twice. To go over all of them costs about two steps for each rule
+    /// that the table has room for at most.
+    pub fn rows(&self, table: TableId) -> Rows<'_>
+        ensures value { result ≡ rows self.now.policy table }
         ensures once { IsDistinct same (rows self.now.policy table) }
         ensures few { length (rows self.now.policy table) < 2 ^ 32 }
     {
         match place(table) {
-            Some(at) => self.tables[at].rules(),
+            Some(at) => self.tables[at].rows(),
+            None => Rows::none(),
+        }
+    }
+
+    /// The place of a rule in its table, counted from 0, where it stands. Its time does not grow with the table.
+    pub fn number_of(&self, table: TableId, rule: &Rule) -> Option<u32>
+        ensures { result ≡ position (same rule.now) (rows self.now.policy table) }
+    {
+        match place(table) {
+            Some(at) => self.tables[at].number_of(rule),
+            None => None,
+        }
+    }
+
+    /// The rules of a table by their slots, in no order of theirs: each rule of the table has one slot.
+    pub fn by_slot(&self, table: TableId) -> &[Rule]
+        ensures value { result.now ≡ slots self.now table }
+        ensures stand { AreSlots (slots self.now table) (rows self.now.policy table) }
+        ensures few { length (slots self.now table) < 2 ^ 32 }
+        ensures nine { length self.now.slots ≡ most_tables }
+    {
+        match place(table) {
+            Some(at) => self.tables[at].by_slot(),
             None => &[],
         }
+    }
+
+    /// The slot of a rule, where it stands. Its time does not grow with the table.
+    pub fn slot_of(&self, table: TableId, rule: &Rule) -> Option<u32>
+        ensures { result ≡ position (same rule.now) (slots self.now table) }
+    {
+        match place(table) {
+            Some(at) => self.tables[at].slot_of(rule),
+            None => None,
+        }
+    }
+
+    /// The place of the rule in a slot, counted from 0. Its time does not grow with the table.
+    pub fn place_of_slot(&self, table: TableId, slot: u32) -> u32
+        requires { slot < length (slots self.now table) }
+        ensures within { result < length (rows self.now.policy table) }
+        ensures same { slice_get (rows self.now.policy table) result
+            ≡ slice_get (slots self.now table) slot }
+    {
+        let Some(there) = place(table) else {
+            unreachable!()
+        };
+        self.tables[there].place_of_slot(slot)
+    }
+
+    /// The slot of the rule at a place, counted from 0. It is found by halving.
+    pub fn slot_at(&self, table: TableId, at: u32) -> u32
+        requires { at < length (rows self.now.policy table) }
+        ensures within { result < length (slots self.now table) }
+        ensures same { slice_get (slots self.now table) result
+            ≡ slice_get (rows self.now.policy table) at }
+    {
+        let Some(there) = place(table) else {
+            unreachable!()
+        };
+        self.tables[there].slot_at(at)
     }
 
     /// How many rules of a relation have a domain that is a pattern.
@@ -203,6 +279,7 @@ impl Tables {
         requires possible { applies (flat edits.now) self.old.policy ≡ true }
         requires few { AreLists (edited (flat edits.now) self.old.policy).lists }
         ensures unchanged { self.new.policy ≡ self.old.policy }
+        ensures slots { self.new.slots ≡ self.old.slots }
         ensures edits { IfOk result (λ prepared. prepared ≡ flat edits.now) }
         ensures ready { IfOk result (IsPreparedFor self.new) }
         ensures stays { (changes : List Change)
@@ -213,18 +290,39 @@ impl Tables {
         Ok(prepared)
     }
 
-    /// Makes the edits that were prepared for these tables as they stand. It takes no memory.
+    /// Makes the edits that were prepared for these tables as they stand. It takes no memory. A caller that keeps slots
+    /// takes the edits apart by `into_steps` and follows each step, before `make` makes it.
     pub fn commit(&mut self, prepared: Prepared)
         requires { IsPreparedFor self.old prepared }
-        ensures { self.new.policy ≡ edited prepared self.old.policy }
+        ensures policy { self.new.policy ≡ edited prepared self.old.policy }
+        ensures slots { self.new.slots ≡ slots_edited prepared self.old.slots }
     {
         for step in prepared.into_steps() {
-            make(&mut self.tables, self.ranked, step);
+            self.make(step);
         }
     }
 
+    /// Makes one step, the first of changes that were prepared for these tables as they stand; the others are prepared for
+    /// them afterwards. It takes no memory. Which slots it moves is told by `slots_changed`: it puts a rule into the next
+    /// slot, or the rule of the last slot into that of the rule that it takes out, or a new rule into that of the old one.
+    pub fn make(&mut self, step: Step)
+        requires { (changes : List Change) × IsPreparedFor self.old (step ∷ changes) }
+        ensures policy { self.new.policy ≡ changed step self.old.policy }
+        ensures slots { self.new.slots ≡ slots_changed step self.old.slots }
+        ensures ready { (changes : List Change)
+            → IsPreparedFor self.old (step ∷ changes) → IsPreparedFor self.new changes }
+    {
+        let table = step.table();
+        let Some(at) = place(table) else {
+            unreachable!()
+        };
+        let ranked = is_ranked(self.ranked, table);
+        self.tables[at].make(ranked, step);
+    }
+
     /// The same tables with p ranked: its rules are put into rising order of rank, those of one rank in the order in which
-    /// they stand. It sorts once, and takes memory for that.
+    /// they stand. It sorts once, and takes memory for that; where rules of p do not stand in the order of their slots, it
+    /// copies them first.
     pub fn ranked(self) -> Result<Tables, NoMemory>
         ensures { IfOk result (λ tables. tables.policy ≡ ranked_policy self.policy) }
     {
@@ -234,9 +332,10 @@ impl Tables {
         Ok(Tables { tables, ranked })
     }
 
-    /// The same rules once more.
+    /// The same rules once more, in the same slots.
     pub fn copy(&self, alloc: Global) -> Result<Tables, NoMemory>
-        ensures { IfOk result (λ copy. copy.policy ≡ self.now.policy) }
+        ensures policy { IfOk result (λ copy. copy.policy ≡ self.now.policy) }
+        ensures slots { IfOk result (λ copy. copy.slots ≡ self.now.slots) }
     {
         let mut tables = empty(alloc);
         for at in 0..TABLES {
@@ -297,6 +396,7 @@ fn is_ranked(ranked: bool, table: TableId) -> bool
 // Makes the room that the changes need.
 fn reserve(tables: &mut [CountedTable; TABLES], prepared: &Prepared) -> Result<(), NoMemory>
     ensures unchanged { lists_of tables.new ≡ lists_of tables.old }
+    ensures slots { slots_of tables.new ≡ slots_of tables.old }
     ensures counted { counted_of tables.new ≡ counted_of tables.old }
     ensures room { OnOk result (HasRoom (spare_of tables.new) prepared.now) }
     ensures more { (at : ℕ) → get_or (spare_of tables.old) at 0
@@ -306,20 +406,4 @@ fn reserve(tables: &mut [CountedTable; TABLES], prepared: &Prepared) -> Result<(
         tables[at].reserve(prepared.needed(at))?;
     }
     Ok(())
-}
-
-// Makes one step.
-fn make(tables: &mut [CountedTable; TABLES], ranked: bool, step: Step)
-    requires order { AreOrdered (policy_of ranked tables.old) }
-    requires possible { applies (changes_of step) (policy_of ranked tables.old) ≡ true }
-    requires room { HasRoom (spare_of tables.old) (changes_of step) }
-    ensures made { policy_of ranked tables.new
-        ≡ edited (changes_of step) (policy_of ranked tables.old) }
-    ensures room { (at : ℕ) → get_or (spare_of tables.old) at 0
-        ≤ get_or (spare_of tables.new) at 0 + needed at (changes_of step) }
-    ensures counted { counted_of tables.new ≡ counted_of tables.old }
-{
-    if let Some(at) = place(step.table) {
-        tables[at].make(is_ranked(ranked, step.table), step.action);
-    }
 }

@@ -12,6 +12,7 @@ use model_conf::Model;
 use perm_base::{NoMemory, Rule, Rules, TableId, Text};
 use policy_query::{QueryRefused, names_refusal};
 use policy_state::PolicyState;
+use policy_table::Rows;
 use std::alloc::Global;
 
 /// The number of the relation `g`, by which rules count for names.
@@ -58,17 +59,17 @@ fn set_of<'a>(alloc: Global, texts: &'a [Text]) -> Result<IndexSet<&'a str>, NoM
 // The rules whose subject is a name or one of its roles, and which are of the domain.
 fn counted(
     alloc: Global,
-    rules: &[Rule],
+    rules: Rows<'_>,
     name: &[u8],
     roles: &IndexSet<&str>,
     subject: u32,
     column: Option<u32>,
     domain: Option<&[u8]>,
 ) -> Result<Rules, NoMemory>
-    requires few { length rules.now < 2 ^ 32 }
+    requires few { length rules < 2 ^ 32 }
     ensures { IfOk result (λ counted. counted
         ≡ filter (is_counted name.now roles.now.keys subject column (option_copied domain.entry))
-        rules.now) }
+        rules.entry) }
 {
     let mut counted = Vec::new(alloc);
     for rule in rules {

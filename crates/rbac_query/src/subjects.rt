@@ -3,7 +3,8 @@ ghost use Rattle.rbac_query.specs.Helps.Subjects.{is_plain, shown};
 ghost use Rattle.rbac_query.specs.Report.{AreSubjects};
 
 use crate::fields::text_or_empty;
-use perm_base::{NoMemory, RoleShape, Rule, is_pattern};
+use perm_base::{NoMemory, RoleShape, is_pattern};
+use policy_table::Rows;
 use std::alloc::Global;
 use std::collections::BTreeSet;
 
@@ -18,9 +19,9 @@ const DOMAIN: u32 = 2;
 pub(crate) fn subjects_of<'a>(
     alloc: Global,
     shape: RoleShape,
-    rows: &'a [Rule],
+    rows: Rows<'a>,
 ) -> Result<BTreeSet<(&'a str, &'a str)>, NoMemory>
-    ensures { IfOk result (λ subjects. AreSubjects shape rows.now (map shown subjects.keys)) }
+    ensures { IfOk result (λ subjects. AreSubjects shape rows.entry (map shown subjects.keys)) }
 {
     let mut subjects = BTreeSet::new(alloc);
     for row in rows {

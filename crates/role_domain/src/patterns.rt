@@ -9,6 +9,7 @@ ghost use Rattle.role_graph.specs.Groups.{times};
 use crate::moves::{Standings, stands_now};
 use crate::rows::{domain_of, pair_of};
 use perm_base::{Fit, NoMemory, Rule, is_pattern};
+use policy_table::Rows;
 use role_meaning::fits;
 use std::alloc::Global;
 
@@ -36,11 +37,15 @@ pub(crate) fn fitting(
 }
 
 /// The rows with a pattern as their domain.
-pub(crate) fn patterns_of(alloc: Global, fit: Fit, rows: &[Rule]) -> Result<Vec<Rule>, NoMemory>
-    ensures { IfOk result (λ found. found.items ≡ filter (has_pattern fit) rows.now) }
+pub(crate) fn patterns_of(alloc: Global, fit: Fit, rows: Rows<'_>) -> Result<Vec<Rule>, NoMemory>
+    ensures { IfOk result (λ found. found.items ≡ filter (has_pattern fit) rows.entry) }
 {
     let mut found = Vec::new(alloc);
-    push_patterns(alloc, fit, &mut found, rows)?;
+    for row in rows {
+        if is_pattern(fit, domain_of(row)) {
+            found.push(row.copy(alloc)?)?;
+        }
+    }
     Ok(found)
 }
 

@@ -23,7 +23,7 @@ use crate::terms::terms_of;
 use crate::walk::{depth, distance, has_roles};
 use dist_rows::Steps;
 use perm_base::{NoMemory, RoleShape, Rule, Share, TableId};
-use policy_table::{Edit, Tables};
+use policy_table::{Edit, Rows, Tables};
 use role_meaning::links_are_decided;
 use std::alloc::Global;
 use std::marker::Model;
@@ -85,10 +85,10 @@ impl RoleSection {
             IsSectionOf section (rows tables.now.policy (G shape.number))) }
     {
         let terms = terms_of(shape, limit);
-        let rows = tables.rows(TableId::G(shape.number));
-        let patterns = patterns_of(alloc, terms.domains, rows)?;
+        let table = TableId::G(shape.number);
+        let patterns = patterns_of(alloc, terms.domains, tables.rows(table))?;
         let mut domains = Domains::new(alloc);
-        domains.fill(alloc, terms, rows, &patterns)?;
+        domains.fill(alloc, terms, tables.rows(table), &patterns)?;
         Ok(RoleSection {
             shape,
             limit,
@@ -264,11 +264,11 @@ impl RoleSection {
         alloc: Global,
         x: &[u8],
         domain: Option<&[u8]>,
-        rows: &[Rule],
+        rows: Rows<'_>,
     ) -> Result<Rule, NoMemory>
         requires asked { is_some domain ≡ self.now.shape.with_domain }
-        requires rows { IsSectionOf self.now rows.now }
-        ensures { IfOk result (λ names. AreImpliedUsers self.now.shape rows.now self.now.limit
+        requires rows { IsSectionOf self.now rows }
+        ensures { IfOk result (λ names. AreImpliedUsers self.now.shape rows.entry self.now.limit
             (option_copied domain.entry) x.now names) }
     {
         links_are_decided();

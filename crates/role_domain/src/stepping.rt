@@ -20,6 +20,7 @@ use crate::rows::domain_of;
 use crate::tallies::Tallies;
 use crate::terms::Terms;
 use perm_base::{Fit, NoMemory, Rule, is_pattern};
+use policy_table::Rows;
 use role_meaning::{fits, links_are_decided};
 use std::alloc::Global;
 
@@ -29,13 +30,17 @@ impl Domains {
         &mut self,
         alloc: Global,
         terms: Terms,
-        rows: &[Rule],
+        rows: Rows<'_>,
         patterns: &[Rule],
     ) -> Result<(), NoMemory>
-        requires { CanTurn (first_turn terms rows.now) self.old patterns.now }
-        ensures { OnOk result (AreDomains (after_of (first_turn terms rows.now)) self.new.entries) }
+        requires { CanTurn (first_turn terms rows) self.old patterns.now }
+        ensures { OnOk result
+            (AreDomains (after_of (first_turn terms rows.entry)) self.new.entries) }
     {
-        let touched = self.prepare(alloc, terms, rows, &[], patterns)?;
+        let coming = gather_all(alloc, terms.domains, self, rows)?;
+        let going = Tallies::new(alloc);
+        let touched = self.steps(alloc, terms, &coming, &going, patterns)?;
+        self.reserve(touched.len())?;
         self.make(touched);
         Ok(())
     }
@@ -193,6 +198,25 @@ fn gather(alloc: Global, fit: Fit, domains: &Domains, rows: &[Rule]) -> Result<T
     requires { All (λ row. 2 ≤ length row) rows.now }
     ensures { IfOk result (λ tallies. (text : List ℕ)
         → Brings fit (is_some (found domains.now.entries text)) text rows.now tallies) }
+{
+    let mut tallies = Tallies::new(alloc);
+    for row in rows {
+        add(alloc, &mut tallies, fit, domains, row)?;
+    }
+    Ok(tallies)
+}
+
+// What all rows of a table bring.
+fn gather_all(
+    alloc: Global,
+    fit: Fit,
+    domains: &Domains,
+    rows: Rows<'_>,
+) -> Result<Tallies, NoMemory>
+    requires columns { All (λ row. 2 ≤ length row) rows }
+    requires few { length rows ≤ 200000 }
+    ensures { IfOk result (λ tallies. (text : List ℕ)
+        → Brings fit (is_some (found domains.now.entries text)) text rows.entry tallies) }
 {
     let mut tallies = Tallies::new(alloc);
     for row in rows {

@@ -25,6 +25,7 @@ use crate::users::users_among;
 use crate::walk::{depth, distance};
 use dist_rows::{DistRows, Steps};
 use perm_base::{Fit, NoMemory, Rule, Share, Text};
+use policy_table::Rows;
 use std::alloc::Global;
 use std::marker::Model;
 use std::sync::ledger::Ledger;
@@ -214,11 +215,11 @@ impl RoleGraph {
 
     /// The users of rows that are no patterns, other than `x`, and that reach it within the limit: each
     /// once, by bytes (Casbin, implicit users). The links are walked from `x` back.
-    pub fn users_within(&self, alloc: Global, x: &[u8], among: &[Rule]) -> Result<Rule, NoMemory>
-        requires columns { All (λ row. 2 ≤ length row) among.now }
-        requires few { length among.now ≤ most_rows }
+    pub fn users_within(&self, alloc: Global, x: &[u8], among: Rows<'_>) -> Result<Rule, NoMemory>
+        requires columns { All (λ row. 2 ≤ length row) among }
+        requires few { length among ≤ most_rows }
         ensures { IfOk result (λ names. AreUsersOf (shape_of self.now.names) self.now.rows
-            self.now.limit None (map user_of among.now) x.now names) }
+            self.now.limit None (map user_of among.entry) x.now names) }
     {
         let users = users_among(&self.links, alloc, x, self.limit, among)?;
         Ok(Rule::from_vec(users))

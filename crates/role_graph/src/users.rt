@@ -19,6 +19,7 @@ use crate::links::Links;
 use crate::marks::Marks;
 use indexmap::IndexSet;
 use perm_base::{NoMemory, Rule, Text, is_pattern};
+use policy_table::Rows;
 use std::alloc::Global;
 
 /// The users of rows, no patterns and none of them `x`, that reach it by at most `most` links: each
@@ -28,13 +29,13 @@ pub(crate) fn users_among(
     alloc: Global,
     x: &[u8],
     most: u8,
-    rows: &[Rule],
+    rows: Rows<'_>,
 ) -> Result<Vec<Text>, NoMemory>
     requires most { most ≤ 254 }
-    requires columns { All (λ row. 2 ≤ length row) rows.now }
-    requires few { length rows.now ≤ most_rows }
+    requires columns { All (λ row. 2 ≤ length row) rows }
+    requires few { length rows ≤ most_rows }
     ensures users { IfOk result (λ users. AreUsersOf (shape_of links.now.names)
-        (rows_of (linked_of links.now).groups) most None (map user_of rows.now) x.now
+        (rows_of (linked_of links.now).groups) most None (map user_of rows.entry) x.now
         users.items) }
     ensures few { IfOk result (λ users. length users.items < 2 ^ 32) }
     ensures whole_lines { IfOk result (λ users. list_any has_line_end users.items ≡ false) }

@@ -1,4 +1,4 @@
-ghost use Rattle.std.specs.Prelude.{◌≡◌};
+ghost use Rattle.std.specs.Prelude.{◌≡◌, []};
 ghost use Rattle.std.specs.Iterator.{YieldsFirst, item_count};
 ghost use Rattle.row_order.specs.Helps.Cells.{live};
 
@@ -20,6 +20,13 @@ impl<'a> Model for Ids<'a> {
 }
 
 impl<'a> Ids<'a> {
+    /// No ids.
+    pub fn none() -> Ids<'a>
+        ensures { result ≡ [] }
+    {
+        Ids { cells: &[] }
+    }
+
     pub(crate) fn new(cells: &'a [Option<u32>]) -> Ids<'a>
         ensures { result ≡ live cells.now }
     {

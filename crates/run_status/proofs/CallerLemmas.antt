@@ -1,6 +1,8 @@
 -- What proofs here and in the crates above cite: that no stop ends with Done, and that a line that was pushed is told.
 use Rattle.std.proofs.Common.{◌≡◌, ℕ, List, inl, inr}
 use Rattle.std.specs.Prelude.{Option, Result, Ok, Err}
+use Rattle.log_ship.specs.declared.packet_fault.PacketFault.{PacketFault}
+use Rattle.log_ship.specs.declared.packet_fault.PacketFault.TheVariants as packet
 use Rattle.matcher_read.specs.declared.fault.MatcherFault.TheVariants as matcher
 use Rattle.model_conf.specs.declared.fault.ModelFault.{ModelFault}
 use Rattle.model_conf.specs.declared.fault.ModelFault.TheVariants as model
@@ -11,14 +13,14 @@ use Rattle.policy_csv.specs.declared.fault.PolicyFault.{PolicyFault}
 use Rattle.policy_csv.specs.declared.fault.PolicyFault.TheVariants as policy
 use Rattle.script_read.specs.declared.fault.ScriptFault.{ScriptFault}
 use Rattle.script_read.specs.declared.fault.ScriptFault.TheVariants as script
-use Rattle.run_status.specs.Statuses.{model_status, policy_status, script_status, status_of}
+use Rattle.run_status.specs.Statuses.{model_status, packet_status, policy_status, script_status, status_of}
 use Rattle.run_status.specs.Told.{IsTold}
 use Rattle.run_status.specs.declared.status.Status.{Status}
 use Rattle.run_status.specs.declared.status.Status.TheVariants as status
 use Rattle.run_status.specs.declared.stop.Stop.{Stop}
-use Rattle.run_status.specs.declared.stop.Stop.TheVariants.{NoModel, NoPolicy, NoScript}
+use Rattle.run_status.specs.declared.stop.Stop.TheVariants.{NoModel, NoPolicy, NoScript, NoPackets}
 
--- a fault of a model has one of three statuses, a fault of a policy or of a script one of two
+-- a fault of a model has one of three statuses, a fault of a policy, of a script or of packets one of two
 model_by : (fault : ModelFault) (P : Status → Type 0) → P status.Model → P status.TooLong → P status.NoMemory → P (model_status fault)
 model_by model.TooLong P at_fault too_long no_memory = too_long
 model_by (model.Matcher matcher.NoMemory) P at_fault too_long no_memory = no_memory
@@ -33,11 +35,16 @@ script_by : (fault : ScriptFault) (P : Status → Type 0) → P status.Script �
 script_by script.NoMemory P at_fault no_memory = no_memory
 script_by _ P at_fault no_memory = at_fault
 
+packet_by : (fault : PacketFault) (P : Status → Type 0) → P status.Script → P status.NoMemory → P (packet_status fault)
+packet_by packet.NoMemory P at_fault no_memory = no_memory
+packet_by _ P at_fault no_memory = at_fault
+
 -- no stop ends with Done
 pub is_never_done : (stop : Stop) → status_of stop ≡ status.Done → ⊥
 is_never_done (NoModel fault) e = model_by fault (λ s. s ≡ status.Done → ⊥) (λ d. absurd cc) (λ d. absurd cc) (λ d. absurd cc) e
 is_never_done (NoPolicy fault) e = policy_by fault (λ s. s ≡ status.Done → ⊥) (λ d. absurd cc) (λ d. absurd cc) e
 is_never_done (NoScript fault) e = script_by fault (λ s. s ≡ status.Done → ⊥) (λ d. absurd cc) (λ d. absurd cc) e
+is_never_done (NoPackets fault) e = packet_by fault (λ s. s ≡ status.Done → ⊥) (λ d. absurd cc) (λ d. absurd cc) e
 is_never_done _ e = absurd cc
 
 -- a line that was pushed, or a front of it, is told

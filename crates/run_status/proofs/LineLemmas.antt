@@ -1,6 +1,8 @@
 -- The status of a stop can be told from its line.
 use Rattle.std.proofs.Common.{◌≡◌, ◌∙◌, ℕ, ◌==◌, List, [], ◌∷◌, refl, sym, ap}
 use Rattle.std.specs.Prelude.{if◌then◌else◌}
+use Rattle.log_ship.specs.declared.packet_fault.PacketFault.{PacketFault}
+use Rattle.log_ship.specs.declared.packet_fault.PacketFault.TheVariants as packet
 use Rattle.matcher_read.specs.declared.fault.MatcherFault.TheVariants as matcher
 use Rattle.model_conf.specs.declared.fault.ModelFault.{ModelFault}
 use Rattle.model_conf.specs.declared.fault.ModelFault.TheVariants as model
@@ -13,7 +15,7 @@ use Rattle.run_status.specs.Statuses.{status_of}
 use Rattle.run_status.specs.declared.status.Status.{Status}
 use Rattle.run_status.specs.declared.status.Status.TheVariants as status
 use Rattle.run_status.specs.declared.stop.Stop.{Stop}
-use Rattle.run_status.specs.declared.stop.Stop.TheVariants.{Words, NoModel, NoRelation, NoPolicy, NoScript, CannotRead, CannotWrite, TooLong, NoMemory}
+use Rattle.run_status.specs.declared.stop.Stop.TheVariants.{Words, NoModel, NoRelation, NoPolicy, NoScript, NoPackets, CannotRead, CannotWrite, TooLong, NoMemory}
 
 -- the first byte of a line, and the eighth
 abbrev first_of_line : List ℕ → ℕ
@@ -64,12 +66,18 @@ script_told : (fault : ScriptFault) → status_told (line_of (NoScript fault)) �
 script_told script.NotUtf8 = refl
 script_told _ = refl
 
+packet_told : (fault : PacketFault) → status_told (line_of (NoPackets fault)) ≡ status_of (NoPackets fault)
+packet_told packet.NotUtf8 = refl
+packet_told (packet.Line line) = refl
+packet_told packet.NoMemory = refl
+
 line_told : (stop : Stop) → status_told (line_of stop) ≡ status_of stop
 line_told Words = refl
 line_told (NoModel fault) = model_told fault
 line_told (NoRelation relation) = refl
 line_told (NoPolicy fault) = policy_told fault
 line_told (NoScript fault) = script_told fault
+line_told (NoPackets fault) = packet_told fault
 line_told (CannotRead part) = refl
 line_told CannotWrite = refl
 line_told (TooLong part) = refl

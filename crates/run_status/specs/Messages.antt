@@ -1,5 +1,7 @@
 -- The line that tells a stop on standard error. Lines, columns and places are counted from 1.
 use Rattle.std.specs.Prelude.{ℕ, ◌++◌, List, [], codes, decimal, unwrap_or}
+use Rattle.log_ship.specs.declared.packet_fault.PacketFault.{PacketFault}
+use Rattle.log_ship.specs.declared.packet_fault.PacketFault.TheVariants as packet
 use Rattle.matcher_read.specs.declared.fault.MatcherFault.{MatcherFault}
 use Rattle.matcher_read.specs.declared.fault.MatcherFault.TheVariants as matcher
 use Rattle.model_conf.specs.Faults.{key_text}
@@ -17,7 +19,7 @@ use Rattle.run_status.specs.Parts.{limit_of, part_name}
 use Rattle.run_status.specs.declared.part.Part.{Part}
 use Rattle.run_status.specs.declared.part.Part.TheVariants as parts
 use Rattle.run_status.specs.declared.stop.Stop.{Stop}
-use Rattle.run_status.specs.declared.stop.Stop.TheVariants.{Words, NoModel, NoRelation, NoPolicy, NoScript, CannotRead, CannotWrite, TooLong, NoMemory}
+use Rattle.run_status.specs.declared.stop.Stop.TheVariants.{Words, NoModel, NoRelation, NoPolicy, NoScript, NoPackets, CannotRead, CannotWrite, TooLong, NoMemory}
 
 -- what is wrong at a place, as `script: line 5: open batch`
 abbrev pub at_place : (head : List ℕ) (place : ℕ) (what : List ℕ) → List ℕ
@@ -103,6 +105,12 @@ script_message (script.Line line why) = in_script line (line_cause why)
 script_message (script.OpenBatch line) = in_script line (codes "open batch")
 script_message script.NoMemory = codes "no memory"
 
+-- why a text is no packets
+abbrev pub packet_message : PacketFault → List ℕ
+packet_message packet.NotUtf8 = codes "script: not UTF-8"
+packet_message (packet.Line line) = in_script line (codes "packet")
+packet_message packet.NoMemory = codes "no memory"
+
 -- what is told of a stop
 abbrev pub message_of : Stop → List ℕ
 message_of Words = codes "usage: casbin_cli COMMAND [OPTION]... [WORD]..."
@@ -110,6 +118,7 @@ message_of (NoModel fault) = model_message fault
 message_of (NoRelation relation) = codes "model: option names " ++ relation_name relation
 message_of (NoPolicy fault) = policy_message fault
 message_of (NoScript fault) = script_message fault
+message_of (NoPackets fault) = packet_message fault
 message_of (CannotRead unread) = codes "cannot read: " ++ part_name unread
 message_of CannotWrite = codes "cannot write"
 message_of (TooLong long) = limit_message long

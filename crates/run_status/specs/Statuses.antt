@@ -1,5 +1,7 @@
 -- The status that a run ends with.
 use Rattle.std.specs.Prelude.{ℕ}
+use Rattle.log_ship.specs.declared.packet_fault.PacketFault.{PacketFault}
+use Rattle.log_ship.specs.declared.packet_fault.PacketFault.TheVariants as packet
 use Rattle.matcher_read.specs.declared.fault.MatcherFault.TheVariants as matcher
 use Rattle.model_conf.specs.declared.fault.ModelFault.{ModelFault}
 use Rattle.model_conf.specs.declared.fault.ModelFault.TheVariants as model
@@ -10,7 +12,7 @@ use Rattle.script_read.specs.declared.fault.ScriptFault.TheVariants as script
 use Rattle.run_status.specs.declared.status.Status.{Status}
 use Rattle.run_status.specs.declared.status.Status.TheVariants as status
 use Rattle.run_status.specs.declared.stop.Stop.{Stop}
-use Rattle.run_status.specs.declared.stop.Stop.TheVariants.{Words, NoModel, NoRelation, NoPolicy, NoScript, CannotRead, CannotWrite, TooLong, NoMemory}
+use Rattle.run_status.specs.declared.stop.Stop.TheVariants.{Words, NoModel, NoRelation, NoPolicy, NoScript, NoPackets, CannotRead, CannotWrite, TooLong, NoMemory}
 
 -- a fault of a model; a limit and want of memory have a status of their own
 abbrev pub model_status : ModelFault → Status
@@ -29,6 +31,11 @@ abbrev pub script_status : ScriptFault → Status
 script_status script.NoMemory = status.NoMemory
 script_status _ = status.Script
 
+-- a fault of packets
+abbrev pub packet_status : PacketFault → Status
+packet_status packet.NoMemory = status.NoMemory
+packet_status _ = status.Script
+
 -- the status that a stop ends with
 abbrev pub status_of : Stop → Status
 status_of Words = status.Words
@@ -36,6 +43,7 @@ status_of (NoModel fault) = model_status fault
 status_of (NoRelation relation) = status.Model
 status_of (NoPolicy fault) = policy_status fault
 status_of (NoScript fault) = script_status fault
+status_of (NoPackets fault) = packet_status fault
 status_of (CannotRead part) = status.ReadFault
 status_of CannotWrite = status.WriteFault
 status_of (TooLong part) = status.TooLong

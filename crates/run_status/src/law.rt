@@ -1,4 +1,5 @@
 ghost use Rattle.std.specs.Prelude.{◌≡◌, codes};
+ghost use Rattle.log_ship.specs.declared.packet_fault.PacketFault.{PacketFault};
 ghost use Rattle.matcher_read.specs.declared.fault.MatcherFault.{MatcherFault};
 ghost use Rattle.model_conf.specs.declared.fault.ModelFault.{ModelFault};
 ghost use Rattle.model_conf.specs.declared.key.Key.{Key};
@@ -46,6 +47,8 @@ pub fn lines_in_full()
         ≡ codes "policy: line 200001: unknown table\n" }
     ensures batch { line_of (Stop.NoScript (ScriptFault.OpenBatch 5))
         ≡ codes "script: line 5: open batch\n" }
+    ensures packet { line_of (Stop.NoPackets (PacketFault.Line 3))
+        ≡ codes "script: line 3: packet\n" }
     ensures cause { line_of (Stop.NoScript (ScriptFault.Line 7 LineCause.Unpaired))
         ≡ codes "script: line 7: unpaired\n" }
 {}

@@ -1,10 +1,11 @@
 ghost use Rattle.std.specs.Prelude.{◌≡◌, ◌++◌, decimal};
 ghost use Rattle.model_conf.specs.Faults.{key_text};
-ghost use Rattle.run_status.specs.Messages.{at_place, limit_message, line_cause, matcher_message, message_of, model_message, policy_message, quote_message, relation_name, script_message};
+ghost use Rattle.run_status.specs.Messages.{at_place, limit_message, line_cause, matcher_message, message_of, model_message, packet_message, policy_message, quote_message, relation_name, script_message};
 ghost use Rattle.run_status.specs.Helps.Pieces.{piece_text, text_of};
 
 use crate::part::Part;
 use crate::stop::Stop;
+use log_ship::PacketFault;
 use matcher_read::MatcherFault;
 use model_conf::{Key, ModelFault};
 use perm_base::TableId;
@@ -45,6 +46,7 @@ pub(crate) fn message_of(stop: Stop) -> Message
         Stop::NoRelation { relation } => named("model: option names ", relation_name(relation)),
         Stop::NoPolicy(fault) => policy_message(fault),
         Stop::NoScript(fault) => script_message(fault),
+        Stop::NoPackets(fault) => packet_message(fault),
         Stop::CannotRead(part) => named("cannot read: ", part.name()),
         Stop::CannotWrite => whole("cannot write"),
         Stop::TooLong(part) => limit_message(part),
@@ -135,6 +137,17 @@ fn script_message(fault: ScriptFault) -> Message
         ScriptFault::Line { line, cause } => at_place(IN_SCRIPT, line, line_cause(cause)),
         ScriptFault::OpenBatch { line } => at_place(IN_SCRIPT, line, "open batch"),
         ScriptFault::NoMemory => whole("no memory"),
+    }
+}
+
+// Why a text is no packets.
+fn packet_message(fault: PacketFault) -> Message
+    ensures { text_of result ≡ packet_message fault }
+{
+    match fault {
+        PacketFault::NotUtf8 => whole("script: not UTF-8"),
+        PacketFault::Line { line } => at_place(IN_SCRIPT, line, "packet"),
+        PacketFault::NoMemory => whole("no memory"),
     }
 }
 

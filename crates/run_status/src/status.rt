@@ -12,7 +12,7 @@ pub enum Status {
     Model,
     /// The policy's file is no policy for the model.
     Policy,
-    /// The input is no script, or no text of requests.
+    /// The input is no script, no text of requests, or no text of packets.
     Script,
     /// A file is absent, or a file or the input could not be read.
     ReadFault,

@@ -1,8 +1,9 @@
 ghost use Rattle.std.specs.Prelude.{◌≡◌};
-ghost use Rattle.run_status.specs.Statuses.{model_status, status_of};
+ghost use Rattle.run_status.specs.Statuses.{model_status, packet_status, status_of};
 
 use crate::part::Part;
 use crate::status::Status;
+use log_ship::PacketFault;
 use matcher_read::MatcherFault;
 use model_conf::{ModelFault, ShapeFault};
 use perm_base::{Failed, NoMemory};
@@ -24,6 +25,8 @@ pub enum Stop {
     NoPolicy(PolicyFault),
     /// The input is no script, or no text of requests.
     NoScript(ScriptFault),
+    /// The input is no text of packets.
+    NoPackets(PacketFault),
     /// A file is absent, or a file or the input could not be read.
     CannotRead(Part),
     /// The output could not be written.
@@ -48,6 +51,7 @@ impl Stop {
             }
             Stop::NoPolicy(_) => Status::Policy,
             Stop::NoScript(_) => Status::Script,
+            Stop::NoPackets(fault) => packet_status(fault),
             Stop::CannotRead(_) => Status::ReadFault,
             Stop::CannotWrite => Status::WriteFault,
             Stop::TooLong(_) => Status::TooLong,
@@ -63,6 +67,15 @@ fn model_status(fault: ModelFault) -> Status
         ModelFault::TooLong => Status::TooLong,
         ModelFault::Matcher(MatcherFault::NoMemory) | ModelFault::NoMemory => Status::NoMemory,
         _ => Status::Model,
+    }
+}
+
+fn packet_status(fault: PacketFault) -> Status
+    ensures { result ≡ packet_status fault }
+{
+    match fault {
+        PacketFault::NoMemory => Status::NoMemory,
+        _ => Status::Script,
     }
 }
 
@@ -135,6 +148,19 @@ impl From<ScriptFault> for Stop {
         match fault {
             ScriptFault::NoMemory => Stop::NoMemory,
             fault => Stop::NoScript(fault),
+        }
+    }
+}
+
+impl From<PacketFault> for Stop {
+    ghost use Rattle.run_status.specs.Stops.{packet_stop_of};
+
+    ghost from_gives = { λ fault stop. stop ≡ packet_stop_of fault };
+
+    fn from(fault: PacketFault) -> Stop {
+        match fault {
+            PacketFault::NoMemory => Stop::NoMemory,
+            fault => Stop::NoPackets(fault),
         }
     }
 }

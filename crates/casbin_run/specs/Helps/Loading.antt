@@ -13,11 +13,11 @@ use Rattle.run_status.specs.Parts.{limit_of}
 use Rattle.run_status.specs.declared.part.Part.{Part}
 use Rattle.run_status.specs.declared.part.Part.TheVariants.{Model, Policy, Input}
 use Rattle.run_status.specs.declared.stop.Stop.{Stop}
-use Rattle.run_status.specs.declared.stop.Stop.TheVariants.{NoModel, NoRelation, NoPolicy, NoScript, CannotRead, TooLong, NoMemory}
+use Rattle.run_status.specs.declared.stop.Stop.TheVariants.{NoModel, NoRelation, NoPolicy, NoScript, NoPackets, CannotRead, TooLong, NoMemory}
 use Rattle.casbin_run.specs.declared.files.Loaded.{Loaded}
 use Rattle.casbin_run.specs.declared.job.Job.{Job}
 use Rattle.casbin_run.specs.declared.job.Task.{Task}
-use Rattle.casbin_run.specs.Causes.{HasFault}
+use Rattle.casbin_run.specs.Causes.{HasFault, HasPacketFault}
 use Rattle.casbin_run.specs.Given.{AreFiles, FileIs, Fits, InputIs, ModelIs}
 use Rattle.casbin_run.specs.Jobs.{absent_in, shapes_with}
 use Rattle.casbin_run.specs.Reached.{at_model, at_options, at_policy, fetches_to}
@@ -99,5 +99,6 @@ abbrev pub InputStops : Task → Option (List ℕ) → (rose : Type 0) → Stop 
 InputStops task input rose (CannotRead Input) = rose
 InputStops task input rose (TooLong Input) = IfSome input (λ bytes. limit_of Input < length bytes)
 InputStops task input rose (NoScript fault) = InputIs input (λ bytes. HasFault task bytes fault)
+InputStops task input rose (NoPackets fault) = InputIs input (λ bytes. HasPacketFault task bytes fault)
 InputStops task input rose NoMemory = ⊤
 InputStops task input rose _ = ⊥

@@ -10,7 +10,7 @@ use Rattle.casbin_run.specs.Causes.{EndsBy}
 use Rattle.casbin_run.specs.Ends.{IsDone}
 use Rattle.casbin_run.specs.Finders.{AreUsed}
 use Rattle.casbin_run.specs.Given.{Given}
-use Rattle.casbin_run.specs.Helps.Working.{IsQuiet}
+use Rattle.casbin_run.specs.Helps.Tasks.{IsQuiet}
 use Rattle.casbin_run.specs.Jobs.{ask_for_input}
 use Rattle.casbin_run.specs.Worlds.{Taken, World}
 

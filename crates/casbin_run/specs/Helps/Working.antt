@@ -1,5 +1,5 @@
--- What a task comes to over what was read of its files, with one finder or with all.
-use Rattle.std.specs.Prelude.{◌≡◌, ◌⊎◌, ℕ, ◌<◌, ◌≤◌, Bool, false, true, List, Option, Result, IfErr, IfSome, OnOk, String, length, take, ⊤}
+-- What steps of a task come to over what was read of its files.
+use Rattle.std.specs.Prelude.{◌≡◌, ◌⊎◌, ℕ, ◌≤◌, Bool, List, Option, Result, IfErr, OnOk, String, take, ⊤}
 use Rattle.std.specs.declared.alloc.Global.{Global}
 use Rattle.answer_lines.specs.declared.answer.Line.{Line}
 use Rattle.decision.specs.Programs.{Suits}
@@ -13,23 +13,17 @@ use Rattle.policy_state.specs.States.{State, tables}
 use Rattle.policy_table.specs.Limits.{AreSound}
 use Rattle.policy_table.specs.Tables as table
 use Rattle.regex_gate.specs.Refusals.{IsUsed, Refusals}
-use Rattle.run_status.specs.Parts.{limit_of}
-use Rattle.run_status.specs.Statuses.{status_of}
-use Rattle.run_status.specs.declared.part.Part.TheVariants.{Input, Report}
+use Rattle.run_status.specs.declared.part.Part.TheVariants.{Report}
 use Rattle.run_status.specs.declared.stop.Stop.{Stop}
-use Rattle.run_status.specs.declared.stop.Stop.TheVariants.{NoScript, CannotRead, CannotWrite, TooLong, NoMemory}
+use Rattle.run_status.specs.declared.stop.Stop.TheVariants.{CannotWrite, TooLong, NoMemory}
 use Rattle.script_read.specs.Reads.{Says}
 use Rattle.script_read.specs.Said.{Reading, Said, asks}
 use Rattle.session_meaning.specs.Plain.{IsPlain, all_refused}
 use Rattle.version_log.specs.Log.{versions}
 use Rattle.casbin_run.specs.declared.files.Loaded.{Loaded}
-use Rattle.casbin_run.specs.declared.job.Task.{Task}
-use Rattle.casbin_run.specs.Causes.{HasFault, OfInput}
-use Rattle.casbin_run.specs.Ends.{may_write}
 use Rattle.casbin_run.specs.Finders.{HasRefused}
-use Rattle.casbin_run.specs.Given.{InputIs, SaysItems}
 use Rattle.casbin_run.specs.Roles.{IsLong, IsReported, IsShort}
-use Rattle.casbin_run.specs.Texts.{HasRoom, IsTooLong, Tells, Writes, joined, text_of_lines}
+use Rattle.casbin_run.specs.Texts.{text_of_lines}
 use Rattle.casbin_run.specs.Worlds.{Taken}
 
 -- what was loaded can be worked with
@@ -52,17 +46,6 @@ pub record IsFirst (shapes : Shapes) (policy : table.Policy) (state : State) : T
   pub policy_is : tables state ≡ policy
   pub opening : versions state.log ≡ 0
 
--- what a task is done on
-pub record Ground : Type 0 where
-  pub task : Task
-  pub model : ModelParts
-  pub shapes : Shapes
-  pub policy : table.Policy
-  pub input : Option (List ℕ)
-
-abbrev pub ground : Task → Loaded → Option (List ℕ) → Ground
-ground task loaded input = record { task = task; model = loaded.model; shapes = loaded.shapes; policy = loaded.tables.policy; input = input }
-
 -- items that are said have these lines, and of all that was refused for them, one after the other, this holds
 pub record LinesOf (IsSaid : List Said → Type 0) (model : ModelParts) (shapes : Shapes) (policy : table.Policy) (IsLogged : List (List ℕ) → Type 0) : Type 0 where
   pub items : List Said
@@ -71,46 +54,6 @@ pub record LinesOf (IsSaid : List Said → Type 0) (model : ModelParts) (shapes 
   pub says : IsSaid items
   pub plain : IsPlain model shapes policy items refused lines
   pub logged : IsLogged (all_refused refused)
-
--- the text of a task, and what of all that was refused for it, one after the other, holds
-pub record Worked (on : Ground) (IsLogged : List (List ℕ) → Type 0) : Type 0 where
-  pub items : List Said
-  pub refused : List (List (List ℕ))
-  pub pieces : List (List ℕ)
-  pub text : List ℕ
-  pub says : SaysItems on.task on.input items
-  pub room : HasRoom on.task on.shapes on.policy
-  pub writes : Writes on.task on.model on.shapes on.policy items refused pieces text
-  pub logged : IsLogged (all_refused refused)
-
--- the sink took the task's text, a front of it, or the first so many of its pieces
-pub record DidAll (on : Ground) (IsLogged : List (List ℕ) → Type 0) (out out_now : Option (List ℕ)) (err err_now : Taken) : Type 0 where
-  pub worked : Worked on IsLogged
-  pub took : out_now ≡ with_back out worked.text
-  pub told : Tells on.task on.model on.shapes on.policy worked.items worked.refused worked.text err err_now
-
-pub record DidSome (on : Ground) (IsLogged : List (List ℕ) → Type 0) (out out_now : Option (List ℕ)) : Type 0 where
-  pub worked : Worked on IsLogged
-  pub took : TookFront out out_now worked.text
-
-pub record DidFirst (on : Ground) (IsLogged : List (List ℕ) → Type 0) (out out_now : Option (List ℕ)) : Type 0 where
-  pub worked : Worked on IsLogged
-  pub count : ℕ
-  pub took : out_now ≡ with_back out (joined (take count worked.pieces))
-
--- why the task was not done, by cases on the stop
-abbrev pub WorkStops : Ground → (List (List ℕ) → Type 0) → Option (List ℕ) → Option (List ℕ) → (input_rose out_rose : Type 0) → Stop → Type 0
-WorkStops on IsLogged out out_now input_rose out_rose (CannotRead Input) = OfInput on.task input_rose
-WorkStops on IsLogged out out_now input_rose out_rose (TooLong Input) = OfInput on.task (IfSome on.input (λ bytes. limit_of Input < length bytes))
-WorkStops on IsLogged out out_now input_rose out_rose (TooLong Report) = IsTooLong on.task on.shapes on.policy
-WorkStops on IsLogged out out_now input_rose out_rose (NoScript fault) = OfInput on.task (InputIs on.input (λ bytes. HasFault on.task bytes fault))
-WorkStops on IsLogged out out_now input_rose out_rose CannotWrite = DidSome on IsLogged out out_now × out_rose
-WorkStops on IsLogged out out_now input_rose out_rose NoMemory = (out_now ≡ out) ⊎ DidFirst on IsLogged out out_now
-WorkStops on IsLogged out out_now input_rose out_rose _ = ⊥
-
--- with such a stop nothing goes to `out`, and no finder is asked
-abbrev pub IsQuiet : Stop → Type 0
-IsQuiet stop = may_write (status_of stop) ≡ false
 
 -- why lines were not pushed to their end: the sink took a front of their text, or the whole lines of the first so many
 abbrev pub LinesStop : Option (List ℕ) → Option (List ℕ) → List Line → (out_rose : Type 0) → Stop → Type 0

@@ -19,7 +19,7 @@ rows_of asking = rows (tables asking.state.now) P
 
 -- what it knows beside the model is that of a program
 abbrev pub IsAsked : Asking → Type 0
-IsAsked asking = IsProgram asking.model.now asking.code.now asking.by_row asking.effect_place asking.domain_place (option_copied asking.index)
+IsAsked asking = IsProgram asking.model.now asking.code.now asking.by_row asking.effect_place asking.domain_place (option_copied asking.plan)
 
 -- the same, and a stack of so many places has room for the code
 pub record CanRun (asking : Asking) (places : ℕ) : Type 0 where

@@ -1,11 +1,9 @@
 -- The rows that are looked at in place of all rows of p.
-use Rattle.std.specs.Prelude.{◌≡◌, ◌⊎◌, ◌<◌, ◌^◌, suc, List, [], ◌∷◌, drop, length, All}
+use Rattle.std.specs.Prelude.{◌≡◌, ◌⊎◌, ◌<◌, ◌^◌, ◌+◌, ℕ, suc, List, [], ◌∷◌, length, All, Option, Some, None}
 use Rattle.policy_table.specs.Tables.{Fields}
 use Rattle.matcher_meaning.specs.Cases.{Case}
 use Rattle.matcher_meaning.specs.Order.{Numbered, in_order_of, numbered_from}
 use Rattle.decision.specs.Helps.Leaving.{IsLeftOut}
-use Rattle.decision.specs.declared.candidates.Left.{Left}
-use Rattle.decision.specs.declared.candidates.Left.TheVariants as left
 
 -- some of all rows in the order of these, and each of the others is left out
 abbrev pub Covers : Case → List Numbered → List Numbered → Type 0
@@ -14,12 +12,12 @@ Covers case [] (one ∷ some) = ⊥
 Covers case (row ∷ all) [] = IsLeftOut case row.fields × Covers case all []
 Covers case (row ∷ all) (one ∷ some) = ((one ≡ row) × Covers case all some) ⊎ (IsLeftOut case row.fields × Covers case all (one ∷ some))
 
--- the rows of a table that are left to look at, under their numbers
-abbrev pub rows_left : List Fields → Left → List Numbered
-rows_left table (left.Behind passed) = numbered_from (suc passed) (drop passed table)
-rows_left table (left.At places) = in_order_of places.now (numbered_from 1 table)
+-- the rows of a table that are left to look at, under their numbers: those behind so many, or those at these places
+abbrev pub rows_left : List Fields → List Fields → ℕ → Option (List ℕ) → List Numbered
+rows_left table rows passed None = numbered_from (suc passed) rows
+rows_left table rows passed (Some places) = in_order_of places (numbered_from 1 table)
 
 -- numbers of rows have 32 bits, and places are those of rows
-abbrev pub AreInTable : List Fields → Left → Type 0
-AreInTable table (left.Behind passed) = length table < 2 ^ 32
-AreInTable table (left.At places) = (length table < 2 ^ 32) × All (λ place. place < length table) places.now
+abbrev pub AreInTable : List Fields → List Fields → ℕ → Option (List ℕ) → Type 0
+AreInTable table rows passed None = passed + length rows < 2 ^ 32
+AreInTable table rows passed (Some places) = (length table < 2 ^ 32) × All (λ place. place < length table) places

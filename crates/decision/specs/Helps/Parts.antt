@@ -11,11 +11,11 @@ use Rattle.matcher_code.specs.Compiled.{as_answer}
 use Rattle.matcher_code.specs.Machine.{CodeComesTo}
 use Rattle.matcher_code.specs.Rules.{CodeParts}
 use Rattle.matcher_code.specs.Running.{some_takes_memory}
-use Rattle.decision.specs.Helps.Indexing.{IsIndexOf}
-use Rattle.decision.specs.declared.index.Index.{Index}
+use Rattle.decision.specs.Helps.Planning.{IsPlanOf}
+use Rattle.decision.specs.declared.plan.KeptPlan.{KeptPlan}
 
--- the code of the model's matcher, whether this names a column of the policy, the places of the columns `eft` and `dom`, and what is kept of the index column
-pub record IsProgram (model : ModelParts) (code : CodeParts) (by_row : Bool) (effect_place domain_place : Option ℕ) (index : Option Index) : Type 0 where
+-- the code of the model's matcher, whether this names a column of the policy, the places of the columns `eft` and `dom`, and what is kept of the plan
+pub record IsProgram (model : ModelParts) (code : CodeParts) (by_row : Bool) (effect_place domain_place : Option ℕ) (plan : Option KeptPlan) : Type 0 where
   pub columns : code.policy_columns ≡ length model.policy
   pub height : code.height ≤ 1024
   pub truth : (case : Case) (r : Evaluation) → case.model ≡ model → CodeComesTo case code.ops r → (t : Result Bool Fault) × (r ≡ as_answer t) × TruthIs case model.matcher t
@@ -23,4 +23,4 @@ pub record IsProgram (model : ModelParts) (code : CodeParts) (by_row : Bool) (ef
   pub rows : by_row ≡ names_policy model.matcher
   pub effect : effect_place ≡ position (bytes_eq (codes "eft")) model.policy
   pub domain : domain_place ≡ position (bytes_eq (codes "dom")) model.policy
-  pub kept : IsIndexOf model index
+  pub kept : IsPlanOf model plan

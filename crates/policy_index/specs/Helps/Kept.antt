@@ -1,16 +1,41 @@
--- Places that are filled in.
-use Rattle.std.specs.Prelude.{ℕ, ◌<◌, ◌≤◌, ◌^◌, List, length, take, drop}
+-- What an index keeps beside: the slots by their hashes, and how many rows have a front of each length.
+use Rattle.std.specs.Prelude.{◌≡◌, ℕ, ◌<◌, ◌^◌, ◌==◌, Bool, false, nat_eq, List, length, get_or, slice_get, Option, Some, None, if◌then◌else◌}
 use Rattle.std.specs.List.{count_by}
-use Rattle.policy_table.specs.Tables.{Fields}
-use Rattle.policy_index.specs.Indexed.{AreListed}
-use Rattle.policy_index.specs.Lists.{Lists, room_at}
-use Rattle.policy_index.specs.Places.{HaveColumn, has_text}
+use Rattle.std.specs.Option.{option_map_or}
+use Rattle.policy_index.specs.Lists.{Lists, slots_at}
+use Rattle.policy_index.specs.declared.mark.Mark.{Mark}
 
--- the places of these rules can be filled in from one on: they are few and have the column, those before it are there, and
--- there is room for the others
-pub record CanFill (column : ℕ) (rules : List Fields) (from : ℕ) (lists : Lists) : Type 0 where
-  pub few : length rules < 2 ^ 32
-  pub columns : HaveColumn column rules
-  pub within : from ≤ length rules
-  pub listed : AreListed column (take from rules) lists
-  pub room : (text : List ℕ) → count_by (has_text column text) (drop from rules) ≤ room_at lists text
+-- a mark has the hash
+abbrev pub has_hash : ℕ → Mark → Bool
+has_hash hash mark = mark.hash == hash
+
+-- a mark has a front of this length
+abbrev pub is_front : ℕ → Option ℕ → Bool
+is_front size None = false
+is_front size (Some own) = own == size
+
+abbrev pub has_front : ℕ → Mark → Bool
+has_front size mark = is_front size mark.front
+
+-- one where it holds
+abbrev pub one_if : Bool → ℕ
+one_if b = if b then 1 else 0
+
+-- the mark in a slot has the hash
+abbrev pub has_hash_at : ℕ → List Mark → ℕ → Bool
+has_hash_at hash marks slot = option_map_or (has_hash hash) (slice_get marks slot) false
+
+-- each hash has the slots of the marks with it, each once, and no others
+abbrev pub AreListed : List Mark → Lists → Type 0
+AreListed marks lists = (hash slot : ℕ) → count_by (nat_eq slot) (slots_at lists hash) ≡ one_if (has_hash_at hash marks slot)
+
+-- as many marks have a front of each length as are counted
+pub record AreCounted (marks : List Mark) (counts : List ℕ) : Type 0 where
+  pub sizes : length counts ≡ 256
+  pub each : (size : ℕ) → get_or counts size 0 ≡ count_by (has_front size) marks
+
+-- what an index keeps
+pub record IsIndex (marks : List Mark) (lists : Lists) (counts : List ℕ) : Type 0 where
+  pub few : length marks < 2 ^ 32
+  pub listed : AreListed marks lists
+  pub counted : AreCounted marks counts

@@ -1,13 +1,15 @@
 -- What a state keeps.
-use Rattle.std.specs.Prelude.{◌≡◌, ℕ, ◌<◌, ◌≤◌, Bool, true, List, All, IfSome, Option, Some, None, length, map, option_map, ⊤}
+use Rattle.std.specs.Prelude.{◌≡◌, ℕ, ◌≤◌, true, List, All, IfSome, Option, length, map, option_map}
 use Rattle.perm_base.specs.Shapes.{AreValid}
 use Rattle.perm_base.specs.declared.shapes.RoleShape.{RoleShape}
 use Rattle.perm_base.specs.declared.shapes.Shapes.{Shapes}
 use Rattle.perm_base.specs.declared.shapes.TableId.TheVariants.{G, P}
-use Rattle.policy_index.specs.Indexed.{Follows, Indexed, IsIndexOf}
+use Rattle.policy_index.specs.Indexed.{Indexed, IsIndexOf}
+use Rattle.policy_index.specs.Keys.{KeyParts, is_below}
 use Rattle.policy_state.specs.States.{IsGrown, Parts}
 use Rattle.policy_table.specs.Changes.{edited, flat, own}
 use Rattle.policy_table.specs.Held.{Held}
+use Rattle.policy_table.specs.Slots.{slots}
 use Rattle.policy_table.specs.Limits.{AreSound, role_columns}
 use Rattle.policy_table.specs.Tables.{Fields, Policy, rows}
 use Rattle.policy_table.specs.declared.change.Change.{Change}
@@ -40,34 +42,26 @@ pub record AreSectionsOf (limit : ℕ) (roles : List RoleShape) (policy : Policy
 abbrev pub AreSections : Shapes → Policy → List Section → Type 0
 AreSections shapes policy sections = AreSectionsOf shapes.limit shapes.roles policy sections
 
--- the index, where there is one, is of these rules
+-- the index, where there is one, is of these rows by their slots
 abbrev pub AreIndexed : Option Indexed → List Fields → Type 0
-AreIndexed index rules = IfSome index (λ (i : Indexed). IsIndexOf i rules)
+AreIndexed index by_slot = IfSome index (λ (i : Indexed). IsIndexOf i by_slot)
 
--- its column
-abbrev pub column_of : Option Indexed → Option ℕ
-column_of index = option_map (λ (i : Indexed). i.column) index
-
--- the tables are those of which the index is one, after changes that were prepared for it
-abbrev pub MayFollow : Option Indexed → Option Bool → Policy → Type 0
-MayFollow None None after = ⊤
-MayFollow (Some index) (Some prepared) after = Follows index prepared after
-MayFollow None (Some prepared) after = ⊥
-MayFollow (Some index) None after = ⊥
+-- its key
+abbrev pub key_of : Option Indexed → Option KeyParts
+key_of index = option_map (λ (i : Indexed). i.key) index
 
 -- the parts of a state
 abbrev pub parts_of : Held → Option Indexed → List Section → Parts
 parts_of held index sections = record { held = held; index = index; sections = sections }
 
--- what a state keeps: valid shapes; sound tables that have grown by the edits of the log; their index by the column, which is
--- one of p; and their sections
-pub record IsState (shapes : Shapes) (by : Option ℕ) (log : Logged) (parts : Parts) : Type 0 where
+-- what a state keeps: valid shapes; sound tables that have grown by the edits of the log; their index, of whose key the
+-- columns are those of p; and their sections
+pub record IsState (shapes : Shapes) (log : Logged) (parts : Parts) : Type 0 where
   pub valid : AreValid shapes
   pub sound : AreSound shapes parts.held.policy
   pub grown : IsGrown shapes log.tail parts.held.policy
-  pub below : IfSome by (λ (column : ℕ). column < shapes.columns)
-  pub column : column_of parts.index ≡ by
-  pub index : AreIndexed parts.index (rows parts.held.policy P)
+  pub below : IfSome (key_of parts.index) (λ (key : KeyParts). is_below shapes.columns key ≡ true)
+  pub index : AreIndexed parts.index (slots parts.held P)
   pub sections : AreSections shapes parts.held.policy parts.sections
 
 -- the changes of a section's relation among those of edits can be made ready in the section

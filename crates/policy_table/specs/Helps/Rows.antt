@@ -1,12 +1,14 @@
 -- What is seen of one table, and of several.
 use Rattle.std.specs.Prelude.{◌≡◌, ℕ, Bool, true, false, IsTrue, List, ◌∷◌, map, min, replicate, if◌then◌else◌}
+use Rattle.policy_table.specs.Held.{Held}
 use Rattle.policy_table.specs.Helps.Domains.{AreCounted, Counted}
 use Rattle.policy_table.specs.Limits.{domains_of}
 use Rattle.policy_table.specs.Tables.{AreRising, Fields, IsKept, Lists, Policy}
 
--- the rules of one table, its room, and whether their domains are counted
+-- the rules of one table in their order and by their slots, its room, and whether their domains are counted
 pub record Rows : Type 0 where
   pub rules : List Fields
+  pub slots : List Fields
   pub spare : ℕ
   pub counted : Bool
 
@@ -25,6 +27,10 @@ RiseWhere ranked rules = IsTrue ranked → AreRising rules
 -- the rules of tables
 abbrev pub lists_of : List Rows → Lists
 lists_of tables = map (λ (rows : Rows). rows.rules) tables
+
+-- those by their slots
+abbrev pub slots_of : List Rows → Lists
+slots_of tables = map (λ (rows : Rows). rows.slots) tables
 
 -- the tables with the mark of p
 abbrev pub policy_of : Bool → List Rows → Policy
@@ -46,3 +52,7 @@ counted_of tables = map (λ (rows : Rows). rows.counted) tables
 pub record AreTables (ranked : Bool) (tables : List Rows) : Type 0 where
   pub kept : IsKept (policy_of ranked tables)
   pub counted : counted_of tables ≡ counting
+
+-- tables with their mark, as contracts see them
+abbrev pub held_of : Bool → List Rows → Held
+held_of ranked tables = record { policy = policy_of ranked tables; spare = spare_of tables; slots = slots_of tables }

@@ -1,7 +1,9 @@
 use Rattle.std.proofs.Common.{false, inl, inr, ⊎_elim}
+use Rattle.casbin_run.proofs.FollowLemmas.{followed_once}
 use Rattle.casbin_run.proofs.ModelLemmas.{HasMatchers, some_model}
 use Rattle.casbin_run.proofs.SomeEnd.{SaysSome, some_end}
 use Rattle.casbin_run.proofs.OneEnd.{SaysOnce, no_cause, one_cause, one_text}
+use Rattle.casbin_run.proofs.ExplainWork.{ExplainsOnce, explained_once}
 use Rattle.casbin_run.proofs.RolesLemmas.{ImpliesOnce, implied_once, long_or_short, reported_once}
 use Rattle.casbin_run.proofs.law.one_end.Goals as goal
 use Rattle.casbin_run.proofs.law.one_end.Goals.{After-relation_has_one_report}
@@ -13,6 +15,14 @@ implies c = record {
   users = c.implied_users_are_one.ensures;
   rules = c.permissions_are_one.ensures;
   report = c.relation_has_one_report.ensures.unique;
+}
+
+-- requests are explained in one way
+explains : After-relation_has_one_report → ExplainsOnce
+explains c = record {
+  parts = c.parts_are_one.ensures;
+  misses = c.near_misses_are_one.ensures;
+  lines = c.lines_are_one.ensures;
 }
 
 -- what the laws of the crates below say of texts
@@ -28,8 +38,13 @@ once c = record {
   script_fault = c.text_has_one_script_fault.ensures;
   script_either = c.faulty_text_is_no_script.ensures;
   requests = c.input_says_one_list_of_requests.ensures;
+  packets = c.bytes_say_packets_once.ensures.packets;
+  packet_fault = c.bytes_say_packets_once.ensures.fault;
+  packet_either = c.bytes_say_packets_once.ensures.apart;
   lines = c.lines_are_one.ensures;
+  explained = explained_once (explains c);
   implied = implied_once (implies c);
+  followed = followed_once c.texts_read_in_one_way.ensures.some;
   reported = reported_once (implies c);
 }
 
@@ -53,6 +68,7 @@ returns-clause-there c =
       policy = c.every_text_is_a_policy_or_at_fault.ensures;
       script = c.every_text_is_a_script_or_at_fault.ensures;
       requests = c.every_input_is_requests_or_at_fault.ensures.always;
+      packets = c.every_input_is_packets_or_at_fault.ensures;
       report = long_or_short (implies (goal.at.returns-clause-there c).After-relation_has_one_report) c.relation_has_one_report.ensures.there;
     } in
     some_end some

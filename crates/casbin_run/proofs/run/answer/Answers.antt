@@ -4,7 +4,7 @@ use Rattle.std.proofs.lemmas.Result.{IfErr-weaker, on_ok_weaker}
 use Rattle.command_words.specs.Items.{texts}
 use Rattle.run_status.specs.declared.stop.Stop.TheVariants.{Words}
 use Rattle.casbin_run.specs.Given.{given}
-use Rattle.casbin_run.specs.Helps.Working.{ground}
+use Rattle.casbin_run.specs.Helps.Tasks.{ground}
 use Rattle.outside.proofs.CallerLemmas.{adds_none}
 use Rattle.casbin_run.specs.Worlds.{fetched, pulled, taken, world}
 use Rattle.casbin_run.proofs.EndLemmas.{all_done, load_ends, nothing_done, on_both, words_end, work_ends}

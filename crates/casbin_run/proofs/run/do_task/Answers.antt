@@ -3,10 +3,11 @@ use Rattle.std.specs.Prelude.{map}
 use Rattle.std.proofs.lemmas.Result.{IfErr-weaker, on_ok_weaker}
 use Rattle.script_read.specs.Said.{Said, seen}
 use Rattle.script_read.specs.Script.{IsRequests}
-use Rattle.casbin_run.specs.Helps.Working.{ground}
-use Rattle.casbin_run.specs.declared.job.Task.TheVariants.{Enforce, Cached, Serve, Check, Format, Implicit, Report}
-use Rattle.casbin_run.proofs.WorkLemmas.{answered_all, answered_stops, asked_says, input_stops, report_quiet, report_stops, served_says, showed_all, shown_all, shown_stops, shows_check, shows_format, shows_implied, shows_report, text_quiet, text_stops}
+use Rattle.casbin_run.specs.Helps.Tasks.{ground}
+use Rattle.casbin_run.specs.declared.job.Task.TheVariants.{Enforce, Cached, Explain, Serve, Check, Format, Implicit, Report, Ship, Follow}
+use Rattle.casbin_run.proofs.WorkLemmas.{answered_all, answered_stops, asked_says, input_stops, report_quiet, report_stops, served_says, show_not_quiet, showed_all, shipped_stops, shown_all, shown_still, shown_stops, shows_check, shows_follow, shows_format, shows_implied, shows_report, shows_ship, stops_still, text_quiet, text_stops, used_still}
 use Rattle.casbin_run.proofs.CachedWork.{cached_done}
+use Rattle.casbin_run.proofs.ExplainWork.{explain_not_quiet, explained_done, explained_stops}
 use Rattle.casbin_run.proofs.run.do_task.Goals as goal
 
 pub returns-in_err-text-in-Enforce-clause-stopped : goal.returns-in_err-text-in-Enforce-clause-stopped
@@ -18,27 +19,27 @@ pub returns-in_ok-text-in-Enforce-clause-done : goal.returns-in_ok-text-in-Enfor
 returns-in_ok-text-in-Enforce-clause-done g c =
     let json = c.in-Enforce.json in
     let left = g.S.Source.left c.args.input.now in
-    rw c.in-Enforce.is (on_ok_weaker c.enforce.result (λ all. answered_all (ground (Enforce json) c.args.loaded left) (λ items refused pieces text lines. lines) tt (IsRequests json c.as_str.result.now) (asked_says json left c.as_str.result.now (rw c.as_str.ensures.value c.in_ok-text-in-Enforce.ensures.read)) _ _ _ _ _ _ all refl) c.enforce.ensures.printed)
+    rw c.in-Enforce.is (on_ok_weaker c.enforce.result (λ all. answered_all (ground (Enforce json) c.args.loaded left) (λ items refused pieces text lines. lines) tt refl (IsRequests json c.as_str.result.now) (asked_says json left c.as_str.result.now (rw c.as_str.ensures.value c.in_ok-text-in-Enforce.ensures.read)) _ _ _ _ _ _ all refl) c.enforce.ensures.printed)
 
 pub returns-in_ok-text-in-Enforce-clause-stopped : goal.returns-in_ok-text-in-Enforce-clause-stopped
 returns-in_ok-text-in-Enforce-clause-stopped g c =
     let json = c.in-Enforce.json in
     let left = g.S.Source.left c.args.input.now in
-    rw c.in-Enforce.is (IfErr-weaker c.enforce.result _ _ (answered_stops (ground (Enforce json) c.args.loaded left) (λ items refused pieces text lines. lines) tt (IsRequests json c.as_str.result.now) (asked_says json left c.as_str.result.now (rw c.as_str.ensures.value c.in_ok-text-in-Enforce.ensures.read)) _ _ _ _ _ _) c.enforce.ensures.stopped)
+    rw c.in-Enforce.is (IfErr-weaker c.enforce.result _ _ (answered_stops (ground (Enforce json) c.args.loaded left) (λ items refused pieces text lines. lines) tt refl (IsRequests json c.as_str.result.now) (asked_says json left c.as_str.result.now (rw c.as_str.ensures.value c.in_ok-text-in-Enforce.ensures.read)) _ _ _ _ _ _) c.enforce.ensures.stopped)
 
 pub returns-in_ok-script-in-Serve-clause-done : goal.returns-in_ok-script-in-Serve-clause-done
 returns-in_ok-script-in-Serve-clause-done g c =
     let json = c.in-Serve.json in
     let left = g.S.Source.left c.args.input.now in
     let script = map seen c.in_ok-script-in-Serve.script in
-    rw c.in-Serve.is (on_ok_weaker c.serve.result (λ all. answered_all (ground (Serve json) c.args.loaded left) (λ items refused pieces text lines. lines) tt (λ (items : List Said). items ≡ script) (served_says json left script c.in_ok-script-in-Serve.ensures.read) _ _ _ _ _ _ all refl) c.serve.ensures.printed)
+    rw c.in-Serve.is (on_ok_weaker c.serve.result (λ all. answered_all (ground (Serve json) c.args.loaded left) (λ items refused pieces text lines. lines) tt refl (λ (items : List Said). items ≡ script) (served_says json left script c.in_ok-script-in-Serve.ensures.read) _ _ _ _ _ _ all refl) c.serve.ensures.printed)
 
 pub returns-in_ok-script-in-Serve-clause-stopped : goal.returns-in_ok-script-in-Serve-clause-stopped
 returns-in_ok-script-in-Serve-clause-stopped g c =
     let json = c.in-Serve.json in
     let left = g.S.Source.left c.args.input.now in
     let script = map seen c.in_ok-script-in-Serve.script in
-    rw c.in-Serve.is (IfErr-weaker c.serve.result _ _ (answered_stops (ground (Serve json) c.args.loaded left) (λ items refused pieces text lines. lines) tt (λ (items : List Said). items ≡ script) (served_says json left script c.in_ok-script-in-Serve.ensures.read) _ _ _ _ _ _) c.serve.ensures.stopped)
+    rw c.in-Serve.is (IfErr-weaker c.serve.result _ _ (answered_stops (ground (Serve json) c.args.loaded left) (λ items refused pieces text lines. lines) tt refl (λ (items : List Said). items ≡ script) (served_says json left script c.in_ok-script-in-Serve.ensures.read) _ _ _ _ _ _) c.serve.ensures.stopped)
 
 pub returns-in-Check-clause-done : goal.returns-in-Check-clause-done
 returns-in-Check-clause-done g c =
@@ -123,7 +124,85 @@ pub returns-in_ok-text-in-Cached-clause-stopped : goal.returns-in_ok-text-in-Cac
 returns-in_ok-text-in-Cached-clause-stopped g c =
     let json = c.in-Cached.json in
     let left = g.S.Source.left c.args.input.now in
-    rw c.in-Cached.is (IfErr-weaker c.enforce_cached.result _ _ (answered_stops (ground (Cached json c.in-Cached.capacity) c.args.loaded left) (λ items refused pieces text lines. lines) tt (IsRequests json c.as_str-in-Cached.result.now) (asked_says json left c.as_str-in-Cached.result.now (rw c.as_str-in-Cached.ensures.value c.in_ok-text-in-Cached.ensures.read)) _ _ _ _ _ _) c.enforce_cached.ensures.stopped)
+    rw c.in-Cached.is (IfErr-weaker c.enforce_cached.result _ _ (answered_stops (ground (Cached json c.in-Cached.capacity) c.args.loaded left) (λ items refused pieces text lines. lines) tt refl (IsRequests json c.as_str-in-Cached.result.now) (asked_says json left c.as_str-in-Cached.result.now (rw c.as_str-in-Cached.ensures.value c.in_ok-text-in-Cached.ensures.read)) _ _ _ _ _ _) c.enforce_cached.ensures.stopped)
 
 pub returns-in_ok-text-in-Cached-clause-reads_back : goal.returns-in_ok-text-in-Cached-clause-reads_back
 returns-in_ok-text-in-Cached-clause-reads_back g c = rw c.in-Cached.is (on_ok_weaker c.enforce_cached.result (λ all. tt) c.enforce_cached.ensures.printed)
+
+-- what is shipped
+pub returns-in_err-script-in-Ship-clause-stopped : goal.returns-in_err-script-in-Ship-clause-stopped
+returns-in_err-script-in-Ship-clause-stopped g c =
+    let stop : c.from_residual-in_err-script-in-Ship.result ≡ Err c.in_err-script-in-Ship.field-0.0 = search rules in
+    rw (c.in-Ship.is, stop) (input_stops (ground Ship c.args.loaded (g.S.Source.left c.args.input.now)) _ _ _ _ c.in_err-script-in-Ship.field-0.0 refl (shipped_stops _ _ c.in_err-script-in-Ship.field-0.0 c.in_err-script-in-Ship.ensures.stopped))
+
+pub returns-in_ok-script-in-Ship-clause-done : goal.returns-in_ok-script-in-Ship-clause-done
+returns-in_ok-script-in-Ship-clause-done g c =
+    let left = g.S.Source.left c.args.input.now in
+    let script = map seen c.in_ok-script-in-Ship.script in
+    rw c.in-Ship.is (on_ok_weaker c.ship.result (shown_still (ground Ship c.args.loaded left) _ _ _ (shows_ship c.args.loaded left script c.in_ok-script-in-Ship.ensures.read) c.ship.ensures.unasked _ _ _) c.ship.ensures.shown)
+
+pub returns-in_ok-script-in-Ship-clause-stopped : goal.returns-in_ok-script-in-Ship-clause-stopped
+returns-in_ok-script-in-Ship-clause-stopped g c =
+    let left = g.S.Source.left c.args.input.now in
+    let script = map seen c.in_ok-script-in-Ship.script in
+    rw c.in-Ship.is (IfErr-weaker c.ship.result _ _ (stops_still (ground Ship c.args.loaded left) _ _ _ (shows_ship c.args.loaded left script c.in_ok-script-in-Ship.ensures.read) c.ship.ensures.unasked _ _ _ _) c.ship.ensures.stopped)
+
+pub returns-in_ok-script-in-Ship-clause-reads_back : goal.returns-in_ok-script-in-Ship-clause-reads_back
+returns-in_ok-script-in-Ship-clause-reads_back g c = rw c.in-Ship.is (on_ok_weaker c.ship.result (λ all. tt) c.ship.ensures.shown)
+
+pub returns-in_ok-script-in-Ship-clause-used : goal.returns-in_ok-script-in-Ship-clause-used
+returns-in_ok-script-in-Ship-clause-used g c = used_still _ _ c.ship.ensures.unasked
+
+pub returns-in_ok-script-in-Ship-clause-idle : goal.returns-in_ok-script-in-Ship-clause-idle
+returns-in_ok-script-in-Ship-clause-idle g c = IfErr-weaker c.ship.result _ _ (show_not_quiet _ _ _ _) c.ship.ensures.stopped
+
+-- what packets come to
+pub returns-in_err-packets-in-Follow-clause-stopped : goal.returns-in_err-packets-in-Follow-clause-stopped
+returns-in_err-packets-in-Follow-clause-stopped g c =
+    let stop : c.from_residual-in_err-packets-in-Follow.result ≡ Err c.in_err-packets-in-Follow.field-0.0 = search rules in
+    rw (c.in-Follow.is, stop) (input_stops (ground Follow c.args.loaded (g.S.Source.left c.args.input.now)) _ _ _ _ c.in_err-packets-in-Follow.field-0.0 refl c.in_err-packets-in-Follow.ensures.stopped)
+
+pub returns-in_ok-packets-in-Follow-clause-done : goal.returns-in_ok-packets-in-Follow-clause-done
+returns-in_ok-packets-in-Follow-clause-done g c =
+    let left = g.S.Source.left c.args.input.now in
+    let packets = c.in_ok-packets-in-Follow.packets in
+    rw c.in-Follow.is (on_ok_weaker c.follow.result (showed_all (ground Follow c.args.loaded left) (g.P.Finder.refusals c.args.finder.now) _ (shows_follow c.args.loaded left packets c.in_ok-packets-in-Follow.ensures.read) _ _ _) c.follow.ensures.shown)
+
+pub returns-in_ok-packets-in-Follow-clause-stopped : goal.returns-in_ok-packets-in-Follow-clause-stopped
+returns-in_ok-packets-in-Follow-clause-stopped g c =
+    let left = g.S.Source.left c.args.input.now in
+    let packets = c.in_ok-packets-in-Follow.packets in
+    rw c.in-Follow.is (IfErr-weaker c.follow.result _ _ (text_stops (ground Follow c.args.loaded left) (g.P.Finder.refusals c.args.finder.now) _ (shows_follow c.args.loaded left packets c.in_ok-packets-in-Follow.ensures.read) _ _ _ _) c.follow.ensures.stopped)
+
+pub returns-in_ok-packets-in-Follow-clause-quiet : goal.returns-in_ok-packets-in-Follow-clause-quiet
+returns-in_ok-packets-in-Follow-clause-quiet g c = IfErr-weaker c.follow.result _ _ (text_quiet _ _ _ _) c.follow.ensures.stopped
+
+pub returns-in_ok-packets-in-Follow-clause-reads_back : goal.returns-in_ok-packets-in-Follow-clause-reads_back
+returns-in_ok-packets-in-Follow-clause-reads_back g c = rw c.in-Follow.is (on_ok_weaker c.follow.result (λ all. tt) c.follow.ensures.shown)
+
+-- with near misses
+pub returns-in_err-text-in-Explain-clause-stopped : goal.returns-in_err-text-in-Explain-clause-stopped
+returns-in_err-text-in-Explain-clause-stopped g c =
+    let stop : c.from_residual-in_err-text-in-Explain.result ≡ Err c.in_err-text-in-Explain.field-0.0 = search rules in
+    rw (c.in-Explain.is, stop) (input_stops (ground (Explain c.in-Explain.json c.in-Explain.most) c.args.loaded (g.S.Source.left c.args.input.now)) _ _ _ _ c.in_err-text-in-Explain.field-0.0 refl c.in_err-text-in-Explain.ensures.stopped)
+
+pub returns-in_ok-text-in-Explain-clause-done : goal.returns-in_ok-text-in-Explain-clause-done
+returns-in_ok-text-in-Explain-clause-done g c =
+    let json = c.in-Explain.json in
+    let left = g.S.Source.left c.args.input.now in
+    rw c.in-Explain.is (on_ok_weaker c.explain.result (explained_done json c.in-Explain.most c.args.loaded left (IsRequests json c.as_str-in-Explain.result.now) (asked_says json left c.as_str-in-Explain.result.now (rw c.as_str-in-Explain.ensures.value c.in_ok-text-in-Explain.ensures.read)) _ _ _ _ _) c.explain.ensures.printed)
+
+pub returns-in_ok-text-in-Explain-clause-stopped : goal.returns-in_ok-text-in-Explain-clause-stopped
+returns-in_ok-text-in-Explain-clause-stopped g c =
+    let json = c.in-Explain.json in
+    let left = g.S.Source.left c.args.input.now in
+    rw c.in-Explain.is (IfErr-weaker c.explain.result _ _ (explained_stops json c.in-Explain.most c.args.loaded left (IsRequests json c.as_str-in-Explain.result.now) (asked_says json left c.as_str-in-Explain.result.now (rw c.as_str-in-Explain.ensures.value c.in_ok-text-in-Explain.ensures.read)) _ _ _ _ _ _) c.explain.ensures.stopped)
+
+pub returns-in_ok-text-in-Explain-clause-reads_back : goal.returns-in_ok-text-in-Explain-clause-reads_back
+returns-in_ok-text-in-Explain-clause-reads_back g c = rw c.in-Explain.is (on_ok_weaker c.explain.result (λ all. tt) c.explain.ensures.printed)
+
+pub returns-in_ok-text-in-Explain-clause-quiet : goal.returns-in_ok-text-in-Explain-clause-quiet
+returns-in_ok-text-in-Explain-clause-quiet g c = IfErr-weaker c.explain.result _ _ (explain_not_quiet _ _ _ _ _ _ _ _ _ _) c.explain.ensures.stopped
+
+pub returns-in_ok-text-in-Explain-clause-idle : goal.returns-in_ok-text-in-Explain-clause-idle
+returns-in_ok-text-in-Explain-clause-idle g c = IfErr-weaker c.explain.result _ _ (explain_not_quiet _ _ _ _ _ _ _ _ _ _) c.explain.ensures.stopped

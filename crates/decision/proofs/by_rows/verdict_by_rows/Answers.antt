@@ -1,7 +1,7 @@
-use Rattle.std.proofs.Common.{rules, ◌≡◌, ◌∙◌, ap, refl, sym, subst, true, false, List, Option, None, [], ℕ}
+use Rattle.std.proofs.Common.{◌∙◌, refl, subst, List, Option, [], ℕ}
 use Rattle.effect_fold.specs.Folds.{HasTaken}
 use Rattle.effect_fold.specs.declared.effect.Effect.{Effect}
-use Rattle.regex_gate.proofs.CallerLemmas.{only_since, used_same, used_then}
+use Rattle.regex_gate.proofs.CallerLemmas.{only_since}
 use Rattle.regex_gate.specs.Refusals.{RefusedOnly}
 use Rattle.matcher_meaning.specs.Order.{Numbered, numbered, numbered_from}
 use Rattle.decision.specs.Helps.Asked.{case_in, rows_of}

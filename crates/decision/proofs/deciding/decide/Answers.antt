@@ -1,9 +1,7 @@
-use Rattle.std.specs.Prelude.{IfOk, map}
+use Rattle.std.specs.Prelude.{map}
 use Rattle.perm_value.specs.Seen.{datum}
 use Rattle.policy_state.specs.States.{tables}
-use Rattle.decision.specs.Judging.{IsJudgedWith, RefusedIn}
 use Rattle.decision.proofs.JudgedLemmas.{judged_asked, judged_plain}
-use Rattle.decision.proofs.deciding.decide.Given.{Over}
 use Rattle.decision.proofs.deciding.decide.Goals as goal
 
 pub returns-then-height-le-NARROW-clause-refused : goal.returns-then-height-le-NARROW-clause-refused

@@ -16,5 +16,5 @@ returns-clause-sound c =
     let edits = c.from_ref-edits.result.now in
     let alone = c.from_ref-edits.ensures.value in
     let made : c.commit.new.self.policy ≡ edited edit before =
-    c.commit.ensures ∙ (λ j. edited (c.in_ok-prepared.ensures.edits j) (c.in_ok-prepared.ensures.unchanged j)) ∙ made_as_one shapes before edit edits alone in
+    c.commit.ensures.policy ∙ (λ j. edited (c.in_ok-prepared.ensures.edits j) (c.in_ok-prepared.ensures.unchanged j)) ∙ made_as_one shapes before edit edits alone in
     subst (AreSound shapes) (sym made) (one_sound shapes before edit edits alone c.requires (sym c.in_ok-admits.ensures ∙ search rules))

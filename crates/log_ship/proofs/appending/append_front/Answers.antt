@@ -17,12 +17,12 @@ returns-clause-appended c =
     = ends_at c.args.state.now.shapes c.shapes.result.now (tables c.args.state.now) _ c.args.edits.now c.in_ok-count.count c.shapes.ensures.shapes (search rules) c.in_ok-count.ensures.few c.in_ok-count.ensures.front c.in_ok-count.ensures.next in
     let ready : IsSameState c.args.state.now c.prepare.new.self = record {
       shapes = c.prepare.ensures.shapes;
-      column = c.prepare.ensures.column;
+      key = c.prepare.ensures.key;
       start = c.prepare.ensures.log_start;
       tail = c.prepare.ensures.tail;
       tables_are = c.prepare.ensures.tables;
     } in
     let edits : c.in_ok-prepared.prepared.edits ≡ take c.in_ok-count.count c.args.edits.now = c.in_ok-prepared.ensures.edits in
     subst (λ (l : List (List Change)). IsSameState (with_edits l c.args.state.now) c.commit.new.self) (edits ∙ admitted_is c.args.state.now.shapes (tables c.args.state.now) c.args.edits.now c.in_ok-count.count ends)
-    (appended_state c.args.state.now c.prepare.new.self c.commit.new.self c.in_ok-prepared.prepared.edits c.in_ok-prepared.prepared.start ready c.commit.ensures.shapes c.commit.ensures.column
+    (appended_state c.args.state.now c.prepare.new.self c.commit.new.self c.in_ok-prepared.prepared.edits c.in_ok-prepared.prepared.start ready c.commit.ensures.shapes c.commit.ensures.key
     (c.in_ok-prepared.ensures.start ∙ c.start-start.ensures.start) c.commit.ensures.start c.commit.ensures.tail c.commit.ensures.tables)

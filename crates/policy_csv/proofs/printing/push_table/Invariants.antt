@@ -1,4 +1,4 @@
-use Rattle.std.proofs.Common.{◌≡◌, ◌++◌, All, take}
+use Rattle.std.proofs.Common.{◌≡◌, ℕ, ◌++◌, All, drop, take}
 use Rattle.std.specs.String.{string_bytes}
 use Rattle.perm_base.specs.LineEnds.{AreFields}
 use Rattle.perm_base.specs.TableNames.{name_of}
@@ -8,7 +8,6 @@ use Rattle.text_parts.specs.Lines.{with_ends}
 use Rattle.policy_csv.proofs.printing.push_table.Given as goal
 
 abbrev pub invariant-loop-rule : goal.invariant-loop-rule
-invariant-loop-rule l = record {
-  lines : string_bytes l.text ≡ string_bytes l.initial.text ++ with_ends (lines_named (name_of l.fn.table) (take l.rule-index (rows l.tables.policy l.fn.table)));
-  fields : All AreFields (take l.rule-index (rows l.tables.policy l.fn.table));
-}
+invariant-loop-rule l = (n : ℕ) × (l.rule-iterator ≡ drop n (rows l.tables.policy l.fn.table))
+    × (string_bytes l.text ≡ string_bytes l.initial.text ++ with_ends (lines_named (name_of l.fn.table) (take n (rows l.tables.policy l.fn.table))))
+    × All AreFields (take n (rows l.tables.policy l.fn.table))

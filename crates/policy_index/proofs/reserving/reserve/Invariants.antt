@@ -1,13 +1,13 @@
-use Rattle.std.proofs.Common.{◌≡◌, ℕ, ◌≤◌, List, length, take}
+use Rattle.std.proofs.Common.{◌≡◌, ℕ, ◌≤◌, length, take}
 use Rattle.policy_table.specs.Changes.{flat}
 use Rattle.policy_index.specs.Indexed.{puts}
-use Rattle.policy_index.specs.Lists.{places_at, room_at}
+use Rattle.policy_index.specs.Lists.{room_at, slots_at}
 use Rattle.policy_index.proofs.reserving.reserve.Given as goal
 
 abbrev pub invariant-loop-edit : goal.invariant-loop-edit
 invariant-loop-edit l = record {
-  places : (text : List ℕ) → places_at l.places text ≡ places_at l.initial.places text;
-  more : (text : List ℕ) → room_at l.initial.places text ≤ room_at l.places text;
-  counted : (text : List ℕ) → length (places_at l.counts text) ≡ puts l.column text (flat (take l.edit-index l.edits));
-  room : (text : List ℕ) → length (places_at l.counts text) ≤ room_at l.places text;
+  slots : (hash : ℕ) → slots_at l.slots hash ≡ slots_at l.initial.slots hash;
+  more : (hash : ℕ) → room_at l.initial.slots hash ≤ room_at l.slots hash;
+  counted : (hash : ℕ) → length (slots_at l.counts hash) ≡ puts l.key hash (flat (take l.edit-index l.edits));
+  room : (hash : ℕ) → length (slots_at l.counts hash) ≤ room_at l.slots hash;
 }

@@ -1,5 +1,5 @@
-use Rattle.policy_state.proofs.IndexLemmas.{have_column}
+use Rattle.policy_state.proofs.IndexLemmas.{have_columns}
 use Rattle.policy_state.proofs.state.make_state.Goals as goal
 
 pub make_index-requires : goal.make_index-requires
-make_index-requires c = have_column c.args.shapes c.args.tables.policy c.args.column c.requires.sound.shaped c.requires.column
+make_index-requires c = have_columns c.args.shapes c.args.tables.policy c.args.key c.requires.sound.shaped c.requires.key

@@ -1,15 +1,13 @@
-use Rattle.std.proofs.Common.{◌∙◌, ap, take, rules}
-use Rattle.std.proofs.lemmas.List.{take_rest}
-use Rattle.policy_table.proofs.StepLemmas.{made_more}
+use Rattle.std.proofs.Common.{◌≡◌, ◌+◌, ◌++◌, ◌∷◌, [], ◌∙◌, ap, sym, append_assoc, drop, rules}
+use Rattle.std.proofs.lemmas.List.{drop_more}
 use Rattle.policy_table.proofs.prepared.push_steps.Goals as goal
 
-pub loop-at-preserved : goal.loop-at-preserved
-loop-at-preserved c =
-    let at = c.loop-at.at in
+pub loop-change-preserved : goal.loop-change-preserved
+loop-change-preserved c =
+    let before = c.loop-change.steps.items in
+    let change = c.change-item.result in
+    let at = c.loop-change.change-index in
     let changes = c.args.changes.now in
-    let count = c.in_ok-step.count in
-    let next = c.in_ok-step.ensures.made ∙ ap (take count) (take_rest changes at) in
-    record {
-      made = made_more c.args.steps.now.items c.loop-at.steps.items c.push.new.self.items c.in_ok-step.step changes at count (search rules) next c.loop-at.invariant.made;
-      within = search rules;
-    }
+    let pushed : c.push.new.self.items ≡ before ++ change ∷ [] = search rules in
+    ap (λ l. l ++ drop (at + 1) changes) pushed ∙ append_assoc before (change ∷ []) (drop (at + 1) changes)
+    ∙ ap (λ x. before ++ x ∷ drop (at + 1) changes) c.change-item.is ∙ ap (λ l. before ++ l) (sym (drop_more changes at change c.loop-change-test.true)) ∙ c.loop-change.invariant

@@ -1,12 +1,5 @@
-use Rattle.std.proofs.Common.{◌≡◌, ◌≤◌, ◌-◌, ◌++◌, length, take}
-use Rattle.policy_table.specs.Helps.Steps.{all_changes}
+use Rattle.std.proofs.Common.{◌≡◌, ◌++◌, drop}
 use Rattle.policy_table.proofs.prepared.push_steps.Given as goal
 
-abbrev pub invariant-loop-at : goal.invariant-loop-at
-invariant-loop-at l = record {
-  made : all_changes l.steps.items ≡ all_changes l.initial.steps.items ++ take l.at l.changes;
-  within : l.at ≤ length l.changes;
-}
-
-abbrev pub decreases-loop-at : goal.decreases-loop-at
-decreases-loop-at l = length l.changes - l.at
+abbrev pub invariant-loop-change : goal.invariant-loop-change
+invariant-loop-change l = l.steps.items ++ drop l.change-index l.changes ≡ l.initial.steps.items ++ l.changes

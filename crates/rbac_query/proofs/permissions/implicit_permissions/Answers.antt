@@ -30,7 +30,7 @@ returns c =
     let column = domain_column c.args.model.now in
     let passes : names_refusal shapes 1 domain ≡ None =
     ap (λ (shapes : Shapes). names_refusal shapes 1 domain) (sym c.shapes.ensures.shapes) ∙ sym c.names_refusal.ensures ∙ c.in_default.is in
-    let rules_are : c.rows-rules.result.now ≡ rows policy P = c.rows-rules.ensures.value ∙ ap (λ (p : Policy). rows p P) c.tables.ensures.policy in
+    let rules_are : c.rows-rules.result ≡ rows policy P = c.rows-rules.ensures.value ∙ ap (λ (p : Policy). rows p P) c.tables.ensures.policy in
     let column_is : c.place_of-column.result ≡ column = c.place_of-column.ensures ∙ ap (position (bytes_eq (codes "dom"))) c.policy_columns.ensures.value in
     let kept : c.in_ok-counted.field-0 ≡ filter (is_counted name keys shapes.subject_column column domain) (rows policy P) =
     c.in_ok-counted.ensures ∙ (λ j. filter (is_counted name keys (c.shapes-2.ensures.shapes j).subject_column (column_is j) domain) (rules_are j)) in

@@ -1,4 +1,4 @@
-use Rattle.std.proofs.Common.{map, take}
+use Rattle.std.proofs.Common.{◌≡◌, ℕ, drop, map, take}
 use Rattle.std.specs.Str.{bytes_eq}
 use Rattle.indexmap.specs.IndexSet.{contains}
 use Rattle.role_meaning.specs.Links.{user_of}
@@ -7,4 +7,5 @@ use Rattle.role_graph.specs.Helps.Users.{Chooses}
 use Rattle.role_graph.proofs.users.users_among.Given as goal
 
 abbrev pub invariant-loop-row : goal.invariant-loop-row
-invariant-loop-row l = Chooses (linked_of l.links) l.x l.leading (map user_of (take l.row-index l.rows)) (contains bytes_eq l.initial.seen) (contains bytes_eq l.seen) l.initial.users.items l.users.items
+invariant-loop-row l = (n : ℕ) × (l.row-iterator ≡ drop n l.fn.rows)
+    × Chooses (linked_of l.links) l.x l.leading (map user_of (take n l.fn.rows)) (contains bytes_eq l.initial.seen) (contains bytes_eq l.seen) l.initial.users.items l.users.items

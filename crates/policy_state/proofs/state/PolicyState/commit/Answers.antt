@@ -1,5 +1,5 @@
 use Rattle.std.proofs.Common.{◌++◌, List, ap, subst, sym, ◌∙◌}
-use Rattle.policy_state.specs.Helps.Kept.{parts_of}
+use Rattle.policy_state.specs.Helps.Kept.{key_of, parts_of}
 use Rattle.policy_state.specs.Ready.{Ready}
 use Rattle.policy_state.specs.States.{StandsFor, State}
 use Rattle.policy_state.proofs.LogLemmas.{stands_after}
@@ -11,29 +11,29 @@ use Rattle.policy_state.proofs.state.PolicyState.commit.Goals as goal
 pub invariant_of-self : goal.invariant_of-self
 invariant_of-self c =
     let parts = parts_of c.self.inside.tables c.self.inside.index c.self.inside.sections in
-    let there : State = record { shapes = c.self.inside.shapes; column = c.self.inside.column; log = c.self.inside.log; parts = parts } in
+    let there : State = record { shapes = c.self.inside.shapes; key = key_of c.self.inside.index; log = c.self.inside.log; parts = parts } in
     let is = prepared_inside c.args.self.now there c.args.prepared _ c.self.view_is c.prepared.view_is c.requires.ready in
-    state_after c.self.inside.shapes (c.admitted_edits_keep_sound.ensures.sound c.self.inside.shapes) c.self.inside.column c.self.inside.log c.push_all.new.log parts
-    c.commit.new.self c.commit_index.new.index c.commit-2.new.self _ c.self.invariant is
+    state_after c.self.inside.shapes (c.admitted_edits_keep_sound.ensures.sound c.self.inside.shapes) (key_of c.self.inside.index) c.self.inside.log c.push_all.new.log parts
+    c.make_all.new.tables c.make_all.new.index c.commit.new.self _ c.self.invariant is
     (c.push_all.ensures.tail ∙ ap (λ (l : List (List Change)). l ++ c.prepared.inside.edits.items) c.move_start.ensures.tail)
-    c.commit.ensures c.commit_index.ensures.column c.commit_index.ensures.rules c.commit-2.ensures.kept c.commit-2.ensures.each
+    c.make_all.ensures.policy c.make_all.ensures.key c.make_all.ensures.index c.commit.ensures.kept c.commit.ensures.each
 
 pub returns-clause-tables : goal.returns-clause-tables
 returns-clause-tables c =
     let parts = parts_of c.self.inside.tables c.self.inside.index c.self.inside.sections in
-    let there : State = record { shapes = c.self.inside.shapes; column = c.self.inside.column; log = c.self.inside.log; parts = parts } in
+    let there : State = record { shapes = c.self.inside.shapes; key = key_of c.self.inside.index; log = c.self.inside.log; parts = parts } in
     let is = prepared_inside c.args.self.now there c.args.prepared _ c.self.view_is c.prepared.view_is c.requires.ready in
-    tables_made c.self.inside.tables.policy c.commit.new.self.policy c.prepared.inside.tables c.prepared.inside.edits.items is.changes c.commit.ensures
+    tables_made c.self.inside.tables.policy c.make_all.new.tables.policy c.prepared.inside.tables c.prepared.inside.edits.items is.changes c.make_all.ensures.policy
     ∙ (λ j. replay (c.prepared.view_is j).edits (c.self.view_is j).parts.held.policy)
 
 pub returns-clause-stands : goal.returns-clause-stands
 returns-clause-stands c = λ opening history stands.
     let parts = parts_of c.self.inside.tables c.self.inside.index c.self.inside.sections in
-    let there : State = record { shapes = c.self.inside.shapes; column = c.self.inside.column; log = c.self.inside.log; parts = parts } in
-    let after : State = record { shapes = c.self.inside.shapes; column = c.self.inside.column; log = c.push_all.new.log; parts = parts_of c.commit.new.self c.commit_index.new.index c.commit-2.new.self } in
+    let there : State = record { shapes = c.self.inside.shapes; key = key_of c.self.inside.index; log = c.self.inside.log; parts = parts } in
+    let after : State = record { shapes = c.self.inside.shapes; key = key_of c.make_all.new.index; log = c.push_all.new.log; parts = parts_of c.make_all.new.tables c.make_all.new.index c.commit.new.self } in
     let is = prepared_inside c.args.self.now there c.args.prepared _ c.self.view_is c.prepared.view_is c.requires.ready in
     let before : StandsFor there opening history = subst (λ (s : State). StandsFor s opening history) (sym c.self.view_is) stands in
     let now : StandsFor after opening (history ++ c.prepared.inside.edits.items) =
     stands_after there after opening history c.prepared.inside.edits.items (c.push_all.ensures.stands history (c.move_start.ensures.stands history before.log))
-    (tables_made c.self.inside.tables.policy c.commit.new.self.policy c.prepared.inside.tables c.prepared.inside.edits.items is.changes c.commit.ensures) before in
+    (tables_made c.self.inside.tables.policy c.make_all.new.tables.policy c.prepared.inside.tables c.prepared.inside.edits.items is.changes c.make_all.ensures.policy) before in
     subst (λ (r : Ready). StandsFor after opening (history ++ r.edits)) c.prepared.view_is now

@@ -8,9 +8,8 @@ invariant_of-result c = record {
   sound = search rules;
   grown = search rules;
   below = search rules;
-  column = search rules;
   index = search rules;
   sections =
-      sections_again c.self.inside.shapes c.in_ok-shapes.shapes c.self.inside.tables.policy c.in_ok-tables.tables.policy c.self.inside.sections c.in_ok-sections.sections c.in_ok-shapes.ensures c.in_ok-tables.ensures c.in_ok-sections.ensures
+      sections_again c.self.inside.shapes c.in_ok-shapes.shapes c.self.inside.tables.policy c.in_ok-tables.tables.policy c.self.inside.sections c.in_ok-sections.sections c.in_ok-shapes.ensures c.in_ok-tables.ensures.policy c.in_ok-sections.ensures
       c.self.invariant.sections;
 }

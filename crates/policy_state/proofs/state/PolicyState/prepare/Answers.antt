@@ -22,7 +22,7 @@ prepare-requires-clause-few c =
 
 pub prepare_index-requires : goal.prepare_index-requires
 prepare_index-requires c =
-    all_fit_index c.self.inside.shapes c.self.inside.column c.self.inside.index (flat c.args.edits.now) c.self.invariant.column c.self.invariant.below
+    all_fit_index c.self.inside.shapes c.self.inside.index (flat c.args.edits.now) c.self.invariant.below
     (all_fitting c.self.inside.shapes c.self.inside.tables.policy c.args.edits.now
     (subst (λ (s : State). AreAdmitted s.shapes (tables s) c.args.edits.now) (sym c.self.view_is) c.requires.admitted))
 

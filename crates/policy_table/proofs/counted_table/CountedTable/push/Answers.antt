@@ -8,5 +8,5 @@ add_if-requires-clause-few c = λ counted. can_count c.self.inside.table.rules _
 
 pub invariant_of-self : goal.invariant_of-self
 invariant_of-self c =
-    λ counted. counted_pushed c.args.ranked c.self.inside.counted _ c.args.put _ c.self.inside.table.rules _ _ counted c.into_parts-rule.ensures.rule c.into_parts-rule.ensures.domain c.push.ensures.rules
+    λ counted. counted_pushed c.args.ranked c.self.inside.counted c.args.rule c.args.domain c.self.inside.table.rules _ _ counted c.requires.domain c.push.ensures.rules
     (c.add_if.ensures.counted (domains_of c.self.inside.table.rules) (c.self.invariant counted))

@@ -33,7 +33,7 @@ invariant_of-self c =
     let old = c.args.old.now in
     let rules = c.self.inside.table.rules in
     let some = subst (λ (r : Rows). stands old r.rules ≡ true) (sym c.self.view_is) c.requires.stands in
-    λ counted. counted_put c.args.ranked c.self.inside.counted old _ c.args.new _ rules _ _ counted c.into_parts-rule.ensures.rule c.into_parts-rule.ensures.domain c.replace.ensures.rules c.len-few.ensures.once some
+    λ counted. counted_put c.args.ranked c.self.inside.counted old c.args.new c.args.domain rules _ _ counted c.requires.domain c.replace.ensures.rules c.len-few.ensures.once some
     (c.add_if.ensures.counted (domains_of (without old rules))
     (c.take_if.ensures.counted counted (domains_of (without old rules))
     (counted_alone _ old rules c.self.inside.domains c.from_ref.ensures.value c.len-few.ensures.once some (c.self.invariant counted))))

@@ -16,17 +16,17 @@ fitting-requires c = subst (All (λ (row : Fields). 2 ≤ length row)) (sym c.de
 pub returns-in-Some : goal.returns-in-Some
 returns-in-Some c =
     subst
-    (λ (s : Section). IsSectionOf s c.args.rows.now → AreImpliedUsers s.shape c.args.rows.now s.limit (option_copied c.args.domain) c.args.x.now c.in_ok-names.names)
+    (λ (s : Section). IsSectionOf s c.args.rows → AreImpliedUsers s.shape c.args.rows s.limit (option_copied c.args.domain) c.args.x.now c.in_ok-names.names)
     c.self.view_is
-    (λ sound. users_there _ c.args.rows.now sound (option_copied c.args.domain) c.asked-text.result.now (copied_some c.args.domain ∙ c.requires.asked ∙ sym (ap (λ (s : Section). s.shape.with_domain) c.self.view_is)) c.asked-text.ensures c.links_are_decided.ensures.fits c.in-Some.there.now c.in-Some.ensures c.args.x.now c.args.rows.now c.in_ok-names.names refl c.in_ok-names.ensures)
+    (λ sound. users_there _ c.args.rows sound (option_copied c.args.domain) c.asked-text.result.now (copied_some c.args.domain ∙ c.requires.asked ∙ sym (ap (λ (s : Section). s.shape.with_domain) c.self.view_is)) c.asked-text.ensures c.links_are_decided.ensures.fits c.in-Some.there.now c.in-Some.ensures c.args.x.now c.args.rows c.in_ok-names.names refl c.in_ok-names.ensures)
     c.requires.rows
 
 pub returns : goal.returns
 returns c =
     subst
-    (λ (s : Section). IsSectionOf s c.args.rows.now → AreImpliedUsers s.shape c.args.rows.now s.limit (option_copied c.args.domain) c.args.x.now c.in_ok-names-2.names)
+    (λ (s : Section). IsSectionOf s c.args.rows → AreImpliedUsers s.shape c.args.rows s.limit (option_copied c.args.domain) c.args.x.now c.in_ok-names-2.names)
     c.self.view_is
-    (λ sound. users_nowhere _ c.args.rows.now sound (option_copied c.args.domain) c.asked-text.result.now (copied_some c.args.domain ∙ c.requires.asked ∙ sym (ap (λ (s : Section). s.shape.with_domain) c.self.view_is)) c.asked-text.ensures c.in_default.ensures c.links_are_decided.ensures.fits c.in_ok-graph.graph c.args.x.now c.args.rows.now c.in_ok-names-2.names refl
+    (λ sound. users_nowhere _ c.args.rows sound (option_copied c.args.domain) c.asked-text.result.now (copied_some c.args.domain ∙ c.requires.asked ∙ sym (ap (λ (s : Section). s.shape.with_domain) c.self.view_is)) c.asked-text.ensures c.in_default.ensures c.links_are_decided.ensures.fits c.in_ok-graph.graph c.args.x.now c.args.rows c.in_ok-names-2.names refl
     (c.in_ok-graph.ensures.names ∙ ap (λ (t : Terms). t.names) c.terms_of-terms.ensures) c.in_ok-graph.ensures.limit
     (λ test tells one. omega (
       arith,

@@ -1,0 +1,109 @@
+#!/usr/bin/env bash
+# Prints what an edit with its publish costs in a session over 1,000 rows and over 200,000, each as a ratio of one run: rules of p
+# that are removed and added again, plain and ranked, found by equalities or by key patterns; rules that are updated; role rows that
+# are removed and added again among users and roles that stand, in one domain and in as many as there are roles; and what a row costs
+# of a batch that removes 100 rows and of one that removes 10,000, by a filter and as those of one user. Usage: bench/edits.sh [EDITS].
+source "$(dirname "${BASH_SOURCE[0]}")/timing.sh"
+build "$root"
+python3 - "$root/crates/casbin_cli/out/casbin_cli" "$work" "${1:-2000}" <<'PYTHON'
+import resource, subprocess, sys
+
+program, work, most = sys.argv[1], sys.argv[2], int(sys.argv[3])
+FEW, MANY = 1_000, 200_000
+EQUAL = "r.sub == p.sub && r.obj == p.obj && r.act == p.act"
+PLAIN = "e = some(where (p.eft == allow))"
+
+
+def model(name, matcher, columns="sub, obj, act", policy=None, roles="", effect=PLAIN):
+    with open(f"{work}/{name}.conf", "w") as file:
+        file.write(f"[request_definition]\nr = {columns}\n[policy_definition]\np = {policy or columns}\n{roles}")
+        file.write(f"[policy_effect]\n{effect}\n[matchers]\nm = {matcher}\n")
+
+
+model("plain", EQUAL)
+model("ranked", EQUAL, policy="priority, sub, obj, act, eft", effect="e = priority(p.eft) || deny")
+model("keys", "r.sub == p.sub && keyMatch2(r.obj, p.obj) && r.act == p.act")
+model("roles", "g(r.sub, p.sub) && r.obj == p.obj && r.act == p.act", roles="[role_definition]\ng = _, _\n")
+model("domains", "g(r.sub, p.sub, r.dom) && r.dom == p.dom && r.obj == p.obj && r.act == p.act", "sub, dom, obj, act", roles="[role_definition]\ng = _, _, _\n")
+
+
+# The row with this number of so many.
+def row(kind, i, n):
+    if kind == "ranked":
+        return f"p, {i // 10}, user{i:06d}, data{i:06d}, read, allow"
+    if kind == "keys":
+        return f"p, user{i:06d}, /data{i:06d}/:id, read"
+    if kind == "roles":
+        return f"g, user{i:06d}, role{i % (n // 100)}"
+    if kind == "domains":
+        return f"g, user{i:06d}, role{i % (n // 100)}, dom{i % (n // 100)}"
+    return f"p, user{i:06d}, data{i:06d}, read"
+
+
+def policy(kind, n):
+    with open(f"{work}/policy.csv", "w") as file:
+        file.writelines(row(kind, i, n) + "\n" for i in range(n))
+
+
+# The least seconds of processor time of three sessions over the policy and these lines.
+def took(kind, lines):
+    with open(f"{work}/script", "w") as file:
+        file.writelines(line + "\n" for line in lines)
+    least = None
+    for _ in range(3):
+        before = resource.getrusage(resource.RUSAGE_CHILDREN)
+        with open(f"{work}/script") as script, open(f"{work}/answers", "w") as answers:
+            subprocess.run([program, "session", f"{work}/{kind}.conf", f"{work}/policy.csv"], stdin=script, stdout=answers, check=True)
+        after = resource.getrusage(resource.RUSAGE_CHILDREN)
+        spent = after.ru_utime + after.ru_stime - before.ru_utime - before.ru_stime
+        least = spent if least is None else min(least, spent)
+    with open(f"{work}/answers") as answers:
+        for answer in answers:
+            if "refused" in answer or " false" in answer:
+                sys.exit(f"{kind}: {answer}")
+    return least
+
+
+# The seconds of one of so many edits, each published.
+def edit_cost(kind, way, n):
+    policy(kind, n)
+    lines = []
+    for k in range(most):
+        i = (k * 7919) % n
+        if way == "update":
+            lines += ["begin update", row(kind, i, n), row(kind, i, n).replace("read", f"write{k}"), "end", "publish"]
+            lines += ["begin update", row(kind, i, n).replace("read", f"write{k}"), row(kind, i, n), "end", "publish"]
+        else:
+            lines += ["remove " + row(kind, i, n), "publish", "add " + row(kind, i, n), "publish"]
+    return max(took(kind, lines) - took(kind, []), 1e-9) / (2 * most)
+
+
+for kind, way, what in [
+    ("plain", "remove", "a rule of p removed or added"),
+    ("plain", "update", "a rule of p updated"),
+    ("ranked", "remove", "a rule of a ranked p removed or added"),
+    ("keys", "remove", "a rule found by a key pattern removed or added"),
+    ("roles", "remove", "a role row removed or added"),
+    ("domains", "remove", "a role row in one of many domains removed or added"),
+]:
+    few, many = edit_cost(kind, way, FEW), edit_cost(kind, way, MANY)
+    print(f"{what}, with its publish: over {FEW} rows {few * 1e6:.1f} us, over {MANY} {many * 1e6:.1f} us, ratio {many / few:.2f}", flush=True)
+
+
+# The seconds of one of the rows that one call removes of 200,000, of which so many are its own.
+def batch_cost(call, count):
+    kind = "roles" if call.startswith("delete-user") else "plain"
+    with open(f"{work}/policy.csv", "w") as file:
+        for i in range(MANY):
+            mine = i % (MANY // count) == 0
+            if kind == "roles":
+                file.write(f"g, {'user' if mine else f'user{i}'}, role{i}\n" if mine else f"g, user{i}, role{i % 100}\n")
+            else:
+                file.write(f"p, {'user' if mine else f'user{i}'}, data{i}, read\n")
+    return max(took(kind, [call, "publish"]) - took(kind, ["publish"]), 1e-9) / count
+
+
+for call, what in [("remove-filtered p, 0, user", "a row that a filter removes"), ("delete-user user", "a role row of a user that is deleted")]:
+    few, many = batch_cost(call, 100), batch_cost(call, 10_000)
+    print(f"{what} of {MANY}: of 100 {few * 1e6:.1f} us, of 10000 {many * 1e6:.1f} us, ratio {many / few:.2f}", flush=True)
+PYTHON

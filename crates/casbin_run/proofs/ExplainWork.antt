@@ -1,0 +1,157 @@
+-- What explaining requests comes to as a task, and that it is one text.
+use Rattle.std.proofs.Common.{◌≡◌, ℕ, ◌≤◌, ◌==◌, Bool, true, false, List, [], ◌∷◌, ◌++◌, Ok, Err, length, inl, inr, ⊎_elim, refl, sym, ap, subst, ◌∙◌, arith}
+use Rattle.std.specs.Prelude.{IfErr, MatchBool, OnOk, Option, Result}
+use Rattle.std.specs.List.{Contains}
+use Rattle.std.proofs.lemmas.Result.{IfErr-weaker}
+use Rattle.answer_lines.specs.LineText.{line_text}
+use Rattle.answer_lines.specs.declared.answer.Line.{Line}
+use Rattle.model_conf.specs.ModelText.{ModelParts}
+use Rattle.near_miss.specs.Lines.{miss_lines}
+use Rattle.near_miss.specs.Misses.{AreNearMisses}
+use Rattle.near_miss.specs.Parts.{AreParts}
+use Rattle.near_miss.specs.declared.misses.NearMiss.{NearMiss}
+use Rattle.outside.specs.Faults.{Rose}
+use Rattle.perm_base.specs.declared.shapes.Shapes.{Shapes}
+use Rattle.perm_base.specs.declared.shapes.TableId.TheVariants.{P}
+use Rattle.perm_value.specs.Datum.{Datum}
+use Rattle.policy_state.specs.States.{State, tables}
+use Rattle.policy_table.specs.Tables as table
+use Rattle.regex_gate.specs.Refusals.{IsUsed, Refusals}
+use Rattle.run_status.specs.declared.stop.Stop.{Stop}
+use Rattle.run_status.specs.declared.stop.Stop.TheVariants.{CannotWrite, NoMemory}
+use Rattle.script_read.specs.Said.{Said, asks}
+use Rattle.session_meaning.specs.Plain.{IsPlain, all_refused}
+use Rattle.casbin_run.specs.Explaining.{ArePieces, IsBelow, IsExplained, IsPiece, TellsMisses}
+use Rattle.casbin_run.specs.Finders.{HasRefused}
+use Rattle.casbin_run.specs.Given.{SaysItems}
+use Rattle.casbin_run.specs.Helps.Explaining.{AreExplained, ExplainStops, ExplainedAll, ExplainedSome, PiecesOf, PiecesStop}
+use Rattle.casbin_run.specs.Helps.Tasks.{DidAll, IsQuiet, WorkStops, Worked, ground}
+use Rattle.casbin_run.specs.Helps.Working.{IsOpened}
+use Rattle.casbin_run.specs.Texts.{joined}
+use Rattle.casbin_run.specs.Worlds.{Taken}
+use Rattle.casbin_run.specs.declared.files.Loaded.{Loaded}
+use Rattle.casbin_run.specs.declared.job.Task.TheVariants.{Explain}
+use Rattle.casbin_run.proofs.WorkLemmas.{over_equal}
+
+-- ---- what was printed
+
+-- memory ran out before any piece was pushed
+pub explain_memory : (IsSaid : List Said → Type 0) (most : ℕ) (model : ModelParts) (shapes : Shapes) (policy : table.Policy) (before : Refusals) (out : Taken) → IsUsed before before → AreExplained IsSaid most model shapes policy before before out out (Err NoMemory)
+explain_memory IsSaid most model shapes policy before out used = record { printed = tt; stopped = inl (refl, refl); counted = omega arith; used = used }
+
+pub explain_ends : (IsSaid : List Said → Type 0) (most : ℕ) (model : ModelParts) (shapes : Shapes) (policy : table.Policy) (before now : Refusals) (out out_now : Taken) (result : Result (Unit {0}) Stop) → OnOk result (ExplainedAll IsSaid most model shapes policy before now out.bytes out_now.bytes)
+    → IfErr result (ExplainedSome IsSaid most model shapes policy before now out.bytes out_now.bytes (Rose out.faults out_now.faults)) → out.faults ≤ out_now.faults → IsUsed before now → AreExplained IsSaid most model shapes policy before now out out_now result
+explain_ends IsSaid most model shapes policy before now out out_now result all some counted used = record { printed = all; stopped = IfErr-weaker result _ _ (λ stop stops. inr stops) some; counted = counted; used = used }
+
+-- over what was loaded
+pub explain_over : (IsSaid : List Said → Type 0) (loaded : Loaded) (program : ModelParts) (state : State) (most : ℕ) (before now : Refusals) (out out_now : Taken) (result : Result (Unit {0}) Stop) → IsOpened loaded program state
+    → AreExplained IsSaid most program state.shapes (tables state) before now out out_now result → AreExplained IsSaid most loaded.model loaded.shapes loaded.tables.policy before now out out_now result
+explain_over IsSaid loaded program state most before now out out_now result is explained =
+    over_equal (λ (m : ModelParts) (s : Shapes) (p : table.Policy). AreExplained IsSaid most m s p before now out out_now result) loaded.model program loaded.shapes state.shapes loaded.tables.policy (tables state) is.program_is is.shapes_are is.policy_is explained
+
+-- ---- as a task
+
+module _ (json : Bool) (most : ℕ) (loaded : Loaded) (left : Option (List ℕ)) (IsSaid : List Said → Type 0) (says : (items : List Said) → IsSaid items → SaysItems (Explain json most) left items) (before now : Refusals) (out out_now : Option (List ℕ)) where
+  abbrev explained_work : PiecesOf IsSaid most loaded.model loaded.shapes loaded.tables.policy (HasRefused before now) → Worked (ground (Explain json most) loaded left) (HasRefused before now)
+  explained_work of = record {
+    items = of.items;
+    packets = [];
+    refused = of.refused;
+    pieces = of.pieces;
+    text = joined of.pieces;
+    says = says of.items of.says;
+    carries = refl;
+    room = tt;
+    writes = of.explained;
+    logged = of.logged;
+  }
+
+  pub explained_done : (err : Taken) → ExplainedAll IsSaid most loaded.model loaded.shapes loaded.tables.policy before now out out_now → DidAll (ground (Explain json most) loaded left) (HasRefused before now) out out_now err err
+  explained_done err all = record { worked = explained_work all.printed; took = all.took; told = refl }
+
+  some_pieces_stop : (input_rose out_rose : Type 0) (stop : Stop) → ExplainedSome IsSaid most loaded.model loaded.shapes loaded.tables.policy before now out out_now out_rose stop → WorkStops (ground (Explain json most) loaded left) (HasRefused before now) out out_now input_rose out_rose stop
+  some_pieces_stop input_rose out_rose CannotWrite some = (record { worked = explained_work some.printed; took = some.stops.0 }, some.stops.1)
+  some_pieces_stop input_rose out_rose NoMemory some = inr (record { worked = explained_work some.printed; count = some.stops.0; took = some.stops.1 })
+  some_pieces_stop input_rose out_rose _ some = absurd some.stops
+
+  pub explained_stops : (input_rose out_rose : Type 0) (stop : Stop) → ExplainStops IsSaid most loaded.model loaded.shapes loaded.tables.policy before now out out_now out_rose stop
+      → WorkStops (ground (Explain json most) loaded left) (HasRefused before now) out out_now input_rose out_rose stop
+  explained_stops input_rose out_rose stop stops =
+      ⊎_elim (λ early. subst (λ (s : Stop). WorkStops (ground (Explain json most) loaded left) (HasRefused before now) out out_now input_rose out_rose s) (sym early.0) (inl early.1)) (λ some. some_pieces_stop input_rose out_rose stop some) stops
+
+-- its stops are not quiet
+memory_not_quiet : {A : Type 0} → IsQuiet NoMemory → A
+memory_not_quiet quiet = absurd cc
+
+pieces_not_quiet : {A : Type 0} (out out_now : Option (List ℕ)) (pieces : List (List ℕ)) (out_rose : Type 0) (stop : Stop) → PiecesStop out out_now pieces out_rose stop → IsQuiet stop → A
+pieces_not_quiet out out_now pieces out_rose CannotWrite stops quiet = absurd cc
+pieces_not_quiet out out_now pieces out_rose NoMemory stops quiet = absurd cc
+pieces_not_quiet out out_now pieces out_rose _ stops quiet = absurd stops
+
+pub explain_not_quiet : {A : Type 0} (IsSaid : List Said → Type 0) (most : ℕ) (model : ModelParts) (shapes : Shapes) (policy : table.Policy) (before now : Refusals) (out out_now : Option (List ℕ)) (out_rose : Type 0) (stop : Stop) → ExplainStops IsSaid most model shapes policy before now out out_now out_rose stop → IsQuiet stop → A
+explain_not_quiet IsSaid most model shapes policy before now out out_now out_rose stop stops quiet =
+    ⊎_elim (λ early. memory_not_quiet (subst IsQuiet early.0 quiet)) (λ some. pieces_not_quiet out out_now some.printed.pieces out_rose stop some.stops quiet) stops
+
+-- ---- one text
+
+-- what the laws of the crates below say
+pub record ExplainsOnce : Type 0 where
+  pub parts : (model : ModelParts) (first second : List ModelParts) → AreParts model first → AreParts model second → first ≡ second
+  pub misses : (shapes : Shapes) (policy : table.Policy) (request : List Datum) (parts : List ModelParts) (most : ℕ) (first second : List NearMiss) → AreNearMisses shapes policy request (Contains []) parts most first → AreNearMisses shapes policy request (Contains []) parts most second → first ≡ second
+  pub lines : (model : ModelParts) (shapes : Shapes) (opening : table.Policy) (items : List Said) (refused others : List (List (List ℕ))) (first second : List Line) → IsPlain model shapes opening items refused first → IsPlain model shapes opening items others second
+      → all_refused refused ≡ [] → all_refused others ≡ [] → first ≡ second
+
+-- where nothing is in both, nothing is in either
+none_in : {X : Type 0} (xs ys : List X) → xs ++ ys ≡ [] → (xs ≡ []) × (ys ≡ [])
+none_in [] ys none = (refl, none)
+none_in (x ∷ xs) ys none = absurd cc
+
+module _ (once : ExplainsOnce) (parts : List ModelParts) (most : ℕ) (model : ModelParts) (shapes : Shapes) (policy : table.Policy) where
+  below_once : (item : Said) (first second : List ℕ) → IsBelow parts most model shapes policy item [] first → IsBelow parts most model shapes policy item [] second → first ≡ second
+  below_once (asks (Ok values)) first second p q = by (length values == length model.request) p q
+    where
+      by : (fits : Bool) → MatchBool fits (TellsMisses parts most shapes policy values [] first) (first ≡ []) → MatchBool fits (TellsMisses parts most shapes policy values [] second) (second ≡ []) → first ≡ second
+      by true one other = one.told ∙ ap (λ (misses : List NearMiss). miss_lines parts (table.rows policy P) misses) (once.misses shapes policy values parts most one.misses other.misses one.are other.are) ∙ sym other.told
+      by false none nothing = none ∙ sym nothing
+  below_once _ first second p q = p ∙ sym q
+
+  piece_once : (item : Said) (line : Line) (first second : List ℕ) → IsPiece parts most model shapes policy item [] line first → IsPiece parts most model shapes policy item [] line second → first ≡ second
+  piece_once item line first second (below, is, piece) (other, as_well, same) = piece ∙ ap (λ (text : List ℕ). line_text line ++ text) (below_once item below other is as_well) ∙ sym same
+
+  -- pieces where nothing was refused
+  abbrev AreCalm : List Said → List Line → List (List ℕ) → Type 0
+  AreCalm [] [] [] = Unit {0}
+  AreCalm (item ∷ items) (line ∷ lines) (piece ∷ pieces) = IsPiece parts most model shapes policy item [] line piece × AreCalm items lines pieces
+  AreCalm _ _ _ = ⊥
+
+  are_calm : (items : List Said) (refused : List (List (List ℕ))) (lines : List Line) (pieces : List (List ℕ)) → ArePieces parts most model shapes policy items refused lines pieces → all_refused refused ≡ [] → AreCalm items lines pieces
+  are_calm [] [] [] [] are none = tt
+  are_calm (item ∷ items) (patterns ∷ refused) (line ∷ lines) (piece ∷ pieces) are none =
+      let both = none_in patterns (all_refused refused) none in
+      (subst (λ (l : List (List ℕ)). IsPiece parts most model shapes policy item l line piece) both.0 are.0, are_calm items refused lines pieces are.1 both.1)
+  are_calm _ _ _ _ are none = absurd are
+
+  calm_once : (items : List Said) (lines : List Line) (first second : List (List ℕ)) → AreCalm items lines first → AreCalm items lines second → first ≡ second
+  calm_once [] [] [] [] p q = refl
+  calm_once [] [] [] (y ∷ ys) p q = absurd q
+  calm_once [] [] (x ∷ xs) second p q = absurd p
+  calm_once [] (line ∷ lines) first second p q = absurd p
+  calm_once (item ∷ items) [] first second p q = absurd p
+  calm_once (item ∷ items) (line ∷ lines) [] second p q = absurd p
+  calm_once (item ∷ items) (line ∷ lines) (x ∷ xs) [] p q = absurd q
+  calm_once (item ∷ items) (line ∷ lines) (x ∷ xs) (y ∷ ys) p q =
+      let head : x ≡ y = piece_once item line x y p.0 q.0 in
+      let rest : xs ≡ ys = calm_once items lines xs ys p.1 q.1 in
+      λ j. head j ∷ rest j
+
+-- requests are explained by one text, where nothing is refused
+pub explained_once : ExplainsOnce → (most : ℕ) (model : ModelParts) (shapes : Shapes) (policy : table.Policy) (items : List Said) (refused others : List (List (List ℕ))) (pieces more : List (List ℕ)) (text written : List ℕ) → IsExplained most model shapes policy items refused pieces text
+    → IsExplained most model shapes policy items others more written → all_refused refused ≡ [] → all_refused others ≡ [] → text ≡ written
+explained_once once most model shapes policy items refused others pieces more text written p q none nothing =
+    let parts_same : q.parts ≡ p.parts = once.parts model q.parts p.parts q.parts_are p.parts_are in
+    let lines_same : q.lines ≡ p.lines = once.lines model shapes policy items others refused q.lines p.lines q.plain p.plain nothing none in
+    let here : ArePieces p.parts most model shapes policy items others q.lines more = subst (λ (parts : List ModelParts). ArePieces parts most model shapes policy items others q.lines more) parts_same q.below in
+    let there : ArePieces p.parts most model shapes policy items others p.lines more = subst (λ (lines : List Line). ArePieces p.parts most model shapes policy items others lines more) lines_same here in
+    let same : pieces ≡ more = calm_once once p.parts most model shapes policy items p.lines pieces more
+    (are_calm once p.parts most model shapes policy items refused p.lines pieces p.below none) (are_calm once p.parts most model shapes policy items others p.lines more there nothing) in
+    p.text_is ∙ ap joined same ∙ sym q.text_is

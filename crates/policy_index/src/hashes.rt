@@ -1,0 +1,93 @@
+ghost use Rattle.std.specs.Prelude.{◌≡◌, ◌<◌, ◌^◌, ◌++◌, ◌∷◌, [], List, ℕ, length, nat_lt, true};
+ghost use Rattle.std.specs.List.{list_all};
+ghost use Rattle.policy_index.specs.Hashes.{IsKeyOf, bytes_hash, fields_hash, front_hash, hash_step, start_hash, text_hash, whole_hash};
+
+use perm_base::Rule;
+
+const START: u64 = 14_695_981_039_346_656_037;
+
+const FACTOR: u64 = 1_099_511_628_211;
+
+// Signs of what follows, which are no bytes.
+const TEXT: u64 = 256;
+
+const WHOLE: u64 = 257;
+
+const FRONT: u64 = 258;
+
+/// The hash of no texts.
+pub fn start_hash() -> u64
+    ensures start { result ≡ start_hash }
+    ensures none { IsKeyOf result [] }
+{
+    START
+}
+
+/// A hash with one text more.
+pub fn hash_with(hash: u64, text: &[u8]) -> u64
+    ensures value { result ≡ text_hash hash text.now }
+    ensures more { (texts : List (List ℕ)) → IsKeyOf hash texts
+        → IsKeyOf result (texts ++ text.now ∷ []) }
+{
+    hash_bytes(hash_step(hash, TEXT), text)
+}
+
+/// A hash with a whole text behind it.
+pub(crate) fn hash_whole(hash: u64, text: &[u8]) -> u64
+    ensures { result ≡ whole_hash hash text.now }
+{
+    hash_bytes(hash_step(hash, WHOLE), text)
+}
+
+/// A hash with a front behind it.
+pub(crate) fn hash_front(hash: u64, front: &[u8]) -> u64
+    ensures { result ≡ front_hash hash front.now }
+{
+    hash_bytes(before_front(hash), front)
+}
+
+/// A hash before the bytes of a front.
+pub(crate) fn before_front(hash: u64) -> u64
+    ensures { result ≡ front_hash hash [] }
+{
+    hash_step(hash, FRONT)
+}
+
+/// A hash with a byte more.
+pub(crate) fn hash_byte(hash: u64, byte: u8) -> u64
+    ensures { result ≡ hash_step hash byte }
+{
+    hash_step(hash, u64::from(byte))
+}
+
+/// The hash of a rule's texts in columns.
+pub(crate) fn hash_of_fields(columns: &[u32], rule: &Rule) -> u64
+    requires { list_all (λ column. nat_lt column (length rule.now)) columns.now ≡ true }
+    ensures { result ≡ fields_hash columns.now rule.now }
+{
+    let mut hash = START;
+    for column in columns {
+        hash = hash_with(hash, rule.field(*column));
+    }
+    hash
+}
+
+// A hash with further bytes.
+fn hash_bytes(hash: u64, bytes: &[u8]) -> u64
+    ensures { result ≡ bytes_hash hash bytes.now }
+{
+    let mut so_far = hash;
+    for byte in bytes {
+        so_far = hash_byte(so_far, *byte);
+    }
+    so_far
+}
+
+// A hash with a byte or a sign more.
+#[tactic(auto, unfolding(crate::specs::Hashes::hash_step))]
+fn hash_step(hash: u64, byte: u64) -> u64
+    requires { byte < 2 ^ 16 }
+    ensures { result ≡ hash_step hash byte }
+{
+    hash.wrapping_mul(FACTOR).wrapping_add(byte + 1)
+}

@@ -1,0 +1,21 @@
+use Rattle.std.proofs.Common.{◌<◌, List, length, slice_get, arith, ap, sym, subst, ◌∙◌}
+use Rattle.policy_table.specs.Tables.{Fields}
+use Rattle.policy_table.proofs.TableLemmas.{found_rows, found_slots, nowhere_rows}
+use Rattle.policy_table.proofs.tables.Tables.slot_at.Goals as goal
+
+pub unreachable-requires : goal.unreachable-requires
+unreachable-requires c = absurd (omega (arith, c.requires, ap length (nowhere_rows c.args.self.now.policy c.args.table (sym c.place.ensures ∙ c.in_default.is))))
+
+pub slot_at-requires : goal.slot_at-requires
+slot_at-requires c =
+    subst (λ (l : List Fields). c.args.at < length l) (found_rows c.args.table c.in-Some.there _ c.index-self-there.result c.self.invariant c.self.view_is c.place.ensures c.in-Some.is) c.requires
+
+pub returns-clause-within : goal.returns-clause-within
+returns-clause-within c =
+    subst (λ (l : List Fields). c.slot_at.result < length l) (sym (found_slots c.args.table c.in-Some.there _ c.index-self-there.result c.self.invariant c.self.view_is c.place.ensures c.in-Some.is)) c.slot_at.ensures.within
+
+pub returns-clause-same : goal.returns-clause-same
+returns-clause-same c =
+    ap (λ (l : List Fields). slice_get l c.slot_at.result) (found_slots c.args.table c.in-Some.there _ c.index-self-there.result c.self.invariant c.self.view_is c.place.ensures c.in-Some.is)
+    ∙ c.slot_at.ensures.same
+    ∙ sym (ap (λ (l : List Fields). slice_get l c.args.at) (found_rows c.args.table c.in-Some.there _ c.index-self-there.result c.self.invariant c.self.view_is c.place.ensures c.in-Some.is))
