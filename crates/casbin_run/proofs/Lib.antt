@@ -21,3 +21,5 @@ pub mod ShownLemmas
 pub mod AskedLemmas
 pub mod ModelLemmas
 pub mod SomeEnd
+pub mod SharedWork
+pub mod DemoLemmas

@@ -111,7 +111,7 @@ out_of_memory IsSaid loaded before now out used = record { printed = tt; stopped
 -- ---- tasks that read the input
 
 -- the first lines, as pieces
-first_lines : (count : ℕ) (lines : List Line) → text_of_lines (take count lines) ≡ joined (take count (map line_text lines))
+pub first_lines : (count : ℕ) (lines : List Line) → text_of_lines (take count lines) ≡ joined (take count (map line_text lines))
 first_lines count lines = sym (ap joined (take-map line_text count lines) ∙ flat_map-map (λ (piece : List ℕ). piece) line_text (take count lines))
 
 -- requests that a text says, or items that a script says, are what its task reads

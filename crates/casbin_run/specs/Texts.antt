@@ -11,6 +11,7 @@ use Rattle.perm_base.specs.declared.shapes.TableId.TheVariants.{P, G}
 use Rattle.policy_table.specs.Tables.{Policy, rows}
 use Rattle.script_read.specs.Said.{Said}
 use Rattle.session_meaning.specs.Plain.{IsPlain}
+use Rattle.session_meaning.specs.Rounds.{IsShared}
 
 -- the lines of answers
 abbrev pub text_of_lines : List Line → List ℕ
@@ -36,6 +37,13 @@ joined pieces = flat_map (λ (piece : List ℕ). piece) pieces
 pub record IsOfLines (parts : ModelParts) (shapes : Shapes) (tables : Policy) (items : List Said) (refused : List (List (List ℕ))) (pieces : List (List ℕ)) (text : List ℕ) : Type 0 where
   pub lines : List Line
   pub plain : IsPlain parts shapes tables items refused lines
+  pub pieces_are : pieces ≡ map line_text lines
+  pub text_is : text ≡ text_of_lines lines
+
+-- lines of items whose requests are answered by so many workers; each line is a piece
+pub record IsOfSharedLines (workers : ℕ) (parts : ModelParts) (shapes : Shapes) (tables : Policy) (items : List Said) (refused : List (List (List ℕ))) (pieces : List (List ℕ)) (text : List ℕ) : Type 0 where
+  pub lines : List Line
+  pub shared : IsShared parts shapes tables workers items refused lines
   pub pieces_are : pieces ≡ map line_text lines
   pub text_is : text ≡ text_of_lines lines
 

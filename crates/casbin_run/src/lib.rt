@@ -2,6 +2,7 @@
 #![tactic(auto)]
 
 mod cached;
+mod demo;
 mod enforce;
 mod explaining;
 mod files;
@@ -15,6 +16,7 @@ mod opening;
 mod report;
 mod run;
 mod session;
+mod shared;
 mod shipping;
 mod showing;
 mod taken_lines;

@@ -41,8 +41,8 @@ pub(crate) fn serve<K: Sink, P: Finder>(
     print_lines(alloc, out, lines.as_slice())
 }
 
-// Prints lines.
-fn print_lines<K: Sink>(alloc: Global, out: &mut K, lines: &[Line]) -> Result<(), Stop>
+/// Prints lines.
+pub(crate) fn print_lines<K: Sink>(alloc: Global, out: &mut K, lines: &[Line]) -> Result<(), Stop>
     requires { All (λ line. is_printable line.answer ≡ true) lines.now }
     ensures printed { OnOk result
         (K.taken out.new ≡ with_back (K.taken out.old) (text_of_lines lines.now)) }

@@ -51,6 +51,11 @@ pub record DidAll (on : Ground) (IsLogged : List (List ℕ) → Type 0) (out out
   pub took : out_now ≡ with_back out worked.text
   pub told : Tells on.task on.model on.shapes on.policy worked.items worked.refused worked.text err err_now
 
+-- the same, but for what `err` took
+pub record DidWrite (on : Ground) (IsLogged : List (List ℕ) → Type 0) (out out_now : Option (List ℕ)) : Type 0 where
+  pub worked : Worked on IsLogged
+  pub took : out_now ≡ with_back out worked.text
+
 pub record DidSome (on : Ground) (IsLogged : List (List ℕ) → Type 0) (out out_now : Option (List ℕ)) : Type 0 where
   pub worked : Worked on IsLogged
   pub took : TookFront out out_now worked.text

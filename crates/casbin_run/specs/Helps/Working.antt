@@ -1,5 +1,6 @@
 -- What steps of a task come to over what was read of its files.
 use Rattle.std.specs.Prelude.{◌≡◌, ◌⊎◌, ℕ, ◌≤◌, Bool, List, Option, Result, IfErr, OnOk, String, take, ⊤}
+use Rattle.std.specs.List.{AllZip}
 use Rattle.std.specs.declared.alloc.Global.{Global}
 use Rattle.answer_lines.specs.declared.answer.Line.{Line}
 use Rattle.decision.specs.Programs.{Suits}
@@ -19,9 +20,10 @@ use Rattle.run_status.specs.declared.stop.Stop.TheVariants.{CannotWrite, TooLong
 use Rattle.script_read.specs.Reads.{Says}
 use Rattle.script_read.specs.Said.{Reading, Said, asks}
 use Rattle.session_meaning.specs.Plain.{IsPlain, all_refused}
+use Rattle.session_meaning.specs.Rounds.{IsShared}
 use Rattle.version_log.specs.Log.{versions}
 use Rattle.casbin_run.specs.declared.files.Loaded.{Loaded}
-use Rattle.casbin_run.specs.Finders.{HasRefused}
+use Rattle.casbin_run.specs.Finders.{HasRefused, HaveRefusedAll}
 use Rattle.casbin_run.specs.Roles.{IsLong, IsReported, IsShort}
 use Rattle.casbin_run.specs.Texts.{text_of_lines}
 use Rattle.casbin_run.specs.Worlds.{Taken}
@@ -80,6 +82,31 @@ pub record AreAnswered (IsSaid : List Said → Type 0) (loaded : Loaded) (before
   pub stopped : IfErr result (AnswerStops IsSaid loaded.model loaded.shapes loaded.tables.policy before now out.bytes out_now.bytes (Rose out.faults out_now.faults))
   pub counted : out.faults ≤ out_now.faults
   pub used : IsUsed before now
+
+-- the same where workers answer, each by its finder
+pub record LinesShared (IsSaid : List Said → Type 0) (workers : ℕ) (model : ModelParts) (shapes : Shapes) (policy : table.Policy) (befores nows : List Refusals) : Type 0 where
+  pub items : List Said
+  pub lines : List Line
+  pub refused : List (List (List ℕ))
+  pub says : IsSaid items
+  pub shared : IsShared model shapes policy workers items refused lines
+  pub logged : HaveRefusedAll befores nows (all_refused refused)
+
+-- the sink took their whole text, or not
+pub record SharedAll (IsSaid : List Said → Type 0) (workers : ℕ) (model : ModelParts) (shapes : Shapes) (policy : table.Policy) (befores nows : List Refusals) (out out_now : Option (List ℕ)) : Type 0 where
+  pub printed : LinesShared IsSaid workers model shapes policy befores nows
+  pub took : out_now ≡ with_back out (text_of_lines printed.lines)
+
+pub record SharedSome (IsSaid : List Said → Type 0) (workers : ℕ) (model : ModelParts) (shapes : Shapes) (policy : table.Policy) (befores nows : List Refusals) (out out_now : Option (List ℕ)) (out_rose : Type 0) (stop : Stop) : Type 0 where
+  pub printed : LinesShared IsSaid workers model shapes policy befores nows
+  pub stops : LinesStop out out_now printed.lines out_rose stop
+
+-- what answering the items by workers comes to
+pub record AreAnsweredShared (IsSaid : List Said → Type 0) (workers : ℕ) (loaded : Loaded) (befores nows : List Refusals) (out out_now : Taken) (result : Result (Unit {0}) Stop) : Type 0 where
+  pub printed : OnOk result (SharedAll IsSaid workers loaded.model loaded.shapes loaded.tables.policy befores nows out.bytes out_now.bytes)
+  pub stopped : IfErr result (λ (stop : Stop). ((stop ≡ NoMemory) × (out_now.bytes ≡ out.bytes)) ⊎ SharedSome IsSaid workers loaded.model loaded.shapes loaded.tables.policy befores nows out.bytes out_now.bytes (Rose out.faults out_now.faults) stop)
+  pub counted : out.faults ≤ out_now.faults
+  pub used : AllZip IsUsed befores nows
 
 -- a line of requests is answered by a line
 pub record AnswersLine (model : ModelParts) (state : State) (json : Bool) (before now : Refusals) (line : List ℕ) (number : ℕ) (old new : String Global) : Type 0 where

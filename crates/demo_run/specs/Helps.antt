@@ -1,2 +1,2 @@
 -- What only private functions and proofs say.
-pub mod WithoutSearch
+pub mod Sessions
