@@ -33,7 +33,7 @@ fn demo_of(command: Command<'_>) -> Option<(u32, u32)>
     ensures { result ≡ demo_of command.entry }
 {
     match command {
-        Command::Demo { count, workers } => Some((count, workers)),
+        Command::Demo { count, workers } => Some((count, u32::from(workers))),
         Command::Enforce { .. }
         | Command::Explain { .. }
         | Command::Session { .. }

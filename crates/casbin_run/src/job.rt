@@ -73,7 +73,7 @@ fn job_of(command: Command<'_>) -> Option<Job<'_>>
             options,
             json,
             workers,
-        } => Some(job_on(files, Some(options), serving(json, workers))),
+        } => Some(job_on(files, Some(options), serving(json, u32::from(workers)))),
         Command::Check(files) => Some(job_on(files, None, Task::Check)),
         Command::Format(files) => Some(job_on(files, None, Task::Format)),
         Command::Implicit {
