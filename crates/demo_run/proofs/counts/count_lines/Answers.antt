@@ -13,16 +13,16 @@ returns c = counted_all c.args.lines.now c.loop-line.line-index c.loop-line.coun
 
 -- no count is above the number of lines so far
 pub with_answer-counts-requires-clause-allow : goal.with_answer-counts-requires-clause-allow
-with_answer-counts-requires-clause-allow c = omega (arith, c.loop-line.invariant.few.allow, c.loop-line-test.true, c.if-prove.true)
+with_answer-counts-requires-clause-allow c = omega (arith, c.loop-line.invariant.few.allow, c.loop-line-test.true, c.if-prove.false)
 
 pub with_answer-counts-requires-clause-deny : goal.with_answer-counts-requires-clause-deny
-with_answer-counts-requires-clause-deny c = omega (arith, c.loop-line.invariant.few.deny, c.loop-line-test.true, c.if-prove.true)
+with_answer-counts-requires-clause-deny c = omega (arith, c.loop-line.invariant.few.deny, c.loop-line-test.true, c.if-prove.false)
 
 pub with_answer-counts-requires-clause-fault : goal.with_answer-counts-requires-clause-fault
-with_answer-counts-requires-clause-fault c = omega (arith, c.loop-line.invariant.few.fault, c.loop-line-test.true, c.if-prove.true)
+with_answer-counts-requires-clause-fault c = omega (arith, c.loop-line.invariant.few.fault, c.loop-line-test.true, c.if-prove.false)
 
 pub with_answer-counts-requires-clause-yes : goal.with_answer-counts-requires-clause-yes
-with_answer-counts-requires-clause-yes c = omega (arith, c.loop-line.invariant.few.yes, c.loop-line-test.true, c.if-prove.true)
+with_answer-counts-requires-clause-yes c = omega (arith, c.loop-line.invariant.few.yes, c.loop-line-test.true, c.if-prove.false)
 
 pub with_answer-counts-requires-clause-no : goal.with_answer-counts-requires-clause-no
-with_answer-counts-requires-clause-no c = omega (arith, c.loop-line.invariant.few.no, c.loop-line-test.true, c.if-prove.true)
+with_answer-counts-requires-clause-no c = omega (arith, c.loop-line.invariant.few.no, c.loop-line-test.true, c.if-prove.false)
