@@ -5,7 +5,7 @@ use Rattle.decision.proofs.CallerLemmas.{suits_columns}
 use Rattle.decision.specs.Programs.{Suits}
 use Rattle.answer_lines.specs.declared.answer.Line.{Line}
 use Rattle.demo_run.specs.Demo.{AreLinesWith, IsDemo}
-use Rattle.demo_run.specs.Helps.Sessions.{HasLines, IsSession}
+use Rattle.demo_run.specs.Helps.Sessions.{HasLines, IsFirstDesk, IsSession}
 use Rattle.demo_run.specs.Summary.{summary}
 use Rattle.demo_run.specs.DemoTexts.{model_text, policy_text, script_text}
 use Rattle.model_conf.specs.ModelText.{IsModel, ModelParts}
@@ -67,29 +67,34 @@ plain_suits model shapes is = record {
 }
 
 -- the columns of a program's key are those of the policy
-pub key_within : (model program : ModelParts) (shapes : Shapes) (key : Option KeyParts) → program ≡ model → Suits model shapes → IfSome key (λ (key : KeyParts). is_below (length program.policy) key ≡ true) → IfSome key (λ (key : KeyParts). is_below shapes.columns key ≡ true)
-key_within model program shapes key same suits within =
-    subst (λ (size : ℕ). IfSome key (λ (key : KeyParts). is_below size key ≡ true)) (ap (λ (m : ModelParts). length m.policy) same ∙ sym (suits_columns model shapes suits)) within
+pub key_within : (model : ModelParts) (shapes : Shapes) (key : Option KeyParts) → Suits model shapes → IfSome key (λ (key : KeyParts). is_below (length model.policy) key ≡ true) → IfSome key (λ (key : KeyParts). is_below shapes.columns key ≡ true)
+key_within model shapes key suits within = subst (λ (size : ℕ). IfSome key (λ (key : KeyParts). is_below size key ≡ true)) (sym (suits_columns model shapes suits)) within
 
--- what was read is a session
-pub session_is : (count : ℕ) (model program : ModelParts) (shapes : Shapes) (policy : Policy) (state : State) (desk : Work) (script : List Item) → IsModel model_text model → program ≡ model → shapes ≡ shapes_of model [] [] 10 → IsPolicy shapes (policy_text count) policy → IsScript false (script_text count) (map seen script)
-    → state.shapes ≡ shapes → tables state ≡ policy → state.log.start ≡ 0 → state.log.tail ≡ [] → desk.state ≡ state → desk.pending ≡ [] → desk.kept ≡ None → IsSession count program desk script
-session_is count model program shapes policy state desk script is_model program-is shapes-is is_policy is_script state-shapes state-tables start tail desk-state pending kept = record {
-  is_model = subst (IsModel model_text) (sym program-is) is_model;
-  shapes_are = here ∙ whole;
-  is_policy = subst (λ (p : Policy). IsPolicy (shapes_of program [] [] 10) (policy_text count) p) (sym (ap tables desk-state ∙ state-tables)) (subst (λ (s : Shapes). IsPolicy s (policy_text count) policy) whole is_policy);
-  is_script = is_script;
-  suits = plain_suits program desk.state.shapes (here ∙ whole);
+-- a desk that was just opened
+pub desk_is : (count : ℕ) (shapes : Shapes) (policy : Policy) (state : State) (desk : Work) → IsPolicy shapes (policy_text count) policy → state.shapes ≡ shapes → tables state ≡ policy → state.log.start ≡ 0 → state.log.tail ≡ [] → desk.state ≡ state → desk.pending ≡ [] → desk.kept ≡ None → IsFirstDesk count shapes desk
+desk_is count shapes policy state desk is_policy state-shapes state-tables start tail desk-state pending kept = record {
+  shapes_are = ap (λ (s : State). s.shapes) desk-state ∙ state-shapes;
+  is_policy = subst (IsPolicy shapes (policy_text count)) (sym (ap tables desk-state ∙ state-tables)) is_policy;
   opening = subst (λ (s : State). versions s.log ≡ 0) (sym desk-state) (omega (arith, start, ap (λ (l : List _). length l) tail));
   none_pending = pending;
   keeps_all = kept;
 }
-  where
-    here : desk.state.shapes ≡ shapes
-    here = ap (λ (s : State). s.shapes) desk-state ∙ state-shapes
 
-    whole : shapes ≡ shapes_of program [] [] 10
-    whole = shapes-is ∙ ap (λ (m : ModelParts). shapes_of m [] [] 10) (sym program-is)
+-- what was read is a session
+pub session_is : (count : ℕ) (program : ModelParts) (shapes : Shapes) (desk : Work) (script : List Item) → IsModel model_text program → shapes ≡ shapes_of program [] [] 10 → IsFirstDesk count shapes desk → IsScript false (script_text count) (map seen script) → IsSession count program desk script
+session_is count program shapes desk script is_model shapes-is first is_script = record {
+  is_model = is_model;
+  shapes_are = here;
+  is_policy = subst (λ (s : Shapes). IsPolicy s (policy_text count) (tables desk.state)) shapes-is first.is_policy;
+  is_script = is_script;
+  suits = plain_suits program desk.state.shapes here;
+  opening = first.opening;
+  none_pending = first.none_pending;
+  keeps_all = first.keeps_all;
+}
+  where
+    here : desk.state.shapes ≡ shapes_of program [] [] 10
+    here = first.shapes_are ∙ shapes-is
 
 -- ---- the finders behind the first
 

@@ -3,7 +3,7 @@ ghost use Rattle.std.specs.List.{AllZip};
 ghost use Rattle.decision.specs.Programs.{Suits};
 ghost use Rattle.demo_run.specs.Demo.{IsDemo};
 ghost use Rattle.demo_run.specs.DemoTexts.{model_text, policy_text, script_text};
-ghost use Rattle.demo_run.specs.Helps.Sessions.{HasLines, IsSession};
+ghost use Rattle.demo_run.specs.Helps.Sessions.{HasLines, IsFirstDesk, IsSession};
 ghost use Rattle.model_conf.specs.ModelText.{IsModel};
 ghost use Rattle.model_conf.specs.Shapes.{shapes_of};
 ghost use Rattle.perm_base.specs.Shapes.{AreValid};
@@ -110,19 +110,41 @@ fn open_session(alloc: Global, count: u32) -> Result<Session, NoMemory>
     ensures session { IfOk result (λ session. IsSession count
         session.program session.desk session.script) }
 {
-    let model = demo_model(alloc)?;
-    let shapes = demo_shapes(alloc, &model)?;
-    let tables = demo_policy(alloc, &shapes, count)?;
     let script = demo_script(alloc, count)?;
-    let program = make_program(alloc, model)?;
-    let key = program.index_key(alloc)?;
-    let state = make_state(alloc, shapes, key, tables)?;
-    let desk = open_desk(alloc, state)?;
+    let made = demo_program(alloc)?;
+    let (program, shapes) = made;
+    let desk = demo_desk(alloc, &program, shapes, count)?;
     Ok(Session {
         program,
         desk,
         script,
     })
+}
+
+// The program of its model, and the shapes of its policies.
+fn demo_program(alloc: Global) -> Result<(Program, Shapes), NoMemory>
+    ensures model { IfOk result (λ made. IsModel model_text made.0) }
+    ensures shapes { IfOk result (λ made. made.1 ≡ shapes_of made.0 [] [] 10) }
+    ensures valid { IfOk result (λ made. AreValid made.1) }
+    ensures suits { IfOk result (λ made. Suits made.0 made.1) }
+{
+    let model = demo_model(alloc)?;
+    let shapes = demo_shapes(alloc, &model)?;
+    let program = make_program(alloc, model)?;
+    Ok((program, shapes))
+}
+
+// The desk over its policy.
+fn demo_desk(alloc: Global, program: &Program, shapes: Shapes, count: u32) -> Result<Desk, NoMemory>
+    requires valid { AreValid shapes }
+    requires suits { Suits program.now shapes }
+    ensures desk { IfOk result (IsFirstDesk count shapes) }
+{
+    let tables = demo_policy(alloc, &shapes, count)?;
+    let key = program.index_key(alloc)?;
+    let state = make_state(alloc, shapes, key, tables)?;
+    let desk = open_desk(alloc, state)?;
+    Ok(desk)
 }
 
 fn demo_model(alloc: Global) -> Result<Model, NoMemory>

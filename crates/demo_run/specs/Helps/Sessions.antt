@@ -27,6 +27,14 @@ pub record IsSession (count : ℕ) (program : ModelParts) (desk : Work) (script 
   pub none_pending : desk.pending ≡ []
   pub keeps_all : desk.kept ≡ None
 
+-- the desk is over the demonstration's policy at version 0
+pub record IsFirstDesk (count : ℕ) (shapes : Shapes) (desk : Work) : Type 0 where
+  pub shapes_are : desk.state.shapes ≡ shapes
+  pub is_policy : IsPolicy shapes (policy_text count) (tables desk.state)
+  pub opening : versions desk.state.log ≡ 0
+  pub none_pending : desk.pending ≡ []
+  pub keeps_all : desk.kept ≡ None
+
 -- these are lines of a script, where something was refused for its items
 pub record HasLines (workers : ℕ) (model : ModelParts) (shapes : Shapes) (policy : Policy) (script : List Item) (lines : List Line) : Type 0 where
   pub refused : List (List (List ℕ))
