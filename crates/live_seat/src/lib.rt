@@ -7,8 +7,6 @@ mod deciding;
 mod explaining;
 mod laws;
 mod loan;
-#[cfg(test)]
-mod tests;
 
 pub use answered::{Answered, SeatAnswer, SeatStop};
 pub use caching::decide_seat_cached;
