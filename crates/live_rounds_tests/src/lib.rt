@@ -4,6 +4,8 @@
 #[cfg(test)]
 mod meetings;
 #[cfg(test)]
+mod opening;
+#[cfg(test)]
 mod session;
 #[cfg(test)]
 mod together;
