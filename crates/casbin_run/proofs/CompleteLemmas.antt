@@ -14,7 +14,8 @@ use Rattle.casbin_run.specs.Causes.{Cause, EndsBy, FailsAt}
 use Rattle.casbin_run.specs.Ends.{Ends, HasStopped}
 use Rattle.casbin_run.specs.Given.{Given, IsInOrder}
 use Rattle.casbin_run.specs.Reached.{Reached, at_words, at_model, at_options, at_policy, at_task}
-use Rattle.casbin_run.specs.Worlds.{InputRose, OutRose, ShelfRose, Taken, World}
+use Rattle.casbin_run.specs.Worlds.{InputRose, OutRose, ShelfRose, World}
+use Rattle.loaded_work.specs.Sinks.{Taken}
 use Rattle.casbin_run.specs.Finders.{Logs}
 use Rattle.casbin_run.specs.Jobs.{ask_for_workers}
 use Rattle.casbin_run.proofs.FinderLemmas.{none_refused}

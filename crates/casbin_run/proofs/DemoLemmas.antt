@@ -24,9 +24,10 @@ use Rattle.casbin_run.specs.Ends.{Ends, may_write}
 use Rattle.casbin_run.specs.Finders.{AreUsed, IsFirstUsed}
 use Rattle.casbin_run.specs.Given.{Given}
 use Rattle.casbin_run.specs.Helps.Demos.{DemoEnds}
-use Rattle.casbin_run.specs.Helps.Working.{Showed, TextStops}
+use Rattle.loaded_work.specs.Helps.Working.{Showed, TextStops}
 use Rattle.casbin_run.specs.Jobs.{ask_for_input, ask_for_workers, has_workers, job_of, reads_input}
-use Rattle.casbin_run.specs.Worlds.{Taken, World}
+use Rattle.loaded_work.specs.Sinks.{Taken}
+use Rattle.casbin_run.specs.Worlds.{World}
 use Rattle.casbin_run.specs.declared.job.Job.{Job}
 
 or_none : (test : Bool) → (test || false) ≡ test

@@ -25,9 +25,10 @@ use Rattle.casbin_run.specs.Helps.Tasks.{DidAll, DidFirst, DidSome, WorkStops, W
 use Rattle.casbin_run.specs.Jobs.{ask_for_workers, has_workers, job_asked, reads_input}
 use Rattle.casbin_run.specs.Shown.{ReadsBack}
 use Rattle.casbin_run.specs.Reached.{HasAsked, IsReached, Reached, at_words, at_model, at_options, at_policy, at_task, fetches_to}
-use Rattle.casbin_run.specs.Worlds.{InputRose, OutRose, Pulled, ShelfRose, Taken, World}
+use Rattle.casbin_run.specs.Worlds.{InputRose, OutRose, Pulled, ShelfRose, World}
+use Rattle.loaded_work.specs.Sinks.{Taken}
 use Rattle.casbin_run.specs.Written.{HasRoom, IsTooLong, Tells, Writes}
-use Rattle.casbin_run.specs.declared.files.Loaded.{Loaded}
+use Rattle.loaded_work.specs.declared.loaded.Loaded.{Loaded}
 use Rattle.casbin_run.specs.declared.job.Job.{Job}
 use Rattle.casbin_run.proofs.FinderLemmas.{finders_same}
 

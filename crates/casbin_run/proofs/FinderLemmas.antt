@@ -6,7 +6,8 @@ use Rattle.std.proofs.lemmas.List.{append_cancel_left}
 use Rattle.live_round.proofs.CallerLemmas.{logs_more}
 use Rattle.regex_gate.proofs.CallerLemmas.{used_none}
 use Rattle.regex_gate.specs.Refusals.{IsUsed, Refusals, after_refusals}
-use Rattle.casbin_run.specs.Finders.{AreUsed, HasRefused, HaveRefused, IsFirstUsed}
+use Rattle.casbin_run.specs.Finders.{AreUsed, HaveRefused, IsFirstUsed}
+use Rattle.loaded_work.specs.Finders.{HasRefused}
 
 -- finders that were not asked
 pub none_used : (all : List Refusals) → AllZip IsUsed all all

@@ -27,13 +27,14 @@ use Rattle.script_read.specs.declared.fault.ScriptFault.{ScriptFault}
 use Rattle.session_meaning.specs.Plain.{IsPlain, all_refused}
 use Rattle.casbin_run.specs.Answered.{IsCalmlyAnswered}
 use Rattle.casbin_run.specs.Causes.{Cause, HasFault, HasPacketFault, StopsAt}
-use Rattle.casbin_run.specs.Explaining.{IsExplained}
-use Rattle.casbin_run.specs.Following.{IsFollowed}
+use Rattle.loaded_work.specs.Explaining.{IsExplained}
+use Rattle.loaded_work.specs.Following.{IsFollowed}
 use Rattle.casbin_run.specs.Given.{AreFiles, FileIs, Fits, Given, IsInOrder, ModelIs, SaysItems, SaysPackets}
 use Rattle.casbin_run.specs.Jobs.{absent_in, ask_for_workers, has_workers, job_asked, reads_input, shapes_with}
 use Rattle.casbin_run.specs.Reached.{IsReached, Reached, at_words, at_model, at_options, at_policy, at_task}
-use Rattle.casbin_run.specs.Roles.{IsImplied, IsLong, IsReported, IsShort}
-use Rattle.casbin_run.specs.Texts.{IsOfLines, text_of_lines}
+use Rattle.loaded_work.specs.Roles.{IsImplied, IsLong, IsReported, IsShort}
+use Rattle.casbin_run.specs.Texts.{IsOfLines}
+use Rattle.loaded_work.specs.Texts.{text_of_lines}
 use Rattle.casbin_run.specs.Written.{HasRoom, IsTooLong, Writes}
 use Rattle.casbin_run.specs.declared.job.Job.{Job}
 use Rattle.casbin_run.specs.declared.job.Task.{Task}

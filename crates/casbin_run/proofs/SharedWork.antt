@@ -16,16 +16,18 @@ use Rattle.run_status.specs.declared.stop.Stop.{Stop}
 use Rattle.run_status.specs.declared.part.Part.TheVariants.{Input}
 use Rattle.run_status.specs.declared.stop.Stop.TheVariants.{CannotRead, CannotWrite, NoMemory, NoPackets, NoScript, TooLong}
 use Rattle.script_read.specs.Said.{Said}
-use Rattle.casbin_run.specs.declared.files.Loaded.{Loaded}
+use Rattle.loaded_work.specs.declared.loaded.Loaded.{Loaded}
 use Rattle.casbin_run.specs.declared.job.Task.TheVariants.{Serve, Share}
 use Rattle.casbin_run.specs.Finders.{HaveRefusedAll}
 use Rattle.casbin_run.specs.Given.{SaysItems}
 use Rattle.casbin_run.specs.Helps.Loading.{InputStops}
 use Rattle.casbin_run.specs.Helps.Tasks.{DidAll, DidWrite, Ground, IsQuiet, WorkStops, Worked, ground}
-use Rattle.casbin_run.specs.Helps.Working.{AreAnsweredShared, LinesShared, LinesStop, SharedAll, SharedSome}
-use Rattle.casbin_run.specs.Texts.{text_of_lines}
-use Rattle.casbin_run.specs.Worlds.{Taken}
-use Rattle.casbin_run.proofs.WorkLemmas.{first_lines, lines_not_quiet, over_equal}
+use Rattle.casbin_run.specs.Helps.Sharing.{AreAnsweredShared, LinesShared, SharedAll, SharedSome}
+use Rattle.loaded_work.specs.Helps.Working.{LinesStop}
+use Rattle.loaded_work.specs.Texts.{text_of_lines}
+use Rattle.loaded_work.specs.Sinks.{Taken}
+use Rattle.loaded_work.proofs.CallerLemmas.{first_lines, over_equal}
+use Rattle.casbin_run.proofs.WorkLemmas.{lines_not_quiet}
 
 -- what holds, holds after an answer
 pub on_ok_any : {A : Type 0} (result : Result (Unit {0}) Stop) → A → OnOk result A

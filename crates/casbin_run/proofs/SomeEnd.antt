@@ -24,7 +24,7 @@ use Rattle.casbin_run.specs.Causes.{Cause}
 use Rattle.casbin_run.specs.Given.{AreFiles, Fits, Given, IsInOrder, ModelIs}
 use Rattle.casbin_run.specs.Jobs.{absent_in, job_asked, shapes_with}
 use Rattle.casbin_run.specs.Reached.{at_words, at_model, at_options, at_policy, at_task}
-use Rattle.casbin_run.specs.Roles.{IsLong, IsShort}
+use Rattle.loaded_work.specs.Roles.{IsLong, IsShort}
 use Rattle.casbin_run.specs.declared.job.Job.{Job}
 use Rattle.casbin_run.specs.declared.job.Task.{Task}
 use Rattle.casbin_run.specs.declared.job.Task.TheVariants.{Enforce, Cached, Explain, Serve, Share, Check, Format, Implicit, Report, Ship, Follow}

@@ -5,7 +5,7 @@ use Rattle.session_meaning.specs.Plain.{all_refused}
 use Rattle.casbin_run.specs.Finders.{Logs}
 use Rattle.casbin_run.specs.Given.{Given, IsInOrder}
 use Rattle.casbin_run.specs.Jobs.{has_workers, shapes_with}
-use Rattle.casbin_run.specs.Texts.{joined}
+use Rattle.loaded_work.specs.Texts.{joined}
 use Rattle.casbin_run.specs.Worlds.{World}
 use Rattle.casbin_run.specs.Written.{Writes}
 

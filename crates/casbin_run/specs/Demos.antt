@@ -14,7 +14,8 @@ use Rattle.run_status.specs.declared.stop.Stop.TheVariants as stop
 use Rattle.casbin_run.specs.Ends.{Ends}
 use Rattle.casbin_run.specs.Given.{Given}
 use Rattle.casbin_run.specs.Jobs.{ask_for_workers}
-use Rattle.casbin_run.specs.Worlds.{OutRose, Taken, World}
+use Rattle.casbin_run.specs.Worlds.{OutRose, World}
+use Rattle.loaded_work.specs.Sinks.{Taken}
 
 -- the size of the demonstration, and how many workers it has
 abbrev pub demo_of : Command → Option (ℕ × ℕ)

@@ -2,14 +2,11 @@
 use Rattle.std.specs.Prelude.{◌≡◌, ◌≤◌, ℕ, MatchBool, Bool, List, [], ◌∷◌, sum_by}
 use Rattle.std.specs.List.{AllZip}
 use Rattle.live_rounds.specs.Done.{HaveRefused as EachHasRefused}
-use Rattle.regex_gate.specs.Refusals.{IsUsed, Refusals, after_refusals}
+use Rattle.loaded_work.specs.Finders.{HasRefused}
+use Rattle.regex_gate.specs.Refusals.{IsUsed, Refusals}
 use Rattle.session_meaning.specs.Plain.{all_refused}
 
--- a finder refused these patterns, one after the other
-abbrev pub HasRefused : Refusals → Refusals → List (List ℕ) → Type 0
-HasRefused before now patterns = now ≡ after_refusals before patterns
-
--- the first finder did, and the others are as they were
+-- the first finder refused these patterns, one after the other, and the others are as they were
 abbrev pub HaveRefused : List Refusals → List Refusals → List (List ℕ) → Type 0
 HaveRefused [] [] patterns = patterns ≡ []
 HaveRefused (before ∷ others) (now ∷ nows) patterns = HasRefused before now patterns × (nows ≡ others)

@@ -10,13 +10,13 @@ use Rattle.run_status.specs.Told.{IsTold}
 use Rattle.script_read.specs.Said.{Said}
 use Rattle.casbin_run.specs.declared.job.Task.{Task}
 use Rattle.casbin_run.specs.declared.job.Task.TheVariants.{Enforce, Cached, Explain, Serve, Share, Check, Format, Implicit, Report, Ship, Follow}
-use Rattle.casbin_run.specs.Caching.{AreHits}
-use Rattle.casbin_run.specs.Explaining.{IsExplained}
-use Rattle.casbin_run.specs.Following.{IsFollowed}
-use Rattle.casbin_run.specs.Roles.{IsImplied, IsLong, IsReported, IsShort}
-use Rattle.casbin_run.specs.Shipping.{ship_text}
+use Rattle.loaded_work.specs.Caching.{AreHits}
+use Rattle.loaded_work.specs.Explaining.{IsExplained}
+use Rattle.loaded_work.specs.Following.{IsFollowed}
+use Rattle.loaded_work.specs.Roles.{IsImplied, IsLong, IsReported, IsShort}
+use Rattle.loaded_work.specs.Shipping.{ship_text}
 use Rattle.casbin_run.specs.Texts.{IsOfLines, IsOfSharedLines, IsWhole, check_text}
-use Rattle.casbin_run.specs.Worlds.{Taken}
+use Rattle.loaded_work.specs.Sinks.{Taken}
 
 -- the text of a task: the lines of its answers, or with near misses below them; what is seen of the model and the policy, or of the policy alone; what roles imply; the packets of what items publish; what becomes of
 -- packets that are taken

@@ -6,8 +6,8 @@ ghost use Rattle.outside.specs.Faults.{Rose};
 ghost use Rattle.regex_gate.specs.Refusals.{IsUsed};
 ghost use Rattle.casbin_run.specs.Demos.{demo_asked, demo_of};
 ghost use Rattle.casbin_run.specs.Helps.Demos.{DemoEnds};
-ghost use Rattle.casbin_run.specs.Helps.Working.{Showed, TextStops};
-ghost use Rattle.casbin_run.specs.Worlds.{taken};
+ghost use Rattle.loaded_work.specs.Helps.Working.{Showed, TextStops};
+ghost use Rattle.loaded_work.specs.Sinks.{taken};
 
 use command_words::{Command, read_words};
 use demo_run::summarize;

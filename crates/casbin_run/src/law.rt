@@ -12,7 +12,8 @@ ghost use Rattle.casbin_run.specs.Jobs.{ask_for_workers, job_asked};
 ghost use Rattle.casbin_run.specs.Shown.{WroteModel, WrotePolicy};
 ghost use Rattle.casbin_run.specs.declared.job.Job.{Job};
 ghost use Rattle.casbin_run.specs.declared.job.Task.TheVariants.{Check, Format};
-ghost use Rattle.casbin_run.specs.Worlds.{InputRose, OutRose, ShelfRose, Taken, World};
+ghost use Rattle.casbin_run.specs.Worlds.{InputRose, OutRose, ShelfRose, World};
+ghost use Rattle.loaded_work.specs.Sinks.{Taken};
 
 use log_ship::{bytes_say_packets_once, every_input_is_packets_or_at_fault, texts_read_in_one_way};
 use matcher_read::every_text_is_a_matcher_or_at_fault;

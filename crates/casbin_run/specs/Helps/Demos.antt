@@ -7,8 +7,8 @@ use Rattle.run_status.specs.Told.{IsTold}
 use Rattle.run_status.specs.declared.status.Status.{Status}
 use Rattle.run_status.specs.declared.status.Status.TheVariants.{Done, NoMemory, WriteFault}
 use Rattle.run_status.specs.declared.stop.Stop.TheVariants as stop
-use Rattle.casbin_run.specs.Helps.Working.{Showed, ShowedSome}
-use Rattle.casbin_run.specs.Worlds.{Taken}
+use Rattle.loaded_work.specs.Helps.Working.{Showed, ShowedSome}
+use Rattle.loaded_work.specs.Sinks.{Taken}
 
 abbrev pub DemoEnds : (count workers : ℕ) → (out out_now err err_now : Taken) → Status → Type 0
 DemoEnds count workers out out_now err err_now Done = Showed (IsDemo count workers) out.bytes out_now.bytes × (err_now.bytes ≡ err.bytes)

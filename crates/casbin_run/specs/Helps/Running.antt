@@ -12,7 +12,8 @@ use Rattle.casbin_run.specs.Finders.{AreUsed}
 use Rattle.casbin_run.specs.Given.{Given}
 use Rattle.casbin_run.specs.Helps.Tasks.{IsQuiet}
 use Rattle.casbin_run.specs.Jobs.{ask_for_input, ask_for_workers}
-use Rattle.casbin_run.specs.Worlds.{Taken, World}
+use Rattle.loaded_work.specs.Sinks.{Taken}
+use Rattle.casbin_run.specs.Worlds.{World}
 
 -- a task on these files
 abbrev pub job_on : FileNames → Option Options → Task → Job

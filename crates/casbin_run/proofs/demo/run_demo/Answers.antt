@@ -1,4 +1,4 @@
-use Rattle.casbin_run.specs.Worlds.{taken}
+use Rattle.loaded_work.specs.Sinks.{taken}
 use Rattle.casbin_run.proofs.DemoLemmas.{demo_done, demo_stops}
 use Rattle.casbin_run.proofs.demo.run_demo.Goals as goal
 

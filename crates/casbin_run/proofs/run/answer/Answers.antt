@@ -6,7 +6,8 @@ use Rattle.run_status.specs.declared.stop.Stop.TheVariants.{Words}
 use Rattle.casbin_run.specs.Given.{given}
 use Rattle.casbin_run.specs.Finders.{AreUsed}
 use Rattle.outside.proofs.CallerLemmas.{adds_none}
-use Rattle.casbin_run.specs.Worlds.{fetched, pulled, taken, world}
+use Rattle.casbin_run.specs.Worlds.{fetched, pulled, world}
+use Rattle.loaded_work.specs.Sinks.{taken}
 use Rattle.casbin_run.proofs.EndLemmas.{all_done, load_ends, nothing_done, on_both, words_end, work_ends}
 use Rattle.casbin_run.proofs.OneEnd.{has_none, workers_asked}
 use Rattle.casbin_run.proofs.run.answer.Goals as goal

@@ -3,7 +3,8 @@ use Rattle.std.specs.Prelude.{map}
 use Rattle.command_words.specs.Items.{texts}
 use Rattle.casbin_run.specs.Finders.{AreUsed}
 use Rattle.casbin_run.specs.Given.{given}
-use Rattle.casbin_run.specs.Worlds.{fetched, pulled, taken, world}
+use Rattle.casbin_run.specs.Worlds.{fetched, pulled, world}
+use Rattle.loaded_work.specs.Sinks.{taken}
 use Rattle.casbin_run.proofs.DemoLemmas.{demo_ends, demo_unread, demo_used, demo_writes, ends_demo, ends_files, maps_alike, no_workers, with_demo, without_demo}
 use Rattle.casbin_run.proofs.run.run_casbin.Goals as goal
 

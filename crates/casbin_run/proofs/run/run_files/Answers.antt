@@ -1,6 +1,6 @@
 use Rattle.std.proofs.Common.{sym, ◌∙◌}
 use Rattle.run_status.proofs.CallerLemmas.{is_never_done}
-use Rattle.casbin_run.specs.Worlds.{taken}
+use Rattle.loaded_work.specs.Sinks.{taken}
 use Rattle.casbin_run.proofs.EndLemmas.{stopped_ends, told_since}
 use Rattle.casbin_run.proofs.run.run_files.Goals as goal
 
