@@ -22,6 +22,7 @@ pub struct Asking {
 }
 
 impl Asking {
+    /// By a finder that has refused nothing.
     pub fn open(alloc: Global, program: &Program) -> Result<Asking, NoMemory> {
         let Ok(request) = request_of_fields(alloc, "alice, data1, read") else {
             return Err(NoMemory);
@@ -80,7 +81,8 @@ impl Asking {
         let Ok((answered, named)) = told else {
             return Err(Fail::new("no verdict"));
         };
-        Ok((answered, named == Some(rule(alloc)?)))
+        let rule = rule(alloc)?;
+        Ok((answered, named == Some(rule)))
     }
 
     /// The answer by way of a cache that serves the seat, and serves it afterwards.

@@ -32,7 +32,8 @@ pub(crate) fn decides<J: Naming, R: Wait + Abort>(
 {
     let before = asking.verdict(first, program)?;
     assert_eq!(rt; before, answered(0, Verdict::Deny(None)));
-    second.learn(&publish(rt, alloc, admin)?);
+    let front = publish(rt, alloc, admin)?;
+    second.learn(&front);
     let after = asking.verdict(second, program)?;
     assert_eq!(rt; after, answered(1, Verdict::Allow(Some(1))));
     let (after, is_named) = asking.explained(alloc, second, program)?;
