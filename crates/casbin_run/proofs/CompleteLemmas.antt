@@ -1,5 +1,5 @@
 -- Where no count rose, the status is the one that what is given has.
-use Rattle.std.proofs.Common.{◌≡◌, ℕ, Bool, false, List, [], inl, inr, ⊎_elim, refl, ap, subst, ◌∙◌}
+use Rattle.std.proofs.Common.{◌≡◌, ℕ, Bool, false, List, inl, inr, ⊎_elim, refl, ap, subst, ◌∙◌}
 use Rattle.std.specs.Prelude.{◌⊎◌, IsSome}
 use Rattle.outside.specs.Told.{with_back}
 use Rattle.run_status.specs.Statuses.{status_of}
@@ -10,7 +10,7 @@ use Rattle.run_status.specs.declared.stop.Stop.{Stop}
 use Rattle.run_status.specs.declared.stop.Stop.TheVariants.{CannotRead, CannotWrite, NoMemory}
 use Rattle.session_meaning.specs.Plain.{all_refused}
 use Rattle.casbin_run.specs.Answered.{IsCalmlyAnswered}
-use Rattle.casbin_run.specs.Causes.{Cause, EndsBy, FailsAt}
+use Rattle.casbin_run.specs.Causes.{Cause, FailsAt}
 use Rattle.casbin_run.specs.Ends.{Ends, HasStopped}
 use Rattle.casbin_run.specs.Given.{Given, IsInOrder}
 use Rattle.casbin_run.specs.Reached.{Reached, at_words, at_model, at_options, at_policy, at_task}
