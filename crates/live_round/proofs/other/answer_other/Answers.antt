@@ -1,7 +1,8 @@
-use Rattle.std.proofs.Common.{◌≡◌, true, false, ap, sym, ◌∙◌}
-use Rattle.live_round.specs.Steps.{is_request}
+use Rattle.std.proofs.Common.{◌≡◌, true, false, ap, subst, sym, ◌∙◌}
+use Rattle.policy_desk.specs.Desks.{Work}
+use Rattle.script_read.specs.Said.{seen, syncs}
+use Rattle.live_round.specs.Steps.{IsPlainStep, is_request}
 use Rattle.live_round.proofs.LogLemmas.{on_err_of}
-use Rattle.script_read.specs.Said.{seen}
 use Rattle.live_round.proofs.OtherLemmas.{lent_step, on_ok_of}
 use Rattle.live_round.proofs.other.answer_other.Goals as goal
 
@@ -57,7 +58,7 @@ pub returns-in-History-clause-stays : goal.returns-in-History-clause-stays
 returns-in-History-clause-stays g c = on_err_of c.answer_history.result c.desk-in-History.ensures.same
 
 pub returns-in-Sync-clause-step : goal.returns-in-Sync-clause-step
-returns-in-Sync-clause-step g c = rw (c.in-Sync.is, c.desk.ensures.desk) c.answer_sync.ensures
+returns-in-Sync-clause-step g c = rw c.in-Sync.is (subst (λ (d : Work). IsPlainStep syncs d d c.answer_sync.result) c.desk.ensures.desk c.answer_sync.ensures)
 
 pub returns-in-Edit-clause-beside : goal.returns-in-Edit-clause-beside
 returns-in-Edit-clause-beside g c = rw c.in-Edit.is (on_ok_of c.answer_call.result c.answer_call.ensures.stays)
