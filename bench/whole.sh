@@ -7,7 +7,7 @@
 # touched lies in farther caches too; what a session of 100,000 edits, each published, takes beside reading its script; and
 # what reading 200,000 rules takes beside cutting their bytes into fields. Usage: bench/whole.sh [REQUESTS]
 source "$(dirname "${BASH_SOURCE[0]}")/timing.sh"
-most="${1:-400000}"
+most="${1:-300000}"
 runs=7
 build "$root"
 program="$root/crates/casbin_cli/out/casbin_cli"
