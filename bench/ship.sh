@@ -4,7 +4,7 @@
 # of a run without input is taken out. Usage: bench/ship.sh [EDITS].
 source "$(dirname "${BASH_SOURCE[0]}")/timing.sh"
 build "$root"
-python3 - "$root/crates/casbin_cli/out/casbin_cli" "$work" "${1:-8000}" <<'PYTHON'
+python3 - "$root/crates/casbin_cli/out/casbin_cli" "$work" "${1:-80000}" <<'PYTHON'
 import resource, subprocess, sys
 
 program, work, most = sys.argv[1], sys.argv[2], int(sys.argv[3])

@@ -1,13 +1,14 @@
 #!/usr/bin/env bash
 # Prints how many requests a processor second `enforce` answers over 10, 1,000 and 10,000 rules, for a model of three
-# equalities, one with roles, of which there are a tenth as many as rules, and one with roles in domains, of which there are as
-# many as rules, the time to load model, policy and program taken out, each as a ratio to the smallest policy: once where ten
+# equalities, one with roles, of which there are a tenth as many as rules, one with roles in domains, of which there are as
+# many as rules, and one of a REST service (`keyMatch2` and `regexMatch` for a role, which has 20 resources and 4 methods for
+# each), the time to load model, policy and program taken out, each as a ratio to the smallest policy: once where ten
 # subjects of the policy are asked for by turns, so that only what is done grows, and once where all are, so that what is
 # touched lies in farther caches too; what a session of 100,000 edits, each published, takes beside reading its script;
 # what reading 200,000 rules takes beside cutting their bytes into fields; and the seconds and the memory of `demo 100000` on one
 # thread and with four workers. Usage: bench/whole.sh [REQUESTS]
 source "$(dirname "${BASH_SOURCE[0]}")/timing.sh"
-most="${1:-400000}"
+most="${1:-300000}"
 runs=7
 build "$root"
 program="$root/crates/casbin_cli/out/casbin_cli"
@@ -16,11 +17,20 @@ model "$equalities" >"$work/basic.conf"
 model 'g(r.sub, p.sub) && r.obj == p.obj && r.act == p.act' '' $'[role_definition]\ng = _, _\n' >"$work/roles.conf"
 model 'g(r.sub, p.sub, r.dom) && r.dom == p.dom && r.obj == p.obj && r.act == p.act' \
   'sub, dom, obj, act' $'[role_definition]\ng = _, _, _\n' >"$work/domains.conf"
+model 'g(r.sub, p.sub) && keyMatch2(r.obj, p.obj) && regexMatch(r.act, p.act)' '' $'[role_definition]\ng = _, _\n' >"$work/rest.conf"
+
+# What awk knows of a rule of the REST service with this number.
+rest='function role(i) { return int((i - 1) / 80) }
+function path(i, id) { return sprintf("/team%05d/resource%02d/%s", role(i), int((i - 1) / 4) % 20, id) }
+function method(i) { return substr("GET   POST  PUT   DELETE", (i - 1) % 4 * 6 + 1, 6) }
+function word(text) { gsub(" ", "", text); return text }'
 
 # The policy of so many rules.
 policy() {
-  awk -v kind="$1" -v n="$2" 'BEGIN {
+  awk -v kind="$1" -v n="$2" "$rest"' BEGIN {
     for (i = 1; i <= n; i++) {
+      if (kind == "rest") printf "p, role%05d, %s, ^%s$\n", role(i), path(i, ":id"), word(method(i))
+      if (kind == "rest" && i % 80 == 1) printf "g, user%05d, role%05d\n", role(i), role(i)
       if (kind == "basic") printf "p, user%05d, data%05d, read\n", i, i
       if (kind == "roles") printf "p, role%05d, data%05d, read\ng, user%05d, role%05d\n", i % (n / 10), i, i, i % (n / 10)
       if (kind == "domains") printf "p, role%05d, dom%05d, data%05d, read\ng, user%05d, role%05d, dom%05d\n", i, i, i, i, i, i
@@ -29,11 +39,12 @@ policy() {
 
 # Requests that the last rule allows or none by turns; those that none allows ask for so many subjects, evenly spread.
 requests() {
-  awk -v kind="$1" -v n="$2" -v subjects="$3" -v q="$most" 'BEGIN {
+  awk -v kind="$1" -v n="$2" -v subjects="$3" -v q="$most" "$rest"' BEGIN {
     for (i = 0; i < q; i++) {
       act = i % 2 ? "write" : "read"
       at = i % 2 ? ((int(i / 2) * 7919) % subjects + 1) * (n / subjects) : n
-      if (kind == "domains") printf "user%05d, dom%05d, data%05d, %s\n", at, at, at, act
+      if (kind == "rest") printf "user%05d, %s, %s\n", role(at), path(at, i), i % 2 ? "HEAD" : word(method(at))
+      else if (kind == "domains") printf "user%05d, dom%05d, data%05d, %s\n", at, at, at, act
       else printf "user%05d, data%05d, %s\n", at, at, act
     } }' >"$work/input"
 }
@@ -47,7 +58,7 @@ each() {
   echo "$(((whole - load) * 1000000 / most))"
 }
 
-for kind in basic roles domains; do
+for kind in basic roles domains rest; do
   for rules in 10 1000 10000; do
     policy "$kind" "$rules"
     load="$(took "$work/empty" "$program" enforce "$work/$kind.conf" "$work/policy.csv")"

@@ -64,16 +64,28 @@ fn send_all(
     packets: u32,
 ) -> Result<()> {
     let mut earlier = desk_of(alloc, case)?;
+    send_beside(alloc, dice, leader, follower, &mut earlier, packets)
+}
+
+// Sends packets, and compares the follower with a desk that goes with it.
+fn send_beside(
+    alloc: Global,
+    dice: &mut Dice,
+    leader: &PolicyState,
+    follower: &mut Follower,
+    earlier: &mut Desk,
+    packets: u32,
+) -> Result<()> {
     let mut way = Way::new(alloc);
     let mut sent: u32 = 0;
     for _ in 0..packets {
         send(alloc, &mut way, dice, leader, follower)?;
         sent = sent.saturating_add(1);
         if sent % COMPARED == 0 {
-            compare(alloc, &mut earlier, leader, follower)?;
+            compare(alloc, earlier, leader, follower)?;
         }
     }
-    compare(alloc, &mut earlier, leader, follower)
+    compare(alloc, earlier, leader, follower)
 }
 
 // Compares a follower's tables with those of its leader after as many edits, which are made at a desk that has the first of them.

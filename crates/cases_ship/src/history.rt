@@ -4,8 +4,9 @@ use crate::dice::Dice;
 use crate::opening::desk_of;
 use anyhow::{Context, Result, bail, ensure};
 use case_list::Case;
+use case_tables::rule;
 use edit_calls::Call;
-use perm_base::{Rule, TableId, Text};
+use perm_base::{Rule, TableId};
 use policy_desk::Desk;
 use policy_state::PolicyState;
 use policy_table::Change;
@@ -94,20 +95,9 @@ fn random_rule(alloc: Global, dice: &mut Dice) -> Result<(TableId, Rule)> {
     if dice.roll(4) == 0 {
         let role = dice.roll(ROLES);
         let line = format!(in alloc; "user{user},role{role}")?;
-        return Ok((TableId::G(1), rule_of(alloc, line.as_str())?));
+        return Ok((TableId::G(1), rule(alloc, line.as_str())?));
     }
     let object = dice.roll(OBJECTS);
     let line = format!(in alloc; "user{user},data{object},read")?;
-    Ok((TableId::P, rule_of(alloc, line.as_str())?))
-}
-
-fn rule_of(alloc: Global, line: &str) -> Result<Rule> {
-    let mut fields = Vec::new(alloc);
-    for field in line.split(',') {
-        fields.push(Text::from_string(String::from_str(alloc, field)?))?;
-    }
-    match Rule::from_fields(fields) {
-        Ok(rule) => Ok(rule),
-        Err(_) => bail!("the fields are no rule"),
-    }
+    Ok((TableId::P, rule(alloc, line.as_str())?))
 }

@@ -19,19 +19,32 @@ pub fn answer(alloc: Global, case: &Case, out: &mut impl Write) -> Result<()> {
     }
     let desk = led(alloc, case, &text)?;
     writeln!(out, "  leader")?;
-    let packets = print_packets(alloc, desk.state())
-        .ok()
-        .context("memory ran out")?;
-    write_lines(packets.as_str(), out)?;
-    for number in &case.numbers(alloc, "packets")? {
-        writeln!(out, "  packet {number}")?;
-        let told = told(alloc, desk.state(), *number)?;
-        write_lines(told.as_str(), out)?;
+    write_packets(alloc, desk.state(), out)?;
+    tell_all(alloc, case, desk.state(), out)
+}
+
+fn write_packets(alloc: Global, state: &PolicyState, out: &mut impl Write) -> Result<()> {
+    let packets = print_packets(alloc, state).ok().context("memory ran out")?;
+    write_lines(packets.as_str(), out)
+}
+
+// Writes the packets of the numbers that are asked for.
+fn tell_all(alloc: Global, case: &Case, state: &PolicyState, out: &mut impl Write) -> Result<()> {
+    let numbers = case.numbers(alloc, "packets")?;
+    for number in &numbers {
+        tell(alloc, state, *number, out)?;
     }
     Ok(())
 }
 
-fn write_lines(text: &str, out: &mut impl Write) -> Result<()> {
+fn tell(alloc: Global, state: &PolicyState, number: u32, out: &mut impl Write) -> Result<()> {
+    writeln!(out, "  packet {number}")?;
+    let told = told(alloc, state, number)?;
+    write_lines(told.as_str(), out)
+}
+
+/// Writes lines below a case.
+pub fn write_lines(text: &str, out: &mut impl Write) -> Result<()> {
     for line in text.lines() {
         writeln!(out, "    {line}")?;
     }

@@ -1,5 +1,6 @@
 //! Followers.
 
+use crate::leading::write_lines;
 use crate::opening::follower_of;
 use anyhow::{Context, Result, bail};
 use case_list::Case;
@@ -15,20 +16,52 @@ pub fn answer(alloc: Global, case: &Case, out: &mut impl Write) -> Result<()> {
         return Ok(());
     }
     let mut follower = follower_of(alloc, case)?;
+    take_all(alloc, case, &mut follower, out)
+}
+
+fn take_all(
+    alloc: Global,
+    case: &Case,
+    follower: &mut Follower,
+    out: &mut impl Write,
+) -> Result<()> {
     for field in &case.fields {
         if field.key.as_str() == "take" {
-            let blank = if field.rest.is_empty() { "" } else { " " };
-            writeln!(out, "  take{blank}{}", field.rest.as_str())?;
-            let answers = answers(alloc, &mut follower, &field.text)?;
-            out.write_all(answers.as_str().as_bytes())?;
-            let text = policy_text(alloc, follower.state())?;
-            writeln!(out, "    policy @{}", follower.version())?;
-            for line in text.as_str().lines() {
-                writeln!(out, "    {line}")?;
-            }
+            take_text(alloc, follower, field.rest.as_str(), &field.text, out)?;
         }
     }
     Ok(())
+}
+
+// Takes the packets of one text.
+fn take_text(
+    alloc: Global,
+    follower: &mut Follower,
+    rest: &str,
+    text: &[u8],
+    out: &mut impl Write,
+) -> Result<()> {
+    let blank = if rest.is_empty() { "" } else { " " };
+    writeln!(out, "  take{blank}{rest}")?;
+    write_answers(alloc, follower, text, out)?;
+    writeln!(out, "    policy @{}", follower.version())?;
+    write_policy(alloc, follower.state(), out)
+}
+
+fn write_answers(
+    alloc: Global,
+    follower: &mut Follower,
+    text: &[u8],
+    out: &mut impl Write,
+) -> Result<()> {
+    let answers = answers(alloc, follower, text)?;
+    out.write_all(answers.as_str().as_bytes())?;
+    Ok(())
+}
+
+fn write_policy(alloc: Global, state: &PolicyState, out: &mut impl Write) -> Result<()> {
+    let text = policy_text(alloc, state)?;
+    write_lines(text.as_str(), out)
 }
 
 // The answers to packets, a line for each.
@@ -36,15 +69,23 @@ fn answers(alloc: Global, follower: &mut Follower, text: &[u8]) -> Result<String
     let packets = read_packets(alloc, text)
         .ok()
         .context("the text is no packets")?;
+    answers_to(alloc, follower, packets.as_slice())
+}
+
+fn answers_to(alloc: Global, follower: &mut Follower, packets: &[Packet]) -> Result<String> {
     let mut answers = String::new(alloc);
     let mut number: u32 = 0;
-    for packet in packets.as_slice() {
+    for packet in packets {
         number = number.saturating_add(1);
-        let told = told(alloc, take(alloc, follower, packet))?;
-        let line = format!(in alloc; "    {number} {}\n", told.as_str())?;
+        let line = line(alloc, number, take(alloc, follower, packet))?;
         answers.push_str(line.as_str())?;
     }
     Ok(answers)
+}
+
+fn line(alloc: Global, number: u32, answer: Result<Taken, TakeRefused>) -> Result<String> {
+    let told = told(alloc, answer)?;
+    Ok(format!(in alloc; "    {number} {}\n", told.as_str())?)
 }
 
 /// Takes one packet.
