@@ -1,11 +1,105 @@
 #!/usr/bin/env bash
-# Prints what entering a seat of a pair and leaving it costs, with one thread of a seat and with two and four beside each other,
+# Prints what reading a policy costs while it is edited, in two parts.
+# `requests`: how many requests a second a session answers with one, two and four workers beside an administrator who publishes all the
+# time, as a ratio of one run to what one worker answers, and what a request costs there as a ratio of one run to a request of `enforce`:
+# once for requests that are found by equalities over 1,000 rules, and once for a matcher that looks at each of 1,000 rules. Each session
+# is one round, with so many publishes that the last requests show one of the last versions: it says which.
+# `entries`: what entering a seat of a pair and leaving it costs, with one thread of a seat and with two and four beside each other,
 # each without an administrator and with one who publishes an edit all the time in a thread of its own: the nanoseconds of an
 # entry, how many entries a second all threads make together, and the time of an entry as a ratio of one run to that of one
-# thread without an administrator. Each thread makes 1,000,000 entries. The threads share the processors, of which it first says
-# how many there are: more threads than those wait for one another. Builds a program over copies of the crates, in a folder of
+# thread without an administrator. Each thread makes 1,000,000 entries. Builds a program over copies of the crates, in a folder of
 # its own, which takes some four minutes where the crates are proved, and an hour where they are not.
+# The threads share the processors, of which it first says how many there are: more threads than those wait for one another.
+# Usage: bench/pair.sh [requests|entries [REQUESTS]], both parts where none is told.
+source "$(dirname "${BASH_SOURCE[0]}")/timing.sh"
 source "$(dirname "${BASH_SOURCE[0]}")/program.sh"
+part="${1:-both}"
+echo "$(nproc) processors"
+
+requests() {
+  build "$root"
+  python3 - "$root/crates/casbin_cli/out/casbin_cli" "$work" "$1" <<'PYTHON'
+import subprocess, sys, time
+
+program, work, most = sys.argv[1], sys.argv[2], int(sys.argv[3])
+RULES = 1_000
+PLAIN = "e = some(where (p.eft == allow))"
+
+
+def files(name, matcher, rows):
+    with open(f"{work}/{name}.conf", "w") as file:
+        file.write("[request_definition]\nr = sub, obj, act\n[policy_definition]\np = sub, obj, act\n")
+        file.write(f"[policy_effect]\n{PLAIN}\n[matchers]\nm = {matcher}\n")
+    with open(f"{work}/{name}.csv", "w") as file:
+        file.writelines(row + "\n" for row in rows)
+
+
+# The least seconds of three runs over these lines, and what the last one answered.
+def took(name, command, options, lines):
+    with open(f"{work}/input", "w") as file:
+        file.writelines(line + "\n" for line in lines)
+    least = None
+    for _ in range(3):
+        start = time.monotonic()
+        with open(f"{work}/input") as given, open(f"{work}/answers", "w") as answers:
+            subprocess.run([program, command, f"{work}/{name}.conf", f"{work}/{name}.csv", *options], stdin=given, stdout=answers, check=True)
+        spent = time.monotonic() - start
+        least = spent if least is None else min(least, spent)
+    with open(f"{work}/answers") as answers:
+        return least, answers.read().split("\n")
+
+
+# A round of these requests beside so many edits, each published. The log keeps none, so that each publish costs the same.
+def script(requests, publishes):
+    lines = ["keep 0"] + [f"ask {request}" for request in requests]
+    for number in range(publishes):
+        lines += [("remove" if number % 2 else "add") + " p, other, /other, read", "publish"]
+    return lines
+
+
+# The seconds of a round with so many workers, its publishes, and the greatest version that a request shows: near the last one, so
+# that the administrator published as long as the workers read, and not longer.
+def beside(name, requests, workers):
+    publishes = len(requests) // 10
+    for _ in range(10):
+        seconds, answers = took(name, "session", ["--workers", str(workers)], script(requests, publishes))
+        asked = answers[1 : len(requests) + 1]
+        if not all(line.split(" ")[1] in ("allow", "deny") for line in asked):
+            sys.exit(f"{name}: a request is not judged")
+        shown = max(int(line.split(" ")[2].removeprefix("@")) for line in asked)
+        if shown >= publishes:
+            publishes *= 3
+        elif shown < publishes * 0.8:
+            publishes = max(shown * 11 // 10, 10)
+        else:
+            break
+    return seconds, publishes, shown
+
+
+def compare(what, name, requests):
+    idle, _ = took(name, "enforce", [], [])
+    whole, answers = took(name, "enforce", [], requests)
+    if sum(" allow " in line for line in answers) != len(requests) // 2:
+        sys.exit(f"{what}: not every other request is allowed")
+    alone = (whole - idle) / len(requests)
+    one = None
+    for workers in (1, 2, 4):
+        seconds, publishes, shown = beside(name, requests, workers)
+        each = (seconds - idle) / len(requests)
+        one = one or each
+        print(f"{what}, {workers} workers: {1 / each:.0f} requests a second, as a ratio to one worker {one / each:.2f}, beside {publishes} publishes, version {shown} is shown; a request of a worker {workers * each * 1e6:.2f} us, of enforce {alone * 1e6:.2f} us, ratio {workers * each / alone:.2f}", flush=True)
+
+
+files("equal", "r.sub == p.sub && r.obj == p.obj && r.act == p.act", (f"p, user{i}, data{i}, read" for i in range(RULES)))
+compare("found by equalities", "equal", [f"user{i % RULES}, data{i % RULES}, {'write' if i % 2 else 'read'}" for i in range(most)])
+files("paths", "keyMatch2(r.obj, p.obj) && r.act == p.act", (f"p, user, /data{i}/:id, read" for i in range(RULES)))
+compare("1000 rules looked at", "paths", [f"user, /data{RULES - 1}/7, {'write' if i % 2 else 'read'}" for i in range(most // 20)])
+PYTHON
+}
+
+[ "$part" = entries ] || requests "${2:-400000}"
+[ "$part" != requests ] || exit 0
+
 make_program pair_costs edit_calls live_pair perm_base policy_desk policy_state policy_table
 mkdir -p "$program/proofs/pairs/measured"
 cat > "$program/src/main.rt" <<'RATTLE'
@@ -335,5 +429,4 @@ use Rattle.pair_costs.proofs.pairs.measured.Given as goal
 abbrev pub ghosts-measured_over : goal.ghosts-measured_over
 ghosts-measured_over g a = record { book = a.opened; shapes = a.desk.state.shapes; opening = a.desk.state.log.base; first = a.desk.state.log.tail }
 ANTT
-echo "$(nproc) processors"
 run_program

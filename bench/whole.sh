@@ -4,8 +4,9 @@
 # many as rules, and one of a REST service (`keyMatch2` and `regexMatch` for a role, which has 20 resources and 4 methods for
 # each), the time to load model, policy and program taken out, each as a ratio to the smallest policy: once where ten
 # subjects of the policy are asked for by turns, so that only what is done grows, and once where all are, so that what is
-# touched lies in farther caches too; what a session of 100,000 edits, each published, takes beside reading its script; and
-# what reading 200,000 rules takes beside cutting their bytes into fields. Usage: bench/whole.sh [REQUESTS]
+# touched lies in farther caches too; what a session of 100,000 edits, each published, takes beside reading its script;
+# what reading 200,000 rules takes beside cutting their bytes into fields; and the seconds and the memory of `demo 100000` on one
+# thread and with four workers. Usage: bench/whole.sh [REQUESTS]
 source "$(dirname "${BASH_SOURCE[0]}")/timing.sh"
 most="${1:-300000}"
 runs=7
@@ -83,3 +84,18 @@ load="$(took "$work/empty" "$program" enforce "$work/basic.conf" "$work/policy.c
 TIMEFORMAT='%U'
 cut="$({ time awk -F', ' '{ n += NF } END { exit n == 0 }' "$work/policy.csv"; } 2>&1 | awk '{ printf "%d", $1 * 1000 }')"
 echo "200000 rules loaded in $load ms, cut into fields by awk in $cut ms, ratio $((load / (cut > 0 ? cut : 1)))"
+
+python3 - "$program" <<'PYTHON'
+import resource, subprocess, sys, time
+
+# The most memory of a child so far is told, so the run that takes less comes first.
+wanted = "demo 100000: items 270004, allow 199999, deny 33334, fault 0, true 33334, false 0, version 33334\n"
+for workers in (0, 4):
+    start = time.monotonic()
+    told = subprocess.run([sys.argv[1], "demo", "100000", "--workers", str(workers)], stdout=subprocess.PIPE, text=True, check=True).stdout
+    took = time.monotonic() - start
+    if told != wanted:
+        sys.exit(f"demo 100000 with {workers} workers: {told}")
+    most = resource.getrusage(resource.RUSAGE_CHILDREN).ru_maxrss
+    print(f"demo 100000 with {workers} workers: {took:.2f} s, at most {most / 1024:.0f} MB", flush=True)
+PYTHON

@@ -12,7 +12,8 @@ use Rattle.casbin_run.specs.Causes.{FailsAt, StopsAt}
 use Rattle.casbin_run.specs.Ends.{Ends, HasStopped, is_of_files}
 use Rattle.casbin_run.specs.Given.{Given}
 use Rattle.casbin_run.specs.Reached.{Reached, at_words, at_model, at_options, at_policy, at_task, reads_at}
-use Rattle.casbin_run.specs.Worlds.{Taken, World}
+use Rattle.loaded_work.specs.Sinks.{Taken}
+use Rattle.casbin_run.specs.Worlds.{World}
 
 module _ (g : Given) (before now : World) where
   given_before : (stop : Stop) (reached : Reached) → is_of_files (status_of stop) ≡ true → StopsAt g reached stop → reads_at reached ≡ false

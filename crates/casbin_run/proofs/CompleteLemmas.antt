@@ -1,5 +1,5 @@
 -- Where no count rose, the status is the one that what is given has.
-use Rattle.std.proofs.Common.{◌≡◌, ℕ, List, [], inl, inr, ⊎_elim, refl, ap, ◌∙◌}
+use Rattle.std.proofs.Common.{◌≡◌, ℕ, Bool, false, List, inl, inr, ⊎_elim, refl, ap, subst, ◌∙◌}
 use Rattle.std.specs.Prelude.{◌⊎◌, IsSome}
 use Rattle.outside.specs.Told.{with_back}
 use Rattle.run_status.specs.Statuses.{status_of}
@@ -10,18 +10,22 @@ use Rattle.run_status.specs.declared.stop.Stop.{Stop}
 use Rattle.run_status.specs.declared.stop.Stop.TheVariants.{CannotRead, CannotWrite, NoMemory}
 use Rattle.session_meaning.specs.Plain.{all_refused}
 use Rattle.casbin_run.specs.Answered.{IsCalmlyAnswered}
-use Rattle.casbin_run.specs.Causes.{Cause, EndsBy, FailsAt}
+use Rattle.casbin_run.specs.Causes.{Cause, FailsAt}
 use Rattle.casbin_run.specs.Ends.{Ends, HasStopped}
 use Rattle.casbin_run.specs.Given.{Given, IsInOrder}
 use Rattle.casbin_run.specs.Reached.{Reached, at_words, at_model, at_options, at_policy, at_task}
-use Rattle.casbin_run.specs.Worlds.{InputRose, OutRose, ShelfRose, Taken, World}
+use Rattle.casbin_run.specs.Worlds.{InputRose, OutRose, ShelfRose, World}
+use Rattle.loaded_work.specs.Sinks.{Taken}
+use Rattle.casbin_run.specs.Finders.{Logs}
+use Rattle.casbin_run.specs.Jobs.{ask_for_workers}
 use Rattle.casbin_run.proofs.FinderLemmas.{none_refused}
+use Rattle.casbin_run.proofs.OneEnd.{has_none}
 
 -- what is given has one end
 pub record HasOneEnd : Type 0 where
   pub one_cause : (g : Given) (first second : Stop) → IsSome g.files → IsSome g.input → Cause g first → Cause g second → first ≡ second
   pub no_cause : (g : Given) (stop : Stop) → IsSome g.files → IsSome g.input → IsInOrder g → ¬ (Cause g stop)
-  pub one_text : (g : Given) (first second : List ℕ) → IsSome g.files → IsSome g.input → IsCalmlyAnswered g first → IsCalmlyAnswered g second → first ≡ second
+  pub one_text : (g : Given) (first second : List ℕ) → IsSome g.files → IsSome g.input → ask_for_workers g.words ≡ false → IsCalmlyAnswered g first → IsCalmlyAnswered g second → first ≡ second
 
 -- the shelf or the input failed
 abbrev pub ReadRose : World → World → Type 0
@@ -79,9 +83,9 @@ module _ (law : HasOneEnd) (g : Given) (files : IsSome g.files) (input : IsSome 
     complete other ends order shelf source out = inr (complete_stopped other ends order shelf source out)
 
     -- where the finders refused nothing, the text is the one that answers
-    pub text_is : (text : List ℕ) → Ends g before now err err_now statuses.Done → now.finders ≡ before.finders → IsCalmlyAnswered g text → now.out.bytes ≡ with_back before.out.bytes text
-    text_is text ends still is =
+    pub text_is : (text : List ℕ) → Ends g before now err err_now statuses.Done → ask_for_workers g.words ≡ false → now.finders ≡ before.finders → IsCalmlyAnswered g text → now.out.bytes ≡ with_back before.out.bytes text
+    text_is text ends alone still is =
         let done = ends.done in
         let answers = done.all.answers in
-        let calm : IsCalmlyAnswered g answers.text = record { refused = answers.refused; answered = answers.answered; none = none_refused before.finders now.finders (all_refused answers.refused) still answers.logged } in
-        done.all.took ∙ ap (with_back before.out.bytes) (law.one_text g answers.text text files input calm is)
+        let calm : IsCalmlyAnswered g answers.text = record { refused = answers.refused; answered = answers.answered; none = none_refused before.finders now.finders (all_refused answers.refused) still (subst (λ (shared : Bool). Logs shared before.finders now.finders (all_refused answers.refused)) (has_none g.words answers.answered.in_order.job answers.answered.in_order.asked alone) answers.logged) } in
+        done.all.took ∙ ap (with_back before.out.bytes) (law.one_text g answers.text text files input alone calm is)

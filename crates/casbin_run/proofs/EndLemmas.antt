@@ -17,17 +17,18 @@ use Rattle.run_status.specs.declared.stop.Stop.TheVariants.{Words, NoModel, NoRe
 use Rattle.casbin_run.specs.Answered.{Answers, TookAll, TookFirst, TookSome}
 use Rattle.casbin_run.specs.Causes.{EndsBy, FailsAt, StopsAt, is_of_shelf}
 use Rattle.casbin_run.specs.Ends.{Ends, IsDone}
-use Rattle.casbin_run.specs.Finders.{AreUsed, HaveRefused}
+use Rattle.casbin_run.specs.Finders.{AreUsed, Logs}
 use Rattle.casbin_run.specs.Given.{Given}
 use Rattle.casbin_run.specs.Helps.Loading.{IsLoaded, LoadStops}
 use Rattle.casbin_run.specs.Helps.Running.{ComesTo}
 use Rattle.casbin_run.specs.Helps.Tasks.{DidAll, DidFirst, DidSome, WorkStops, Worked, ground}
-use Rattle.casbin_run.specs.Jobs.{job_asked, reads_input}
+use Rattle.casbin_run.specs.Jobs.{ask_for_workers, has_workers, job_asked, reads_input}
 use Rattle.casbin_run.specs.Shown.{ReadsBack}
 use Rattle.casbin_run.specs.Reached.{HasAsked, IsReached, Reached, at_words, at_model, at_options, at_policy, at_task, fetches_to}
-use Rattle.casbin_run.specs.Worlds.{InputRose, OutRose, Pulled, ShelfRose, Taken, World}
+use Rattle.casbin_run.specs.Worlds.{InputRose, OutRose, Pulled, ShelfRose, World}
+use Rattle.loaded_work.specs.Sinks.{Taken}
 use Rattle.casbin_run.specs.Written.{HasRoom, IsTooLong, Tells, Writes}
-use Rattle.casbin_run.specs.declared.files.Loaded.{Loaded}
+use Rattle.loaded_work.specs.declared.loaded.Loaded.{Loaded}
 use Rattle.casbin_run.specs.declared.job.Job.{Job}
 use Rattle.casbin_run.proofs.FinderLemmas.{finders_same}
 
@@ -71,7 +72,7 @@ module _ (g : Given) (before now : World) (job : Job) (asked : job_asked g.words
     load_ends _ stops = absurd stops
 
   module _ (loaded : Loaded) (is : IsLoaded g.files job loaded) where
-    answers_of : Worked (ground job.task loaded g.input) (HaveRefused before.finders now.finders) → Answers g before now
+    answers_of : Worked (ground job.task loaded g.input) (Logs (has_workers job.task) before.finders now.finders) → Answers g before now
     answers_of worked = record {
       text = worked.text;
       refused = worked.refused;
@@ -94,15 +95,15 @@ module _ (g : Given) (before now : World) (job : Job) (asked : job_asked g.words
       logged = worked.logged;
     }
 
-    took_some : DidSome (ground job.task loaded g.input) (HaveRefused before.finders now.finders) before.out.bytes now.out.bytes → TookSome g before now
+    took_some : DidSome (ground job.task loaded g.input) (Logs (has_workers job.task) before.finders now.finders) before.out.bytes now.out.bytes → TookSome g before now
     unfolding answers_of
     took_some some = record { answers = answers_of some.worked; took = some.took }
 
-    took_first : DidFirst (ground job.task loaded g.input) (HaveRefused before.finders now.finders) before.out.bytes now.out.bytes → TookFirst g before now
+    took_first : DidFirst (ground job.task loaded g.input) (Logs (has_workers job.task) before.finders now.finders) before.out.bytes now.out.bytes → TookFirst g before now
     unfolding answers_of
     took_first first = record { answers = answers_of first.worked; count = first.count; took = first.took }
 
-    took_all : (err err_now : Taken) → DidAll (ground job.task loaded g.input) (HaveRefused before.finders now.finders) before.out.bytes now.out.bytes err err_now → TookAll g before now
+    took_all : (err err_now : Taken) → DidAll (ground job.task loaded g.input) (Logs (has_workers job.task) before.finders now.finders) before.out.bytes now.out.bytes err err_now → TookAll g before now
     unfolding answers_of
     took_all err err_now all = record { answers = answers_of all.worked; took = all.took }
 
@@ -113,7 +114,7 @@ module _ (g : Given) (before now : World) (job : Job) (asked : job_asked g.words
       task_asked : HasAsked before now here false
       task_asked = record { fetched = told; unread = unread }
 
-      pub all_done : (err err_now : Taken) → DidAll (ground job.task loaded g.input) (HaveRefused before.finders now.finders) before.out.bytes now.out.bytes err err_now → ReadsBack job.task loaded.model loaded.shapes loaded.tables.policy → IsDone g before now err err_now
+      pub all_done : (err err_now : Taken) → DidAll (ground job.task loaded g.input) (Logs (has_workers job.task) before.finders now.finders) before.out.bytes now.out.bytes err err_now → ReadsBack job.task loaded.model loaded.shapes loaded.tables.policy → IsDone g before now err err_now
       unfolding took_all answers_of
       all_done err err_now all back = record {
         done = record {
@@ -124,7 +125,7 @@ module _ (g : Given) (before now : World) (job : Job) (asked : job_asked g.words
         told = subst (λ (shapes : Shapes). Tells job.task loaded.model shapes loaded.tables.policy all.worked.items all.worked.refused all.worked.text err err_now) is.shapes_are all.told;
       }
 
-      pub work_ends : (stop : Stop) → WorkStops (ground job.task loaded g.input) (HaveRefused before.finders now.finders) before.out.bytes now.out.bytes (InputRose before now) (OutRose before now) stop → EndsBy g before now stop
+      pub work_ends : (stop : Stop) → WorkStops (ground job.task loaded g.input) (Logs (has_workers job.task) before.finders now.finders) before.out.bytes now.out.bytes (InputRose before now) (OutRose before now) stop → EndsBy g before now stop
       work_ends (TooLong Report) stops = given_stops g before now (TooLong Report) here (asked, is.are_files) (subst (λ (shapes : Shapes). IsTooLong job.task shapes loaded.tables.policy) is.shapes_are stops) task_asked
       work_ends (CannotRead Input) stops = outside_stops g before now (CannotRead Input) here (asked, is.are_files) stops task_asked
       work_ends (TooLong Input) stops = given_stops g before now (TooLong Input) here (asked, is.are_files) stops task_asked
@@ -163,5 +164,5 @@ nothing_done g before now err stop ends counted same-input same-out same-finders
   shelf_counted = counted;
   input_counted = omega (arith, ap (λ (input : Pulled). input.faults) same-input);
   out_counted = omega (arith, ap (λ (out : Taken). out.faults) same-out);
-  finders = subst (λ (finders : List Refusals). AreUsed before.finders finders) (sym same-finders) (finders_same before.finders);
+  finders = subst (λ (finders : List Refusals). AreUsed (ask_for_workers g.words) before.finders finders) (sym same-finders) (finders_same (ask_for_workers g.words) before.finders);
 }

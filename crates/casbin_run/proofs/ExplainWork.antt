@@ -1,8 +1,7 @@
 -- What explaining requests comes to as a task, and that it is one text.
-use Rattle.std.proofs.Common.{◌≡◌, ℕ, ◌≤◌, ◌==◌, Bool, true, false, List, [], ◌∷◌, ◌++◌, Ok, Err, length, inl, inr, ⊎_elim, refl, sym, ap, subst, ◌∙◌, arith}
-use Rattle.std.specs.Prelude.{IfErr, MatchBool, OnOk, Option, Result}
+use Rattle.std.proofs.Common.{◌≡◌, ℕ, ◌==◌, Bool, true, false, List, [], ◌∷◌, ◌++◌, Ok, length, inl, inr, ⊎_elim, refl, sym, ap, subst, ◌∙◌}
+use Rattle.std.specs.Prelude.{MatchBool, Option}
 use Rattle.std.specs.List.{Contains}
-use Rattle.std.proofs.lemmas.Result.{IfErr-weaker}
 use Rattle.answer_lines.specs.LineText.{line_text}
 use Rattle.answer_lines.specs.declared.answer.Line.{Line}
 use Rattle.model_conf.specs.ModelText.{ModelParts}
@@ -10,44 +9,25 @@ use Rattle.near_miss.specs.Lines.{miss_lines}
 use Rattle.near_miss.specs.Misses.{AreNearMisses}
 use Rattle.near_miss.specs.Parts.{AreParts}
 use Rattle.near_miss.specs.declared.misses.NearMiss.{NearMiss}
-use Rattle.outside.specs.Faults.{Rose}
 use Rattle.perm_base.specs.declared.shapes.Shapes.{Shapes}
 use Rattle.perm_base.specs.declared.shapes.TableId.TheVariants.{P}
 use Rattle.perm_value.specs.Datum.{Datum}
-use Rattle.policy_state.specs.States.{State, tables}
+use Rattle.policy_state.specs.States.{tables}
 use Rattle.policy_table.specs.Tables as table
-use Rattle.regex_gate.specs.Refusals.{IsUsed, Refusals}
+use Rattle.regex_gate.specs.Refusals.{Refusals}
 use Rattle.run_status.specs.declared.stop.Stop.{Stop}
 use Rattle.run_status.specs.declared.stop.Stop.TheVariants.{CannotWrite, NoMemory}
 use Rattle.script_read.specs.Said.{Said, asks}
 use Rattle.session_meaning.specs.Plain.{IsPlain, all_refused}
-use Rattle.casbin_run.specs.Explaining.{ArePieces, IsBelow, IsExplained, IsPiece, TellsMisses}
-use Rattle.casbin_run.specs.Finders.{HasRefused}
+use Rattle.loaded_work.specs.Explaining.{ArePieces, IsBelow, IsExplained, IsPiece, TellsMisses}
+use Rattle.loaded_work.specs.Finders.{HasRefused}
 use Rattle.casbin_run.specs.Given.{SaysItems}
-use Rattle.casbin_run.specs.Helps.Explaining.{AreExplained, ExplainStops, ExplainedAll, ExplainedSome, PiecesOf, PiecesStop}
+use Rattle.loaded_work.specs.Helps.Explaining.{ExplainStops, ExplainedAll, ExplainedSome, PiecesOf, PiecesStop}
 use Rattle.casbin_run.specs.Helps.Tasks.{DidAll, IsQuiet, WorkStops, Worked, ground}
-use Rattle.casbin_run.specs.Helps.Working.{IsOpened}
-use Rattle.casbin_run.specs.Texts.{joined}
-use Rattle.casbin_run.specs.Worlds.{Taken}
-use Rattle.casbin_run.specs.declared.files.Loaded.{Loaded}
+use Rattle.loaded_work.specs.Texts.{joined}
+use Rattle.loaded_work.specs.Sinks.{Taken}
+use Rattle.loaded_work.specs.declared.loaded.Loaded.{Loaded}
 use Rattle.casbin_run.specs.declared.job.Task.TheVariants.{Explain}
-use Rattle.casbin_run.proofs.WorkLemmas.{over_equal}
-
--- ---- what was printed
-
--- memory ran out before any piece was pushed
-pub explain_memory : (IsSaid : List Said → Type 0) (most : ℕ) (model : ModelParts) (shapes : Shapes) (policy : table.Policy) (before : Refusals) (out : Taken) → IsUsed before before → AreExplained IsSaid most model shapes policy before before out out (Err NoMemory)
-explain_memory IsSaid most model shapes policy before out used = record { printed = tt; stopped = inl (refl, refl); counted = omega arith; used = used }
-
-pub explain_ends : (IsSaid : List Said → Type 0) (most : ℕ) (model : ModelParts) (shapes : Shapes) (policy : table.Policy) (before now : Refusals) (out out_now : Taken) (result : Result (Unit {0}) Stop) → OnOk result (ExplainedAll IsSaid most model shapes policy before now out.bytes out_now.bytes)
-    → IfErr result (ExplainedSome IsSaid most model shapes policy before now out.bytes out_now.bytes (Rose out.faults out_now.faults)) → out.faults ≤ out_now.faults → IsUsed before now → AreExplained IsSaid most model shapes policy before now out out_now result
-explain_ends IsSaid most model shapes policy before now out out_now result all some counted used = record { printed = all; stopped = IfErr-weaker result _ _ (λ stop stops. inr stops) some; counted = counted; used = used }
-
--- over what was loaded
-pub explain_over : (IsSaid : List Said → Type 0) (loaded : Loaded) (program : ModelParts) (state : State) (most : ℕ) (before now : Refusals) (out out_now : Taken) (result : Result (Unit {0}) Stop) → IsOpened loaded program state
-    → AreExplained IsSaid most program state.shapes (tables state) before now out out_now result → AreExplained IsSaid most loaded.model loaded.shapes loaded.tables.policy before now out out_now result
-explain_over IsSaid loaded program state most before now out out_now result is explained =
-    over_equal (λ (m : ModelParts) (s : Shapes) (p : table.Policy). AreExplained IsSaid most m s p before now out out_now result) loaded.model program loaded.shapes state.shapes loaded.tables.policy (tables state) is.program_is is.shapes_are is.policy_is explained
 
 -- ---- as a task
 

@@ -1,15 +1,23 @@
 -- What finders refused, of which the first is asked.
-use Rattle.std.proofs.Common.{◌≡◌, ℕ, ◌<◌, List, [], ◌∷◌, append-nil, length, get_or, slice_set, refl, sym, ap, subst, ◌∙◌, arith}
+use Rattle.std.proofs.Common.{◌≡◌, ℕ, ◌<◌, Bool, true, false, List, [], ◌∷◌, append-nil, length, get_or, slice_set, refl, sym, ap, subst, ◌∙◌, arith}
 use Rattle.std.specs.Prelude.{map}
+use Rattle.std.specs.List.{AllZip}
 use Rattle.std.proofs.lemmas.List.{append_cancel_left}
 use Rattle.live_round.proofs.CallerLemmas.{logs_more}
+use Rattle.regex_gate.proofs.CallerLemmas.{used_none}
 use Rattle.regex_gate.specs.Refusals.{IsUsed, Refusals, after_refusals}
-use Rattle.casbin_run.specs.Finders.{AreUsed, HasRefused, HaveRefused}
+use Rattle.casbin_run.specs.Finders.{AreUsed, HaveRefused, IsFirstUsed}
+use Rattle.loaded_work.specs.Finders.{HasRefused}
 
 -- finders that were not asked
-pub finders_same : (all : List Refusals) → AreUsed all all
-finders_same [] = ([], refl)
-finders_same (first ∷ others) = ([], (refl, refl))
+pub none_used : (all : List Refusals) → AllZip IsUsed all all
+none_used [] = tt
+none_used (first ∷ others) = (used_none first, none_used others)
+
+pub finders_same : (shared : Bool) (all : List Refusals) → AreUsed shared all all
+finders_same true all = none_used all
+finders_same false [] = ([], refl)
+finders_same false (first ∷ others) = ([], (refl, refl))
 
 -- finders that are as they were refused nothing
 pub none_refused : (before now : List Refusals) (patterns : List (List ℕ)) → now ≡ before → HaveRefused before now patterns → patterns ≡ []
@@ -26,7 +34,7 @@ module _ {P : Type 0} (refusals : P → Refusals) (last : P) where
   first_refused [] first some here patterns is = absurd (omega (arith, some))
   first_refused (f ∷ fs) first some here patterns is = (is ∙ ap (λ (x : P). after_refusals (refusals x) patterns) here, refl)
 
-  pub first_used : (fs : List P) (first : P) → 0 < length fs → first ≡ get_or fs 0 first → IsUsed (refusals first) (refusals last) → AreUsed (map refusals fs) (map refusals (slice_set fs 0 last))
+  pub first_used : (fs : List P) (first : P) → 0 < length fs → first ≡ get_or fs 0 first → IsUsed (refusals first) (refusals last) → IsFirstUsed (map refusals fs) (map refusals (slice_set fs 0 last))
   first_used fs first some here used = (used.more, first_refused fs first some here used.more used.refused)
 
   -- where it is as before, all are

@@ -1,5 +1,5 @@
 -- The limit of links that words ask for.
-use Rattle.std.proofs.Common.{◌≡◌, ℕ, ◌<◌, ◌≤◌, Bool, true, false, List, Option, Some, None, refl, sym, subst, arith}
+use Rattle.std.proofs.Common.{◌≡◌, ℕ, zero, suc, ◌<◌, ◌≤◌, Bool, true, false, List, Option, Some, None, refl, sym, subst, arith}
 use Rattle.std.specs.Prelude.{◌==◌, IfSome, if◌then◌else◌}
 use Rattle.std.proofs.lemmas.Option.{option_and_then_some}
 use Rattle.command_words.specs.Commands.{command_of}
@@ -8,7 +8,7 @@ use Rattle.command_words.specs.declared.command.Command.TheVariants as command
 use Rattle.command_words.proofs.CallerLemmas.{HasRanges, command_of-ranges}
 use Rattle.casbin_run.specs.Jobs.{HasSize, job_asked, job_of, limit_in}
 use Rattle.casbin_run.specs.declared.job.Job.{Job}
-use Rattle.casbin_run.specs.declared.job.Task.TheVariants.{Serve}
+use Rattle.casbin_run.specs.declared.job.Task.TheVariants.{Serve, Share}
 
 -- a limit is one to 250
 abbrev IsLimit : ℕ → Type 0
@@ -23,11 +23,7 @@ job_has : (asked : Command) → HasRanges asked → JobHas (job_of asked)
 job_has (command.Enforce files options json None) has = (has.0, has.1)
 job_has (command.Enforce files options json (Some capacity)) has = (has.0, has.1)
 job_has (command.Explain files options json most) has = (has.0, has.1)
-job_has (command.Session files options json workers) has = by (workers == 0)
-  where
-    by : (test : Bool) → JobHas (if test then Some (record { files = files; options = Some options; task = Serve json }) else None)
-    by false = tt
-    by true = (has.0, has.1)
+job_has (command.Session files options json workers) has = (has.0, has.1)
 job_has (command.Check files) has = (omega arith, omega arith)
 job_has (command.Format files) has = (omega arith, omega arith)
 job_has (command.Implicit files subject options) has = has
@@ -49,15 +45,19 @@ abbrev Sized : Option Job → Type 0
 Sized None = Unit {0}
 Sized (Some job) = HasSize job.task
 
+positive : (count : ℕ) → (count == 0) ≡ false → 0 < count
+positive zero none = absurd cc
+positive (suc count) some = omega arith
+
 job_sized : (asked : Command) → HasRanges asked → Sized (job_of asked)
 job_sized (command.Enforce files options json None) has = tt
 job_sized (command.Enforce files options json (Some capacity)) has = has.2
 job_sized (command.Explain files options json most) has = tt
-job_sized (command.Session files options json workers) has = by (workers == 0)
+job_sized (command.Session files options json workers) has = by (workers == 0) refl
   where
-    by : (test : Bool) → Sized (if test then Some (record { files = files; options = Some options; task = Serve json }) else None)
-    by false = tt
-    by true = tt
+    by : (test : Bool) → (workers == 0) ≡ test → HasSize (if test then Serve json else Share json workers)
+    by true none = tt
+    by false some = (positive workers some, has.2)
 job_sized (command.Check files) has = tt
 job_sized (command.Format files) has = tt
 job_sized (command.Implicit files subject options) has = tt

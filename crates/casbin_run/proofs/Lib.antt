@@ -1,17 +1,8 @@
 pub mod JobLemmas
-pub mod GatheredLemmas
-pub mod AskLemmas
-pub mod PrintLemmas
 pub mod FinderLemmas
 pub mod LoadLemmas
-pub mod CachedLemmas
-pub mod ShipLemmas
-pub mod FollowLemmas
-pub mod RolesLemmas
 pub mod WorkLemmas
 pub mod CachedWork
-pub mod PieceLemmas
-pub mod ExplainLemmas
 pub mod ExplainWork
 pub mod EndLemmas
 pub mod ReadingLemmas
@@ -21,3 +12,5 @@ pub mod ShownLemmas
 pub mod AskedLemmas
 pub mod ModelLemmas
 pub mod SomeEnd
+pub mod SharedWork
+pub mod DemoLemmas

@@ -1,5 +1,6 @@
 -- What is given has one end: what is read comes to one state at each part, and the states to one end.
 use Rattle.std.proofs.Common.{◌≡◌, ℕ, ◌<◌, ◌≤◌, Bool, true, false, List, [], inl, inr, length, refl, sym, ap, subst, ◌∙◌, arith}
+use Rattle.std.specs.Option.{option_map_or}
 use Rattle.std.specs.Prelude.{◌⊎◌, IsSome, Option, Some, None}
 use Rattle.answer_lines.specs.declared.answer.Line.{Line}
 use Rattle.command_words.specs.FileNames.{SubjectName}
@@ -26,17 +27,18 @@ use Rattle.script_read.specs.declared.fault.ScriptFault.{ScriptFault}
 use Rattle.session_meaning.specs.Plain.{IsPlain, all_refused}
 use Rattle.casbin_run.specs.Answered.{IsCalmlyAnswered}
 use Rattle.casbin_run.specs.Causes.{Cause, HasFault, HasPacketFault, StopsAt}
-use Rattle.casbin_run.specs.Explaining.{IsExplained}
-use Rattle.casbin_run.specs.Following.{IsFollowed}
+use Rattle.loaded_work.specs.Explaining.{IsExplained}
+use Rattle.loaded_work.specs.Following.{IsFollowed}
 use Rattle.casbin_run.specs.Given.{AreFiles, FileIs, Fits, Given, IsInOrder, ModelIs, SaysItems, SaysPackets}
-use Rattle.casbin_run.specs.Jobs.{absent_in, job_asked, reads_input, shapes_with}
+use Rattle.casbin_run.specs.Jobs.{absent_in, ask_for_workers, has_workers, job_asked, reads_input, shapes_with}
 use Rattle.casbin_run.specs.Reached.{IsReached, Reached, at_words, at_model, at_options, at_policy, at_task}
-use Rattle.casbin_run.specs.Roles.{IsImplied, IsLong, IsReported, IsShort}
-use Rattle.casbin_run.specs.Texts.{IsOfLines, text_of_lines}
+use Rattle.loaded_work.specs.Roles.{IsImplied, IsLong, IsReported, IsShort}
+use Rattle.casbin_run.specs.Texts.{IsOfLines}
+use Rattle.loaded_work.specs.Texts.{text_of_lines}
 use Rattle.casbin_run.specs.Written.{HasRoom, IsTooLong, Writes}
 use Rattle.casbin_run.specs.declared.job.Job.{Job}
 use Rattle.casbin_run.specs.declared.job.Task.{Task}
-use Rattle.casbin_run.specs.declared.job.Task.TheVariants.{Enforce, Cached, Explain, Serve, Check, Format, Implicit, Report, Ship, Follow}
+use Rattle.casbin_run.specs.declared.job.Task.TheVariants.{Enforce, Cached, Explain, Serve, Share, Check, Format, Implicit, Report, Ship, Follow}
 
 -- what reading a part comes to
 data State (X F : Type 0) : Type 0 where
@@ -106,6 +108,7 @@ SaysBytes (Enforce json) bytes items = IsRequests json bytes items
 SaysBytes (Cached json capacity) bytes items = IsRequests json bytes items
 SaysBytes (Explain json most) bytes items = IsRequests json bytes items
 SaysBytes (Serve json) bytes items = IsScript json bytes items
+SaysBytes (Share json workers) bytes items = IsScript json bytes items
 SaysBytes Check bytes items = ⊥
 SaysBytes Format bytes items = ⊥
 SaysBytes (Implicit subject) bytes items = ⊥
@@ -152,6 +155,7 @@ TaskEnds input (Enforce json) shapes policy end = InputEnds input (Enforce json)
 TaskEnds input (Cached json capacity) shapes policy end = InputEnds input (Cached json capacity) end
 TaskEnds input (Explain json most) shapes policy end = InputEnds input (Explain json most) end
 TaskEnds input (Serve json) shapes policy end = InputEnds input (Serve json) end
+TaskEnds input (Share json workers) shapes policy end = InputEnds input (Share json workers) end
 TaskEnds input Check shapes policy end = end ≡ None
 TaskEnds input Format shapes policy end = end ≡ None
 TaskEnds input (Implicit subject) shapes policy end = end ≡ None
@@ -228,6 +232,9 @@ module _ (once : SaysOnce) where
   script_is_one : (json : Bool) → IsOne (SaysBytes (Serve json)) (HasFault (Serve json))
   script_is_one json = record { said = once.script json; fault = once.script_fault json; either = λ bytes x f p q. once.script_either json bytes f x q p }
 
+  shared_is_one : (json : Bool) (workers : ℕ) → IsOne (SaysBytes (Share json workers)) (HasFault (Share json workers))
+  shared_is_one json workers = record { said = once.script json; fault = once.script_fault json; either = λ bytes x f p q. once.script_either json bytes f x q p }
+
   shipped_is_one : IsOne (SaysBytes Ship) (HasFault Ship)
   shipped_is_one = record { said = once.script false; fault = once.script_fault false; either = λ bytes x f p q. once.script_either false bytes f x q p }
 
@@ -254,6 +261,7 @@ module _ (once : SaysOnce) where
   task_once input (Cached json capacity) shapes policy a b p q = input_once input (Cached json capacity) (cached_are_one json capacity) a b p q
   task_once input (Explain json most) shapes policy a b p q = input_once input (Explain json most) (explained_are_one json most) a b p q
   task_once input (Serve json) shapes policy a b p q = input_once input (Serve json) (script_is_one json) a b p q
+  task_once input (Share json workers) shapes policy a b p q = input_once input (Share json workers) (shared_is_one json workers) a b p q
   task_once input Check shapes policy a b p q = p ∙ sym q
   task_once input Format shapes policy a b p q = p ∙ sym q
   task_once input (Implicit subject) shapes policy a b p q = p ∙ sym q
@@ -309,6 +317,7 @@ module _ (shapes : Shapes) (policy : table.Policy) where
   long_input (Cached json capacity) input reads wide = (long, (input, refl, wide), refl)
   long_input (Explain json most) input reads wide = (long, (input, refl, wide), refl)
   long_input (Serve json) input reads wide = (long, (input, refl, wide), refl)
+  long_input (Share json workers) input reads wide = (long, (input, refl, wide), refl)
   long_input Check input reads wide = absurd cc
   long_input Format input reads wide = absurd cc
   long_input (Implicit subject) input reads wide = absurd cc
@@ -321,6 +330,7 @@ module _ (shapes : Shapes) (policy : table.Policy) where
   bad_input (Cached json capacity) input bytes fault reads same within is = (bad fault, (bytes, ap (λ (b : List ℕ). Some b) same, within, is), refl)
   bad_input (Explain json most) input bytes fault reads same within is = (bad fault, (bytes, ap (λ (b : List ℕ). Some b) same, within, is), refl)
   bad_input (Serve json) input bytes fault reads same within is = (bad fault, (bytes, ap (λ (b : List ℕ). Some b) same, within, is), refl)
+  bad_input (Share json workers) input bytes fault reads same within is = (bad fault, (bytes, ap (λ (b : List ℕ). Some b) same, within, is), refl)
   bad_input Check input bytes fault reads same within is = absurd is
   bad_input Format input bytes fault reads same within is = absurd is
   bad_input (Implicit subject) input bytes fault reads same within is = absurd is
@@ -341,6 +351,7 @@ module _ (shapes : Shapes) (policy : table.Policy) where
   good_task (Cached json capacity) input items packets (bytes, same, within, says) carries room = (good items, (bytes, ap (λ (b : List ℕ). Some b) same, within, says), refl)
   good_task (Explain json most) input items packets (bytes, same, within, says) carries room = (good items, (bytes, ap (λ (b : List ℕ). Some b) same, within, says), refl)
   good_task (Serve json) input items packets (bytes, same, within, says) carries room = (good items, (bytes, ap (λ (b : List ℕ). Some b) same, within, says), refl)
+  good_task (Share json workers) input items packets (bytes, same, within, says) carries room = (good items, (bytes, ap (λ (b : List ℕ). Some b) same, within, says), refl)
   good_task Check input items packets says carries room = refl
   good_task Format input items packets says carries room = refl
   good_task (Implicit subject) input items packets says carries room = refl
@@ -404,17 +415,26 @@ module _ (once : SaysOnce) (model : ModelParts) (shapes : Shapes) (policy : tabl
   lines_once refused others pieces more text written p q none nothing = p.text_is ∙ ap text_of_lines (once.lines model shapes policy items refused others p.lines q.lines p.plain q.plain none nothing) ∙ sym q.text_is
 
   written_once : (task : Task) (packets : List Packet) (refused others : List (List (List ℕ))) (pieces more : List (List ℕ)) (text written : List ℕ) → Writes task model shapes policy items packets refused pieces text → Writes task model shapes policy items packets others more written
-      → all_refused refused ≡ [] → all_refused others ≡ [] → text ≡ written
-  written_once (Enforce json) packets refused others pieces more text written p q none nothing = lines_once refused others pieces more text written p q none nothing
-  written_once (Cached json capacity) packets refused others pieces more text written p q none nothing = lines_once refused others pieces more text written p q none nothing
-  written_once (Explain json most) packets refused others pieces more text written p q none nothing = once.explained most model shapes policy items refused others pieces more text written p q none nothing
-  written_once (Serve json) packets refused others pieces more text written p q none nothing = lines_once refused others pieces more text written p q none nothing
-  written_once Check packets refused others pieces more text written p q none nothing = p.is ∙ sym q.is
-  written_once Format packets refused others pieces more text written p q none nothing = p.is ∙ sym q.is
-  written_once (Implicit subject) packets refused others pieces more text written p q none nothing = once.implied model shapes policy subject text written p.is q.is
-  written_once Report packets refused others pieces more text written p q none nothing = once.reported shapes policy text written p.is q.is
-  written_once Ship packets refused others pieces more text written p q none nothing = p.is ∙ sym q.is
-  written_once Follow packets refused others pieces more text written p q none nothing = once.followed shapes policy packets text written p.is q.is
+      → all_refused refused ≡ [] → all_refused others ≡ [] → has_workers task ≡ false → text ≡ written
+  written_once (Enforce json) packets refused others pieces more text written p q none nothing alone = lines_once refused others pieces more text written p q none nothing
+  written_once (Cached json capacity) packets refused others pieces more text written p q none nothing alone = lines_once refused others pieces more text written p q none nothing
+  written_once (Explain json most) packets refused others pieces more text written p q none nothing alone = once.explained most model shapes policy items refused others pieces more text written p q none nothing
+  written_once (Serve json) packets refused others pieces more text written p q none nothing alone = lines_once refused others pieces more text written p q none nothing
+  written_once (Share json workers) packets refused others pieces more text written p q none nothing alone = absurd cc
+  written_once Check packets refused others pieces more text written p q none nothing alone = p.is ∙ sym q.is
+  written_once Format packets refused others pieces more text written p q none nothing alone = p.is ∙ sym q.is
+  written_once (Implicit subject) packets refused others pieces more text written p q none nothing alone = once.implied model shapes policy subject text written p.is q.is
+  written_once Report packets refused others pieces more text written p q none nothing alone = once.reported shapes policy text written p.is q.is
+  written_once Ship packets refused others pieces more text written p q none nothing alone = p.is ∙ sym q.is
+  written_once Follow packets refused others pieces more text written p q none nothing alone = once.followed shapes policy packets text written p.is q.is
+
+-- the words ask for workers where their job has some
+pub workers_asked : (words : List (List ℕ)) (job : Job) → job_asked words ≡ Some job → ask_for_workers words ≡ has_workers job.task
+workers_asked words job asked = ap (λ (found : Option Job). option_map_or (λ (j : Job). has_workers j.task) found false) asked
+
+-- the job of words that ask for no workers has none
+pub has_none : (words : List (List ℕ)) (job : Job) → job_asked words ≡ Some job → ask_for_workers words ≡ false → has_workers job.task ≡ false
+has_none words job asked alone = sym (workers_asked words job asked) ∙ alone
 
 module _ (once : SaysOnce) (files : Files) (input : List ℕ) where
   model_same : (job : Job) (model other : ModelParts) → ModelIs (Some files) job model → ModelIs (Some files) job other → model ≡ other
@@ -430,6 +450,7 @@ module _ (once : SaysOnce) (files : Files) (input : List ℕ) where
   items_same (Cached json capacity) items others (bytes, same, within, says) (more, told, few, say) = once.requests json more items others (subst (λ (b : List ℕ). IsRequests json b items) (sym same ∙ told) says) say
   items_same (Explain json most) items others (bytes, same, within, says) (more, told, few, say) = once.requests json more items others (subst (λ (b : List ℕ). IsRequests json b items) (sym same ∙ told) says) say
   items_same (Serve json) items others (bytes, same, within, says) (more, told, few, say) = once.script json more items others (subst (λ (b : List ℕ). IsScript json b items) (sym same ∙ told) says) say
+  items_same (Share json workers) items others (bytes, same, within, says) (more, told, few, say) = once.script json more items others (subst (λ (b : List ℕ). IsScript json b items) (sym same ∙ told) says) say
   items_same Check items others says say = says ∙ sym say
   items_same Format items others says say = says ∙ sym say
   items_same (Implicit subject) items others says say = says ∙ sym say
@@ -452,8 +473,8 @@ module _ (once : SaysOnce) (files : Files) (input : List ℕ) where
     none : all_refused refused ≡ []
 
   texts_same : (job : Job) (model : ModelParts) (policy : table.Policy) (items : List Said) (packets : List Packet) (text : List ℕ) (other : ModelParts) (second : table.Policy) (said : List Said) (sent : List Packet) (written : List ℕ) → Reads job model policy items packets text → Reads job other second said sent written
-      → text ≡ written
-  texts_same job model policy items packets text other second said sent written p q =
+      → has_workers job.task ≡ false → text ≡ written
+  texts_same job model policy items packets text other second said sent written p q alone =
       let same_model : other ≡ model = model_same job other model q.are_files.fits.is_model p.are_files.fits.is_model in
       let at_model : Reads job model second said sent written = subst (λ (m : ModelParts). Reads job m second said sent written) same_model q in
       let same_policy : second ≡ policy = policy_same job (shapes_with job.options model) second policy at_model.are_files.is_policy p.are_files.is_policy in
@@ -462,25 +483,25 @@ module _ (once : SaysOnce) (files : Files) (input : List ℕ) where
       let at_items : Reads job model policy items sent written = subst (λ (i : List Said). Reads job model policy i sent written) same_items at_policy in
       let same_packets : sent ≡ packets = packets_same job.task sent packets at_items.carries p.carries in
       let at_packets : Reads job model policy items packets written = subst (λ (l : List Packet). Reads job model policy items l written) same_packets at_items in
-      written_once once model (shapes_with job.options model) policy items job.task packets p.refused at_packets.refused p.pieces at_packets.pieces text written p.writes at_packets.writes p.none at_packets.none
+      written_once once model (shapes_with job.options model) policy items job.task packets p.refused at_packets.refused p.pieces at_packets.pieces text written p.writes at_packets.writes p.none at_packets.none alone
 
-  told_one_text : (words : List (List ℕ)) (first second : List ℕ) → IsCalmlyAnswered (told words files input) first → IsCalmlyAnswered (told words files input) second → first ≡ second
-  told_one_text words first second p q =
+  told_one_text : (words : List (List ℕ)) (first second : List ℕ) → ask_for_workers words ≡ false → IsCalmlyAnswered (told words files input) first → IsCalmlyAnswered (told words files input) second → first ≡ second
+  told_one_text words first second alone p q =
       let x = p.answered.in_order in
       let y = q.answered.in_order in
       let job : y.job ≡ x.job = same_job (sym y.asked ∙ x.asked) in
       let reads : Reads y.job y.model y.policy y.items y.packets second = record { are_files = y.are_files; says = y.says; carries = y.carries; refused = q.refused; pieces = q.answered.pieces; writes = q.answered.writes; none = q.none } in
       texts_same x.job x.model x.policy x.items x.packets first y.model y.policy y.items y.packets second (record { are_files = x.are_files; says = x.says; carries = x.carries; refused = p.refused; pieces = p.answered.pieces; writes = p.answered.writes; none = p.none })
-      (subst (λ (j : Job). Reads j y.model y.policy y.items y.packets second) job reads)
+      (subst (λ (j : Job). Reads j y.model y.policy y.items y.packets second) job reads) (has_none words x.job x.asked alone)
     where
       same_job : {job other : Job} → Some job ≡ Some other → job ≡ other
       same_job e = cc
 
-pub one_text : SaysOnce → (g : Given) (first second : List ℕ) → IsSome g.files → IsSome g.input → IsCalmlyAnswered g first → IsCalmlyAnswered g second → first ≡ second
-one_text once g first second told-files told-input p q = by g.files g.input told-files told-input p q
+pub one_text : SaysOnce → (g : Given) (first second : List ℕ) → IsSome g.files → IsSome g.input → ask_for_workers g.words ≡ false → IsCalmlyAnswered g first → IsCalmlyAnswered g second → first ≡ second
+one_text once g first second told-files told-input alone p q = by g.files g.input told-files told-input p q
   where
     by : (files : Option Files) (input : Option (List ℕ)) → IsSome files → IsSome input → IsCalmlyAnswered (record { words = g.words; files = files; input = input }) first
         → IsCalmlyAnswered (record { words = g.words; files = files; input = input }) second → first ≡ second
     by None input some read p q = absurd cc
     by (Some files) None some read p q = absurd cc
-    by (Some files) (Some input) some read p q = told_one_text once files input g.words first second p q
+    by (Some files) (Some input) some read p q = told_one_text once files input g.words first second alone p q

@@ -24,10 +24,10 @@ use Rattle.casbin_run.specs.Causes.{Cause}
 use Rattle.casbin_run.specs.Given.{AreFiles, Fits, Given, IsInOrder, ModelIs}
 use Rattle.casbin_run.specs.Jobs.{absent_in, job_asked, shapes_with}
 use Rattle.casbin_run.specs.Reached.{at_words, at_model, at_options, at_policy, at_task}
-use Rattle.casbin_run.specs.Roles.{IsLong, IsShort}
+use Rattle.loaded_work.specs.Roles.{IsLong, IsShort}
 use Rattle.casbin_run.specs.declared.job.Job.{Job}
 use Rattle.casbin_run.specs.declared.job.Task.{Task}
-use Rattle.casbin_run.specs.declared.job.Task.TheVariants.{Enforce, Cached, Explain, Serve, Check, Format, Implicit, Report, Ship, Follow}
+use Rattle.casbin_run.specs.declared.job.Task.TheVariants.{Enforce, Cached, Explain, Serve, Share, Check, Format, Implicit, Report, Ship, Follow}
 use Rattle.casbin_run.proofs.ModelLemmas.{SomeModel}
 
 -- each text says something or has a fault
@@ -77,6 +77,10 @@ module _ (law : SaysSome) (words : List (List ℕ)) (files : Files) (input : Lis
         by_script json task within (inl said) = inl (record { job = job; model = model; policy = policy; items = said.0; packets = []; asked = asked; are_files = are; says = rw task (input, refl, within, said.1); carries = rw task refl; room = rw task tt })
         by_script json task within (inr bad) = inr (NoScript bad.0, (at_task job model policy, (asked, are), (rw task refl, (input, refl, within, rw task bad.1))))
 
+        by_shared : (json : Bool) (workers : ℕ) → job.task ≡ Share json workers → length input ≤ limit_of Input → ((items : List Said) × IsScript json input items) ⊎ ((f : ScriptFault) × IsScriptFault json input f) → Ended told
+        by_shared json workers task within (inl said) = inl (record { job = job; model = model; policy = policy; items = said.0; packets = []; asked = asked; are_files = are; says = rw task (input, refl, within, said.1); carries = rw task refl; room = rw task tt })
+        by_shared json workers task within (inr bad) = inr (NoScript bad.0, (at_task job model policy, (asked, are), (rw task refl, (input, refl, within, rw task bad.1))))
+
         by_shipped : job.task ≡ Ship → length input ≤ limit_of Input → ((items : List Said) × IsScript false input items) ⊎ ((f : ScriptFault) × IsScriptFault false input f) → Ended told
         by_shipped task within (inl said) = inl (record { job = job; model = model; policy = policy; items = said.0; packets = []; asked = asked; are_files = are; says = rw task (input, refl, within, said.1); carries = rw task refl; room = rw task tt })
         by_shipped task within (inr bad) = inr (NoScript bad.0, (at_task job model policy, (asked, are), (rw task refl, (input, refl, within, rw task bad.1))))
@@ -98,6 +102,8 @@ module _ (law : SaysSome) (words : List (List ℕ)) (files : Files) (input : Lis
         by_input (Explain json most) task (inr within) = by_explained json most task within (law.requests json input)
         by_input (Serve json) task (inl wide) = inr (TooLong Input, (at_task job model policy, (asked, are), (rw task refl, wide)))
         by_input (Serve json) task (inr within) = by_script json task within (law.script json input)
+        by_input (Share json workers) task (inl wide) = inr (TooLong Input, (at_task job model policy, (asked, are), (rw task refl, wide)))
+        by_input (Share json workers) task (inr within) = by_shared json workers task within (law.script json input)
         by_input Check task size = inl (record { job = job; model = model; policy = policy; items = []; packets = []; asked = asked; are_files = are; says = rw task refl; carries = rw task refl; room = rw task tt })
         by_input Format task size = inl (record { job = job; model = model; policy = policy; items = []; packets = []; asked = asked; are_files = are; says = rw task refl; carries = rw task refl; room = rw task tt })
         by_input (Implicit subject) task size = inl (record { job = job; model = model; policy = policy; items = []; packets = []; asked = asked; are_files = are; says = rw task refl; carries = rw task refl; room = rw task tt })

@@ -2,10 +2,10 @@
 use Rattle.std.specs.Prelude.{◌≡◌, ℕ, List, [], take}
 use Rattle.outside.specs.Told.{TookFront, with_back}
 use Rattle.session_meaning.specs.Plain.{all_refused}
-use Rattle.casbin_run.specs.Finders.{HaveRefused}
+use Rattle.casbin_run.specs.Finders.{Logs}
 use Rattle.casbin_run.specs.Given.{Given, IsInOrder}
-use Rattle.casbin_run.specs.Jobs.{shapes_with}
-use Rattle.casbin_run.specs.Texts.{joined}
+use Rattle.casbin_run.specs.Jobs.{has_workers, shapes_with}
+use Rattle.loaded_work.specs.Texts.{joined}
 use Rattle.casbin_run.specs.Worlds.{World}
 use Rattle.casbin_run.specs.Written.{Writes}
 
@@ -21,12 +21,12 @@ pub record IsCalmlyAnswered (g : Given) (text : List ℕ) : Type 0 where
   pub answered : IsAnswered g refused text
   pub none : all_refused refused ≡ []
 
--- such a text, and what was refused for one item after the other is all that the finders refused
+-- such a text, and what was refused for one item after the other is what the finders refused
 pub record Answers (g : Given) (before now : World) : Type 0 where
   pub text : List ℕ
   pub refused : List (List (List ℕ))
   pub answered : IsAnswered g refused text
-  pub logged : HaveRefused before.finders now.finders (all_refused refused)
+  pub logged : Logs (has_workers answered.in_order.job.task) before.finders now.finders (all_refused refused)
 
 -- `out` took it, and nothing else
 pub record TookAll (g : Given) (before now : World) : Type 0 where

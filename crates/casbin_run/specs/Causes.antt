@@ -14,7 +14,7 @@ use Rattle.script_read.specs.Script.{IsScriptFault}
 use Rattle.script_read.specs.declared.fault.ScriptFault.{ScriptFault}
 use Rattle.script_read.specs.declared.fault.ScriptFault.TheVariants.{NotUtf8}
 use Rattle.casbin_run.specs.declared.job.Task.{Task}
-use Rattle.casbin_run.specs.declared.job.Task.TheVariants.{Enforce, Cached, Explain, Serve, Check, Format, Implicit, Report, Ship, Follow}
+use Rattle.casbin_run.specs.declared.job.Task.TheVariants.{Enforce, Cached, Explain, Serve, Share, Check, Format, Implicit, Report, Ship, Follow}
 use Rattle.casbin_run.specs.Answered.{TookFirst, TookSome}
 use Rattle.casbin_run.specs.Given.{FileIs, Given, InputIs}
 use Rattle.casbin_run.specs.Jobs.{absent_in, job_asked, reads_input, shapes_with}
@@ -28,6 +28,7 @@ HasFault (Enforce json) bytes fault = ¬ (IsUtf8 bytes) × (fault ≡ NotUtf8)
 HasFault (Cached json capacity) bytes fault = ¬ (IsUtf8 bytes) × (fault ≡ NotUtf8)
 HasFault (Explain json most) bytes fault = ¬ (IsUtf8 bytes) × (fault ≡ NotUtf8)
 HasFault (Serve json) bytes fault = IsScriptFault json bytes fault
+HasFault (Share json workers) bytes fault = IsScriptFault json bytes fault
 HasFault Check bytes fault = ⊥
 HasFault Format bytes fault = ⊥
 HasFault (Implicit subject) bytes fault = ⊥

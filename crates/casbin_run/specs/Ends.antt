@@ -12,7 +12,8 @@ use Rattle.casbin_run.specs.Given.{Given}
 use Rattle.casbin_run.specs.Jobs.{shapes_with}
 use Rattle.casbin_run.specs.Shown.{ReadsBack}
 use Rattle.casbin_run.specs.Reached.{FetchedBoth}
-use Rattle.casbin_run.specs.Worlds.{Taken, World}
+use Rattle.loaded_work.specs.Sinks.{Taken}
+use Rattle.casbin_run.specs.Worlds.{World}
 use Rattle.casbin_run.specs.Written.{Tells}
 
 -- `out` took the text that answers what is given, each file was fetched once, and what was printed of the files reads back

@@ -14,7 +14,7 @@ use Rattle.script_read.specs.Said.{Said}
 use Rattle.script_read.specs.Script.{IsRequests, IsScript}
 use Rattle.casbin_run.specs.declared.job.Job.{Job}
 use Rattle.casbin_run.specs.declared.job.Task.{Task}
-use Rattle.casbin_run.specs.declared.job.Task.TheVariants.{Enforce, Cached, Explain, Serve, Check, Format, Implicit, Report, Ship, Follow}
+use Rattle.casbin_run.specs.declared.job.Task.TheVariants.{Enforce, Cached, Explain, Serve, Share, Check, Format, Implicit, Report, Ship, Follow}
 use Rattle.casbin_run.specs.Jobs.{absent_in, job_asked, shapes_with}
 use Rattle.casbin_run.specs.Written.{HasRoom}
 
@@ -60,6 +60,7 @@ SaysItems (Enforce json) input items = InputIs input (λ bytes. IsRequests json 
 SaysItems (Cached json capacity) input items = InputIs input (λ bytes. IsRequests json bytes items)
 SaysItems (Explain json most) input items = InputIs input (λ bytes. IsRequests json bytes items)
 SaysItems (Serve json) input items = InputIs input (λ bytes. IsScript json bytes items)
+SaysItems (Share json workers) input items = InputIs input (λ bytes. IsScript json bytes items)
 SaysItems Check input items = items ≡ []
 SaysItems Format input items = items ≡ []
 SaysItems (Implicit subject) input items = items ≡ []
@@ -73,6 +74,7 @@ SaysPackets (Enforce json) input packets = packets ≡ []
 SaysPackets (Cached json capacity) input packets = packets ≡ []
 SaysPackets (Explain json most) input packets = packets ≡ []
 SaysPackets (Serve json) input packets = packets ≡ []
+SaysPackets (Share json workers) input packets = packets ≡ []
 SaysPackets Check input packets = packets ≡ []
 SaysPackets Format input packets = packets ≡ []
 SaysPackets (Implicit subject) input packets = packets ≡ []

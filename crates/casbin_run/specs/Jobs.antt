@@ -1,4 +1,4 @@
--- What a command is done on. A session is done on one thread, and a demonstration is none of these.
+-- What a command is done on. A demonstration is none of these: it has no files.
 use Rattle.std.specs.Prelude.{ℕ, ◌<◌, ◌≤◌, ⊤, ◌==◌, Bool, true, false, List, [], Option, Some, None, if◌then◌else◌}
 use Rattle.std.specs.Option.{option_and_then, option_map_or}
 use Rattle.command_words.specs.Commands.{command_of}
@@ -11,18 +11,22 @@ use Rattle.perm_base.specs.declared.shapes.Fit.{Fit}
 use Rattle.perm_base.specs.declared.shapes.Shapes.{Shapes}
 use Rattle.casbin_run.specs.declared.job.Job.{Job}
 use Rattle.casbin_run.specs.declared.job.Task.{Task}
-use Rattle.casbin_run.specs.declared.job.Task.TheVariants.{Enforce, Cached, Explain, Serve, Check, Format, Implicit, Report, Ship, Follow}
+use Rattle.casbin_run.specs.declared.job.Task.TheVariants.{Enforce, Cached, Explain, Serve, Share, Check, Format, Implicit, Report, Ship, Follow}
 
 -- requests are answered by way of a cache where its size is told
 abbrev pub enforcing : Bool → Option ℕ → Task
 enforcing json None = Enforce json
 enforcing json (Some capacity) = Cached json capacity
 
+-- a script is done on one thread, or by so many workers beside the administrator
+abbrev pub serving : Bool → ℕ → Task
+serving json workers = if workers == 0 then Serve json else Share json workers
+
 -- what a command is done on
 abbrev pub job_of : Command → Option Job
 job_of (command.Enforce files options json cache) = Some (record { files = files; options = Some options; task = enforcing json cache })
 job_of (command.Explain files options json most) = Some (record { files = files; options = Some options; task = Explain json most })
-job_of (command.Session files options json workers) = if workers == 0 then Some (record { files = files; options = Some options; task = Serve json }) else None
+job_of (command.Session files options json workers) = Some (record { files = files; options = Some options; task = serving json workers })
 job_of (command.Check files) = Some (record { files = files; options = None; task = Check })
 job_of (command.Format files) = Some (record { files = files; options = None; task = Format })
 job_of (command.Implicit files subject options) = Some (record { files = files; options = Some options; task = Implicit subject })
@@ -41,6 +45,7 @@ reads_input (Enforce json) = true
 reads_input (Cached json capacity) = true
 reads_input (Explain json most) = true
 reads_input (Serve json) = true
+reads_input (Share json workers) = true
 reads_input Check = false
 reads_input Format = false
 reads_input (Implicit subject) = false
@@ -48,10 +53,20 @@ reads_input Report = false
 reads_input Ship = true
 reads_input Follow = true
 
--- a cache has a size from 1 to 10,000
+-- a cache has a size from 1 to 10,000, and there are 1 to 8 workers where there are any
 abbrev pub HasSize : Task → Type 0
 HasSize (Cached json capacity) = (0 < capacity) × (capacity ≤ 10000)
+HasSize (Share json workers) = (0 < workers) × (workers ≤ 8)
 HasSize _ = ⊤
+
+-- workers answer the requests of a script
+abbrev pub has_workers : Task → Bool
+has_workers (Share json workers) = true
+has_workers _ = false
+
+-- the words ask for that
+abbrev pub ask_for_workers : List (List ℕ) → Bool
+ask_for_workers words = option_map_or (λ (job : Job). has_workers job.task) (job_asked words) false
 
 -- the words ask for a command that reads the input
 abbrev pub ask_for_input : List (List ℕ) → Bool

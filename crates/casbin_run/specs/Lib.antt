@@ -1,10 +1,5 @@
 pub mod Jobs
 pub mod Given
-pub mod Roles
-pub mod Caching
-pub mod Explaining
-pub mod Shipping
-pub mod Following
 pub mod Texts
 pub mod Written
 pub mod Finders
@@ -14,4 +9,5 @@ pub mod Answered
 pub mod Shown
 pub mod Causes
 pub mod Ends
+pub mod Demos
 pub mod Helps

@@ -11,7 +11,7 @@ use Rattle.casbin_run.specs.Given.{AreFiles, Given}
 use Rattle.casbin_run.specs.Jobs.{shapes_with}
 use Rattle.casbin_run.specs.declared.job.Job.{Job}
 use Rattle.casbin_run.specs.declared.job.Task.{Task}
-use Rattle.casbin_run.specs.declared.job.Task.TheVariants.{Enforce, Cached, Explain, Serve, Check, Format, Implicit, Report, Ship, Follow}
+use Rattle.casbin_run.specs.declared.job.Task.TheVariants.{Enforce, Cached, Explain, Serve, Share, Check, Format, Implicit, Report, Ship, Follow}
 
 -- the model that `check` prints is read back, unless its text is longer than a model may be; the policy that `format` prints is
 abbrev pub ReadsBack : Task → ModelParts → Shapes → table.Policy → Type 0
@@ -19,6 +19,7 @@ ReadsBack (Enforce json) parts shapes tables = ⊤
 ReadsBack (Cached json capacity) parts shapes tables = ⊤
 ReadsBack (Explain json most) parts shapes tables = ⊤
 ReadsBack (Serve json) parts shapes tables = ⊤
+ReadsBack (Share json workers) parts shapes tables = ⊤
 ReadsBack (Implicit subject) parts shapes tables = ⊤
 ReadsBack Report parts shapes tables = ⊤
 ReadsBack Ship parts shapes tables = ⊤

@@ -2,6 +2,7 @@
 use Rattle.std.specs.Prelude.{◌≡◌, ℕ, List, [], ◌∷◌, ◌++◌, codes, decimal, flat_map, length, map}
 use Rattle.answer_lines.specs.LineText.{line_text, name_text}
 use Rattle.answer_lines.specs.declared.answer.Line.{Line}
+use Rattle.loaded_work.specs.Texts.{text_of_lines}
 use Rattle.model_conf.specs.ModelText.{ModelParts}
 use Rattle.model_conf.specs.Printed as model
 use Rattle.perm_base.specs.declared.shapes.RoleShape.{RoleShape}
@@ -11,10 +12,7 @@ use Rattle.perm_base.specs.declared.shapes.TableId.TheVariants.{P, G}
 use Rattle.policy_table.specs.Tables.{Policy, rows}
 use Rattle.script_read.specs.Said.{Said}
 use Rattle.session_meaning.specs.Plain.{IsPlain}
-
--- the lines of answers
-abbrev pub text_of_lines : List Line → List ℕ
-text_of_lines lines = flat_map line_text lines
+use Rattle.session_meaning.specs.Rounds.{IsShared}
 
 -- a table's name and how many rules it has
 abbrev pub count_line : Policy → TableId → List ℕ
@@ -28,14 +26,17 @@ tables_of parts = P ∷ map (λ (shape : RoleShape). G shape.number) parts.relat
 abbrev pub check_text : ModelParts → Policy → List ℕ
 check_text parts tables = model.printed parts ++ codes "\n" ++ flat_map (count_line tables) (tables_of parts)
 
--- pieces, one behind the other
-abbrev pub joined : List (List ℕ) → List ℕ
-joined pieces = flat_map (λ (piece : List ℕ). piece) pieces
-
 -- the lines of items that are done one after the other, where these patterns were refused for each of them; each line is a piece
 pub record IsOfLines (parts : ModelParts) (shapes : Shapes) (tables : Policy) (items : List Said) (refused : List (List (List ℕ))) (pieces : List (List ℕ)) (text : List ℕ) : Type 0 where
   pub lines : List Line
   pub plain : IsPlain parts shapes tables items refused lines
+  pub pieces_are : pieces ≡ map line_text lines
+  pub text_is : text ≡ text_of_lines lines
+
+-- lines of items whose requests are answered by so many workers; each line is a piece
+pub record IsOfSharedLines (workers : ℕ) (parts : ModelParts) (shapes : Shapes) (tables : Policy) (items : List Said) (refused : List (List (List ℕ))) (pieces : List (List ℕ)) (text : List ℕ) : Type 0 where
+  pub lines : List Line
+  pub shared : IsShared parts shapes tables workers items refused lines
   pub pieces_are : pieces ≡ map line_text lines
   pub text_is : text ≡ text_of_lines lines
 

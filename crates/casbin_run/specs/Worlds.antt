@@ -2,15 +2,8 @@
 use Rattle.std.specs.Prelude.{ℕ, List, Option}
 use Rattle.outside.specs.Faults.{Rose}
 use Rattle.outside.specs.declared.fetch_log.FetchCall.{FetchCall}
+use Rattle.loaded_work.specs.Sinks.{Taken}
 use Rattle.regex_gate.specs.Refusals.{Refusals}
-
--- what a sink has taken, where it tells it, and how often it has failed
-pub record Taken : Type 0 where
-  pub bytes : Option (List ℕ)
-  pub faults : ℕ
-
-abbrev pub taken : Option (List ℕ) → ℕ → Taken
-taken bytes faults = record { bytes = bytes; faults = faults }
 
 -- what a shelf was asked for, where it tells it, and how often it has failed
 pub record Fetched : Type 0 where

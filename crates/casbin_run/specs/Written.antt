@@ -9,14 +9,14 @@ use Rattle.run_status.specs.Hits.{hits_line}
 use Rattle.run_status.specs.Told.{IsTold}
 use Rattle.script_read.specs.Said.{Said}
 use Rattle.casbin_run.specs.declared.job.Task.{Task}
-use Rattle.casbin_run.specs.declared.job.Task.TheVariants.{Enforce, Cached, Explain, Serve, Check, Format, Implicit, Report, Ship, Follow}
-use Rattle.casbin_run.specs.Caching.{AreHits}
-use Rattle.casbin_run.specs.Explaining.{IsExplained}
-use Rattle.casbin_run.specs.Following.{IsFollowed}
-use Rattle.casbin_run.specs.Roles.{IsImplied, IsLong, IsReported, IsShort}
-use Rattle.casbin_run.specs.Shipping.{ship_text}
-use Rattle.casbin_run.specs.Texts.{IsOfLines, IsWhole, check_text}
-use Rattle.casbin_run.specs.Worlds.{Taken}
+use Rattle.casbin_run.specs.declared.job.Task.TheVariants.{Enforce, Cached, Explain, Serve, Share, Check, Format, Implicit, Report, Ship, Follow}
+use Rattle.loaded_work.specs.Caching.{AreHits}
+use Rattle.loaded_work.specs.Explaining.{IsExplained}
+use Rattle.loaded_work.specs.Following.{IsFollowed}
+use Rattle.loaded_work.specs.Roles.{IsImplied, IsLong, IsReported, IsShort}
+use Rattle.loaded_work.specs.Shipping.{ship_text}
+use Rattle.casbin_run.specs.Texts.{IsOfLines, IsOfSharedLines, IsWhole, check_text}
+use Rattle.loaded_work.specs.Sinks.{Taken}
 
 -- the text of a task: the lines of its answers, or with near misses below them; what is seen of the model and the policy, or of the policy alone; what roles imply; the packets of what items publish; what becomes of
 -- packets that are taken
@@ -25,6 +25,7 @@ Writes (Enforce json) parts shapes tables items packets refused pieces text = Is
 Writes (Cached json capacity) parts shapes tables items packets refused pieces text = IsOfLines parts shapes tables items refused pieces text
 Writes (Explain json most) parts shapes tables items packets refused pieces text = IsExplained most parts shapes tables items refused pieces text
 Writes (Serve json) parts shapes tables items packets refused pieces text = IsOfLines parts shapes tables items refused pieces text
+Writes (Share json workers) parts shapes tables items packets refused pieces text = IsOfSharedLines workers parts shapes tables items refused pieces text
 Writes Check parts shapes tables items packets refused pieces text = IsWhole (λ whole. whole ≡ check_text parts tables) refused pieces text
 Writes Format parts shapes tables items packets refused pieces text = IsWhole (λ whole. whole ≡ policy.printed tables) refused pieces text
 Writes (Implicit subject) parts shapes tables items packets refused pieces text = IsWhole (IsImplied parts shapes tables subject) refused pieces text
@@ -38,6 +39,7 @@ HasRoom (Enforce json) shapes tables = ⊤
 HasRoom (Cached json capacity) shapes tables = ⊤
 HasRoom (Explain json most) shapes tables = ⊤
 HasRoom (Serve json) shapes tables = ⊤
+HasRoom (Share json workers) shapes tables = ⊤
 HasRoom Check shapes tables = ⊤
 HasRoom Format shapes tables = ⊤
 HasRoom (Implicit subject) shapes tables = ⊤

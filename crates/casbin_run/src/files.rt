@@ -12,10 +12,11 @@ ghost use Rattle.run_status.specs.declared.part.Part.TheVariants as parts;
 ghost use Rattle.casbin_run.specs.Given.{FileIs};
 ghost use Rattle.casbin_run.specs.Jobs.{absent_in, limit_in, shapes_with};
 ghost use Rattle.casbin_run.specs.Helps.Loading.{FetchStops, fetch_stop, IsLoaded, LoadStops, ModelStops, PolicyStops, ShapesStop};
-ghost use Rattle.casbin_run.specs.Helps.Working.{IsReady};
+ghost use Rattle.loaded_work.specs.Helps.Working.{IsReady};
 
 use crate::job::Job;
 use command_words::Options;
+use loaded_work::Loaded;
 use model_conf::{Model, read_model, shapes_of};
 use perm_base::{Fetch, Shapes, Shelf};
 use policy_csv::read_policy;
@@ -25,14 +26,6 @@ use std::alloc::Global;
 
 // By how many links a name has a role at most, unless it is told.
 const MOST_LINKS: u8 = 10;
-
-/// A model and a policy of its shapes.
-#[derive(Drop)]
-pub(crate) struct Loaded {
-    pub model: Model,
-    pub shapes: Shapes,
-    pub tables: Tables,
-}
 
 /// Fetches and reads the model, tries the options against it, and then fetches and reads the policy.
 pub(crate) fn load<F: Shelf>(alloc: Global, shelf: &mut F, job: &Job<'_>) -> Result<Loaded, Stop>

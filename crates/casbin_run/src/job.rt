@@ -1,7 +1,8 @@
-ghost use Rattle.std.specs.Prelude.{◌≡◌, ◌<◌, ◌≤◌, IfSome};
+ghost use Rattle.std.specs.Prelude.{◌≡◌, ◌<◌, ◌≤◌, IfSome, MatchOption, false};
 ghost use Rattle.command_words.specs.Items.{texts};
 ghost use Rattle.casbin_run.specs.Helps.Running.{job_on};
-ghost use Rattle.casbin_run.specs.Jobs.{HasSize, enforcing, job_asked, job_of, limit_in};
+ghost use Rattle.casbin_run.specs.Jobs.{HasSize, enforcing, has_workers, job_asked, job_of, limit_in, serving};
+ghost use Rattle.casbin_run.specs.declared.job.Task.TheVariants.{Share};
 
 use command_words::{Command, Files, Options, Subject, read_words};
 
@@ -16,6 +17,8 @@ pub(crate) enum Task<'a> {
     Explain { json: bool, most: u32 },
     /// The items of a script are done one after the other.
     Serve { json: bool },
+    /// The requests of a script are answered by so many workers, beside the one who does all other items.
+    Share { json: bool, workers: u32 },
     /// The model is printed, and the rules of its tables are counted.
     Check,
     /// The policy is printed.
@@ -70,13 +73,7 @@ fn job_of(command: Command<'_>) -> Option<Job<'_>>
             options,
             json,
             workers,
-        } => {
-            if workers == 0 {
-                Some(job_on(files, Some(options), Task::Serve { json }))
-            } else {
-                None
-            }
-        }
+        } => Some(job_on(files, Some(options), serving(json, u32::from(workers)))),
         Command::Check(files) => Some(job_on(files, None, Task::Check)),
         Command::Format(files) => Some(job_on(files, None, Task::Format)),
         Command::Implicit {
@@ -98,6 +95,37 @@ fn enforcing<'a>(json: bool, cache: Option<u32>) -> Task<'a>
     match cache {
         None => Task::Enforce { json },
         Some(capacity) => Task::Cached { json, capacity },
+    }
+}
+
+// How a script is done.
+fn serving<'a>(json: bool, workers: u32) -> Task<'a>
+    ensures { result ≡ serving json workers }
+{
+    if workers == 0 {
+        Task::Serve { json }
+    } else {
+        Task::Share { json, workers }
+    }
+}
+
+/// Whether the requests of a script are JSON, and how many workers answer them, where that is the task.
+pub(crate) fn sharing(task: &Task<'_>) -> Option<(bool, u32)>
+    ensures { MatchOption result (has_workers task.now ≡ false)
+        (λ told. task.now ≡ Share told.0 told.1) }
+{
+    match task {
+        Task::Share { json, workers } => Some((*json, *workers)),
+        Task::Enforce { .. }
+        | Task::Cached { .. }
+        | Task::Explain { .. }
+        | Task::Serve { .. }
+        | Task::Check
+        | Task::Format
+        | Task::Implicit { .. }
+        | Task::Report
+        | Task::Ship
+        | Task::Follow => None,
     }
 }
 

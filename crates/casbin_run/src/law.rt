@@ -1,4 +1,4 @@
-ghost use Rattle.std.specs.Prelude.{◌≡◌, ◌⊎◌, ℕ, IsSome, List, Some, true};
+ghost use Rattle.std.specs.Prelude.{◌≡◌, ◌⊎◌, ℕ, IsSome, List, Some, false, true};
 ghost use Rattle.outside.specs.Told.{with_back};
 ghost use Rattle.run_status.specs.Statuses.{status_of};
 ghost use Rattle.run_status.specs.declared.status.Status as declared;
@@ -8,11 +8,12 @@ ghost use Rattle.casbin_run.specs.Answered.{IsCalmlyAnswered};
 ghost use Rattle.casbin_run.specs.Causes.{Cause};
 ghost use Rattle.casbin_run.specs.Ends.{Ends, is_of_files};
 ghost use Rattle.casbin_run.specs.Given.{Given, IsInOrder};
-ghost use Rattle.casbin_run.specs.Jobs.{job_asked};
+ghost use Rattle.casbin_run.specs.Jobs.{ask_for_workers, job_asked};
 ghost use Rattle.casbin_run.specs.Shown.{WroteModel, WrotePolicy};
 ghost use Rattle.casbin_run.specs.declared.job.Job.{Job};
 ghost use Rattle.casbin_run.specs.declared.job.Task.TheVariants.{Check, Format};
-ghost use Rattle.casbin_run.specs.Worlds.{InputRose, OutRose, ShelfRose, Taken, World};
+ghost use Rattle.casbin_run.specs.Worlds.{InputRose, OutRose, ShelfRose, World};
+ghost use Rattle.loaded_work.specs.Sinks.{Taken};
 
 use log_ship::{bytes_say_packets_once, every_input_is_packets_or_at_fault, texts_read_in_one_way};
 use matcher_read::every_text_is_a_matcher_or_at_fault;
@@ -32,7 +33,7 @@ use script_read::{
 use session_meaning::lines_are_one;
 
 /// The law that what is given, where it is told, has one end: all is in order, or there is a cause of a stop, and one at most,
-/// and not both; and one text at most answers it where nothing is refused.
+/// and not both; and where no workers answer, one text at most answers it where nothing is refused.
 pub fn one_end()
     ensures there { (g : Given) → IsSome g.files → IsSome g.input
         → IsInOrder g ⊎ ((stop : Stop) × Cause g stop) }
@@ -41,6 +42,7 @@ pub fn one_end()
     ensures no_cause { (g : Given) (stop : Stop) → IsSome g.files → IsSome g.input
         → IsInOrder g → ¬ (Cause g stop) }
     ensures one_text { (g : Given) (first second : List ℕ) → IsSome g.files → IsSome g.input
+        → ask_for_workers g.words ≡ false
         → IsCalmlyAnswered g first → IsCalmlyAnswered g second → first ≡ second }
 {
     every_text_is_a_matcher_or_at_fault();
@@ -71,7 +73,7 @@ pub fn one_end()
 
 /// The law that a run ends as what is given says, where it is told. A cause gives its own status, unless memory ran out or a
 /// file or the input could not be read. Where all is in order and no count rises, the run is done, or memory ran out. Where the
-/// finders refuse nothing, what is taken is the one text that answers what is given.
+/// finders refuse nothing and no workers answer, what is taken is the one text that answers what is given.
 pub fn runs_end_as_given()
     ensures exact { (g : Given) (before now : World) (err err_now : Taken)
         (status : declared.Status) (stop : Stop) → IsSome g.files → IsSome g.input
@@ -86,6 +88,7 @@ pub fn runs_end_as_given()
     ensures text { (g : Given) (before now : World) (err err_now : Taken) (text : List ℕ)
         → IsSome g.files → IsSome g.input
         → Ends g before now err err_now statuses.Done
+        → ask_for_workers g.words ≡ false
         → now.finders ≡ before.finders → IsCalmlyAnswered g text
         → now.out.bytes ≡ with_back before.out.bytes text }
 {

@@ -3,13 +3,13 @@ ghost use Rattle.answer_lines.specs.LineText.{Appends};
 ghost use Rattle.outside.specs.Faults.{Rose};
 ghost use Rattle.outside.specs.Told.{with_back};
 ghost use Rattle.policy_csv.specs.Printed.{printed};
-ghost use Rattle.casbin_run.specs.Helps.Working.{IsReady, ShowStops};
+ghost use Rattle.loaded_work.specs.Helps.Working.{IsReady, ShowStops};
 ghost use Rattle.casbin_run.specs.Shown.{ReadsBack};
 ghost use Rattle.casbin_run.specs.declared.job.Task.TheVariants.{Check, Format};
 ghost use Rattle.casbin_run.specs.Texts.{check_text, count_line};
 
-use crate::files::Loaded;
 use itoa::Buffer;
+use loaded_work::Loaded;
 use model_conf::print_model;
 use perm_base::{NoMemory, Sink, TableId, push_all};
 use policy_csv::print_policy;

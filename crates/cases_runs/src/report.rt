@@ -3,13 +3,17 @@ use crate::truth::truth;
 use anyhow::{Context, Result, ensure};
 use casbin_run::run_casbin;
 use case_list::{Case, Field};
+use live_pair::ListPlaces;
+use live_rounds::FreeGate;
 use outside::{ListShelf, ListSink, ListSource, Text};
 use regex_gate::ListFinder;
 use std::alloc::Global;
 use std::io::Write;
+use std::sync::Wait;
+use std::thread::Threads;
 
 // The fields of a case. Those that end in `-fails` have the numbers of the calls that fail, counted from 1.
-const KEYS: [&str; 11] = [
+const KEYS: [&str; 12] = [
     "words",
     "sure",
     "rule",
@@ -21,6 +25,7 @@ const KEYS: [&str; 11] = [
     "err-fails",
     "err-most",
     "finder-fails",
+    "places-fails",
 ];
 
 const KEYS_OF_TEXTS: [&str; 3] = ["file", "input", "matchers"];
@@ -41,7 +46,7 @@ const SHOWN_AT_END: usize = 40;
 /// Runs a case, and says what it came to. A case with `matchers` is run for each of these lines, with the line as the
 /// matcher at the end of its model; one with `sure` over objects that never fail, and keep nothing. A case with a
 /// `request` asks for the truth of its model's matcher alone, with a `rule` or without.
-pub fn report(alloc: Global, case: &Case) -> Result<Vec<u8>> {
+pub fn report<R: Threads + Wait + Sync>(rt: &R, alloc: Global, case: &Case) -> Result<Vec<u8>> {
     case.check_keys(&KEYS, &KEYS_OF_TEXTS)?;
     let matchers = case.text(alloc, "matchers")?;
     let mut report = Vec::new(alloc);
@@ -51,15 +56,15 @@ pub fn report(alloc: Global, case: &Case) -> Result<Vec<u8>> {
         return Ok(report);
     }
     if has(case, "sure") {
-        let code = run_sure(alloc, case)?;
+        let code = run_sure(rt, alloc, case)?;
         writeln!(report, "case {}: status {code}", case.name)?;
         return Ok(report);
     }
     if matchers.is_empty() {
-        push_run(alloc, &mut report, case, b"")?;
+        push_run(rt, alloc, &mut report, case, b"")?;
     }
     for matcher in matchers.split_inclusive(|byte| *byte == b'\n') {
-        push_run(alloc, &mut report, case, matcher)?;
+        push_run(rt, alloc, &mut report, case, matcher)?;
     }
     Ok(report)
 }
@@ -69,10 +74,16 @@ fn has(case: &Case, key: &str) -> bool {
 }
 
 // Runs a case with this matcher, and says what it came to.
-fn push_run(alloc: Global, report: &mut Vec<u8>, case: &Case, matcher: &[u8]) -> Result<()> {
+fn push_run<R: Threads + Wait + Sync>(
+    rt: &R,
+    alloc: Global,
+    report: &mut Vec<u8>,
+    case: &Case,
+    matcher: &[u8],
+) -> Result<()> {
     let mut out = sink(alloc, case, "out-most", "out-fails")?;
     let mut err = sink(alloc, case, "err-most", "err-fails")?;
-    let code = run(alloc, case, matcher, &mut out, &mut err)?;
+    let code = run(rt, alloc, case, matcher, &mut out, &mut err)?;
     write!(report, "case {}", case.name)?;
     if let Some(matcher) = matcher.strip_suffix(b"\n") {
         report.extend_from_slice(b": ")?;
@@ -84,7 +95,8 @@ fn push_run(alloc: Global, report: &mut Vec<u8>, case: &Case, matcher: &[u8]) ->
 }
 
 // Runs a case with this matcher and these sinks, and gives its exit status.
-fn run(
+fn run<R: Threads + Wait + Sync>(
+    rt: &R,
     alloc: Global,
     case: &Case,
     matcher: &[u8],
@@ -96,7 +108,9 @@ fn run(
     put_files(alloc, &mut shelf, case, matcher)?;
     let mut input = input(alloc, case)?;
     let mut finders = finders(alloc, case)?;
+    let mut places = ListPlaces::new(case.numbers(alloc, "places-fails")?);
     run_over(
+        rt,
         alloc,
         &words,
         &mut shelf,
@@ -104,11 +118,13 @@ fn run(
         out,
         err,
         &mut finders,
+        &mut places,
     )
 }
 
 // Runs the program. What its contract says is of no use here, so this function keeps it from the others.
-fn run_over(
+fn run_over<R: Threads + Wait + Sync>(
+    rt: &R,
     alloc: Global,
     words: &[String],
     shelf: &mut ListShelf,
@@ -116,9 +132,13 @@ fn run_over(
     out: &mut ListSink,
     err: &mut ListSink,
     finders: &mut Vec<ListFinder>,
+    places: &mut ListPlaces,
 ) -> Result<u8> {
     ensure!(finders.len() == 9, "a run has nine finders");
-    Ok(run_casbin(alloc, words, shelf, input, out, err, finders).code())
+    let status = run_casbin(
+        rt, alloc, words, shelf, input, out, err, finders, &FreeGate, places,
+    );
+    Ok(status.code())
 }
 
 // The input of a case.

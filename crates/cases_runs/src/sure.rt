@@ -2,21 +2,26 @@ use crate::report::{file_of, finders};
 use anyhow::{Context, Result, ensure};
 use casbin_run::run_casbin;
 use case_list::Case;
+use live_pair::PairPlaces;
+use live_rounds::FreeGate;
 use outside::{SureShelf, SureSink, SureSource};
 use regex_gate::ListFinder;
 use std::alloc::Global;
+use std::sync::Wait;
+use std::thread::Threads;
 
 /// Runs a case over objects that never fail, and gives its exit status.
-pub(crate) fn run_sure(alloc: Global, case: &Case) -> Result<u8> {
+pub(crate) fn run_sure<R: Threads + Wait + Sync>(rt: &R, alloc: Global, case: &Case) -> Result<u8> {
     let words = case.words(alloc, "words")?;
     let mut shelf = shelf(alloc, case)?;
     let mut input = SureSource::new(case.text(alloc, "input")?);
     let mut finders = finders(alloc, case)?;
-    run_over(alloc, &words, &mut shelf, &mut input, &mut finders)
+    run_over(rt, alloc, &words, &mut shelf, &mut input, &mut finders)
 }
 
 // Runs the program. What its contract says is of no use here, so this function keeps it from the others.
-fn run_over(
+fn run_over<R: Threads + Wait + Sync>(
+    rt: &R,
     alloc: Global,
     words: &[String],
     shelf: &mut SureShelf,
@@ -26,7 +31,20 @@ fn run_over(
     ensure!(finders.len() == 9, "a run has nine finders");
     let mut out = SureSink::new();
     let mut err = SureSink::new();
-    Ok(run_casbin(alloc, words, shelf, input, &mut out, &mut err, finders).code())
+    let mut places = PairPlaces::new();
+    let status = run_casbin(
+        rt,
+        alloc,
+        words,
+        shelf,
+        input,
+        &mut out,
+        &mut err,
+        finders,
+        &FreeGate,
+        &mut places,
+    );
+    Ok(status.code())
 }
 
 // A shelf with the files of a case.

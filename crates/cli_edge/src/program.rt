@@ -6,6 +6,8 @@ use crate::file_shelf::FileShelf;
 use crate::read_source::ReadSource;
 use crate::write_sink::WriteSink;
 use casbin_run::run_casbin;
+use live_pair::PairPlaces;
+use live_rounds::FreeGate;
 use outside::NoMemory;
 use regex_keep::KeepingFinder;
 use run_status::{Status, Stop, tell_stop};
@@ -28,6 +30,7 @@ pub fn run_program(rt: &HostRuntime) -> Status {
         return tell_stop(&mut err, Stop::NoMemory);
     };
     run_casbin(
+        rt,
         alloc,
         &words,
         &mut FileShelf::new(alloc, rt),
@@ -35,6 +38,8 @@ pub fn run_program(rt: &HostRuntime) -> Status {
         &mut WriteSink::new(rt.stdout()),
         &mut err,
         &mut finders,
+        &FreeGate,
+        &mut PairPlaces::new(),
     )
 }
 

@@ -3,6 +3,7 @@
 
 mod admin;
 mod book;
+mod editing;
 mod edits;
 mod entrance;
 mod front;

@@ -34,7 +34,7 @@ no_items [] is = refl
 no_items (x ∷ xs) is = absurd (omega (arith, is))
 
 -- a log of version 0 stands for no edits
-stands_alone : (log : Logged) → versions log ≡ 0 → Stands log []
+pub stands_alone : (log : Logged) → versions log ≡ 0 → Stands log []
 stands_alone log none =
     let start : log.start ≡ 0 = omega (arith, none) in
     let tail : log.tail ≡ [] = no_items log.tail (omega (arith, none)) in

@@ -20,8 +20,7 @@ use Rattle.session_meaning.specs.Given.{call_answer, given, with_edit}
 use Rattle.session_meaning.specs.Replies.{call_reply}
 use Rattle.version_log.specs.Log.{most_versions, versions}
 use Rattle.live_round.specs.Desks.{HasEditsOf, StandsBehind}
-use Rattle.live_round.specs.Helps.WithoutSearch.{IsPlainStep}
-use Rattle.live_round.specs.Steps.{IsStopped}
+use Rattle.live_round.specs.Steps.{IsPlainStep, IsStopped}
 use Rattle.live_round.proofs.LogLemmas.{none_asked}
 
 -- a desk with this state, these pending edits and this count has the edits that they have

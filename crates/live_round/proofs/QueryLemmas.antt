@@ -21,7 +21,7 @@ use Rattle.session_meaning.proofs.CallerLemmas.{desk_not_recalled, desk_recalled
 use Rattle.session_meaning.specs.Replies.{IsReply, query_reply}
 use Rattle.session_meaning.specs.Versions.{out, published}
 use Rattle.version_log.specs.Log.{versions}
-use Rattle.live_round.specs.Helps.WithoutSearch.{IsPlainStep}
+use Rattle.live_round.specs.Steps.{IsPlainStep}
 use Rattle.live_round.proofs.StepLemmas.{quiet_step}
 
 -- a refusal that is no want of memory is the answer

@@ -12,9 +12,8 @@ use Rattle.session_meaning.proofs.CallerLemmas.{behind_other, desk_version, only
 use Rattle.session_meaning.specs.Replies.{IsAnswerTo, IsReply}
 use Rattle.version_log.specs.Log.{versions}
 use Rattle.live_round.specs.Desks.{HasEditsOf, StandsBehind}
-use Rattle.live_round.specs.Helps.WithoutSearch.{IsPlainStep}
+use Rattle.live_round.specs.Steps.{IsPlainStep, IsStep}
 use Rattle.live_round.specs.Requests.{IsAnsweredBy, Refuses}
-use Rattle.live_round.specs.Steps.{IsStep}
 use Rattle.live_round.proofs.LogLemmas.{none_asked}
 
 -- what a request is answered over the published policy is its reply behind the items that the desk has the edits of

@@ -2,4 +2,3 @@ pub mod Requests
 pub mod Desks
 pub mod Steps
 pub mod Scripts
-pub mod Helps

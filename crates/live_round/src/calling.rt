@@ -1,45 +1,58 @@
-ghost use Rattle.std.specs.Prelude.{◌≡◌, ◌≢◌, IfOk, OnErr};
+ghost use Rattle.std.specs.Prelude.{◌≡◌, ◌≢◌, IfOk, OnErr, OnOk};
 ghost use Rattle.answer_lines.specs.declared.answer.Answer.TheVariants as answer;
 ghost use Rattle.edit_calls.specs.declared.refused.CallRefused.TheVariants as call;
 ghost use Rattle.script_read.specs.Said.{edits, keeps, publishes};
-ghost use Rattle.live_round.specs.Helps.WithoutSearch.{IsPlainStep};
-ghost use Rattle.live_round.specs.Steps.{IsStopped};
+ghost use Rattle.live_round.specs.Steps.{IsPlainStep, IsStopped};
 
 use answer_lines::Answer;
 use edit_calls::{Call, CallRefused};
 use perm_base::NoMemory;
-use policy_desk::Desk;
+use policy_desk::Editor;
 use std::alloc::Global;
 
 /// Makes a call in the drafts.
-pub(crate) fn answer_call(alloc: Global, desk: &mut Desk, call: &Call) -> Result<Answer, NoMemory>
-    ensures step { IfOk result (IsPlainStep (edits call.now) desk.old desk.new) }
-    ensures shapes { desk.new.state.shapes ≡ desk.old.state.shapes }
-    ensures stopped { OnErr result (IsStopped desk.old desk.new) }
+pub(crate) fn answer_call<R, E: Editor<R>>(
+    alloc: Global,
+    editor: &mut E,
+    call: &Call,
+) -> Result<Answer, NoMemory>
+    ensures step { IfOk result
+        (IsPlainStep (edits call.now) (E.work editor.old) (E.work editor.new)) }
+    ensures shapes { (E.work editor.new).state.shapes ≡ (E.work editor.old).state.shapes }
+    ensures stopped { OnErr result (IsStopped (E.work editor.old) (E.work editor.new)) }
+    ensures stays { E.stays editor.old editor.new }
 {
-    desk.holds();
-    match desk.call(alloc, call) {
+    editor.desk().holds();
+    match editor.call(alloc, call) {
         Ok(changed) => Ok(Answer::Truth(changed)),
         Err(refused) => told(refused),
     }
 }
 
 /// Publishes the pending edits.
-pub(crate) fn answer_publish(alloc: Global, desk: &mut Desk) -> Result<Answer, NoMemory>
-    ensures step { IfOk result (IsPlainStep publishes desk.old desk.new) }
-    ensures shapes { desk.new.state.shapes ≡ desk.old.state.shapes }
-    ensures stopped { OnErr result (IsStopped desk.old desk.new) }
+pub(crate) fn answer_publish<R, E: Editor<R>>(
+    rt: &R,
+    alloc: Global,
+    editor: &mut E,
+) -> Result<Answer, NoMemory>
+    ensures step { IfOk result
+        (IsPlainStep publishes (E.work editor.old) (E.work editor.new)) }
+    ensures shapes { (E.work editor.new).state.shapes ≡ (E.work editor.old).state.shapes }
+    ensures stopped { OnErr result (IsStopped (E.work editor.old) (E.work editor.new)) }
+    ensures grows { OnOk result (E.grows editor.old editor.new) }
+    ensures stays { OnErr result (E.stays editor.old editor.new) }
 {
-    let version = desk.publish(alloc)?;
+    let version = editor.publish(rt, alloc)?;
     Ok(Answer::Published(version))
 }
 
 /// Says how many edits are to be kept from now on.
-pub(crate) fn answer_keep(desk: &mut Desk, count: u32) -> Answer
-    ensures step { IsPlainStep (keeps count) desk.old desk.new result }
-    ensures shapes { desk.new.state.shapes ≡ desk.old.state.shapes }
+pub(crate) fn answer_keep<R, E: Editor<R>>(editor: &mut E, count: u32) -> Answer
+    ensures step { IsPlainStep (keeps count) (E.work editor.old) (E.work editor.new) result }
+    ensures shapes { (E.work editor.new).state.shapes ≡ (E.work editor.old).state.shapes }
+    ensures stays { E.stays editor.old editor.new }
 {
-    desk.keep(count);
+    editor.keep(count);
     Answer::Kept(count)
 }
 

@@ -4,10 +4,8 @@ ghost use Rattle.decision.specs.Programs.{Suits};
 ghost use Rattle.live_round.specs.Requests.{Refuses};
 ghost use Rattle.live_round.specs.Steps.{IsStep, IsStopped};
 
-use crate::calling::{answer_call, answer_keep, answer_publish};
-use crate::querying::{
-    answer_has, answer_history, answer_roles, answer_rows, answer_sync, answer_users,
-};
+use crate::asked::asked_in;
+use crate::other::answer_other;
 use crate::request::answer_request;
 use answer_lines::Answer;
 use decision::{Program, Scratch};
@@ -36,26 +34,10 @@ pub fn answer_item<P: Finder>(
     ensures refused { OnErr result (Refuses program.now
         (P.refusals finder.old) (P.refusals finder.new) (seen item.now)) }
 {
-    match item {
-        Item::Ask(asked) => answer_ask(alloc, desk, program, asked, finder, scratch),
-        Item::Edit(call) => answer_call(alloc, desk, call),
-        Item::Publish => answer_publish(alloc, desk),
-        Item::Sync => Ok(answer_sync(desk)),
-        Item::Has { table, rule } => answer_has(desk, *table, rule),
-        Item::Rows { table, at, values } => answer_rows(alloc, desk, *table, *at, values),
-        Item::Roles {
-            relation,
-            name,
-            domain,
-        } => answer_roles(alloc, desk, *relation, name, domain),
-        Item::Users {
-            relation,
-            name,
-            domain,
-        } => answer_users(alloc, desk, *relation, name, domain),
-        Item::Keep(count) => Ok(answer_keep(desk, *count)),
-        Item::History(number) => answer_history(alloc, desk, *number),
-    }
+    let Some(asked) = asked_in(item) else {
+        return answer_other(&(), alloc, desk, item);
+    };
+    answer_ask(alloc, desk, program, asked, finder, scratch)
 }
 
 // Answers a line of requests by the published policy.

@@ -1,17 +1,21 @@
 //! Sessions: scripts that are answered at a desk, each item in its turn.
 #![tactic(auto)]
 
+mod asked;
 mod calling;
 mod item;
 mod named;
+mod other;
 mod plain;
 mod pushing;
 mod querying;
 mod request;
 
 pub use answer_lines::{Answer, Line, Lines};
+pub use asked::asked_in;
 pub use item::answer_item;
 pub use named::named_rule;
+pub use other::answer_other;
 pub use plain::run_plain;
 pub use pushing::push_request;
 pub use request::answer_request;

@@ -3,7 +3,7 @@ ghost use Rattle.std.specs.Option.{option_copied};
 ghost use Rattle.answer_lines.specs.declared.answer.Answer.TheVariants as answer;
 ghost use Rattle.policy_query.specs.declared.refused.QueryRefused.TheVariants as query;
 ghost use Rattle.script_read.specs.Said.{has, recalls, roles, rows, syncs, users};
-ghost use Rattle.live_round.specs.Helps.WithoutSearch.{IsPlainStep};
+ghost use Rattle.live_round.specs.Steps.{IsPlainStep};
 
 use answer_lines::Answer;
 use perm_base::{NoMemory, Rule, TableId, Text};

@@ -1,3 +1,4 @@
 pub mod DecidedLemmas
 mod CacheLemmas
+mod OpeningLemmas
 pub mod CallerLemmas

@@ -3,6 +3,8 @@
 
 mod calling;
 mod desk;
+mod editor;
 mod publishing;
 
 pub use desk::{Desk, open_desk};
+pub use editor::Editor;

@@ -11,8 +11,9 @@ use Rattle.casbin_run.specs.Ends.{IsDone}
 use Rattle.casbin_run.specs.Finders.{AreUsed}
 use Rattle.casbin_run.specs.Given.{Given}
 use Rattle.casbin_run.specs.Helps.Tasks.{IsQuiet}
-use Rattle.casbin_run.specs.Jobs.{ask_for_input}
-use Rattle.casbin_run.specs.Worlds.{Taken, World}
+use Rattle.casbin_run.specs.Jobs.{ask_for_input, ask_for_workers}
+use Rattle.loaded_work.specs.Sinks.{Taken}
+use Rattle.casbin_run.specs.Worlds.{World}
 
 -- a task on these files
 abbrev pub job_on : FileNames → Option Options → Task → Job
@@ -32,4 +33,4 @@ pub record ComesTo (g : Given) (before now : World) (err err_now : Taken) (resul
   pub shelf_counted : before.shelf.faults ≤ now.shelf.faults
   pub input_counted : before.input.faults ≤ now.input.faults
   pub out_counted : before.out.faults ≤ now.out.faults
-  pub finders : AreUsed before.finders now.finders
+  pub finders : AreUsed (ask_for_workers g.words) before.finders now.finders

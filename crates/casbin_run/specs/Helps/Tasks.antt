@@ -12,13 +12,13 @@ use Rattle.run_status.specs.declared.stop.Stop.{Stop}
 use Rattle.run_status.specs.declared.stop.Stop.TheVariants.{NoScript, NoPackets, CannotRead, CannotWrite, TooLong, NoMemory}
 use Rattle.script_read.specs.Said.{Said}
 use Rattle.session_meaning.specs.Plain.{all_refused}
-use Rattle.casbin_run.specs.declared.files.Loaded.{Loaded}
+use Rattle.loaded_work.specs.declared.loaded.Loaded.{Loaded}
 use Rattle.casbin_run.specs.declared.job.Task.{Task}
 use Rattle.casbin_run.specs.Causes.{HasFault, HasPacketFault, OfInput}
 use Rattle.casbin_run.specs.Ends.{may_write}
 use Rattle.casbin_run.specs.Given.{InputIs, SaysItems, SaysPackets}
-use Rattle.casbin_run.specs.Texts.{joined}
-use Rattle.casbin_run.specs.Worlds.{Taken}
+use Rattle.loaded_work.specs.Texts.{joined}
+use Rattle.loaded_work.specs.Sinks.{Taken}
 use Rattle.casbin_run.specs.Written.{HasRoom, IsTooLong, Tells, Writes}
 
 -- what a task is done on
@@ -50,6 +50,11 @@ pub record DidAll (on : Ground) (IsLogged : List (List ℕ) → Type 0) (out out
   pub worked : Worked on IsLogged
   pub took : out_now ≡ with_back out worked.text
   pub told : Tells on.task on.model on.shapes on.policy worked.items worked.refused worked.text err err_now
+
+-- the same, but for what `err` took
+pub record DidWrite (on : Ground) (IsLogged : List (List ℕ) → Type 0) (out out_now : Option (List ℕ)) : Type 0 where
+  pub worked : Worked on IsLogged
+  pub took : out_now ≡ with_back out worked.text
 
 pub record DidSome (on : Ground) (IsLogged : List (List ℕ) → Type 0) (out out_now : Option (List ℕ)) : Type 0 where
   pub worked : Worked on IsLogged

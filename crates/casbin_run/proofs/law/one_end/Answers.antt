@@ -1,10 +1,10 @@
 use Rattle.std.proofs.Common.{false, inl, inr, ⊎_elim}
-use Rattle.casbin_run.proofs.FollowLemmas.{followed_once}
+use Rattle.loaded_work.proofs.CallerLemmas.{followed_once}
 use Rattle.casbin_run.proofs.ModelLemmas.{HasMatchers, some_model}
 use Rattle.casbin_run.proofs.SomeEnd.{SaysSome, some_end}
 use Rattle.casbin_run.proofs.OneEnd.{SaysOnce, no_cause, one_cause, one_text}
 use Rattle.casbin_run.proofs.ExplainWork.{ExplainsOnce, explained_once}
-use Rattle.casbin_run.proofs.RolesLemmas.{ImpliesOnce, implied_once, long_or_short, reported_once}
+use Rattle.loaded_work.proofs.CallerLemmas.{ImpliesOnce, implied_once, long_or_short, reported_once}
 use Rattle.casbin_run.proofs.law.one_end.Goals as goal
 use Rattle.casbin_run.proofs.law.one_end.Goals.{After-relation_has_one_report}
 

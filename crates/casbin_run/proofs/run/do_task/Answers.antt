@@ -1,9 +1,11 @@
-use Rattle.std.proofs.Common.{◌≡◌, List, Err, refl, rules}
+use Rattle.std.proofs.Common.{◌≡◌, List, Err, true, false, ap, refl, rules, sym, ◌∙◌}
 use Rattle.std.specs.Prelude.{map}
 use Rattle.std.proofs.lemmas.Result.{IfErr-weaker, on_ok_weaker}
 use Rattle.script_read.specs.Said.{Said, seen}
 use Rattle.script_read.specs.Script.{IsRequests}
 use Rattle.casbin_run.specs.Helps.Tasks.{ground}
+use Rattle.casbin_run.specs.Jobs.{has_workers}
+use Rattle.casbin_run.specs.declared.job.Task.{Task}
 use Rattle.casbin_run.specs.declared.job.Task.TheVariants.{Enforce, Cached, Explain, Serve, Check, Format, Implicit, Report, Ship, Follow}
 use Rattle.casbin_run.proofs.WorkLemmas.{answered_all, answered_stops, asked_says, input_stops, report_quiet, report_stops, served_says, show_not_quiet, showed_all, shipped_stops, shown_all, shown_still, shown_stops, shows_check, shows_follow, shows_format, shows_implied, shows_report, shows_ship, stops_still, text_quiet, text_stops, used_still}
 use Rattle.casbin_run.proofs.CachedWork.{cached_done}
@@ -128,6 +130,12 @@ returns-in_ok-text-in-Cached-clause-stopped g c =
 
 pub returns-in_ok-text-in-Cached-clause-reads_back : goal.returns-in_ok-text-in-Cached-clause-reads_back
 returns-in_ok-text-in-Cached-clause-reads_back g c = rw c.in-Cached.is (on_ok_weaker c.enforce_cached.result (λ all. tt) c.enforce_cached.ensures.printed)
+
+-- a task with workers is not done here
+pub unreachable-requires : goal.unreachable-requires
+unreachable-requires g c =
+    let both : true ≡ false = sym (ap (λ (task : Task). has_workers task) c.in-Share.is) ∙ c.requires.alone in
+    absurd cc
 
 -- what is shipped
 pub returns-in_err-script-in-Ship-clause-stopped : goal.returns-in_err-script-in-Ship-clause-stopped

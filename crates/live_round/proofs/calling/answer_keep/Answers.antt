@@ -4,6 +4,7 @@ use Rattle.live_round.proofs.PublishLemmas.{keep_step}
 use Rattle.live_round.proofs.calling.answer_keep.Goals as goal
 
 pub returns-clause-step : goal.returns-clause-step
-returns-clause-step c =
+returns-clause-step g c =
+    let work = g.E.Editor.work in
     let is = c.keep.ensures.kept in
-    keep_step c.args.desk.now c.keep.new.self c.args.count (ap (λ (d : Work). d.kept) is) (ap (λ (d : Work). d.state) is) (ap (λ (d : Work). d.pending) is) (ap (λ (d : Work). d.floor) is)
+    keep_step (work c.args.editor.now) (work c.keep.new.self) c.args.count (ap (λ (d : Work). d.kept) is) (ap (λ (d : Work). d.state) is) (ap (λ (d : Work). d.pending) is) (ap (λ (d : Work). d.floor) is)

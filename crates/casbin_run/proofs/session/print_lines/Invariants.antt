@@ -1,7 +1,0 @@
-use Rattle.std.proofs.Common.{drop}
-use Rattle.std.specs.Prelude.{string_bytes}
-use Rattle.casbin_run.proofs.PrintLemmas.{IsMidway}
-use Rattle.casbin_run.proofs.session.print_lines.Given as goal
-
-abbrev pub invariant-loop-line : goal.invariant-loop-line
-invariant-loop-line g l = IsMidway (g.K.Sink.taken l.initial.out) (g.K.Sink.taken l.out) (string_bytes l.text) l.lines (drop l.line-index l.lines) (g.K.Sink.faults l.initial.out) (g.K.Sink.faults l.out)

@@ -1,0 +1,103 @@
+-- The summary of the demonstration's session.
+use Rattle.std.proofs.Common.{◌≡◌, ◌<◌, ℕ, zero, suc, true, List, [], ◌∷◌, None, Option, ap, arith, drop, length, refl, slice_set, subst, sym, ◌∙◌}
+use Rattle.std.specs.Prelude.{IfSome, false, map}
+use Rattle.decision.proofs.CallerLemmas.{suits_columns}
+use Rattle.decision.specs.Programs.{Suits}
+use Rattle.answer_lines.specs.declared.answer.Line.{Line}
+use Rattle.demo_run.specs.Demo.{AreLinesWith, IsDemo}
+use Rattle.demo_run.specs.Helps.Sessions.{HasLines, IsFirstDesk, IsSession}
+use Rattle.demo_run.specs.Summary.{summary}
+use Rattle.demo_run.specs.DemoTexts.{model_text, policy_text, script_text}
+use Rattle.model_conf.specs.ModelText.{IsModel, ModelParts}
+use Rattle.model_conf.specs.Shapes.{first_absent, shapes_of}
+use Rattle.perm_base.specs.declared.shapes.RoleShape.{RoleShape}
+use Rattle.policy_csv.specs.Policy.{IsPolicy}
+use Rattle.perm_base.specs.declared.shapes.Shapes.{Shapes}
+use Rattle.policy_desk.specs.Desks.{Work}
+use Rattle.policy_index.specs.Keys.{KeyParts, is_below}
+use Rattle.policy_state.specs.States.{State, tables}
+use Rattle.script_read.specs.Script.{IsScript}
+use Rattle.version_log.specs.Log.{versions}
+use Rattle.script_read.specs.Said.{seen}
+use Rattle.script_read.specs.declared.item.Item.{Item}
+use Rattle.policy_table.specs.Tables.{Policy}
+use Rattle.session_meaning.specs.Plain.{IsPlain}
+use Rattle.session_meaning.specs.Rounds.{IsShared}
+
+pub demo_is : (count workers : ℕ) (program : ModelParts) (desk : Work) (script : List Item) (lines : List Line) (text : List ℕ) → IsSession count program desk script → HasLines workers program desk.state.shapes (tables desk.state) script lines → text ≡ summary count lines → IsDemo count workers text
+demo_is count workers program desk script lines text is has text-is = record {
+  model = program;
+  policy = tables desk.state;
+  items = map seen script;
+  refused = has.refused;
+  lines = lines;
+  is_model = is.is_model;
+  is_policy = is.is_policy;
+  is_script = is.is_script;
+  are_lines = subst (λ (shapes : Shapes). AreLinesWith workers program shapes (tables desk.state) (map seen script) has.refused lines) is.shapes_are has.are;
+  text_is = text-is;
+}
+
+-- the lines of one thread, and those of workers
+pub lines_plain : (workers : ℕ) (model : ModelParts) (shapes : Shapes) (policy : Policy) (script : List Item) (refused : List (List (List ℕ))) (lines : List Line) → workers ≡ 0 → IsPlain model shapes policy (map seen script) refused lines → HasLines workers model shapes policy script lines
+lines_plain workers model shapes policy script refused lines none plain = subst (λ (n : ℕ). HasLines n model shapes policy script lines) (sym none) (record { refused = refused; are = plain })
+
+pub lines_shared : (workers : ℕ) (model : ModelParts) (shapes : Shapes) (policy : Policy) (script : List Item) (refused : List (List (List ℕ))) (lines : List Line) → 0 < workers → IsShared model shapes policy workers (map seen script) refused lines → HasLines workers model shapes policy script lines
+lines_shared zero model shapes policy script refused lines some shared = absurd (omega (arith, some))
+lines_shared (suc workers) model shapes policy script refused lines some shared = record { refused = refused; are = shared }
+
+-- ---- before the first item
+
+none_absent : (relations : List RoleShape) → first_absent relations [] [] ≡ None
+unfolding first_absent
+none_absent relations = refl
+
+-- shapes without functions suit the model
+pub plain_suits : (model : ModelParts) (shapes : Shapes) → shapes ≡ shapes_of model [] [] 10 → Suits model shapes
+plain_suits model shapes is = record {
+  names = [];
+  domains = [];
+  limit = 10;
+  names_once = λ i j d before within. absurd (omega (arith, within));
+  domains_once = λ i j d before within. absurd (omega (arith, within));
+  present = none_absent model.relations;
+  some = omega arith;
+  most = omega arith;
+  shapes_are = is;
+}
+
+-- the columns of a program's key are those of the policy
+pub key_within : (model : ModelParts) (shapes : Shapes) (key : Option KeyParts) → Suits model shapes → IfSome key (λ (key : KeyParts). is_below (length model.policy) key ≡ true) → IfSome key (λ (key : KeyParts). is_below shapes.columns key ≡ true)
+key_within model shapes key suits within = subst (λ (size : ℕ). IfSome key (λ (key : KeyParts). is_below size key ≡ true)) (sym (suits_columns model shapes suits)) within
+
+-- a desk that was just opened
+pub desk_is : (count : ℕ) (shapes : Shapes) (policy : Policy) (state : State) (desk : Work) → IsPolicy shapes (policy_text count) policy → state.shapes ≡ shapes → tables state ≡ policy → state.log.start ≡ 0 → state.log.tail ≡ [] → desk.state ≡ state → desk.pending ≡ [] → desk.kept ≡ None → IsFirstDesk count shapes desk
+desk_is count shapes policy state desk is_policy state-shapes state-tables start tail desk-state pending kept = record {
+  shapes_are = ap (λ (s : State). s.shapes) desk-state ∙ state-shapes;
+  is_policy = subst (IsPolicy shapes (policy_text count)) (sym (ap tables desk-state ∙ state-tables)) is_policy;
+  opening = subst (λ (s : State). versions s.log ≡ 0) (sym desk-state) (omega (arith, start, ap (λ (l : List _). length l) tail));
+  none_pending = pending;
+  keeps_all = kept;
+}
+
+-- what was read is a session
+pub session_is : (count : ℕ) (program : ModelParts) (shapes : Shapes) (desk : Work) (script : List Item) → IsModel model_text program → shapes ≡ shapes_of program [] [] 10 → IsFirstDesk count shapes desk → IsScript false (script_text count) (map seen script) → IsSession count program desk script
+session_is count program shapes desk script is_model shapes-is first is_script = record {
+  is_model = is_model;
+  shapes_are = here;
+  is_policy = subst (λ (s : Shapes). IsPolicy s (policy_text count) (tables desk.state)) shapes-is first.is_policy;
+  is_script = is_script;
+  suits = plain_suits program desk.state.shapes here;
+  opening = first.opening;
+  none_pending = first.none_pending;
+  keeps_all = first.keeps_all;
+}
+  where
+    here : desk.state.shapes ≡ shapes_of program [] [] 10
+    here = first.shapes_are ∙ shapes-is
+
+-- ---- the finders behind the first
+
+pub others_stay : {P : Type 0} (finders : List P) (last : P) → drop 1 (slice_set finders 0 last) ≡ drop 1 finders
+others_stay [] last = refl
+others_stay (f ∷ finders) last = refl

@@ -1,0 +1,3 @@
+mod DemoLemmas
+mod TextLemmas
+mod CountLemmas

@@ -1,0 +1,6 @@
+use Rattle.answer_lines.specs.LineText.{Appends}
+use Rattle.demo_run.specs.DemoTexts.{change_lines, lines_below}
+use Rattle.demo_run.proofs.texts.push_changes.Given as goal
+
+abbrev pub invariant-loop-number : goal.invariant-loop-number
+invariant-loop-number l = Appends l.initial.text l.text (lines_below change_lines l.number)

@@ -1,0 +1,4 @@
+pub mod DemoTexts
+pub mod Summary
+pub mod Demo
+pub mod Helps

@@ -1,0 +1,45 @@
+-- How many lines of each kind there are, and the last version that they tell of a publish.
+use Rattle.std.specs.Prelude.{ℕ, ◌+◌, Bool, true, false, List, ◌++◌, codes, decimal, fold, length}
+use Rattle.answer_lines.specs.declared.answer.Answer.{Answer}
+use Rattle.answer_lines.specs.declared.answer.Answer.TheVariants.{Decided, Published, Truth}
+use Rattle.answer_lines.specs.declared.answer.Line.{Line}
+use Rattle.demo_run.specs.declared.counts.Counts.{Counts}
+use Rattle.effect_fold.specs.declared.verdict.Verdict.{Verdict}
+use Rattle.effect_fold.specs.declared.verdict.Verdict.TheVariants.{Allow, Deny, Fault}
+
+abbrev pub none_counted : Counts
+none_counted = record { allow = 0; deny = 0; fault = 0; yes = 0; no = 0; version = 0 }
+
+-- one verdict more
+abbrev pub with_verdict : Counts → Verdict → Counts
+with_verdict counts (Allow row) = record counts { allow = counts.allow + 1 }
+with_verdict counts (Deny row) = record counts { deny = counts.deny + 1 }
+with_verdict counts (Fault row failed) = record counts { fault = counts.fault + 1 }
+
+-- one call more, by whether it changed the policy
+abbrev pub with_truth : Counts → Bool → Counts
+with_truth counts true = record counts { yes = counts.yes + 1 }
+with_truth counts false = record counts { no = counts.no + 1 }
+
+-- one answer more
+abbrev pub with_answer : Counts → Answer → Counts
+with_answer counts (Decided version verdict rule) = with_verdict counts verdict
+with_answer counts (Truth changed) = with_truth counts changed
+with_answer counts (Published version) = record counts { version = version }
+with_answer counts _ = counts
+
+abbrev pub counted : List Line → Counts
+counted lines = fold (λ (counts : Counts) (line : Line). with_answer counts line.answer) none_counted lines
+
+-- the line that tells them: which demonstration it is and how many items it has, the verdicts, and the calls and the last version
+abbrev pub head_text : (count items : ℕ) → List ℕ
+head_text count items = codes "demo " ++ decimal count ++ codes ": items " ++ decimal items
+
+abbrev pub verdicts_text : Counts → List ℕ
+verdicts_text counts = codes ", allow " ++ decimal counts.allow ++ codes ", deny " ++ decimal counts.deny ++ codes ", fault " ++ decimal counts.fault
+
+abbrev pub truths_text : Counts → List ℕ
+truths_text counts = codes ", true " ++ decimal counts.yes ++ codes ", false " ++ decimal counts.no ++ codes ", version " ++ decimal counts.version ++ codes "\n"
+
+abbrev pub summary : ℕ → List Line → List ℕ
+summary count lines = head_text count (length lines) ++ verdicts_text (counted lines) ++ truths_text (counted lines)

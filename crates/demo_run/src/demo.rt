@@ -1,0 +1,191 @@
+ghost use Rattle.std.specs.Prelude.{◌≡◌, ◌≤◌, [], IfOk, None, drop, false, length, map, string_bytes};
+ghost use Rattle.std.specs.List.{AllZip};
+ghost use Rattle.decision.specs.Programs.{Suits};
+ghost use Rattle.demo_run.specs.Demo.{IsDemo};
+ghost use Rattle.demo_run.specs.DemoTexts.{model_text, policy_text, script_text};
+ghost use Rattle.demo_run.specs.Helps.Sessions.{HasLines, IsFirstDesk, IsSession};
+ghost use Rattle.model_conf.specs.ModelText.{IsModel};
+ghost use Rattle.model_conf.specs.Shapes.{shapes_of};
+ghost use Rattle.perm_base.specs.Shapes.{AreValid};
+ghost use Rattle.policy_csv.specs.Policy.{IsPolicy};
+ghost use Rattle.policy_state.specs.States.{tables};
+ghost use Rattle.policy_table.specs.Limits.{AreSound};
+ghost use Rattle.regex_gate.specs.Refusals.{IsUsed};
+ghost use Rattle.script_read.specs.Said.{seen};
+ghost use Rattle.script_read.specs.Script.{IsScript};
+ghost use Rattle.version_log.specs.Log.{versions};
+
+use crate::counts::summary;
+use crate::texts::{MODEL, policy_text, script_text};
+use decision::{Program, make_program};
+use live_pair::Places;
+use live_round::{Lines, run_plain};
+use live_rounds::{Gate, run_shared};
+use model_conf::{Model, read_model, shapes_of};
+use perm_base::{NoMemory, Shapes};
+use policy_csv::read_policy;
+use policy_desk::{Desk, open_desk};
+use policy_state::make_state;
+use policy_table::Tables;
+use regex_gate::Finder;
+use script_read::{Script, read_script};
+use std::alloc::Global;
+use std::sync::Wait;
+use std::thread::Threads;
+
+// The greatest number of links.
+const MOST_LINKS: u8 = 10;
+
+// A session before its first item.
+#[derive(Drop)]
+struct Session {
+    program: Program,
+    desk: Desk,
+    script: Script,
+}
+
+/// The summary of the demonstration's session with so many permissions and users, done on one thread or with workers. Refused
+/// is want of memory alone.
+pub fn summarize<R: Threads + Wait + Sync, P: Finder, G: Gate, H: Places>(
+    rt: &R,
+    alloc: Global,
+    count: u32,
+    workers: u32,
+    finders: &mut Vec<P>,
+    gate: &G,
+    places: &mut H,
+) -> Result<String, NoMemory>
+    requires few { workers ≤ 8 }
+    requires nine { length finders.old.items ≡ 9 }
+    ensures told { IfOk result (λ text. IsDemo count workers (string_bytes text)) }
+    ensures used { AllZip IsUsed (map P.refusals finders.old.items)
+        (map P.refusals finders.new.items) }
+    ensures alone { workers ≡ 0 → drop 1 finders.new.items ≡ drop 1 finders.old.items }
+    ensures counted { H.faults places.old ≤ H.faults places.new }
+{
+    let session = open_session(alloc, count)?;
+    let lines = lines_of(rt, alloc, session, workers, finders, gate, places)?;
+    summary(alloc, u64::from(count), lines.as_slice())
+}
+
+// The lines of a session.
+fn lines_of<R: Threads + Wait + Sync, P: Finder, G: Gate, H: Places>(
+    rt: &R,
+    alloc: Global,
+    session: Session,
+    workers: u32,
+    finders: &mut Vec<P>,
+    gate: &G,
+    places: &mut H,
+) -> Result<Lines, NoMemory>
+    requires suits { Suits session.program session.desk.state.shapes }
+    requires opening { versions session.desk.state.log ≡ 0 }
+    requires none_pending { session.desk.pending ≡ [] }
+    requires keeps_all { session.desk.kept ≡ None }
+    requires few { workers ≤ 8 }
+    requires nine { length finders.old.items ≡ 9 }
+    ensures lines { IfOk result (HasLines workers
+        session.program session.desk.state.shapes (tables session.desk.state) session.script) }
+    ensures used { AllZip IsUsed (map P.refusals finders.old.items)
+        (map P.refusals finders.new.items) }
+    ensures alone { workers ≡ 0 → drop 1 finders.new.items ≡ drop 1 finders.old.items }
+    ensures counted { H.faults places.old ≤ H.faults places.new }
+{
+    let Session {
+        program,
+        desk,
+        script,
+    } = session;
+    if workers == 0 {
+        let mut desk = desk;
+        return run_plain(alloc, &mut desk, &program, &script, &mut finders[0]);
+    }
+    run_shared(
+        rt, alloc, desk, &program, &script, workers, finders, gate, places,
+    )
+}
+
+// The demonstration's session with so many permissions and users. Its texts are in order, so only want of memory refuses it.
+fn open_session(alloc: Global, count: u32) -> Result<Session, NoMemory>
+    ensures session { IfOk result (λ session. IsSession count
+        session.program session.desk session.script) }
+{
+    let script = demo_script(alloc, count)?;
+    let made = demo_program(alloc)?;
+    let (program, shapes) = made;
+    let desk = demo_desk(alloc, &program, shapes, count)?;
+    Ok(Session {
+        program,
+        desk,
+        script,
+    })
+}
+
+// The program of its model, and the shapes of its policies.
+fn demo_program(alloc: Global) -> Result<(Program, Shapes), NoMemory>
+    ensures model { IfOk result (λ made. IsModel model_text made.0) }
+    ensures shapes { IfOk result (λ made. made.1 ≡ shapes_of made.0 [] [] 10) }
+    ensures valid { IfOk result (λ made. AreValid made.1) }
+    ensures suits { IfOk result (λ made. Suits made.0 made.1) }
+{
+    let model = demo_model(alloc)?;
+    let shapes = demo_shapes(alloc, &model)?;
+    let program = make_program(alloc, model)?;
+    Ok((program, shapes))
+}
+
+// The desk over its policy.
+fn demo_desk(alloc: Global, program: &Program, shapes: Shapes, count: u32) -> Result<Desk, NoMemory>
+    requires valid { AreValid shapes }
+    requires suits { Suits program.now shapes }
+    ensures desk { IfOk result (IsFirstDesk count shapes) }
+{
+    let tables = demo_policy(alloc, &shapes, count)?;
+    let key = program.index_key(alloc)?;
+    let state = make_state(alloc, shapes, key, tables)?;
+    let desk = open_desk(alloc, state)?;
+    Ok(desk)
+}
+
+fn demo_model(alloc: Global) -> Result<Model, NoMemory>
+    ensures { IfOk result (IsModel model_text) }
+{
+    match read_model(alloc, MODEL.as_bytes()) {
+        Ok(model) => Ok(model),
+        Err(_) => Err(NoMemory),
+    }
+}
+
+fn demo_shapes(alloc: Global, model: &Model) -> Result<Shapes, NoMemory>
+    ensures value { IfOk result (λ shapes. shapes ≡ shapes_of model.now [] [] 10) }
+    ensures valid { IfOk result AreValid }
+    ensures suits { IfOk result (Suits model.now) }
+{
+    match shapes_of(alloc, model, &[], &[], MOST_LINKS) {
+        Ok(shapes) => Ok(shapes),
+        Err(_) => Err(NoMemory),
+    }
+}
+
+fn demo_policy(alloc: Global, shapes: &Shapes, count: u32) -> Result<Tables, NoMemory>
+    requires valid { AreValid shapes.now }
+    ensures policy { IfOk result (λ tables.
+        IsPolicy shapes.now (policy_text count) tables.policy) }
+    ensures sound { IfOk result (λ tables. AreSound shapes.now tables.policy) }
+{
+    let text = policy_text(alloc, count)?;
+    match read_policy(alloc, text.as_bytes(), shapes) {
+        Ok(tables) => Ok(tables),
+        Err(_) => Err(NoMemory),
+    }
+}
+
+fn demo_script(alloc: Global, count: u32) -> Result<Script, NoMemory>
+    ensures { IfOk result (λ script. IsScript false (script_text count) (map seen script)) }
+{
+    let text = script_text(alloc, count)?;
+    match read_script(alloc, text.as_bytes(), false) {
+        Ok(script) => Ok(script),
+        Err(_) => Err(NoMemory),
+    }
+}

@@ -1,0 +1,34 @@
+use Rattle.std.proofs.Common.{◌≡◌, ◌++◌, ◌∷◌, [], rules, sym, ◌∙◌}
+use Rattle.live_round.proofs.CallerLemmas.{on_err_of}
+use Rattle.live_rounds.proofs.BesideLemmas.{done_all, done_asked, done_first, done_more, done_stopped, done_unsaid}
+use Rattle.live_rounds.proofs.beside.answer_others.Goals as goal
+
+pub loop-item-init : goal.loop-item-init
+loop-item-init g c = done_first g.J.Naming.shapes g.J.Naming.opening c.args.items.now c.args.admin.now c.new-replies.result.items c.new-replies.ensures.items
+
+-- a request is left to the workers
+pub loop-item-preserved-then-is_request : goal.loop-item-preserved-then-is_request
+loop-item-preserved-then-is_request g c =
+    done_asked g.J.Naming.shapes g.J.Naming.opening c.args.items.now c.args.admin.now c.loop-item.item-index c.item-item.result c.loop-item.admin c.loop-item.replies.items c.loop-item-test.true c.item-item.is c.loop-item.invariant
+    (sym c.if-is_request.true ∙ c.is_request.ensures)
+
+-- another item is done
+pub loop-item-preserved : goal.loop-item-preserved
+loop-item-preserved g c =
+    let more : c.push.new.self.items ≡ c.loop-item.replies.items ++ c.in_ok-reply.reply ∷ [] = search rules in
+    done_more g.J.Naming.shapes g.J.Naming.opening c.args.items.now c.args.admin.now c.loop-item.item-index c.item-item.result c.loop-item.admin c.loop-item.replies.items c.loop-item-test.true c.item-item.is c.loop-item.invariant
+    c.answer_at.new.admin c.push.new.self.items c.in_ok-reply.reply (sym c.is_request.ensures ∙ c.if-is_request.false) c.in_ok-reply.ensures.step more
+
+pub returns-in_err-reply-clause-stopped : goal.returns-in_err-reply-clause-stopped
+returns-in_err-reply-clause-stopped g c =
+    on_err_of c.from_residual.result
+    (done_stopped g.J.Naming.shapes g.J.Naming.opening c.args.items.now c.args.admin.now c.loop-item.item-index c.loop-item.admin c.answer_at.new.admin c.loop-item.replies.items c.loop-item.invariant c.in_err-reply.ensures.stopped)
+
+pub returns-in_err-push-clause-stopped : goal.returns-in_err-push-clause-stopped
+returns-in_err-push-clause-stopped g c =
+    on_err_of c.from_residual-in_err-push.result
+    (done_unsaid g.J.Naming.shapes g.J.Naming.opening c.args.items.now c.args.admin.now c.loop-item.item-index c.item-item.result c.loop-item.admin c.answer_at.new.admin c.loop-item.replies.items c.in_ok-reply.reply c.loop-item-test.true c.item-item.is
+    c.loop-item.invariant (sym c.is_request.ensures ∙ c.if-is_request.false) c.in_ok-reply.ensures.step)
+
+pub returns-clause-done : goal.returns-clause-done
+returns-clause-done g c = done_all g.J.Naming.shapes g.J.Naming.opening c.args.items.now c.args.admin.now c.loop-item.item-index c.loop-item.admin c.loop-item.replies.items c.loop-item-test.false c.loop-item.invariant

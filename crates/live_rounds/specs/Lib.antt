@@ -1,0 +1,10 @@
+pub mod Lists
+pub mod Requests
+pub mod Shares
+pub mod Served
+pub mod Answered
+pub mod Merged
+pub mod Administrators
+pub mod Done
+pub mod Scripts
+pub mod Helps

@@ -1,0 +1,25 @@
+-- The lines of a whole script whose requests are answered by workers, and what the finders refused for them.
+use Rattle.std.specs.Prelude.{◌≤◌, ℕ, zero, suc, List, [], ◌∷◌, if◌then◌else◌, sum_by}
+use Rattle.answer_lines.specs.declared.answer.Line.{Line}
+use Rattle.live_rounds.specs.Done.{HaveRefused}
+use Rattle.model_conf.specs.ModelText.{ModelParts}
+use Rattle.perm_base.specs.declared.shapes.Shapes.{Shapes}
+use Rattle.policy_table.specs.Tables.{Policy}
+use Rattle.regex_gate.specs.Refusals.{Refusals}
+use Rattle.script_read.specs.Said.{Said}
+use Rattle.session_meaning.specs.Plain.{all_refused}
+use Rattle.session_meaning.specs.Rounds.{IsShared, is_sync}
+
+-- the size of the first round: up to and with a sync, or to the end
+abbrev pub round_size : List Said → ℕ
+round_size [] = 0
+round_size (item ∷ items) = if is_sync item then 1 else suc (round_size items)
+
+-- these are lines of the items with so many workers. The finders, each by itself, refused each pattern at least as often as it was
+-- refused for the items, however patterns are weighed
+pub record AreSharedLines (model : ModelParts) (shapes : Shapes) (opening : Policy) (workers : ℕ) (finders now : List Refusals) (items : List Said) (lines : List Line) : Type 0 where
+  pub refused : List (List (List ℕ))
+  pub shared : IsShared model shapes opening workers items refused lines
+  pub more : List (List (List ℕ))
+  pub used : HaveRefused finders now more
+  pub told : (weight : List ℕ → ℕ) → sum_by weight (all_refused refused) ≤ sum_by weight (all_refused more)

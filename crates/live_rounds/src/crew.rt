@@ -1,0 +1,114 @@
+ghost use Rattle.std.specs.Prelude.{◌≡◌, ◌+◌, ◌<◌, ◌≤◌, ◌^◌, ◌++◌, ◌∷◌, [], IfOk, OnErr, length, map, vec_capacity};
+ghost use Rattle.live_rounds.specs.Helps.Posts.{AreAll, AreSpans};
+ghost use Rattle.live_rounds.specs.Shares.{total};
+
+use crate::posts::Post;
+use live_pair::{Naming, Seat};
+use perm_base::NoMemory;
+use regex_gate::Finder;
+use std::alloc::Global;
+use std::mem;
+use std::vec::IntoIter;
+
+/// The posts of a round, and the seats and finders that have none.
+#[derive(Drop)]
+pub(crate) struct Crew<J: Naming, P: Finder> {
+    pub posts: Vec<Post<J, P>>,
+    pub seats: IntoIter<Seat<J>>,
+    pub finders: IntoIter<P>,
+}
+
+/// Posts for the parts of a round, whose places follow each other from this one on: each takes the next seat and the next finder
+/// behind the first, as far as there are seats. The first finder stays, and there is room for all to come back.
+pub(crate) fn muster<J: Naming, P: Finder>(
+    alloc: Global,
+    seats: &mut Vec<Seat<J>>,
+    finders: &mut Vec<P>,
+    sizes: &[usize],
+    from: usize,
+) -> Result<Crew<J, P>, NoMemory>
+    requires enough { length sizes.now < length finders.old.items }
+    requires places { from + total sizes.now < 2 ^ 64 }
+    ensures spans { IfOk result (λ crew. AreSpans from sizes.now
+        (map (λ p. p.from) crew.posts.items) (map (λ p. p.until) crew.posts.items)) }
+    ensures seats { IfOk result (λ crew. seats.old.items
+        ≡ map (λ p. p.seat) crew.posts.items ++ crew.seats.rest.items) }
+    ensures finders { IfOk result (λ crew. finders.old.items
+        ≡ finders.new.items ++ (map (λ p. p.finder) crew.posts.items
+        ++ crew.finders.rest.items)) }
+    ensures first { IfOk result (λ crew. length finders.new.items ≡ 1) }
+    ensures taken { IfOk result (λ crew. seats.new.items ≡ []) }
+    ensures all { IfOk result (λ crew. AreAll sizes.now
+        crew.posts.items crew.seats.rest.items) }
+    ensures few { IfOk result (λ crew. length crew.posts.items ≤ length sizes.now) }
+    ensures seat_room { IfOk result (λ crew.
+        length crew.posts.items + length crew.seats.rest.items ≤ vec_capacity seats.new) }
+    ensures finder_room { IfOk result (λ crew.
+        1 + length crew.posts.items + length crew.finders.rest.items
+        ≤ vec_capacity finders.new) }
+    ensures same_seats { OnErr result (seats.new.items ≡ seats.old.items) }
+    ensures same_finders { OnErr result (finders.new.items ≡ finders.old.items) }
+{
+    let room = Vec::with_capacity(alloc, sizes.len())?;
+    let seat_room = Vec::with_capacity(alloc, seats.len())?;
+    let finder_room = Vec::with_capacity(alloc, finders.len())?;
+    let all_seats = mem::replace(seats, seat_room);
+    let all_finders = mem::replace(finders, finder_room);
+    let mut left_seats = all_seats.into_iter();
+    let mut left_finders = all_finders.into_iter();
+    let first = next_finder(&mut left_finders);
+    finders.push_reserved(first);
+    let posts = manned(alloc, room, &mut left_seats, &mut left_finders, sizes, from);
+    Ok(Crew {
+        posts,
+        seats: left_seats,
+        finders: left_finders,
+    })
+}
+
+// Posts with the next seats and finders, put where there is room for them.
+fn manned<J: Naming, P: Finder>(
+    alloc: Global,
+    room: Vec<Post<J, P>>,
+    seats: &mut IntoIter<Seat<J>>,
+    finders: &mut IntoIter<P>,
+    sizes: &[usize],
+    from: usize,
+) -> Vec<Post<J, P>>
+    requires none { room.items ≡ [] }
+    requires room { length sizes.now ≤ vec_capacity room }
+    requires enough { length sizes.now ≤ length finders.old.rest.items }
+    requires places { from + total sizes.now < 2 ^ 64 }
+    ensures spans { AreSpans from sizes.now
+        (map (λ p. p.from) result.items) (map (λ p. p.until) result.items) }
+    ensures seats { seats.old.rest.items
+        ≡ map (λ p. p.seat) result.items ++ seats.new.rest.items }
+    ensures finders { finders.old.rest.items
+        ≡ map (λ p. p.finder) result.items ++ finders.new.rest.items }
+    ensures all { AreAll sizes.now result.items seats.new.rest.items }
+    ensures few { length result.items ≤ length sizes.now }
+{
+    let mut posts = room;
+    let mut place = from;
+    for size in sizes {
+        let Some(seat) = seats.next() else {
+            return posts;
+        };
+        let finder = next_finder(finders);
+        let until = place + *size;
+        posts.push_reserved(Post::new(alloc, seat, finder, place, until));
+        place = until;
+    }
+    posts
+}
+
+// The next finder, of which there is one.
+fn next_finder<P: Finder>(finders: &mut IntoIter<P>) -> P
+    requires { 0 < length finders.old.rest.items }
+    ensures { finders.old.rest.items ≡ result ∷ finders.new.rest.items }
+{
+    let Some(finder) = finders.next() else {
+        unreachable!()
+    };
+    finder
+}

@@ -1,0 +1,134 @@
+ghost use Rattle.std.specs.Prelude.{◌≡◌, ◌<◌, ℕ, drop, false, length, map, slice_index_or, take};
+ghost use Rattle.decision.specs.Programs.{Suits};
+ghost use Rattle.live_rounds.specs.Served.{IsPartServed};
+ghost use Rattle.regex_gate.specs.Refusals.{IsUsed};
+ghost use Rattle.script_read.specs.Said.{seen};
+
+use crate::gate::Gate;
+use crate::items::items_of;
+use crate::serving::answer_part;
+use decision::Program;
+use live_pair::{Naming, Seat};
+use live_round::Answer;
+use regex_gate::Finder;
+use script_read::Script;
+use std::alloc::Global;
+use std::thread;
+use std::thread::Threads;
+
+/// A worker of a round: its seat, its finder, the places of its items, and what it answered to the requests among them.
+#[derive(Drop)]
+pub(crate) struct Post<J: Naming, P: Finder> {
+    pub seat: Seat<J>,
+    pub finder: P,
+    pub from: usize,
+    pub until: usize,
+    pub replies: Vec<Answer>,
+    pub ran_out: bool,
+}
+
+impl<J: Naming, P: Finder> Post<J, P> {
+    /// A post where nothing was answered yet.
+    pub(crate) fn new(
+        alloc: Global,
+        seat: Seat<J>,
+        finder: P,
+        from: usize,
+        until: usize,
+    ) -> Post<J, P>
+        ensures seat { result.seat ≡ seat }
+        ensures finder { result.finder ≡ finder }
+        ensures from { result.from ≡ from }
+        ensures until { result.until ≡ until }
+    {
+        Post {
+            seat,
+            finder,
+            from,
+            until,
+            replies: Vec::new(alloc),
+            ran_out: false,
+        }
+    }
+}
+
+/// Answers the requests of all posts, each in a thread of its own where one can be started.
+pub(crate) fn serve_all<J: Naming + Send + Sync, R: Threads + Sync, P: Finder, G: Gate>(
+    rt: &R,
+    alloc: Global,
+    program: &Program,
+    script: &Script,
+    gate: &G,
+    posts: &mut [Post<J, P>],
+)
+    requires suits { Suits program.now J.shapes }
+    ensures count { length posts.new ≡ length posts.old }
+    ensures from { (i : ℕ) (d : _) → i < length posts.old
+        → (slice_index_or posts.new i d).from ≡ (slice_index_or posts.old i d).from }
+    ensures until { (i : ℕ) (d : _) → i < length posts.old
+        → (slice_index_or posts.new i d).until ≡ (slice_index_or posts.old i d).until }
+    ensures served { (i : ℕ) (d : _) → i < length posts.old
+        → (slice_index_or posts.new i d).ran_out ≡ false
+        → IsPartServed program.now J.shapes J.opening
+        (map seen (drop (slice_index_or posts.old i d).from
+        (take (slice_index_or posts.old i d).until script.now)))
+        (P.refusals (slice_index_or posts.old i d).finder)
+        (P.refusals (slice_index_or posts.new i d).finder)
+        (slice_index_or posts.old i d).seat (slice_index_or posts.new i d).seat
+        (slice_index_or posts.new i d).replies.items }
+    ensures used { (i : ℕ) (d : _) → i < length posts.old
+        → IsUsed (P.refusals (slice_index_or posts.old i d).finder)
+        (P.refusals (slice_index_or posts.new i d).finder) }
+{
+    if posts.is_empty() {
+        return;
+    }
+    let threads = posts.len();
+    thread::for_each_mut(
+        rt,
+        posts,
+        threads,
+        &|worker, post: &mut Post<J, P>|
+            requires { Suits program.now J.shapes }
+        { serve(alloc, program, script, worker, gate, post) },
+    );
+}
+
+// Answers the requests of a post.
+fn serve<J: Naming, P: Finder, G: Gate>(
+    alloc: Global,
+    program: &Program,
+    script: &Script,
+    worker: usize,
+    gate: &G,
+    post: &mut Post<J, P>,
+)
+    requires suits { Suits program.now J.shapes }
+    ensures from { post.new.from ≡ post.old.from }
+    ensures until { post.new.until ≡ post.old.until }
+    ensures served { post.new.ran_out ≡ false
+        → IsPartServed program.now J.shapes J.opening
+        (map seen (drop post.old.from (take post.old.until script.now)))
+        (P.refusals post.old.finder) (P.refusals post.new.finder)
+        post.old.seat post.new.seat post.new.replies.items }
+    ensures used { IsUsed (P.refusals post.old.finder) (P.refusals post.new.finder) }
+{
+    let worker = u32::try_from(worker).unwrap_or(u32::MAX);
+    let others = u32::try_from(post.from).unwrap_or(u32::MAX);
+    let items = items_of(script, post.from, post.until);
+    let finder = &mut post.finder;
+    let Ok(replies) = answer_part(
+        alloc,
+        &mut post.seat,
+        program,
+        items,
+        finder,
+        worker,
+        others,
+        gate,
+    ) else {
+        post.ran_out = true;
+        return;
+    };
+    post.replies = replies;
+}

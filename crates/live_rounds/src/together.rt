@@ -1,0 +1,143 @@
+ghost use Rattle.std.specs.Prelude.{◌≡◌, ◌<◌, ℕ, IfOk, List, OnErr, drop, false, length, map, slice_index_or, take};
+ghost use Rattle.decision.specs.Programs.{Suits};
+ghost use Rattle.live_rounds.specs.Administrators.{AreDoneBeside, IsAdminAmid, IsAdminBehind};
+ghost use Rattle.live_rounds.specs.Served.{IsPartServed};
+ghost use Rattle.regex_gate.specs.Refusals.{IsUsed};
+ghost use Rattle.script_read.specs.Said.{Said, seen};
+
+use crate::beside::answer_others;
+use crate::gate::Gate;
+use crate::posts::{Post, serve_all};
+use decision::Program;
+use live_pair::{Admin, Naming};
+use live_round::Answer;
+use perm_base::NoMemory;
+use regex_gate::Finder;
+use script_read::{Item, Script};
+use std::alloc::Global;
+use std::sync::Wait;
+use std::thread::{Threads, join_mut};
+
+/// The workers answer the requests of their posts, while the administrator answers and does the other items of a round in the
+/// caller. Where no thread can be started the caller does all of it.
+pub(crate) fn work_together<J: Naming + Send + Sync, R: Threads + Wait + Sync, P: Finder, G: Gate>(
+    rt: &R,
+    alloc: Global,
+    program: &Program,
+    script: &Script,
+    items: &[Item],
+    gate: &G,
+    admin: &mut Admin<J>,
+    posts: &mut Vec<Post<J, P>>,
+) -> Result<Vec<Answer>, NoMemory>
+    requires suits { Suits program.now J.shapes }
+    ensures done { IfOk result (λ replies. (before : List Said)
+        → IsAdminBehind J.shapes J.opening before admin.old
+        → AreDoneBeside J.shapes J.opening before (map seen items.now)
+        admin.old admin.new replies.items) }
+    ensures stopped { OnErr result ((before : List Said)
+        → IsAdminBehind J.shapes J.opening before admin.old
+        → IsAdminAmid J.shapes J.opening before (map seen items.now)
+        admin.new) }
+    ensures count { length posts.new.items ≡ length posts.old.items }
+    ensures from { (i : ℕ) (d : _) → i < length posts.old.items
+        → (slice_index_or posts.new.items i d).from
+        ≡ (slice_index_or posts.old.items i d).from }
+    ensures until { (i : ℕ) (d : _) → i < length posts.old.items
+        → (slice_index_or posts.new.items i d).until
+        ≡ (slice_index_or posts.old.items i d).until }
+    ensures served { (i : ℕ) (d : _) → i < length posts.old.items
+        → (slice_index_or posts.new.items i d).ran_out ≡ false
+        → IsPartServed program.now J.shapes J.opening
+        (map seen (drop (slice_index_or posts.old.items i d).from
+        (take (slice_index_or posts.old.items i d).until script.now)))
+        (P.refusals (slice_index_or posts.old.items i d).finder)
+        (P.refusals (slice_index_or posts.new.items i d).finder)
+        (slice_index_or posts.old.items i d).seat (slice_index_or posts.new.items i d).seat
+        (slice_index_or posts.new.items i d).replies.items }
+    ensures used { (i : ℕ) (d : _) → i < length posts.old.items
+        → IsUsed (P.refusals (slice_index_or posts.old.items i d).finder)
+        (P.refusals (slice_index_or posts.new.items i d).finder) }
+{
+    let mut beside = || answer_others(rt, alloc, items, gate, admin);
+    with_workers(rt, alloc, program, script, gate, posts, &mut beside)
+}
+
+// The same beside whatever the caller does meanwhile: so each function has one closure.
+fn with_workers<
+    J: Naming + Send + Sync,
+    R: Threads + Wait + Sync,
+    P: Finder,
+    G: Gate,
+    F: FnMut() -> Result<Vec<Answer>, NoMemory>,
+>(
+    rt: &R,
+    alloc: Global,
+    program: &Program,
+    script: &Script,
+    gate: &G,
+    posts: &mut Vec<Post<J, P>>,
+    beside: &mut F,
+) -> Result<Vec<Answer>, NoMemory>
+    requires suits { Suits program.now J.shapes }
+    requires called { F.pre beside.old }
+    ensures called { F.step beside.old result beside.new }
+    ensures count { length posts.new.items ≡ length posts.old.items }
+    ensures from { (i : ℕ) (d : _) → i < length posts.old.items
+        → (slice_index_or posts.new.items i d).from
+        ≡ (slice_index_or posts.old.items i d).from }
+    ensures until { (i : ℕ) (d : _) → i < length posts.old.items
+        → (slice_index_or posts.new.items i d).until
+        ≡ (slice_index_or posts.old.items i d).until }
+    ensures served { (i : ℕ) (d : _) → i < length posts.old.items
+        → (slice_index_or posts.new.items i d).ran_out ≡ false
+        → IsPartServed program.now J.shapes J.opening
+        (map seen (drop (slice_index_or posts.old.items i d).from
+        (take (slice_index_or posts.old.items i d).until script.now)))
+        (P.refusals (slice_index_or posts.old.items i d).finder)
+        (P.refusals (slice_index_or posts.new.items i d).finder)
+        (slice_index_or posts.old.items i d).seat (slice_index_or posts.new.items i d).seat
+        (slice_index_or posts.new.items i d).replies.items }
+    ensures used { (i : ℕ) (d : _) → i < length posts.old.items
+        → IsUsed (P.refusals (slice_index_or posts.old.items i d).finder)
+        (P.refusals (slice_index_or posts.new.items i d).finder) }
+{
+    let mut workers = ||
+        requires { Suits program.now J.shapes }
+    { serve_vec(rt, alloc, program, script, gate, posts) };
+    let (_, replies) = join_mut(rt, &mut workers, beside);
+    replies
+}
+
+// The workers' side.
+fn serve_vec<J: Naming + Send + Sync, R: Threads + Sync, P: Finder, G: Gate>(
+    rt: &R,
+    alloc: Global,
+    program: &Program,
+    script: &Script,
+    gate: &G,
+    posts: &mut Vec<Post<J, P>>,
+)
+    requires suits { Suits program.now J.shapes }
+    ensures count { length posts.new.items ≡ length posts.old.items }
+    ensures from { (i : ℕ) (d : _) → i < length posts.old.items
+        → (slice_index_or posts.new.items i d).from
+        ≡ (slice_index_or posts.old.items i d).from }
+    ensures until { (i : ℕ) (d : _) → i < length posts.old.items
+        → (slice_index_or posts.new.items i d).until
+        ≡ (slice_index_or posts.old.items i d).until }
+    ensures served { (i : ℕ) (d : _) → i < length posts.old.items
+        → (slice_index_or posts.new.items i d).ran_out ≡ false
+        → IsPartServed program.now J.shapes J.opening
+        (map seen (drop (slice_index_or posts.old.items i d).from
+        (take (slice_index_or posts.old.items i d).until script.now)))
+        (P.refusals (slice_index_or posts.old.items i d).finder)
+        (P.refusals (slice_index_or posts.new.items i d).finder)
+        (slice_index_or posts.old.items i d).seat (slice_index_or posts.new.items i d).seat
+        (slice_index_or posts.new.items i d).replies.items }
+    ensures used { (i : ℕ) (d : _) → i < length posts.old.items
+        → IsUsed (P.refusals (slice_index_or posts.old.items i d).finder)
+        (P.refusals (slice_index_or posts.new.items i d).finder) }
+{
+    serve_all(rt, alloc, program, script, gate, posts.as_mut_slice());
+}

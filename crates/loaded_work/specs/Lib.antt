@@ -1,0 +1,9 @@
+pub mod Sinks
+pub mod Finders
+pub mod Texts
+pub mod Roles
+pub mod Caching
+pub mod Explaining
+pub mod Shipping
+pub mod Following
+pub mod Helps
