@@ -100,7 +100,7 @@ module _ {S F X : Type 0} (seat : X → S) (finder : X → F) (from until : X �
   manned_all n left_seats left_finders next posts past so = let few = manned_few n left_seats left_finders next posts so in omega (arith, few, past, so.long)
 
   module _ (n : ℕ) (d : ℕ) (left_seats more_seats : List S) (left_finders more_finders : List F) (next after : ℕ) (posts more : List X) (post : X) (within : n < length sizes) where
-    size : ℕ
+    abbrev size : ℕ
     size = get_or sizes n d
 
     is : size ≡ get_or sizes n size

@@ -17,12 +17,12 @@ loop-size-preserved g c = (
 -- a finder is left, its part ends within all of them, and there is room for its post
 pub next_finder-finder-requires : goal.next_finder-finder-requires
 next_finder-finder-requires g c = (
-  c.type_bounds.send-P,
+  record { owned = c.type_bounds.send-P.owned; leaving = c.type_bounds.send-P.leaving },
   left_over (λ p. p.finder) c.loop-size.posts.items c.loop-size.finders.rest.items c.args.finders.now.rest.items c.loop-size.size-index (length c.args.sizes.now) c.loop-size.invariant.0.finders_are c.loop-size.invariant.0.long c.loop-size-test.true c.requires.enough,
 )
 
 pub overflow_add-until : goal.overflow_add-until
-overflow_add-until g c = until_fits c.args.from c.loop-size.place c.args.sizes.now c.loop-size.size-index _ c.loop-size-test.true c.loop-size.invariant.0.next_is c.requires.places
+overflow_add-until g c = omega (arith, until_fits c.args.from c.loop-size.place c.args.sizes.now c.loop-size.size-index 0 c.loop-size-test.true c.loop-size.invariant.0.next_is c.requires.places)
 
 pub push_reserved-requires : goal.push_reserved-requires
 push_reserved-requires g c = omega (arith, c.loop-size.invariant.1, c.loop-size.invariant.0.long, c.loop-size-test.true, c.loop-size.posts.ok.0)

@@ -5,7 +5,7 @@ use Rattle.live_rounds.proofs.crew.muster.Goals as goal
 -- what the steps want
 pub next_finder-first-requires : goal.next_finder-first-requires
 next_finder-first-requires g c = (
-  c.type_bounds.send-P,
+  record { owned = c.type_bounds.send-P.owned; leaving = c.type_bounds.send-P.leaving },
   omega (arith, ap length c.into_iter-left_finders.ensures.rest, ap (λ finders. length finders.items) c.replace-all_finders.ensures.value, c.requires.enough),
 )
 

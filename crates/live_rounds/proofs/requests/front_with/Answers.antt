@@ -21,5 +21,6 @@ loop-at-preserved c =
 pub returns-clause-has : goal.returns-clause-has
 returns-clause-has c =
     let inv = c.loop-at.invariant in
-    let all = counted_within c.args.items.now c.loop-at.at c.loop-at-test.false in
-    omega (arith, inv.0, inv.1, c.requires, all)
+    let there = counted_within c.args.items.now c.loop-at.at c.loop-at-test.false in
+    let all = counted_within c.args.items.now (length c.args.items.now) (omega arith) in
+    omega (arith, inv.0, inv.1, c.requires, there, all)
