@@ -16,5 +16,7 @@ pub returns : goal.returns
 returns t c =
     let size = c.first_part-size.result in
     let pushed : c.push-2.new.self.items ≡ c.args.sizes.now.items ++ size ∷ [] = search rules in
-    record { parts = on_ok_weaker c.push_parts.result (λ adds. part_more c.args.others (c.args.others - 1) c.args.items.now c.behind.result.now size c.args.sizes.now.items c.push-2.new.self.items c.push_parts.new.sizes.items (omega (arith, c.if-others-eq0.false)) c.first_part-size.ensures.within
-    c.behind.ensures c.first_part-size.ensures.share pushed adds) c.push_parts.ensures.parts }
+    record {
+      parts = on_ok_weaker c.push_parts.result (λ adds. part_more c.args.others (c.args.others - 1) c.args.items.now c.behind.result.now size c.args.sizes.now.items c.push-2.new.self.items c.push_parts.new.sizes.items (omega (arith, c.if-others-eq0.false)) c.first_part-size.ensures.within
+          c.behind.ensures c.first_part-size.ensures.share pushed adds) c.push_parts.ensures.parts;
+    }
