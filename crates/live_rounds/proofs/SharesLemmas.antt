@@ -42,6 +42,9 @@ ceil_share others count = let both = div_ceil_times count (suc others) (omega ar
     by : (q : ℕ) → count ≤ q * suc others → q * suc others < count + suc others → q ≡ share_size others count
     by q low high = let r = rest (q * suc others) low high in sym (ap (λ (n : ℕ). n / suc others) r.0 ∙ div-mul-add q (suc others) (count + others - q * suc others) r.1)
 
+pub ceil_share_one : (others count : ℕ) → div_ceil count (others + 1) ≡ share_size others count
+ceil_share_one others count = let one : others + 1 ≡ suc others = omega arith in ap (div_ceil count) one ∙ ceil_share others count
+
 -- it is not more than there is
 pub share_within : (others count : ℕ) → share_size others count ≤ count
 share_within others count =

@@ -36,7 +36,7 @@ pub dismiss-whole-requires-clause-finder_room : goal.dismiss-whole-requires-clau
 dismiss-whole-requires-clause-finder_room g c = omega (arith, c.in_ok-crew.ensures.finder_room, c.work_together-others.ensures.count, c.in_ok-crew.ensures.first, c.muster.new.finders.ok.0)
 
 pub dismiss-whole-requires-clause-kept_room : goal.dismiss-whole-requires-clause-kept_room
-dismiss-whole-requires-clause-kept_room g c = omega (arith, c.in_ok-kept.ensures.len, c.in_ok-kept.ensures.capacity, c.len.ensures, c.in_ok-crew.ensures.few, c.work_together-others.ensures.count)
+dismiss-whole-requires-clause-kept_room g c = omega (arith, c.in_ok-kept.ensures.len, c.in_ok-kept.ensures.capacity, c.in_ok-crew.ensures.few, c.work_together-others.ensures.count)
 
 -- while the administrator was at it
 pub returns-in_err-others-clause-stopped : goal.returns-in_err-others-clause-stopped
