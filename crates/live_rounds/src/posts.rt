@@ -1,4 +1,7 @@
 ghost use Rattle.std.specs.Prelude.{◌≡◌, ◌<◌, ℕ, drop, false, length, map, slice_index_or, take};
+ghost use Rattle.std.specs.Thread.{IsSync};
+ghost use Rattle.decision.specs.contracts.program.Program as program_type;
+ghost use Rattle.script_read.specs.contracts.script.Script as script_type;
 ghost use Rattle.decision.specs.Programs.{Suits};
 ghost use Rattle.live_rounds.specs.Served.{IsPartServed};
 ghost use Rattle.regex_gate.specs.Refusals.{IsUsed};
@@ -83,6 +86,8 @@ pub(crate) fn serve_all<J: Naming + Send + Sync, R: Threads + Sync, P: Finder, G
     if posts.is_empty() {
         return;
     }
+    share_program(program);
+    share_script(script);
     let threads = posts.len();
     thread::for_each_mut(
         rt,
@@ -93,6 +98,25 @@ pub(crate) fn serve_all<J: Naming + Send + Sync, R: Threads + Sync, P: Finder, G
         { serve(alloc, program, script, worker, gate, post) },
     );
 }
+
+/// That threads may share a program, as a fact for the calls behind this one.
+pub(crate) fn share_program(program: &Program)
+    ensures { IsSync program_type.the_row }
+{
+    share(program);
+}
+
+/// The same of a script.
+pub(crate) fn share_script(script: &Script)
+    ensures { IsSync script_type.the_row }
+{
+    share(script);
+}
+
+// The same of whatever threads may share.
+fn share<T: Sync>(_value: &T)
+    ensures { IsSync T.row }
+{}
 
 // Answers the requests of a post.
 fn serve<J: Naming, P: Finder, G: Gate>(

@@ -7,7 +7,7 @@ ghost use Rattle.script_read.specs.Said.{Said, seen};
 
 use crate::beside::answer_others;
 use crate::gate::Gate;
-use crate::posts::{Post, serve_all};
+use crate::posts::{Post, serve_all, share_program, share_script};
 use decision::Program;
 use live_pair::{Admin, Naming};
 use live_round::Answer;
@@ -102,6 +102,8 @@ fn with_workers<
         → IsUsed (P.refusals (slice_index_or posts.old.items i d).finder)
         (P.refusals (slice_index_or posts.new.items i d).finder) }
 {
+    share_program(program);
+    share_script(script);
     let mut workers = ||
         requires { Suits program.now J.shapes }
     { serve_vec(rt, alloc, program, script, gate, posts) };
