@@ -5,7 +5,7 @@ use Rattle.std.proofs.lemmas.Grind.{div_ceil_times}
 use Rattle.std.proofs.lemmas.List.{length-drop, take-append-drop}
 use Rattle.std.proofs.lemmas.Nat.{div-mul-add, div_below, mul-le, row_fits}
 use Rattle.live_rounds.specs.Requests.{AreParts, requests}
-use Rattle.live_rounds.specs.Shares.{AddsParts, AreSizes, parts_by, total}
+use Rattle.live_rounds.specs.Shares.{AddsParts, AreSizes, parts_by}
 use Rattle.script_read.specs.Said.{Said, seen}
 use Rattle.script_read.specs.declared.item.Item.{Item}
 use Rattle.session_meaning.specs.Rounds.{share_size}
