@@ -14,6 +14,9 @@ What a run may come to, where the plain run of the same words, files and input e
 - a write to `err` fails: the same, but that `err` has just what was written before;
 - an open, a read or a write is cut off by a signal (EINTR): the same, or what it comes to where it fails;
 - a read or a write takes one byte, or each takes 1, 2, 3 or 7 at most: the same.
+
+A session with workers may print several texts, so that the same is any of those that round_texts.py tells; and since its threads
+take memory in another order each time, each number is refused three times, up to some above those of a plain run.
 """
 
 import collections
@@ -21,6 +24,7 @@ import os
 import re
 import sys
 
+import round_texts
 import running
 from case_lists import read_cases, read_reports, report
 from running import read, write
@@ -32,6 +36,12 @@ LARGEST = 1 << 13
 
 # For a quick look: of the allocations only the first of so many is refused.
 EACH = int(os.environ.get("EACH", 1))
+
+# Of a run with more allocations only so many are refused, at equal distances.
+MOST = 10_000
+
+# How often each allocation is refused where threads take memory, and how many numbers above those of a plain run.
+AGAIN, ABOVE = 3, 8
 
 # The runner of the gate has sinks of so many bytes.
 ROOM = 1 << 16
@@ -58,9 +68,24 @@ class Runner:
 
     def run(self, **refused):
         """What a run comes to with these words for refuse.c; a signal that ends it is a negative status."""
+        return self.run_over(self.case.words, ".input", refused)
+
+    def run_over(self, words, source, refused):
         environment = {"LD_PRELOAD": self.shim} | {f"REFUSE_{key.upper()}": str(value) for key, value in refused.items()}
-        status = running.run(self.program, self.case.words, environment, ".input", ".out", ".err")
+        status = running.run(self.program, words, environment, source, ".out", ".err")
         return Outcome(status, read(".out"), read(".err"))
+
+    def run_alone(self, script):
+        """What the session of this script prints without workers."""
+        write(".alone", script)
+        return self.run_over(round_texts.words_alone(self.case.words), ".alone", {}).out
+
+    def texts(self, plain):
+        """The texts that a run may print which ends as the plain one."""
+        workers = round_texts.workers_of(self.case.words)
+        if workers and plain.status == 0:
+            return round_texts.texts_of(self.case.input, workers, self.run_alone)
+        return OneText(self.case, plain.out)
 
     def calls(self):
         """The opens, reads and writes of a plain run, each with its descriptor and what it gave, and the number of allocations."""
@@ -68,6 +93,28 @@ class Runner:
         entries = [line.split() for line in read(".log").splitlines()]
         calls = [(call.decode(), int(descriptor), int(given)) for call, descriptor, given in entries[:-1]]
         return calls, int(entries[-1][2])
+
+
+class OneText:
+    """The text of a run that may print no other."""
+
+    def __init__(self, case, text):
+        self.text, self.ends = text, fronts(case, text)
+
+    def is_whole(self, out):
+        return out == self.text
+
+    def is_of_items(self, out):
+        """Whether this is the text of the first so many items."""
+        return self.text.startswith(out) and len(out) in self.ends
+
+    def is_written(self, out, count):
+        """Whether this is what was written before a write failed, of which there were so many bytes in a plain run."""
+        return out == self.text[:count]
+
+
+def has_threads(case):
+    return any(word.startswith(round_texts.OPTION) for word in case.words)
 
 
 def fronts(case, text):
@@ -83,26 +130,32 @@ def without_hits(err):
     return re.sub(rb"^cache: hits [0-9]+\n$", b"cache\n", err)
 
 
-def after_refusal(case, plain):
+def is_same(plain, texts):
+    """Whether a run comes to what the plain one does."""
+    return lambda got: got.status == plain.status and texts.is_whole(got.out) and without_hits(got.err) == without_hits(plain.err)
+
+
+def after_refusal(plain, texts):
     """Says what is wrong with what a run comes to where memory is refused."""
-    ends = fronts(case, plain.out)
+    same = is_same(plain, texts)
 
     def wrong(got):
-        if got.status == plain.status and got.out == plain.out and without_hits(got.err) == without_hits(plain.err):
+        if same(got):
             return None
         if got.status != NO_MEMORY:
             return "neither the same nor status 9"
         if got.err != b"no memory\n":
             return "another line on err"
-        if not plain.out.startswith(got.out) or len(got.out) not in ends:
+        if not texts.is_of_items(got.out):
             return "out has not the lines of the first so many items"
         return None
 
     return wrong
 
 
-def is_one_of(*wanted):
-    return lambda got: None if got in wanted else f"wanted {wanted}"
+def is_one_of(wanted, *tests):
+    """Says what is wrong where none of these tests holds."""
+    return lambda got: None if any(holds(got) for holds in tests) else f"wanted {wanted}"
 
 
 def refused_calls(calls):
@@ -124,9 +177,10 @@ def written(before, descriptor):
     return sum(given for call, to, given in before if call == "w" and to == descriptor)
 
 
-def outside_refusals(plain, calls):
+def outside_refusals(plain, texts, calls):
     """For each open, read and write that fails: what refuse.c is told, and what the run has to come to."""
     names = {"o": "open", "r": "read", "w": "write"}
+    same = is_same(plain, texts)
     for call, at, descriptor, before in refused_calls(calls):
         if call != "w":
             line = f"cannot read: {of_input(descriptor, before, call)}\n".encode()
@@ -135,19 +189,35 @@ def outside_refusals(plain, calls):
             wanted, hows = Outcome(CANNOT_WRITE, plain.out[: written(before, 1)], b"cannot write\n"), ["fail", "none"]
         else:
             wanted, hows = plain._replace(err=plain.err[: written(before, 2)]), ["fail", "none"]
+        fails = fails_so(wanted, texts)
         for how in hows:
-            yield {"call": names[call], "at": at, "how": how}, is_one_of(wanted)
-        yield {"call": names[call], "at": at, "how": "signal"}, is_one_of(wanted, plain)
+            yield {"call": names[call], "at": at, "how": how}, is_one_of(wanted, fails)
+        yield {"call": names[call], "at": at, "how": "signal"}, is_one_of(wanted, fails, same)
         if call != "o":
-            yield {"call": names[call], "at": at, "how": "short"}, is_one_of(plain)
+            yield {"call": names[call], "at": at, "how": "short"}, is_one_of(plain, same)
     for most in (1, 2, 3, 7):
-        yield {"most": most}, is_one_of(plain)
+        yield {"most": most}, is_one_of(plain, same)
 
 
-def memory_refusals(case, plain, count, how):
-    wrong = after_refusal(case, plain)
-    for at in range(1, count + 1, EACH):
-        yield {"call": "alloc", "at": at, "how": how}, wrong
+def fails_so(wanted, texts):
+    """Whether a run with a failed call comes to this."""
+
+    def holds(got):
+        if (got.status, got.err) != (wanted.status, wanted.err):
+            return False
+        if wanted.status == CANNOT_READ:
+            return not got.out
+        return texts.is_whole(got.out) if wanted.status == 0 else texts.is_written(got.out, len(wanted.out))
+
+    return holds
+
+
+def memory_refusals(case, plain, texts, count, how):
+    wrong = after_refusal(plain, texts)
+    times, last = (AGAIN, count + ABOVE) if has_threads(case) else (1, count)
+    for at in range(1, last + 1, max(EACH, -(-last // MOST))):
+        for _ in range(times):
+            yield {"call": "alloc", "at": at, "how": how}, wrong
 
 
 def try_case(program, shim, case, folder, kind, wanted):
@@ -160,11 +230,18 @@ def try_case(program, shim, case, folder, kind, wanted):
     plain = runner.run()
     if wanted and len(plain.out) <= ROOM and report(case, *plain) != wanted:
         faults.append(f"{case.name}: the plain run is not the case of the gate: {plain}")
+    texts = runner.texts(plain)
+    if not texts.is_whole(plain.out):
+        faults.append(f"{case.name}: the plain run tells another text than it may: {plain}")
     calls, count = runner.calls()
-    refusals = outside_refusals(plain, calls) if kind == "io" else memory_refusals(case, plain, count, {"alloc": "fail"}.get(kind, kind))
+    if kind == "io":
+        refusals = outside_refusals(plain, texts, calls)
+    else:
+        refusals = memory_refusals(case, plain, texts, count, {"alloc": "fail"}.get(kind, kind))
     for refused, wrong in refusals:
         got = runner.run(**refused)
-        statuses["the same" if got == plain else got.status] += 1
+        is_as_plain = (got.status, got.err) == (plain.status, plain.err) and texts.is_whole(got.out)
+        statuses["the same" if is_as_plain else got.status] += 1
         why = wrong(got)
         if why:
             faults.append(f"{case.name}: {refused}: {why}: {got}")
