@@ -98,6 +98,8 @@ def words_of(chance, name):
         words += ["--cache", str(chance.choice((1, 2, 10000)))]
     if command == "explain" and chance.random() < 0.3:
         words += ["--most", str(chance.choice((1, 3, 1000)))]
+    if command == "session" and chance.random() < 0.3:
+        words += ["--workers", str(chance.choice((1, 2, 8)))]
     return words
 
 
