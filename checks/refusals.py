@@ -37,7 +37,7 @@ LARGEST = 1 << 13
 # For a quick look: of the allocations only the first of so many is refused.
 EACH = int(os.environ.get("EACH", 1))
 
-# Of a run with more allocations only so many are refused, at equal distances.
+# A run with more allocations is left to smaller ones like it: a demonstration with many users.
 MOST = 10_000
 
 # How often each allocation is refused where threads take memory, and how many numbers above those of a plain run.
@@ -215,18 +215,18 @@ def fails_so(wanted, texts):
 def memory_refusals(case, plain, texts, count, how):
     wrong = after_refusal(plain, texts)
     times, last = (AGAIN, count + ABOVE) if has_threads(case) else (1, count)
-    for at in range(1, last + 1, max(EACH, -(-last // MOST))):
+    for at in range(1, last + 1, EACH):
         for _ in range(times):
             yield {"call": "alloc", "at": at, "how": how}, wrong
 
 
 def try_case(program, shim, case, folder, kind, wanted):
-    """How many runs of a case there were, by their status, and which went wrong."""
+    """How many runs of a case there were, by their status, which went wrong, and why the case is left out, if it is."""
     statuses, faults = collections.Counter(), []
     try:
         runner = Runner(program, shim, case, folder)
     except OSError as error:
-        return statuses, [f"{case.name}: left out, {error.strerror}"], True
+        return statuses, faults, [f"{case.name}: left out, {error.strerror}"]
     plain = runner.run()
     if wanted and len(plain.out) <= ROOM and report(case, *plain) != wanted:
         faults.append(f"{case.name}: the plain run is not the case of the gate: {plain}")
@@ -234,6 +234,8 @@ def try_case(program, shim, case, folder, kind, wanted):
     if not texts.is_whole(plain.out):
         faults.append(f"{case.name}: the plain run tells another text than it may: {plain}")
     calls, count = runner.calls()
+    if kind != "io" and count > MOST:
+        return statuses, faults, [f"{case.name}: left out, {count} allocations"]
     if kind == "io":
         refusals = outside_refusals(plain, texts, calls)
     else:
@@ -245,7 +247,7 @@ def try_case(program, shim, case, folder, kind, wanted):
         why = wrong(got)
         if why:
             faults.append(f"{case.name}: {refused}: {why}: {got}")
-    return statuses, faults, False
+    return statuses, faults, []
 
 
 def main():
@@ -256,9 +258,10 @@ def main():
     cases = [(case, wanted) for case, wanted in cases if not word or word[0] in case.name]
     statuses, faults, left_out = collections.Counter(), [], []
     jobs = [(try_case, program, shim, case, f"{work}/{at}", kind, wanted) for at, (case, wanted) in enumerate(cases)]
-    for found, said, is_left_out in running.each(jobs):
+    for found, wrong, left in running.each(jobs):
         statuses += found
-        (left_out if is_left_out else faults).extend(said)
+        faults += wrong
+        left_out += left
     print(*left_out, *faults, sep="\n")
     ended = ", ".join(f"{count} {status if status == 'the same' else f'with status {status}'}" for status, count in statuses.most_common())
     print(f"{kind}: {sum(statuses.values())} runs of {len(cases)}: {ended}; {len(faults)} wrong")
