@@ -362,5 +362,34 @@ if wanted "packets"; then
   compare "packets, one of 190,000 rules" follow
 fi
 
+if wanted "workers"; then
+  reset
+  repeated 'sync
+' 20000 >"$work/h.in"
+  repeated 'has p, alice, data1, read
+' 20000 >"$work/p.in"
+  compare "workers, 20,000 rounds without requests" session --workers 8
+  repeated 'ask alice, data1, read
+sync
+' 20000 >"$work/h.in"
+  repeated 'ask alice, data1, read
+has p, alice, data1, read
+' 20000 >"$work/p.in"
+  compare "workers, 20,000 rounds of one request" session --workers 8
+  repeated 'ask alice, data1, read
+add p, bob, data1, read
+publish
+remove p, bob, data1, read
+publish
+' 20000 >"$work/h.in"
+  repeated 'ask alice, data1, read
+add p, bob, data1, read
+sync
+remove p, bob, data1, read
+sync
+' 20000 | sed 's/^sync/has p, bob, data1, read/' >"$work/p.in"
+  compare "workers, 40,000 publishes beside 20,000 requests" session --workers 8
+fi
+
 echo "$above above $most"
 [ "$above" -eq 0 ]
