@@ -1,0 +1,213 @@
+"""Lets one call after the other fail in runs of a program, and looks at what each run then comes to.
+
+Usage: refusals.py PROGRAM OBJECT WORK alloc|on|io [WORD]
+
+OBJECT is built of refuse.c. The runs are the cases of crates/cases_runs that are small and need no failing sink or finder, and
+those of checks/runs. WORD leaves those alone whose names have it. In the folder WORK each run has a folder of its own.
+
+What a run may come to, where the plain run of the same words, files and input ends with a status and took a text on `out`:
+
+- an allocation is refused (`alloc`), or it and all behind it (`on`): the same, or status 9, `no memory`, and on `out` the whole
+  lines of the first so many items;
+- a file cannot be opened, or a read of it or of the input fails: status 6, the line that names it, and nothing on `out`;
+- a write to `out` fails, or takes nothing: status 7, `cannot write`, and on `out` just what was written before;
+- a write to `err` fails: the same, but that `err` has just what was written before;
+- an open, a read or a write is cut off by a signal (EINTR): the same, or what it comes to where it fails;
+- a read or a write takes one byte, or each takes 1, 2, 3 or 7 at most: the same.
+"""
+
+import collections
+import concurrent.futures
+import os
+import re
+import signal
+import sys
+
+from case_lists import read_cases, read_reports, report
+
+ROOT = os.path.dirname(os.path.dirname(os.path.abspath(__file__)))
+
+# A case with more bytes is left to the gate.
+LARGEST = 1 << 13
+
+# A run that has not ended after so many seconds hangs.
+PATIENCE = 10
+
+# The commands that print the lines of their items as they come; the others print their text once it is whole.
+BY_ITEMS = (b"enforce", b"explain", b"session")
+
+NO_MEMORY, CANNOT_READ, CANNOT_WRITE = 9, 6, 7
+
+Outcome = collections.namedtuple("Outcome", "status out err")
+
+
+class Runner:
+    """Runs the program in the folder of a case."""
+
+    def __init__(self, program, shim, case, folder):
+        self.program, self.shim, self.case = program, shim, case
+        os.makedirs(folder, exist_ok=True)
+        os.chdir(folder)
+        for name, text in case.files.items():
+            os.makedirs(os.path.dirname(name) or b".", exist_ok=True)
+            write(name, text)
+        write(b".input", case.input)
+
+    def run(self, **refused):
+        """What a run comes to with these words for refuse.c; a signal that ends it is a negative status."""
+        environment = {"LD_PRELOAD": self.shim} | {f"REFUSE_{key.upper()}": str(value) for key, value in refused.items()}
+        flags = os.O_WRONLY | os.O_CREAT | os.O_TRUNC
+        actions = [
+            (os.POSIX_SPAWN_OPEN, 0, ".input", os.O_RDONLY, 0),
+            (os.POSIX_SPAWN_OPEN, 1, ".out", flags, 0o600),
+            (os.POSIX_SPAWN_OPEN, 2, ".err", flags, 0o600),
+        ]
+        child = os.posix_spawn(self.program, [self.program, *self.case.words], environment, file_actions=actions)
+        signal.signal(signal.SIGALRM, lambda *_: os.kill(child, signal.SIGKILL))
+        signal.alarm(PATIENCE)
+        _, status = os.waitpid(child, 0)
+        signal.alarm(0)
+        return Outcome(os.waitstatus_to_exitcode(status), read(".out"), read(".err"))
+
+    def calls(self):
+        """The opens, reads and writes of a plain run, each with its descriptor and what it gave, and the number of allocations."""
+        self.run(log=".log")
+        entries = [line.split() for line in read(".log").splitlines()]
+        calls = [(call.decode(), int(descriptor), int(given)) for call, descriptor, given in entries[:-1]]
+        return calls, int(entries[-1][2])
+
+
+def write(name, text):
+    with open(name, "wb") as file:
+        file.write(text)
+
+
+def read(name):
+    with open(name, "rb") as file:
+        return file.read()
+
+
+def fronts(case, text):
+    """The lengths of the texts of the first so many items."""
+    ends = {0, len(text)}
+    if case.words[:1] and case.words[0] in BY_ITEMS:
+        ends |= {found.start() + 1 for found in re.finditer(rb"\n(?!  )", text)}
+    return ends
+
+
+def without_hits(err):
+    """The line of a cache that had no room for a verdict tells fewer hits."""
+    return re.sub(rb"^cache: hits [0-9]+\n$", b"cache\n", err)
+
+
+def after_refusal(case, plain):
+    """Says what is wrong with what a run comes to where memory is refused."""
+    ends = fronts(case, plain.out)
+
+    def wrong(got):
+        if got.status == plain.status and got.out == plain.out and without_hits(got.err) == without_hits(plain.err):
+            return None
+        if got.status != NO_MEMORY:
+            return "neither the same nor status 9"
+        if got.err != b"no memory\n":
+            return "another line on err"
+        if not plain.out.startswith(got.out) or len(got.out) not in ends:
+            return "out has not the lines of the first so many items"
+        return None
+
+    return wrong
+
+
+def is_one_of(*wanted):
+    return lambda got: None if got in wanted else f"wanted {wanted}"
+
+
+def refused_calls(calls):
+    """The calls that are refused in turn: what refuse.c is told, and what the call and those before it were."""
+    numbers = collections.Counter()
+    for at, (call, descriptor, _) in enumerate(calls):
+        numbers[call] += 1
+        yield call, numbers[call], descriptor, calls[:at]
+
+
+def of_input(descriptor, before, call):
+    """What a read or an open is of: the input, or the file that was opened last; the model's is opened first."""
+    opened = sum(1 for name, *_ in before if name == "o") + (call == "o")
+    files = {1: "model", 2: "policy"}
+    return "input" if call == "r" and descriptor == 0 else files.get(opened, "a file that no command has")
+
+
+def written(before, descriptor):
+    return sum(given for call, to, given in before if call == "w" and to == descriptor)
+
+
+def outside_refusals(plain, calls):
+    """For each open, read and write that fails: what refuse.c is told, and what the run has to come to."""
+    names = {"o": "open", "r": "read", "w": "write"}
+    for call, at, descriptor, before in refused_calls(calls):
+        if call != "w":
+            line = f"cannot read: {of_input(descriptor, before, call)}\n".encode()
+            wanted, hows = Outcome(CANNOT_READ, b"", line), ["fail"]
+        elif descriptor == 1:
+            wanted, hows = Outcome(CANNOT_WRITE, plain.out[: written(before, 1)], b"cannot write\n"), ["fail", "none"]
+        else:
+            wanted, hows = plain._replace(err=plain.err[: written(before, 2)]), ["fail", "none"]
+        for how in hows:
+            yield {"call": names[call], "at": at, "how": how}, is_one_of(wanted)
+        yield {"call": names[call], "at": at, "how": "signal"}, is_one_of(wanted, plain)
+        if call != "o":
+            yield {"call": names[call], "at": at, "how": "short"}, is_one_of(plain)
+    for most in (1, 2, 3, 7):
+        yield {"most": most}, is_one_of(plain)
+
+
+def memory_refusals(case, plain, count, how):
+    wrong = after_refusal(case, plain)
+    for at in range(1, count + 1):
+        yield {"call": "alloc", "at": at, "how": how}, wrong
+
+
+def try_case(program, shim, case, folder, kind, wanted):
+    """How many runs of a case there were, by their status, and which went wrong."""
+    statuses, faults = collections.Counter(), []
+    try:
+        runner = Runner(program, shim, case, folder)
+    except OSError as error:
+        return statuses, [f"{case.name}: left out, {error.strerror}"], True
+    plain = runner.run()
+    if wanted and report(case, *plain) != wanted:
+        faults.append(f"{case.name}: the plain run is not the case of the gate: {plain}")
+    calls, count = runner.calls()
+    refusals = outside_refusals(plain, calls) if kind == "io" else memory_refusals(case, plain, count, {"alloc": "fail"}.get(kind, kind))
+    for refused, wrong in refusals:
+        got = runner.run(**refused)
+        statuses["the same" if got == plain else got.status] += 1
+        why = wrong(got)
+        if why:
+            faults.append(f"{case.name}: {refused}: {why}: {got}")
+    return statuses, faults, False
+
+
+def main():
+    program, shim, work, kind, *word = sys.argv[1:]
+    reports = read_reports(f"{ROOT}/crates/cases_runs/stdout")
+    cases = [it for it in read_cases(f"{ROOT}/crates/cases_runs/stdin") if not it.keys and it.words and it.size() <= LARGEST]
+    cases = [(it, reports.get(it.name)) for it in cases] + [(it, None) for it in read_cases(f"{ROOT}/checks/runs")]
+    cases = [(case, wanted) for case, wanted in cases if not word or word[0] in case.name]
+    statuses, faults, left_out = collections.Counter(), [], []
+    with concurrent.futures.ProcessPoolExecutor() as pool:
+        jobs = [
+            pool.submit(try_case, program, shim, case, f"{work}/{at}", kind, wanted) for at, (case, wanted) in enumerate(cases)
+        ]
+        for job in jobs:
+            found, said, is_left_out = job.result()
+            statuses += found
+            (left_out if is_left_out else faults).extend(said)
+    print(*left_out, *faults, sep="\n")
+    ended = ", ".join(f"{count} {status if status == 'the same' else f'with status {status}'}" for status, count in statuses.most_common())
+    print(f"{kind}: {sum(statuses.values())} runs of {len(cases)}: {ended}; {len(faults)} wrong")
+    sys.exit(1 if faults or not statuses else 0)
+
+
+if __name__ == "__main__":
+    main()
