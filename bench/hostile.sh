@@ -1,48 +1,41 @@
 #!/usr/bin/env bash
 # Prints what the built program spends on texts that are made to cost much, beside what it spends on harmless texts of the same
 # size and kind, and marks each ratio above 20; docs/RELIABILITY.md has the reasons of those that stay so. Each line names the
-# text, the milliseconds of processor time of both, their ratio, and the status of the hostile run. With a WORD only the parts
-# whose names have it. Usage: bench/hostile.sh [WORD]
+# text, the milliseconds of processor time and the MiB of both, the ratio of the times, and the status of the hostile run: -9 where
+# it was ended after 100 seconds. With a WORD only the parts whose names have it. It needs python3; PROGRAM is a program that is
+# built elsewhere. Usage: [PROGRAM=PATH] bench/hostile.sh [WORD]
 source "$(dirname "${BASH_SOURCE[0]}")/timing.sh"
 word="${1:-}"
 most=20
 runs=3
-build "$root"
-program="$root/crates/casbin_cli/out/casbin_cli"
+[ -n "${PROGRAM:-}" ] || build "$root"
+program="$(realpath "${PROGRAM:-$root/crates/casbin_cli/out/casbin_cli}")"
 above=0
 mebibytes16=16777216
 
-# The milliseconds of processor time of a run over an input, the least of its runs, and the status it ended with. One that has
-# not ended after 100 seconds is ended.
+# What a run of these words over a model, a policy and an input of these names spends, as measure.py prints it.
 spent() {
-  local input="$1" least="" times user system now status
-  shift
-  for ((at = 0; at < runs; at++)); do
-    TIMEFORMAT='%U %S'
-    times="$({ time { timeout 100 "$@" <"$input" >"$work/answers" 2>"$work/told" || echo "$?" >"$work/status"; }; } 2>&1)"
-    read -r user system <<<"$times"
-    now="$(awk -v u="$user" -v s="$system" 'BEGIN { printf "%d", (u + s) * 1000 }')"
-    [ -n "$least" ] && [ "$least" -le "$now" ] || least="$now"
-    [ "$now" -lt 5000 ] || break
-  done
-  echo "$least"
+  local names="$1" command="$2"
+  shift 2
+  python3 "$root/bench/measure.py" "$runs" "$work/$names.in" "$program" "$command" "$@" "$work/$names.conf" "$work/$names.csv" "${behind[@]}"
 }
+
+# Words behind the files.
+behind=()
 
 # Compares the run of these words over h.conf, h.csv and h.in with that over p.conf, p.csv and p.in.
 compare() {
-  local name="$1" command="$2" hostile plain mark=""
-  shift 2
-  echo 0 >"$work/status"
-  plain="$(spent "$work/p.in" "$program" "$command" "$@" "$work/p.conf" "$work/p.csv")"
-  echo 0 >"$work/status"
-  hostile="$(spent "$work/h.in" "$program" "$command" "$@" "$work/h.conf" "$work/h.csv")"
+  local name="$1" hostile plain mark="" memory plain_memory status
+  shift
+  read -r plain plain_memory status <<<"$(spent p "$@")"
+  read -r hostile memory status <<<"$(spent h "$@")"
   [ "$plain" -gt 0 ] || plain=1
   if [ "$hostile" -gt $((plain * most)) ]; then
     mark="  ABOVE $most"
     above=$((above + 1))
   fi
-  NAME="$name" awk -v h="$hostile" -v p="$plain" -v s="$(cat "$work/status")" -v mark="$mark" 'BEGIN {
-    printf "%-64s %7d ms, harmless %6d ms, ratio %6.1f, status %d%s\n", ENVIRON["NAME"], h, p, h / p, s, mark }'
+  NAME="$name" awk -v h="$hostile" -v p="$plain" -v m="$memory" -v n="$plain_memory" -v s="$status" -v mark="$mark" 'BEGIN {
+    printf "%-66s %7d ms %5d MiB, harmless %6d ms %5d MiB, ratio %6.1f, status %d%s\n", ENVIRON["NAME"], h, m, p, n, h / p, s, mark }'
 }
 
 # Whether a part is wanted.
@@ -136,7 +129,7 @@ fi
 
 if wanted "matcher"; then
   reset
-  awk 'BEGIN { printf "r.sub == \"a\""; for (i = 0; i < 300; i++) printf " || r.sub == \"user%05d\"", i }' >"$work/text"
+  awk 'BEGIN { printf "r.sub == \"a\""; for (i = 0; i < 250; i++) printf " || r.sub == \"user%05d\"", i }' >"$work/text"
   model "$(cat "$work/text")" >"$work/p.conf"
   echo 'bob, data1, read' | tee "$work/h.in" >"$work/p.in"
   for sign in '!' '-' '(' '[' '"' "'" '1+' '1,' '&&' 'g(' '1 in (' 'keyMatch('; do
@@ -213,6 +206,34 @@ if wanted "rules"; then
   awk -F', ' 'NR % 2 { print $2 ", " $3 ", read" }' "$work/h.csv" >"$work/h.in"
   awk -F', ' 'NR % 2 { print $2 ", " $3 ", read" }' "$work/p.csv" >"$work/p.in"
   compare "rules, 200,000 with names that are near each other" enforce
+  reset
+  lines 'p, user, data%06d, read' 100000000 200000 >"$work/h.csv"
+  lines 'p, user%06d, data%06d, read' 100000000 200000 >"$work/p.csv"
+  model 'r.sub == p.sub && r.obj != p.obj && r.act != p.act' | tee "$work/h.conf" >"$work/p.conf"
+  repeated 'user, data1, read
+' 100 | tee "$work/h.in" >"$work/p.in"
+  compare "rules, 200,000 of one subject, asked 100 times" enforce
+  reset
+  model "$equalities" | sed 's/^p = /p = priority, /; s/^e = .*/e = priority(p.eft) || deny/' | tee "$work/h.conf" >"$work/p.conf"
+  awk 'BEGIN { for (i = 1; i <= 200000; i++) printf "p, %06d, user%06d, data1, read\n", i, i }' >"$work/p.csv"
+  awk 'BEGIN { for (i = 200000; i > 0; i--) printf "p, %06d, user%06d, data1, read\n", i, i }' >"$work/h.csv"
+  compare "rules, 200,000 ranks that fall" check
+fi
+
+if wanted "explain"; then
+  reset
+  lines 'p, user%06d, data%06d, read' 100000000 200000 | tee "$work/h.csv" >"$work/p.csv"
+  repeated 'nobody, nothing, write
+' 100 >"$work/h.in"
+  repeated 'user000001, data000001, write
+' 100 >"$work/p.in"
+  compare "explain, 100 requests that none of 200,000 rules nearly allows" explain --most 1
+  reset
+  model "r.sub == p.sub && r.obj == p.obj$(repeated ' && r.sub == r.sub' 200)" >"$work/h.conf"
+  lines 'p, alice, data%06d, read' 100000000 10000 | tee "$work/h.csv" >"$work/p.csv"
+  repeated 'alice, data1, write
+' 100 | tee "$work/h.in" >"$work/p.in"
+  compare "explain, a matcher of 202 parts over 10,000 rules, 100 requests" explain --most 1000
 fi
 
 if wanted "roles"; then
@@ -226,12 +247,30 @@ if wanted "roles"; then
   compare "roles, a chain of 199,999 links, asked 1,000 times" enforce --limit 250
   awk 'BEGIN { for (i = 1; i <= 447; i++) for (k = 1; k <= 447; k++) printf "g, user%06d, user%06d\n", i, k }' | cat "$work/rule" - >"$work/h.csv"
   compare "roles, 447 names each linked to each, asked 1,000 times" enforce --limit 250
+  awk 'BEGIN { for (i = 0; i < 1100; i++) for (k = 1; k <= 180; k++) printf "g, user%06d, user%06d\n", i, (i + 5 * k) % 1100 }' | cat "$work/rule" - >"$work/h.csv"
+  compare "roles, 1,100 names each linked to 180, asked 1,000 times" enforce --limit 250
+  compare "roles, 1,100 names each linked to 180, reported" report --limit 250
+  behind=(user000001)
+  compare "roles, 1,100 names each linked to 180, implied" implicit --limit 250
+  behind=()
   awk 'BEGIN { for (i = 1; i < 1024; i++) printf "g, user%06d, user%06d\n", i + 1, i; for (i = 1; i <= 100000; i++) printf "g, u%06d, user001024\n", i }' | cat "$work/rule" - >"$work/h.csv"
   compare "roles, 1,024 in a chain that is built from its end" enforce --limit 250
   compare "roles, all of them reported" report --limit 1
   awk 'BEGIN { for (i = 1; i <= 2000; i++) printf "remove g, user000500, user000499\npublish\nadd g, user000500, user000499\npublish\n" }' >"$work/h.in"
   awk 'BEGIN { for (i = 1; i <= 2000; i++) printf "remove g, user000500, role000500\npublish\nadd g, user000500, role000500\npublish\n" }' >"$work/p.in"
   compare "roles, a link in the middle of 1,024 that goes and comes" session --limit 250
+  lines 'g, user%06d, last' 100000000 199999 | cat "$work/rule" - >"$work/p.csv"
+  lines 'g, /user%06d/*, last' 100000000 199999 | cat "$work/rule" - >"$work/h.csv"
+  repeated '/user199999/a, data1, read
+' 100 | tee "$work/h.in" >"$work/p.in"
+  compare "roles, 199,999 patterns of names, asked 100 times" enforce --match g=keyMatch
+  model 'g(r.sub, p.sub) && r.obj == p.obj && r.act == p.act' '' $'[role_definition]\ng = _, _\n' |
+    sed 's/^e = .*/e = subjectPriority(p.eft) || deny/' | tee "$work/h.conf" >"$work/p.conf"
+  lines 'p, user%06d, data1, read' 100000000 1000 >"$work/rules"
+  lines 'g, user%06d, base' 100000000 100000 | cat "$work/rules" - >"$work/p.csv"
+  awk 'BEGIN { for (i = 1; i < 1000; i++) printf "g, user%06d, user%06d\n", i, i + 1; for (i = 1; i <= 99001; i++) printf "g, u%06d, user000001\n", i }' | cat "$work/rules" - >"$work/h.csv"
+  echo 'user000001, data1, read' | tee "$work/h.in" >"$work/p.in"
+  compare "roles, the deepest of 1,000 subjects in a chain" enforce --limit 250
 fi
 
 if wanted "hash"; then
@@ -259,6 +298,9 @@ if wanted "script"; then
   lines 'publish' "$mebibytes16" 2000000 >"$work/h.in"
   lines 'sync' "$mebibytes16" 2000000 >"$work/p.in"
   compare "script of 2,000,000 publishes of nothing" session
+  awk 'BEGIN { print "keep 50000"; for (i = 1; i <= 50000; i++) print "add p, user, data1, read\npublish\nremove p, user, data1, read\npublish" }' >"$work/h.in"
+  { echo 'keep 1'; tail -n +2 "$work/h.in"; } >"$work/p.in"
+  compare "script of 100,000 publishes of which 50,000 are kept" session
   awk 'BEGIN { print "begin add-all"; for (i = 1; i <= 190000; i++) printf "p, user%06d, data1, read\n", i; print "end\npublish" }' >"$work/h.in"
   awk 'BEGIN { for (i = 1; i <= 190000; i++) printf "add p, user%06d, data1, read\n", i; print "publish" }' >"$work/p.in"
   compare "script of one block of 190,000 rules" session
@@ -296,6 +338,22 @@ if wanted "script"; then
   repeated 'rows p, 0, user000007
 ' 100 >"$work/p.in"
   compare "script of 100 queries for 100,000 rules each" session
+fi
+
+if wanted "packets"; then
+  reset
+  packets() {
+    awk -v first="$1" -v last="$2" 'BEGIN { for (i = first; i <= last; i++) printf "edit %d\n+ p, user%06d, data1, read\n.\n", i, i }'
+  }
+  packets 1 199680 >"$work/p.in"
+  awk 'BEGIN { for (k = 0; k < 195; k++) for (i = 1024; i > 0; i--) printf "edit %d\n+ p, user%06d, data1, read\n.\n", k * 1024 + i, k * 1024 + i }' >"$work/h.in"
+  compare "packets, 199,680 of which each 1,024 come from the last on" follow
+  repeated $'edit 1\n- p, a, b, c\n.\n' 500000 >"$work/p.in"
+  { packets 2 1024; cat "$work/p.in"; } >"$work/h.in"
+  compare "packets, 500,000 that do not fit, and 1,023 that wait for them" follow
+  packets 1 190000 >"$work/p.in"
+  awk 'BEGIN { print "edit 1"; for (i = 1; i <= 190000; i++) printf "+ p, user%06d, data1, read\n", i; print "." }' >"$work/h.in"
+  compare "packets, one of 190,000 rules" follow
 fi
 
 echo "$above above $most"

@@ -5,20 +5,20 @@ Usage: random_texts.py PROGRAM WORK SEED FIRST COUNT
 The runs are numbered, and each depends on the seed and its number alone, so that one is made again by itself. A run takes the
 files of an example, one of its inputs or another's, a command, options, and changes up to eight places of these texts: bytes
 that go, come, stand twice or in another place, words of the formats, and parts of other texts. None may end by a signal, run
-for ten seconds, print with a status from 2 to 6 or 8, end with another status, or tell another line than its status has.
+for ten seconds, print with a status above 0, say that a file, the output or memory failed, end with another status, or tell
+another line than its status has.
 """
 
 import collections
-import concurrent.futures
 import os
 import random
 import re
-import signal
 import sys
 
-ROOT = os.path.dirname(os.path.dirname(os.path.abspath(__file__)))
+import running
+from running import read, write
 
-PATIENCE = 10
+ROOT = os.path.dirname(os.path.dirname(os.path.abspath(__file__)))
 
 # Words that texts of the formats are made of.
 WORDS = [
@@ -35,22 +35,32 @@ WORDS = [
     b"edit 1\n", b"edit 2\n", b".\n", b"+ p, ", b"- p, ", b"< p, ", b"> p, ", b"[", b"]", b"{", b"}", b'{"a": 1}', b"null", b"1.5",
 ]
 
-# What the first line on `err` begins with, by status; with status 0 it is the line of a cache, or there is none.
-LINES = {2: b"usage: ", 3: b"model: ", 4: b"policy: ", 5: b"script: ", 6: b"cannot read: ", 7: b"cannot write", 8: b"too long: ", 9: b"no memory"}
+# What the line on `err` begins with, by status; with status 0 it is the line of a cache, or there is none. No file, stream or
+# allocation fails here, so that no run has the statuses that say so.
+LINES = {2: b"usage: ", 3: b"model: ", 4: b"policy: ", 5: b"script: ", 8: b"too long: "}
 
 FITS = ["keyMatch", "keyMatch2", "keyMatch3", "globMatch"]
 
+# The commands by the inputs of examples.
+COMMANDS = {
+    "requests.csv": ["enforce", "enforce", "explain"],
+    "requests.json": ["enforce", "enforce", "explain"],
+    "script.txt": ["session", "session", "ship"],
+    "packets.txt": ["follow"],
+    "none": ["check", "format", "implicit", "report"],
+}
+
 
 def read_examples():
-    """The texts of the examples: of each its model, its policy and its inputs."""
+    """The texts of the examples: of each its model, its policy, and its inputs with their names."""
     examples = []
     for folder in sorted(os.listdir(f"{ROOT}/examples")):
         texts = {}
         for name in sorted(os.listdir(f"{ROOT}/examples/{folder}")):
             with open(f"{ROOT}/examples/{folder}/{name}", "rb") as file:
                 texts[name] = file.read()
-        inputs = [text for name, text in texts.items() if name not in ("model.conf", "policy.csv", "answers.txt")]
-        examples.append((texts["model.conf"], texts["policy.csv"], inputs))
+        inputs = [(name, text) for name, text in texts.items() if name not in ("model.conf", "policy.csv", "answers.txt")]
+        examples.append((texts["model.conf"], texts["policy.csv"], inputs or [("none", b"")]))
     return examples
 
 
@@ -74,23 +84,31 @@ def mutated(chance, text, others):
     return text[: chance.randrange(len(text) + 1)] if chance.random() < 0.1 else text
 
 
-def words_of(chance):
-    """A command with options."""
-    command = chance.choice(("enforce", "enforce", "explain", "session", "session", "check", "format", "implicit", "report", "ship", "follow"))
+def words_of(chance, name):
+    """A command with options, of three runs two with one that reads inputs of this name."""
+    command = chance.choice(COMMANDS[name] if chance.random() < 0.67 else sum(COMMANDS.values(), []))
     words = [command, "model.conf", "policy.csv"]
     if command == "implicit":
         words += [chance.choice(("alice", "admin", "", "bob"))] + chance.choice(([], ["acme"]))
-    if chance.random() < 0.3:
-        words += ["--limit", str(chance.choice((1, 2, 10, 250, 251)))]
-    for option in ("--match", "--domain-match"):
-        if chance.random() < 0.3:
-            words += [option, f"g={chance.choice(FITS)}"]
-    if command in ("enforce", "explain", "session") and chance.random() < 0.3:
+    if command not in ("check", "format"):
+        words += roles_words(chance)
+    if command in ("enforce", "explain", "session") and chance.random() < (0.8 if name == "requests.json" else 0.1):
         words.append("--json")
     if command == "enforce" and chance.random() < 0.3:
         words += ["--cache", str(chance.choice((1, 2, 10000)))]
     if command == "explain" and chance.random() < 0.3:
         words += ["--most", str(chance.choice((1, 3, 1000)))]
+    return words
+
+
+def roles_words(chance):
+    """Options on roles."""
+    words = []
+    if chance.random() < 0.3:
+        words += ["--limit", str(chance.choice((1, 2, 10, 250, 251)))]
+    for option in ("--match", "--domain-match"):
+        if chance.random() < 0.2:
+            words += [option, f"g={chance.choice(FITS)}"]
     return words
 
 
@@ -103,32 +121,7 @@ def what_is_wrong(status, out, err):
         return "another status"
     if not err.startswith(LINES[status]) or err.count(b"\n") != 1 or not err.endswith(b"\n"):
         return "another line on err"
-    return "out is not empty" if out and status not in (7, 9) else None
-
-
-def run(program, words):
-    flags = os.O_WRONLY | os.O_CREAT | os.O_TRUNC
-    actions = [
-        (os.POSIX_SPAWN_OPEN, 0, "input", os.O_RDONLY, 0),
-        (os.POSIX_SPAWN_OPEN, 1, "out", flags, 0o600),
-        (os.POSIX_SPAWN_OPEN, 2, "err", flags, 0o600),
-    ]
-    child = os.posix_spawn(program, [program, *words], {}, file_actions=actions)
-    signal.signal(signal.SIGALRM, lambda *_: os.kill(child, signal.SIGKILL))
-    signal.alarm(PATIENCE)
-    _, status = os.waitpid(child, 0)
-    signal.alarm(0)
-    return os.waitstatus_to_exitcode(status)
-
-
-def write(name, text):
-    with open(name, "wb") as file:
-        file.write(text)
-
-
-def read(name):
-    with open(name, "rb") as file:
-        return file.read()
+    return "out is not empty" if out else None
 
 
 def try_some(program, work, seed, numbers):
@@ -137,19 +130,20 @@ def try_some(program, work, seed, numbers):
     os.makedirs(folder, exist_ok=True)
     os.chdir(folder)
     examples, statuses, faults = read_examples(), collections.Counter(), []
-    others = [text for model, policy, inputs in examples for text in (model, policy, *inputs)]
+    others = [text for model, policy, inputs in examples for text in (model, policy, *(text for _, text in inputs))]
     for number in numbers:
         chance = random.Random(f"{seed} {number}")
         model, policy, inputs = chance.choice(examples)
         if chance.random() < 0.2:
             _, _, inputs = chance.choice(examples)
-        texts = [model, policy, chance.choice(inputs or [b""])]
+        name, input_text = chance.choice(inputs)
+        texts = [model, policy, input_text]
         for at in chance.sample(range(3), chance.choice((1, 1, 2, 3))):
             texts[at] = mutated(chance, texts[at], others)
-        for name, text in zip(("model.conf", "policy.csv", "input"), texts):
-            write(name, text)
-        words = words_of(chance)
-        status = run(program, words)
+        for file, text in zip(("model.conf", "policy.csv", "input"), texts):
+            write(file, text)
+        words = words_of(chance, name)
+        status = running.run(program, words, {}, "input", "out", "err")
         statuses[status] += 1
         wrong = what_is_wrong(status, read("out"), read("err"))
         if wrong:
@@ -161,15 +155,10 @@ def main():
     program, work, seed, first, count = sys.argv[1], sys.argv[2], *map(int, sys.argv[3:6])
     share = max(1, min(1000, count // 8))
     statuses, faults = collections.Counter(), []
-    with concurrent.futures.ProcessPoolExecutor() as pool:
-        jobs = [
-            pool.submit(try_some, program, work, seed, range(at, min(at + share, first + count)))
-            for at in range(first, first + count, share)
-        ]
-        for job in jobs:
-            found, wrong = job.result()
-            statuses += found
-            faults += wrong
+    ends = [(at, min(at + share, first + count)) for at in range(first, first + count, share)]
+    for found, wrong in running.each((try_some, program, work, seed, range(at, end)) for at, end in ends):
+        statuses += found
+        faults += wrong
     print(*faults, sep="\n")
     ended = ", ".join(f"{many} with status {status}" for status, many in sorted(statuses.items()))
     print(f"seed {seed}: {sum(statuses.values())} runs: {ended}; {len(faults)} wrong")

@@ -17,21 +17,18 @@ What a run may come to, where the plain run of the same words, files and input e
 """
 
 import collections
-import concurrent.futures
 import os
 import re
-import signal
 import sys
 
+import running
 from case_lists import read_cases, read_reports, report
+from running import read, write
 
 ROOT = os.path.dirname(os.path.dirname(os.path.abspath(__file__)))
 
 # A case with more bytes is left to the gate.
 LARGEST = 1 << 13
-
-# A run that has not ended after so many seconds hangs.
-PATIENCE = 10
 
 # The commands that print the lines of their items as they come; the others print their text once it is whole.
 BY_ITEMS = (b"enforce", b"explain", b"session")
@@ -56,18 +53,8 @@ class Runner:
     def run(self, **refused):
         """What a run comes to with these words for refuse.c; a signal that ends it is a negative status."""
         environment = {"LD_PRELOAD": self.shim} | {f"REFUSE_{key.upper()}": str(value) for key, value in refused.items()}
-        flags = os.O_WRONLY | os.O_CREAT | os.O_TRUNC
-        actions = [
-            (os.POSIX_SPAWN_OPEN, 0, ".input", os.O_RDONLY, 0),
-            (os.POSIX_SPAWN_OPEN, 1, ".out", flags, 0o600),
-            (os.POSIX_SPAWN_OPEN, 2, ".err", flags, 0o600),
-        ]
-        child = os.posix_spawn(self.program, [self.program, *self.case.words], environment, file_actions=actions)
-        signal.signal(signal.SIGALRM, lambda *_: os.kill(child, signal.SIGKILL))
-        signal.alarm(PATIENCE)
-        _, status = os.waitpid(child, 0)
-        signal.alarm(0)
-        return Outcome(os.waitstatus_to_exitcode(status), read(".out"), read(".err"))
+        status = running.run(self.program, self.case.words, environment, ".input", ".out", ".err")
+        return Outcome(status, read(".out"), read(".err"))
 
     def calls(self):
         """The opens, reads and writes of a plain run, each with its descriptor and what it gave, and the number of allocations."""
@@ -75,16 +62,6 @@ class Runner:
         entries = [line.split() for line in read(".log").splitlines()]
         calls = [(call.decode(), int(descriptor), int(given)) for call, descriptor, given in entries[:-1]]
         return calls, int(entries[-1][2])
-
-
-def write(name, text):
-    with open(name, "wb") as file:
-        file.write(text)
-
-
-def read(name):
-    with open(name, "rb") as file:
-        return file.read()
 
 
 def fronts(case, text):
@@ -195,14 +172,10 @@ def main():
     cases = [(it, reports.get(it.name)) for it in cases] + [(it, None) for it in read_cases(f"{ROOT}/checks/runs")]
     cases = [(case, wanted) for case, wanted in cases if not word or word[0] in case.name]
     statuses, faults, left_out = collections.Counter(), [], []
-    with concurrent.futures.ProcessPoolExecutor() as pool:
-        jobs = [
-            pool.submit(try_case, program, shim, case, f"{work}/{at}", kind, wanted) for at, (case, wanted) in enumerate(cases)
-        ]
-        for job in jobs:
-            found, said, is_left_out = job.result()
-            statuses += found
-            (left_out if is_left_out else faults).extend(said)
+    jobs = [(try_case, program, shim, case, f"{work}/{at}", kind, wanted) for at, (case, wanted) in enumerate(cases)]
+    for found, said, is_left_out in running.each(jobs):
+        statuses += found
+        (left_out if is_left_out else faults).extend(said)
     print(*left_out, *faults, sep="\n")
     ended = ", ".join(f"{count} {status if status == 'the same' else f'with status {status}'}" for status, count in statuses.most_common())
     print(f"{kind}: {sum(statuses.values())} runs of {len(cases)}: {ended}; {len(faults)} wrong")
