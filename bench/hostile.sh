@@ -271,6 +271,12 @@ if wanted "roles"; then
   awk 'BEGIN { for (i = 1; i < 1000; i++) printf "g, user%06d, user%06d\n", i, i + 1; for (i = 1; i <= 99001; i++) printf "g, u%06d, user000001\n", i }' | cat "$work/rules" - >"$work/h.csv"
   echo 'user000001, data1, read' | tee "$work/h.in" >"$work/p.in"
   compare "roles, the deepest of 1,000 subjects in a chain" enforce --limit 250
+  model 'g(r.sub, p.sub, r.dom) && r.dom == p.dom' 'sub, dom' $'[role_definition]\ng = _, _, _\n' | tee "$work/h.conf" >"$work/p.conf"
+  echo 'p, last, home' >"$work/rule"
+  awk 'BEGIN { for (d = 1; d <= 195; d++) for (i = 1; i < 1024; i++) printf "g, user%06d, role%06d, d%03d\n", i, i, d }' | cat "$work/rule" - >"$work/p.csv"
+  awk 'BEGIN { for (d = 1; d <= 195; d++) for (i = 1; i < 1024; i++) printf "g, role%06d, role%06d, d%03d\n", i + 1, i, d }' | cat "$work/rule" - >"$work/h.csv"
+  echo 'user000001, home' | tee "$work/h.in" >"$work/p.in"
+  compare "roles, 195 domains of 1,024 in a chain that is built from its end" enforce --limit 250
 fi
 
 if wanted "hash"; then
@@ -298,9 +304,9 @@ if wanted "script"; then
   lines 'publish' "$mebibytes16" 2000000 >"$work/h.in"
   lines 'sync' "$mebibytes16" 2000000 >"$work/p.in"
   compare "script of 2,000,000 publishes of nothing" session
-  awk 'BEGIN { print "keep 50000"; for (i = 1; i <= 50000; i++) print "add p, user, data1, read\npublish\nremove p, user, data1, read\npublish" }' >"$work/h.in"
+  awk 'BEGIN { print "keep 100000"; for (i = 1; i <= 100000; i++) print "add p, user, data1, read\npublish\nremove p, user, data1, read\npublish" }' >"$work/h.in"
   { echo 'keep 1'; tail -n +2 "$work/h.in"; } >"$work/p.in"
-  compare "script of 100,000 publishes of which 50,000 are kept" session
+  compare "script of 200,000 publishes of which 100,000 are kept" session
   awk 'BEGIN { print "begin add-all"; for (i = 1; i <= 190000; i++) printf "p, user%06d, data1, read\n", i; print "end\npublish" }' >"$work/h.in"
   awk 'BEGIN { for (i = 1; i <= 190000; i++) printf "add p, user%06d, data1, read\n", i; print "publish" }' >"$work/p.in"
   compare "script of one block of 190,000 rules" session
