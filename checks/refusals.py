@@ -30,6 +30,12 @@ ROOT = os.path.dirname(os.path.dirname(os.path.abspath(__file__)))
 # A case with more bytes is left to the gate.
 LARGEST = 1 << 13
 
+# For a quick look: of the allocations only the first of so many is refused.
+EACH = int(os.environ.get("EACH", 1))
+
+# The runner of the gate has sinks of so many bytes.
+ROOM = 1 << 16
+
 # The commands that print the lines of their items as they come; the others print their text once it is whole.
 BY_ITEMS = (b"enforce", b"explain", b"session")
 
@@ -140,7 +146,7 @@ def outside_refusals(plain, calls):
 
 def memory_refusals(case, plain, count, how):
     wrong = after_refusal(case, plain)
-    for at in range(1, count + 1):
+    for at in range(1, count + 1, EACH):
         yield {"call": "alloc", "at": at, "how": how}, wrong
 
 
@@ -152,7 +158,7 @@ def try_case(program, shim, case, folder, kind, wanted):
     except OSError as error:
         return statuses, [f"{case.name}: left out, {error.strerror}"], True
     plain = runner.run()
-    if wanted and report(case, *plain) != wanted:
+    if wanted and len(plain.out) <= ROOM and report(case, *plain) != wanted:
         faults.append(f"{case.name}: the plain run is not the case of the gate: {plain}")
     calls, count = runner.calls()
     refusals = outside_refusals(plain, calls) if kind == "io" else memory_refusals(case, plain, count, {"alloc": "fail"}.get(kind, kind))
