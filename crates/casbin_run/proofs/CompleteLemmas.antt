@@ -1,5 +1,5 @@
 -- Where no count rose, the status is the one that what is given has.
-use Rattle.std.proofs.Common.{◌≡◌, ℕ, List, [], inl, inr, ⊎_elim, refl, ap, ◌∙◌}
+use Rattle.std.proofs.Common.{◌≡◌, ℕ, List, inl, inr, ⊎_elim, refl, ap, ◌∙◌}
 use Rattle.std.specs.Prelude.{◌⊎◌, IsSome}
 use Rattle.outside.specs.Told.{with_back}
 use Rattle.run_status.specs.Statuses.{status_of}
@@ -10,12 +10,12 @@ use Rattle.run_status.specs.declared.stop.Stop.{Stop}
 use Rattle.run_status.specs.declared.stop.Stop.TheVariants.{CannotRead, CannotWrite, NoMemory}
 use Rattle.session_meaning.specs.Plain.{all_refused}
 use Rattle.casbin_run.specs.Answered.{IsCalmlyAnswered}
+use Rattle.casbin_run.specs.Finders.{HaveRefusedUnreadable}
 use Rattle.casbin_run.specs.Causes.{Cause, EndsBy, FailsAt}
 use Rattle.casbin_run.specs.Ends.{Ends, HasStopped}
 use Rattle.casbin_run.specs.Given.{Given, IsInOrder}
 use Rattle.casbin_run.specs.Reached.{Reached, at_words, at_model, at_options, at_policy, at_task}
 use Rattle.casbin_run.specs.Worlds.{InputRose, OutRose, ShelfRose, Taken, World}
-use Rattle.casbin_run.proofs.FinderLemmas.{none_refused}
 
 -- what is given has one end
 pub record HasOneEnd : Type 0 where
@@ -78,10 +78,10 @@ module _ (law : HasOneEnd) (g : Given) (files : IsSome g.files) (input : IsSome 
     complete statuses.Done ends order shelf source out = inl refl
     complete other ends order shelf source out = inr (complete_stopped other ends order shelf source out)
 
-    -- where the finders refused nothing, the text is the one that answers
-    pub text_is : (text : List ℕ) → Ends g before now err err_now statuses.Done → now.finders ≡ before.finders → IsCalmlyAnswered g text → now.out.bytes ≡ with_back before.out.bytes text
+    -- where the finders refused nothing but patterns that cannot be read, the text is the one that answers
+    pub text_is : (text : List ℕ) → Ends g before now err err_now statuses.Done → HaveRefusedUnreadable before.finders now.finders → IsCalmlyAnswered g text → now.out.bytes ≡ with_back before.out.bytes text
     text_is text ends still is =
         let done = ends.done in
         let answers = done.all.answers in
-        let calm : IsCalmlyAnswered g answers.text = record { refused = answers.refused; answered = answers.answered; none = none_refused before.finders now.finders (all_refused answers.refused) still answers.logged } in
+        let calm : IsCalmlyAnswered g answers.text = record { refused = answers.refused; answered = answers.answered; unread = still (all_refused answers.refused) answers.logged } in
         done.all.took ∙ ap (with_back before.out.bytes) (law.one_text g answers.text text files input calm is)

@@ -1,5 +1,5 @@
 -- What is given has one end: what is read comes to one state at each part, and the states to one end.
-use Rattle.std.proofs.Common.{◌≡◌, ℕ, ◌<◌, ◌≤◌, Bool, true, false, List, [], inl, inr, length, refl, sym, ap, subst, ◌∙◌, arith}
+use Rattle.std.proofs.Common.{◌≡◌, ℕ, ◌<◌, ◌≤◌, Bool, true, false, List, inl, inr, length, refl, sym, ap, subst, ◌∙◌, arith}
 use Rattle.std.specs.Prelude.{◌⊎◌, IsSome, Option, Some, None}
 use Rattle.answer_lines.specs.declared.answer.Line.{Line}
 use Rattle.command_words.specs.FileNames.{SubjectName}
@@ -8,6 +8,7 @@ use Rattle.log_ship.specs.declared.packet.Packet.{Packet}
 use Rattle.log_ship.specs.declared.packet_fault.PacketFault.{PacketFault}
 use Rattle.outside.specs.Files.{Files}
 use Rattle.model_conf.specs.Faults.{IsModelFault}
+use Rattle.matcher_meaning.specs.Unread.{AreUnreadable}
 use Rattle.model_conf.specs.ModelText.{ModelParts, IsModel}
 use Rattle.model_conf.specs.declared.fault.ModelFault.{ModelFault}
 use Rattle.perm_base.specs.declared.shapes.Shapes.{Shapes}
@@ -202,9 +203,9 @@ pub record SaysOnce : Type 0 where
   pub packet_fault : (bytes : List ℕ) (first second : PacketFault) → IsPacketFault bytes first → IsPacketFault bytes second → first ≡ second
   pub packet_either : (bytes : List ℕ) (fault : PacketFault) (packets : List Packet) → IsPacketFault bytes fault → ¬ (ArePackets bytes packets)
   pub lines : (model : ModelParts) (shapes : Shapes) (opening : table.Policy) (items : List Said) (refused others : List (List (List ℕ))) (first second : List Line) → IsPlain model shapes opening items refused first → IsPlain model shapes opening items others second
-      → all_refused refused ≡ [] → all_refused others ≡ [] → first ≡ second
+      → AreUnreadable (all_refused refused) → AreUnreadable (all_refused others) → first ≡ second
   pub explained : (most : ℕ) (model : ModelParts) (shapes : Shapes) (opening : table.Policy) (items : List Said) (refused others : List (List (List ℕ))) (pieces more : List (List ℕ)) (first second : List ℕ) → IsExplained most model shapes opening items refused pieces first
-      → IsExplained most model shapes opening items others more second → all_refused refused ≡ [] → all_refused others ≡ [] → first ≡ second
+      → IsExplained most model shapes opening items others more second → AreUnreadable (all_refused refused) → AreUnreadable (all_refused others) → first ≡ second
   pub implied : (model : ModelParts) (shapes : Shapes) (policy : table.Policy) (subject : SubjectName) (first second : List ℕ) → IsImplied model shapes policy subject first → IsImplied model shapes policy subject second → first ≡ second
   pub followed : (shapes : Shapes) (policy : table.Policy) (packets : List Packet) (first second : List ℕ) → IsFollowed shapes policy packets first → IsFollowed shapes policy packets second → first ≡ second
   pub reported : (shapes : Shapes) (policy : table.Policy) (first second : List ℕ) → IsReported shapes policy first → IsReported shapes policy second → first ≡ second
@@ -398,23 +399,23 @@ no_cause once g stop told-files told-input is cause = by g.files g.input told-fi
 
 -- ---- one text
 
--- where nothing is refused, one text is written over what is read
+-- where nothing is refused but searches for patterns that cannot be read, one text is written over what is read
 module _ (once : SaysOnce) (model : ModelParts) (shapes : Shapes) (policy : table.Policy) (items : List Said) where
-  lines_once : (refused others : List (List (List ℕ))) (pieces more : List (List ℕ)) (text written : List ℕ) → IsOfLines model shapes policy items refused pieces text → IsOfLines model shapes policy items others more written → all_refused refused ≡ [] → all_refused others ≡ [] → text ≡ written
-  lines_once refused others pieces more text written p q none nothing = p.text_is ∙ ap text_of_lines (once.lines model shapes policy items refused others p.lines q.lines p.plain q.plain none nothing) ∙ sym q.text_is
+  lines_once : (refused others : List (List (List ℕ))) (pieces more : List (List ℕ)) (text written : List ℕ) → IsOfLines model shapes policy items refused pieces text → IsOfLines model shapes policy items others more written → AreUnreadable (all_refused refused) → AreUnreadable (all_refused others) → text ≡ written
+  lines_once refused others pieces more text written p q unread no_other = p.text_is ∙ ap text_of_lines (once.lines model shapes policy items refused others p.lines q.lines p.plain q.plain unread no_other) ∙ sym q.text_is
 
   written_once : (task : Task) (packets : List Packet) (refused others : List (List (List ℕ))) (pieces more : List (List ℕ)) (text written : List ℕ) → Writes task model shapes policy items packets refused pieces text → Writes task model shapes policy items packets others more written
-      → all_refused refused ≡ [] → all_refused others ≡ [] → text ≡ written
-  written_once (Enforce json) packets refused others pieces more text written p q none nothing = lines_once refused others pieces more text written p q none nothing
-  written_once (Cached json capacity) packets refused others pieces more text written p q none nothing = lines_once refused others pieces more text written p q none nothing
-  written_once (Explain json most) packets refused others pieces more text written p q none nothing = once.explained most model shapes policy items refused others pieces more text written p q none nothing
-  written_once (Serve json) packets refused others pieces more text written p q none nothing = lines_once refused others pieces more text written p q none nothing
-  written_once Check packets refused others pieces more text written p q none nothing = p.is ∙ sym q.is
-  written_once Format packets refused others pieces more text written p q none nothing = p.is ∙ sym q.is
-  written_once (Implicit subject) packets refused others pieces more text written p q none nothing = once.implied model shapes policy subject text written p.is q.is
-  written_once Report packets refused others pieces more text written p q none nothing = once.reported shapes policy text written p.is q.is
-  written_once Ship packets refused others pieces more text written p q none nothing = p.is ∙ sym q.is
-  written_once Follow packets refused others pieces more text written p q none nothing = once.followed shapes policy packets text written p.is q.is
+      → AreUnreadable (all_refused refused) → AreUnreadable (all_refused others) → text ≡ written
+  written_once (Enforce json) packets refused others pieces more text written p q unread no_other = lines_once refused others pieces more text written p q unread no_other
+  written_once (Cached json capacity) packets refused others pieces more text written p q unread no_other = lines_once refused others pieces more text written p q unread no_other
+  written_once (Explain json most) packets refused others pieces more text written p q unread no_other = once.explained most model shapes policy items refused others pieces more text written p q unread no_other
+  written_once (Serve json) packets refused others pieces more text written p q unread no_other = lines_once refused others pieces more text written p q unread no_other
+  written_once Check packets refused others pieces more text written p q unread no_other = p.is ∙ sym q.is
+  written_once Format packets refused others pieces more text written p q unread no_other = p.is ∙ sym q.is
+  written_once (Implicit subject) packets refused others pieces more text written p q unread no_other = once.implied model shapes policy subject text written p.is q.is
+  written_once Report packets refused others pieces more text written p q unread no_other = once.reported shapes policy text written p.is q.is
+  written_once Ship packets refused others pieces more text written p q unread no_other = p.is ∙ sym q.is
+  written_once Follow packets refused others pieces more text written p q unread no_other = once.followed shapes policy packets text written p.is q.is
 
 module _ (once : SaysOnce) (files : Files) (input : List ℕ) where
   model_same : (job : Job) (model other : ModelParts) → ModelIs (Some files) job model → ModelIs (Some files) job other → model ≡ other
@@ -449,7 +450,7 @@ module _ (once : SaysOnce) (files : Files) (input : List ℕ) where
     refused : List (List (List ℕ))
     pieces : List (List ℕ)
     writes : Writes job.task model (shapes_with job.options model) policy items packets refused pieces text
-    none : all_refused refused ≡ []
+    unread : AreUnreadable (all_refused refused)
 
   texts_same : (job : Job) (model : ModelParts) (policy : table.Policy) (items : List Said) (packets : List Packet) (text : List ℕ) (other : ModelParts) (second : table.Policy) (said : List Said) (sent : List Packet) (written : List ℕ) → Reads job model policy items packets text → Reads job other second said sent written
       → text ≡ written
@@ -462,15 +463,15 @@ module _ (once : SaysOnce) (files : Files) (input : List ℕ) where
       let at_items : Reads job model policy items sent written = subst (λ (i : List Said). Reads job model policy i sent written) same_items at_policy in
       let same_packets : sent ≡ packets = packets_same job.task sent packets at_items.carries p.carries in
       let at_packets : Reads job model policy items packets written = subst (λ (l : List Packet). Reads job model policy items l written) same_packets at_items in
-      written_once once model (shapes_with job.options model) policy items job.task packets p.refused at_packets.refused p.pieces at_packets.pieces text written p.writes at_packets.writes p.none at_packets.none
+      written_once once model (shapes_with job.options model) policy items job.task packets p.refused at_packets.refused p.pieces at_packets.pieces text written p.writes at_packets.writes p.unread at_packets.unread
 
   told_one_text : (words : List (List ℕ)) (first second : List ℕ) → IsCalmlyAnswered (told words files input) first → IsCalmlyAnswered (told words files input) second → first ≡ second
   told_one_text words first second p q =
       let x = p.answered.in_order in
       let y = q.answered.in_order in
       let job : y.job ≡ x.job = same_job (sym y.asked ∙ x.asked) in
-      let reads : Reads y.job y.model y.policy y.items y.packets second = record { are_files = y.are_files; says = y.says; carries = y.carries; refused = q.refused; pieces = q.answered.pieces; writes = q.answered.writes; none = q.none } in
-      texts_same x.job x.model x.policy x.items x.packets first y.model y.policy y.items y.packets second (record { are_files = x.are_files; says = x.says; carries = x.carries; refused = p.refused; pieces = p.answered.pieces; writes = p.answered.writes; none = p.none })
+      let reads : Reads y.job y.model y.policy y.items y.packets second = record { are_files = y.are_files; says = y.says; carries = y.carries; refused = q.refused; pieces = q.answered.pieces; writes = q.answered.writes; unread = q.unread } in
+      texts_same x.job x.model x.policy x.items x.packets first y.model y.policy y.items y.packets second (record { are_files = x.are_files; says = x.says; carries = x.carries; refused = p.refused; pieces = p.answered.pieces; writes = p.answered.writes; unread = p.unread })
       (subst (λ (j : Job). Reads j y.model y.policy y.items y.packets second) job reads)
     where
       same_job : {job other : Job} → Some job ≡ Some other → job ≡ other

@@ -1,5 +1,6 @@
 -- What the finders of a run refused. The first of them alone is asked.
 use Rattle.std.specs.Prelude.{◌≡◌, ℕ, List, [], ◌∷◌}
+use Rattle.matcher_meaning.specs.Unread.{AreUnreadable}
 use Rattle.regex_gate.specs.Refusals.{Refusals, after_refusals}
 
 -- a finder refused these patterns, one after the other
@@ -15,3 +16,7 @@ HaveRefused _ _ patterns = ⊥
 -- the first finder was used, and no other
 abbrev pub AreUsed : List Refusals → List Refusals → Type 0
 AreUsed before now = (patterns : List (List ℕ)) × HaveRefused before now patterns
+
+-- whatever the first finder refused cannot be read
+abbrev pub HaveRefusedUnreadable : List Refusals → List Refusals → Type 0
+HaveRefusedUnreadable before now = (patterns : List (List ℕ)) → HaveRefused before now patterns → AreUnreadable patterns

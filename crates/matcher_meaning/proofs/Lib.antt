@@ -14,4 +14,5 @@ mod OrderLemmas
 mod WorkedLemmas
 mod PlaceLemmas
 mod JudgedLemmas
+mod UnreadLemmas
 mod WorkedOrder

@@ -10,4 +10,5 @@ pub mod Comes
 pub mod Searches
 pub mod Order
 pub mod Verdicts
+pub mod Unread
 pub mod Worked
