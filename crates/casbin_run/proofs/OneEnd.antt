@@ -29,7 +29,7 @@ use Rattle.casbin_run.specs.Answered.{IsCalmlyAnswered}
 use Rattle.casbin_run.specs.Causes.{Cause, HasFault, HasPacketFault, StopsAt}
 use Rattle.casbin_run.specs.Explaining.{IsExplained}
 use Rattle.casbin_run.specs.Following.{IsFollowed}
-use Rattle.casbin_run.specs.Given.{AreFiles, FileIs, Fits, Given, IsInOrder, ModelIs, SaysItems, SaysPackets}
+use Rattle.casbin_run.specs.Given.{AreFiles, FileIs, Given, IsInOrder, ModelIs, ModelSuits, SaysItems, SaysPackets}
 use Rattle.casbin_run.specs.Jobs.{absent_in, job_asked, reads_input, shapes_with}
 use Rattle.casbin_run.specs.Reached.{IsReached, Reached, at_words, at_model, at_options, at_policy, at_task}
 use Rattle.casbin_run.specs.Roles.{IsImplied, IsLong, IsReported, IsShort}
@@ -299,9 +299,9 @@ told words files input = record { words = words; files = Some files; input = Som
 
 -- behind the policy
 policy_behind : (words : List (List ℕ)) (files : Files) (input : List ℕ) (job : Job) (model : ModelParts) (policy : table.Policy) (end : Option Stop) → job_asked words ≡ Some job → AreFiles (Some files) job model policy → TaskEnds (Some input) job.task (shapes_with job.options model) policy end → EndsIn words files (Some input) end
-policy_behind words files input job model policy end asked are ends = (Some job, asked, (good model, are.fits.is_model, (None, are.fits.none_absent, (good policy, are.is_policy, ends))))
+policy_behind words files input job model policy end asked are ends = (Some job, asked, (good model, are.suits.is_model, (None, are.suits.none_absent, (good policy, are.is_policy, ends))))
 
-options_behind : (words : List (List ℕ)) (files : Files) (input : List ℕ) (job : Job) (model : ModelParts) (end : Option Stop) → job_asked words ≡ Some job → Fits (Some files) job model → PolicyEnds files (Some input) job model end → EndsIn words files (Some input) end
+options_behind : (words : List (List ℕ)) (files : Files) (input : List ℕ) (job : Job) (model : ModelParts) (end : Option Stop) → job_asked words ≡ Some job → ModelSuits (Some files) job model → PolicyEnds files (Some input) job model end → EndsIn words files (Some input) end
 options_behind words files input job model end asked fits ends = (Some job, asked, (good model, fits.is_model, (None, fits.none_absent, ends)))
 
 module _ (shapes : Shapes) (policy : table.Policy) where
@@ -455,7 +455,7 @@ module _ (once : SaysOnce) (files : Files) (input : List ℕ) where
   texts_same : (job : Job) (model : ModelParts) (policy : table.Policy) (items : List Said) (packets : List Packet) (text : List ℕ) (other : ModelParts) (second : table.Policy) (said : List Said) (sent : List Packet) (written : List ℕ) → Reads job model policy items packets text → Reads job other second said sent written
       → text ≡ written
   texts_same job model policy items packets text other second said sent written p q =
-      let same_model : other ≡ model = model_same job other model q.are_files.fits.is_model p.are_files.fits.is_model in
+      let same_model : other ≡ model = model_same job other model q.are_files.suits.is_model p.are_files.suits.is_model in
       let at_model : Reads job model second said sent written = subst (λ (m : ModelParts). Reads job m second said sent written) same_model q in
       let same_policy : second ≡ policy = policy_same job (shapes_with job.options model) second policy at_model.are_files.is_policy p.are_files.is_policy in
       let at_policy : Reads job model policy said sent written = subst (λ (t : table.Policy). Reads job model t said sent written) same_policy at_model in

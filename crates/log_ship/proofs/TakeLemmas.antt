@@ -11,7 +11,7 @@ use Rattle.log_ship.proofs.WaitLemmas.{all_drop, all_put, put_first, rises_gap, 
 use Rattle.log_ship.specs.Followers.{Following, Held, IsFollowing, IsSame, IsSameState, Rises, version_of}
 use Rattle.log_ship.specs.Helps.Looks.{IsLook, IsNew}
 use Rattle.log_ship.specs.Helps.Waits.{next_front, next_run}
-use Rattle.log_ship.specs.Taking.{Answer, IsAnswer, Reading, Reads, Takes, admitted, after_answer, appended, behind_next, edit_answer, edit_read, fits, is_repeated, left_behind, may_come, most_ahead, put, run_from, take_answer, text_answer, waits, with_edits}
+use Rattle.log_ship.specs.Taking.{IsAnswer, Reading, Reads, TakeAnswer, Takes, admitted, after_answer, appended, behind_next, edit_answer, edit_read, is_repeated, left_behind, may_come, most_ahead, put, rules_may_stand, run_from, take_answer, text_answer, waits, with_edits}
 use Rattle.log_ship.specs.declared.packet.Packet.{Packet}
 use Rattle.log_ship.specs.declared.taken.Taken.TheVariants.{Repeated, Waiting, Applied}
 use Rattle.log_ship.specs.declared.taken.TakeRefused.{TakeRefused}
@@ -89,10 +89,10 @@ takes_repeated follower packet is = record { answer = λ reading reads. repeated
 pub takes_refused : (follower : Following) (packet : Packet) (refused : TakeRefused) → IsLook follower packet (Err refused) → Takes follower packet (Err refused) follower
 takes_refused follower packet refused look = record { answer = look; after = λ reading reads. itself follower }
 
-pub takes_new : (before now : Following) (packet : Packet) (edit : List Change) (result : Answer) → IsNew before packet edit → IsAnswer (edit_answer before packet.number edit) result
+pub takes_new : (before now : Following) (packet : Packet) (edit : List Change) (result : TakeAnswer) → IsNew before packet edit → IsAnswer (edit_answer before packet.number edit) result
     → IsSame (after_answer result (record { number = packet.number; edit = edit }) before) now → Takes before packet result now
 takes_new before now packet edit result new answer after = record {
-  answer = λ reading reads. subst (λ (a : Answer). IsAnswer a result) (sym (near_answer before packet.number new.fresh reading new.near ∙ ap (text_answer before packet.number) (same reading reads))) answer;
+  answer = λ reading reads. subst (λ (a : TakeAnswer). IsAnswer a result) (sym (near_answer before packet.number new.fresh reading new.near ∙ ap (text_answer before packet.number) (same reading reads))) answer;
   after = λ reading reads. subst (λ (r : Reading). IsSame (after_answer result (record { number = packet.number; edit = edit_read r }) before) now) (sym (same reading reads)) after;
 }
   where
@@ -112,7 +112,7 @@ fresh_is follower number edit fresh comes =
     record {
       above = leb-false number (version_of follower) parts.0;
       apart = parts.1;
-      few = leb-true number most_versions (and_parts (nat_le number most_versions) (list_all (fits follower.state.shapes) edit) comes).0;
+      few = leb-true number most_versions (and_parts (nat_le number most_versions) (list_all (rules_may_stand follower.state.shapes) edit) comes).0;
     }
 
 -- it waits
@@ -265,7 +265,7 @@ module _ (before : Following) (edit : List Change) (count : ℕ) (state : State)
   pub applied_told : (number version : ℕ) → number ≡ version_of before + 1 → may_come before.state.shapes number edit ≡ true → 0 < count → version ≡ versions state.log → edit_answer before number edit ≡ Ok (Applied version)
   applied_told number version next comes some is = by (admits before.state.shapes (tables before.state) edit) refl
     where
-      pick : Bool → Answer
+      pick : Bool → TakeAnswer
       pick b = cond b (Ok (Applied (version_of before + length (appended before edit)))) (Err Misfit)
 
       by : (b : Bool) → admits before.state.shapes (tables before.state) edit ≡ b → edit_answer before number edit ≡ Ok (Applied version)
