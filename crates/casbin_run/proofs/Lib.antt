@@ -9,6 +9,7 @@ pub mod ShipLemmas
 pub mod FollowLemmas
 pub mod RolesLemmas
 pub mod WorkLemmas
+pub mod EarlyLemmas
 pub mod CachedWork
 pub mod PieceLemmas
 pub mod ExplainLemmas

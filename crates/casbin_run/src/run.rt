@@ -3,11 +3,11 @@ ghost use Rattle.command_words.specs.Items.{texts};
 ghost use Rattle.outside.specs.Ends.{IsEndedOnce, ends_after};
 ghost use Rattle.outside.specs.Faults.{Rose};
 ghost use Rattle.regex_gate.specs.Refusals.{IsUsed};
-ghost use Rattle.casbin_run.specs.Ends.{Ends, may_write};
+ghost use Rattle.casbin_run.specs.Ends.{Ends, has_read, may_write};
 ghost use Rattle.casbin_run.specs.Finders.{AreUsed, HasRefused};
 ghost use Rattle.casbin_run.specs.Given.{given};
 ghost use Rattle.casbin_run.specs.Helps.Running.{ComesTo};
-ghost use Rattle.casbin_run.specs.Helps.Tasks.{DidAll, IsQuiet, WorkStops, ground};
+ghost use Rattle.casbin_run.specs.Helps.Tasks.{DidAll, IsQuiet, WorkStops, ground, is_past};
 ghost use Rattle.casbin_run.specs.Helps.Working.{IsReady};
 ghost use Rattle.casbin_run.specs.Jobs.{HasSize, ask_for_input, reads_input};
 ghost use Rattle.casbin_run.specs.Shown.{ReadsBack};
@@ -73,10 +73,10 @@ pub fn run_casbin<F: Shelf, S: Source, K: Sink, E: Sink, P: Finder>(
         (taken (E.taken err.new) (E.faults err.new)) result }
     ensures quiet { may_write result ≡ false → K.taken out.new ≡ K.taken out.old }
 
-    // The input is read to its end and no further, or not at all.
-    ensures read_to_end { result ≡ Status.Done → ask_for_input (texts words.now) ≡ true
+    // The input is read to its end and no further, or not at all, unless it is too long, a read fails or memory runs out.
+    ensures read_to_end { has_read result ≡ true → ask_for_input (texts words.now) ≡ true
         → IfSome (S.left input.new) (λ rest. rest ≡ []) }
-    ensures ended { result ≡ Status.Done → ask_for_input (texts words.now) ≡ true
+    ensures ended { has_read result ≡ true → ask_for_input (texts words.now) ≡ true
         → S.ends input.new ≡ ends_after (S.ends input.old) true }
     ensures no_further { IsEndedOnce (S.ends input.old) (S.ends input.new) }
     ensures unread { ask_for_input (texts words.now) ≡ false
@@ -161,10 +161,10 @@ fn do_task<S: Source, K: Sink, E: Sink, P: Finder>(
         (Rose (S.faults input.old) (S.faults input.new))
         (Rose (K.faults out.old) (K.faults out.new))) }
     ensures quiet { IfErr result (λ stop. IsQuiet stop → K.taken out.new ≡ K.taken out.old) }
-    ensures read_to_end { OnOk result (reads_input task.entry ≡ true
-        → IfSome (S.left input.new) (λ rest. rest ≡ [])) }
-    ensures ended { OnOk result (reads_input task.entry ≡ true
-        → S.ends input.new ≡ ends_after (S.ends input.old) true) }
+    ensures read_to_end { is_past result ≡ true → reads_input task.entry ≡ true
+        → IfSome (S.left input.new) (λ rest. rest ≡ []) }
+    ensures ended { is_past result ≡ true → reads_input task.entry ≡ true
+        → S.ends input.new ≡ ends_after (S.ends input.old) true }
     ensures no_further { IsEndedOnce (S.ends input.old) (S.ends input.new) }
     ensures unread { reads_input task.entry ≡ false
         → pulled (S.left input.new) (S.ends input.new) (S.faults input.new)
