@@ -2,8 +2,7 @@
 use Rattle.std.proofs.Common.{◌≡◌, ℕ, ◌≤◌, ◌==◌, Bool, true, false, List, [], ◌∷◌, ◌++◌, Ok, Err, length, inl, inr, ⊎_elim, refl, sym, ap, subst, ◌∙◌, arith}
 use Rattle.std.specs.Prelude.{IfErr, MatchBool, OnOk, Option, Result}
 use Rattle.std.specs.List.{Contains}
-use Rattle.std.proofs.lemmas.List.Elements.{Contains-append_left, Contains-append_right}
-use Rattle.matcher_meaning.specs.Unread.{AreUnreadable}
+use Rattle.refusal_meaning.specs.Unread.{AreUnreadable}
 use Rattle.std.proofs.lemmas.Result.{IfErr-weaker}
 use Rattle.answer_lines.specs.LineText.{line_text}
 use Rattle.answer_lines.specs.declared.answer.Line.{Line}
@@ -18,6 +17,7 @@ use Rattle.perm_base.specs.declared.shapes.TableId.TheVariants.{P}
 use Rattle.perm_value.specs.Datum.{Datum}
 use Rattle.policy_state.specs.States.{State, tables}
 use Rattle.policy_table.specs.Tables as table
+use Rattle.refusal_meaning.proofs.CallerLemmas.{unread_left, unread_right}
 use Rattle.regex_gate.specs.Refusals.{IsUsed, Refusals}
 use Rattle.run_status.specs.declared.stop.Stop.{Stop}
 use Rattle.run_status.specs.declared.stop.Stop.TheVariants.{CannotWrite, NoMemory}
@@ -103,13 +103,6 @@ pub record ExplainsOnce : Type 0 where
       → AreNearMisses shapes policy request (Contains refused) parts most first → AreNearMisses shapes policy request (Contains others) parts most second → first ≡ second
   pub lines : (model : ModelParts) (shapes : Shapes) (opening : table.Policy) (items : List Said) (refused others : List (List (List ℕ))) (first second : List Line) → IsPlain model shapes opening items refused first → IsPlain model shapes opening items others second
       → AreUnreadable (all_refused refused) → AreUnreadable (all_refused others) → first ≡ second
-
--- where none of these patterns can be read, none of a part can
-unread_left : (some others : List (List ℕ)) → AreUnreadable (some ++ others) → AreUnreadable some
-unread_left some others unread pattern has = unread pattern (Contains-append_left some others pattern has)
-
-unread_right : (some others : List (List ℕ)) → AreUnreadable (some ++ others) → AreUnreadable others
-unread_right some others unread pattern has = unread pattern (Contains-append_right some others pattern has)
 
 module _ (once : ExplainsOnce) (parts : List ModelParts) (most : ℕ) (model : ModelParts) (shapes : Shapes) (policy : table.Policy) where
   module _ (few many : List (List ℕ)) (unread : AreUnreadable few) (no_other : AreUnreadable many) where

@@ -8,7 +8,7 @@ use Rattle.log_ship.specs.declared.packet.Packet.{Packet}
 use Rattle.log_ship.specs.declared.packet_fault.PacketFault.{PacketFault}
 use Rattle.outside.specs.Files.{Files}
 use Rattle.model_conf.specs.Faults.{IsModelFault}
-use Rattle.matcher_meaning.specs.Unread.{AreUnreadable}
+use Rattle.refusal_meaning.specs.Unread.{AreUnreadable}
 use Rattle.model_conf.specs.ModelText.{ModelParts, IsModel}
 use Rattle.model_conf.specs.declared.fault.ModelFault.{ModelFault}
 use Rattle.perm_base.specs.declared.shapes.Shapes.{Shapes}

@@ -1,7 +1,7 @@
 -- What a run answers, and what of it was taken.
 use Rattle.std.specs.Prelude.{◌≡◌, ℕ, List, take}
 use Rattle.outside.specs.Told.{TookFront, with_back}
-use Rattle.matcher_meaning.specs.Unread.{AreUnreadable}
+use Rattle.refusal_meaning.specs.Unread.{AreUnreadable}
 use Rattle.session_meaning.specs.Plain.{all_refused}
 use Rattle.casbin_run.specs.Finders.{HaveRefused}
 use Rattle.casbin_run.specs.Given.{Given, IsInOrder}

@@ -1,6 +1,6 @@
 -- What the finders of a run refused. The first of them alone is asked.
 use Rattle.std.specs.Prelude.{◌≡◌, ℕ, List, [], ◌∷◌}
-use Rattle.matcher_meaning.specs.Unread.{AreUnreadable}
+use Rattle.refusal_meaning.specs.Unread.{AreUnreadable}
 use Rattle.regex_gate.specs.Refusals.{Refusals, after_refusals}
 
 -- a finder refused these patterns, one after the other

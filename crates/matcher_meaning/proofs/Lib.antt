@@ -14,5 +14,4 @@ mod OrderLemmas
 mod WorkedLemmas
 mod PlaceLemmas
 mod JudgedLemmas
-mod UnreadLemmas
 mod WorkedOrder

@@ -10,5 +10,4 @@ pub mod Comes
 pub mod Searches
 pub mod Order
 pub mod Verdicts
-pub mod Unread
 pub mod Worked

@@ -5,7 +5,6 @@ mod case_law;
 mod eval_law;
 mod judged_law;
 mod order_law;
-mod unread_law;
 mod worked;
 
 pub use case_law::{
@@ -15,5 +14,4 @@ pub use case_law::{
 pub use eval_law::{eval_comes_to_its_rule, only_searches_are_refused};
 pub use judged_law::judged_is_the_verdict;
 pub use order_law::{links_of_tables_are_decided, order_of_rows_is_one};
-pub use unread_law::unreadable_patterns_are_refused_without_effect;
 pub use worked::worked_cases;

@@ -2,7 +2,7 @@
 
 ghost use Rattle.std.specs.Prelude.{◌≡◌, ℕ, List};
 ghost use Rattle.std.specs.List.{Contains};
-ghost use Rattle.matcher_meaning.specs.Unread.{AreUnreadable};
+ghost use Rattle.refusal_meaning.specs.Unread.{AreUnreadable};
 ghost use Rattle.model_conf.specs.ModelText.{ModelParts};
 ghost use Rattle.perm_base.specs.declared.shapes.Shapes.{Shapes};
 ghost use Rattle.perm_value.specs.Datum.{Datum};
@@ -11,10 +11,9 @@ ghost use Rattle.near_miss.specs.Misses.{AreNearMisses};
 ghost use Rattle.near_miss.specs.Parts.{AreParts};
 ghost use Rattle.near_miss.specs.declared.misses.NearMiss as declared;
 
-use matcher_meaning::{
-    case_answer_is_there, case_answer_is_unique, unreadable_patterns_are_refused_without_effect,
-};
+use matcher_meaning::{case_answer_is_there, case_answer_is_unique};
 use model_conf::text_says_one_model;
+use refusal_meaning::unreadable_patterns_are_refused_without_effect;
 
 /// The law that each request has near misses, whatever patterns count as refused.
 pub fn near_misses_are_there()

@@ -1,12 +1,12 @@
 -- The lines of a script.
 use Rattle.std.proofs.Common.{◌≡◌, ℕ, suc, true, false, List, [], ◌∷◌, ◌++◌, append_assoc, append-nil, length, refl, sym, ap, subst, ◌∙◌}
 use Rattle.std.proofs.lemmas.List.Concat.{flat_map-append}
-use Rattle.std.proofs.lemmas.List.Elements.{Contains-append_left, Contains-append_right}
 use Rattle.answer_lines.specs.declared.answer.Line.{Line}
-use Rattle.matcher_meaning.specs.Unread.{AreUnreadable}
+use Rattle.refusal_meaning.specs.Unread.{AreUnreadable}
 use Rattle.model_conf.specs.ModelText.{ModelParts}
 use Rattle.perm_base.specs.declared.shapes.Shapes.{Shapes}
 use Rattle.policy_table.specs.Tables.{Policy}
+use Rattle.refusal_meaning.proofs.CallerLemmas.{unread_left, unread_right}
 use Rattle.script_read.specs.Said.{Said}
 use Rattle.session_meaning.specs.Plain.{AreLines, IsLine, IsPlain, all_refused, none_refused, number_behind}
 use Rattle.session_meaning.specs.Replies.{is_decided}
@@ -16,13 +16,6 @@ use Rattle.session_meaning.proofs.ReplyLemmas.{OneJudged, SomeJudged, StaysJudge
 -- what was refused for one item more
 pub all_more : (refused : List (List (List ℕ))) (more : List (List ℕ)) → all_refused (refused ++ more ∷ []) ≡ all_refused refused ++ more
 all_more refused more = flat_map-append (λ (patterns : List (List ℕ)). patterns) refused (more ∷ []) ∙ ap (λ (l : List (List ℕ)). all_refused refused ++ l) (append-nil more)
-
--- where none of these patterns can be read, none of a part can
-unread_left : (some others : List (List ℕ)) → AreUnreadable (some ++ others) → AreUnreadable some
-unread_left some others unread pattern has = unread pattern (Contains-append_left some others pattern has)
-
-unread_right : (some others : List (List ℕ)) → AreUnreadable (some ++ others) → AreUnreadable others
-unread_right some others unread pattern has = unread pattern (Contains-append_right some others pattern has)
 
 -- what is judged is one verdict, where no pattern that was refused can be read
 abbrev pub OneUnread : ModelParts → Shapes → Type 0

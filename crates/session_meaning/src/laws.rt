@@ -4,7 +4,7 @@ ghost use Rattle.answer_lines.specs.Told.{is_printable};
 ghost use Rattle.answer_lines.specs.declared.answer.Answer as answer;
 ghost use Rattle.answer_lines.specs.declared.answer.Line.{Line};
 ghost use Rattle.edit_calls.specs.Admitted.{admits};
-ghost use Rattle.matcher_meaning.specs.Unread.{AreUnreadable};
+ghost use Rattle.refusal_meaning.specs.Unread.{AreUnreadable};
 ghost use Rattle.model_conf.specs.ModelText.{ModelParts};
 ghost use Rattle.perm_base.specs.Shapes.{AreValid};
 ghost use Rattle.perm_base.specs.declared.shapes.Shapes.{Shapes};
@@ -23,8 +23,8 @@ ghost use Rattle.session_meaning.specs.Versions.{is_publish, tables_at};
 use edit_calls::{admitted_edits_keep_sound, edits_apply, edits_are_admitted};
 use matcher_meaning::{
     case_verdict_is_there, case_verdict_is_unique, judged_is_the_verdict, order_of_rows_is_one,
-    unreadable_patterns_are_refused_without_effect,
 };
+use refusal_meaning::unreadable_patterns_are_refused_without_effect;
 
 /// The law that each script has lines, one for each item.
 pub fn lines_are_there()

@@ -1,6 +1,6 @@
 use Rattle.std.specs.List.{Contains}
-use Rattle.matcher_meaning.proofs.UnreadLemmas.{comes_alike, judged_by_unread, truth_alike, verdict_alike}
-use Rattle.matcher_meaning.proofs.unread_law.unreadable_patterns_are_refused_without_effect.Goals as goal
+use Rattle.refusal_meaning.proofs.UnreadLemmas.{comes_alike, judged_by_unread, truth_alike, verdict_alike}
+use Rattle.refusal_meaning.proofs.unread_law.unreadable_patterns_are_refused_without_effect.Goals as goal
 
 pub returns-clause-value : goal.returns-clause-value
 returns-clause-value c case e at pattern r unread p = comes_alike case at pattern unread e r p

@@ -14,7 +14,7 @@ ghost use Rattle.matcher_meaning.specs.Answers.{Evaluation};
 ghost use Rattle.matcher_meaning.specs.Cases.{Case, where_refused};
 ghost use Rattle.matcher_meaning.specs.Comes.{ComesTo, TruthIs};
 ghost use Rattle.matcher_meaning.specs.Perm.{Refusal};
-ghost use Rattle.matcher_meaning.specs.Unread.{AreUnreadable};
+ghost use Rattle.refusal_meaning.specs.Unread.{AreUnreadable};
 ghost use Rattle.matcher_meaning.specs.Verdicts.{IsJudged, IsVerdict};
 
 /// The law that a refused search for a pattern that cannot be read changes nothing: an answer, a truth and a verdict are as they

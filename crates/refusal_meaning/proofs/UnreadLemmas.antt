@@ -1,5 +1,6 @@
 -- Where a search for a pattern that cannot be read is refused, all comes to what it does where nothing is refused: such a search is the fault of its pattern in both.
-use Rattle.std.proofs.Common.{if◌then◌else◌, ◌≡◌, inl, inr, ℕ, ◌==◌, ◌&&◌, ◌||◌, Bool, true, false, true≢false, List, [], ◌∷◌, Option, Some, None, is_some, refl, sym, ap, ◌∙◌, subst}
+use Rattle.std.proofs.Common.{if◌then◌else◌, ◌≡◌, inl, inr, ℕ, ◌==◌, ◌&&◌, ◌||◌, Bool, true, false, true≢false, List, [], ◌∷◌, ◌++◌, Option, Some, None, is_some, refl, sym, ap, ◌∙◌, subst}
+use Rattle.std.proofs.lemmas.List.Elements.{Contains-append_left, Contains-append_right}
 use Rattle.std.proofs.lemmas.Slice.Eq.{bytes_eq-Decides}
 use Rattle.std.specs.List.{AllZip}
 use Rattle.std.specs.Str.{bytes_eq}
@@ -11,7 +12,7 @@ use Rattle.perm_base.specs.declared.shapes.Shapes.{Shapes}
 use Rattle.perm_base.specs.declared.shapes.TableId.TheVariants.{P}
 use Rattle.perm_value.specs.Datum.{Datum}
 use Rattle.policy_table.specs.Tables.{Fields, Policy, rows}
-use Rattle.matcher_read.specs.Expression.{Callee, function, relation, unknown, Expression, text, whole, truth, request, policy, evaluated, negation, opposite, binary, among, call, Expressions, no_more, one_more, place, some_node, among_some}
+use Rattle.matcher_read.specs.Expression.{Callee, function, relation, unknown, Expression, text, whole, truth, request, policy, evaluated, negation, opposite, binary, among, call, Expressions, no_more, one_more, some_node, among_some}
 use Rattle.matcher_read.specs.declared.tree.Function.{Function}
 use Rattle.matcher_read.specs.declared.tree.Function.TheVariants as f
 use Rattle.model_conf.specs.ModelText.{ModelParts}
@@ -25,7 +26,8 @@ use Rattle.matcher_meaning.specs.Comes.{ComesTo, Evaluates, ReadsNone, RuleComes
 use Rattle.matcher_meaning.specs.Order.{Numbered}
 use Rattle.matcher_meaning.specs.Perm.{Refusal, names_policy, refused_at, row_word, same_row}
 use Rattle.matcher_meaning.specs.Verdicts.{HasOneOutcome, HasOutcome, HasOutcomesOver, IsJudged, IsVerdict, RowHasOutcome, case_of}
-use Rattle.matcher_meaning.proofs.PlainLemmas.{Implies, unmoved}
+use Rattle.matcher_meaning.proofs.CallerLemmas.{Implies, unmoved}
+use Rattle.refusal_meaning.specs.Unread.{AreUnreadable}
 
 -- ---- no node is found by a test that finds none
 
@@ -165,3 +167,12 @@ pub judged_by_unread : (model : ModelParts) (shapes : Shapes) (tables : Policy) 
     → ((pattern : List ℕ) → IsBad pattern → is_readable pattern ≡ false) → IsJudged model shapes tables asked IsBad v → IsVerdict model shapes tables asked None v
 judged_by_unread model shapes tables asked IsBad v unread (inl is) = is
 judged_by_unread model shapes tables asked IsBad v unread (inr (refusal, bad, fault, is)) = verdict_alike refusal (unread refusal.pattern bad) model shapes tables asked v is
+
+-- ---- lists of patterns
+
+-- where none of these patterns can be read, none of a part can
+pub unread_left : (some others : List (List ℕ)) → AreUnreadable (some ++ others) → AreUnreadable some
+unread_left some others unread pattern has = unread pattern (Contains-append_left some others pattern has)
+
+pub unread_right : (some others : List (List ℕ)) → AreUnreadable (some ++ others) → AreUnreadable others
+unread_right some others unread pattern has = unread pattern (Contains-append_right some others pattern has)
