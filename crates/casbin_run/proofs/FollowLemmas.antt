@@ -7,7 +7,7 @@ use Rattle.answer_lines.specs.LineText.{numbered}
 use Rattle.edit_calls.specs.Admitted.{admits}
 use Rattle.log_ship.proofs.CallerLemmas.{more_tables, more_versions, same_itself, same_tables, same_version}
 use Rattle.log_ship.specs.Followers.{Following, Held, IsSame, version_of}
-use Rattle.log_ship.specs.Taking.{IsAnswer, Reading, Reads, TakeAnswer, Takes, TakesAll, admitted, after_answer, appended, behind_next, edit_read, left_behind, may_come, most_ahead, put, run_from, take_answer, waits}
+use Rattle.log_ship.specs.Taking.{IsAnswer, Reads, TakeAnswer, Takes, TakesAll, TextReading, admitted, after_answer, appended, behind_next, edit_read, left_behind, may_come, most_ahead, put, run_from, take_answer, waits}
 use Rattle.log_ship.specs.declared.packet.Packet.{Packet}
 use Rattle.log_ship.specs.declared.taken.TakeRefused.TheVariants.{TooFar, Malformed, Misfit, NoMemory}
 use Rattle.log_ship.specs.declared.taken.Taken.TheVariants.{Repeated, Waiting, Applied}
@@ -116,7 +116,7 @@ record Alike (one other : Following) : Type 0 where
 
 -- they answer alike
 
-abbrev text_by : Shapes → Policy → ℕ → List Held → ℕ → Reading → TakeAnswer
+abbrev text_by : Shapes → Policy → ℕ → List Held → ℕ → TextReading → TakeAnswer
 text_by shapes policy version waiting number (Err line) = Err (Malformed line)
 text_by shapes policy version waiting number (Ok edit) =
     if not (may_come shapes number edit) then Err Misfit
@@ -124,17 +124,17 @@ text_by shapes policy version waiting number (Ok edit) =
     else if admits shapes policy edit then Ok (Applied (version + length (admitted shapes policy (edit ∷ run_from (version + 2) waiting))))
     else Err Misfit
 
-abbrev answer_by : Shapes → Policy → ℕ → List Held → ℕ → Reading → TakeAnswer
+abbrev answer_by : Shapes → Policy → ℕ → List Held → ℕ → TextReading → TakeAnswer
 answer_by shapes policy version waiting number reading =
     if nat_le number version || waits number waiting then Ok Repeated
     else if nat_lt (version + most_ahead) number then Err (TooFar version)
     else text_by shapes policy version waiting number reading
 
-answer_is : (follower : Following) (number : ℕ) (reading : Reading) → take_answer follower number reading ≡ answer_by follower.state.shapes (tables follower.state) (version_of follower) follower.waiting number reading
+answer_is : (follower : Following) (number : ℕ) (reading : TextReading) → take_answer follower number reading ≡ answer_by follower.state.shapes (tables follower.state) (version_of follower) follower.waiting number reading
 answer_is follower number (Ok edit) = refl
 answer_is follower number (Err line) = refl
 
-same_answer : (one other : Following) → Alike one other → (number : ℕ) (reading : Reading) → take_answer one number reading ≡ take_answer other number reading
+same_answer : (one other : Following) → Alike one other → (number : ℕ) (reading : TextReading) → take_answer one number reading ≡ take_answer other number reading
 same_answer one other alike number reading =
     answer_is one number reading
     ∙ ap (λ (s : Shapes). answer_by s (tables one.state) (version_of one) one.waiting number reading) alike.shapes
@@ -194,7 +194,7 @@ is_due due (Err NoMemory) is known = absurd known
 
 -- each text is read
 abbrev pub AreRead : Type 0
-AreRead = (text : List ℕ) → (reading : Reading) × Reads text reading
+AreRead = (text : List ℕ) → (reading : TextReading) × Reads text reading
 
 module _ (law : AreRead) where
   -- the same answers, and followers that are alike

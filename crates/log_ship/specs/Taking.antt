@@ -19,10 +19,10 @@ use Rattle.version_log.specs.Log.{most_versions}
 use Rattle.version_log.specs.declared.edit_fault.EditFault.TheVariants as fault
 
 -- what a text is read as: an edit, or the line at which it is none
-abbrev pub Reading : Type 0
-Reading = Result (List Change) ℕ
+abbrev pub TextReading : Type 0
+TextReading = Result (List Change) ℕ
 
-abbrev pub Reads : List ℕ → Reading → Type 0
+abbrev pub Reads : List ℕ → TextReading → Type 0
 Reads text (Ok edit) = IsEditText text edit
 Reads text (Err line) = IsEditFault text (fault.Malformed line)
 
@@ -77,12 +77,12 @@ edit_answer follower number edit =
     else if admits follower.state.shapes (tables follower.state) edit then Ok (Applied (version_of follower + length (appended follower edit)))
     else Err Misfit
 
-abbrev pub text_answer : Following → ℕ → Reading → TakeAnswer
+abbrev pub text_answer : Following → ℕ → TextReading → TakeAnswer
 text_answer follower number (Ok edit) = edit_answer follower number edit
 text_answer follower number (Err line) = Err (Malformed line)
 
 -- the answer to a packet of this number, whose text is read so
-abbrev pub take_answer : Following → ℕ → Reading → TakeAnswer
+abbrev pub take_answer : Following → ℕ → TextReading → TakeAnswer
 take_answer follower number reading =
     if is_repeated follower number then Ok Repeated
     else if nat_lt (version_of follower + most_ahead) number then Err (TooFar (version_of follower))
@@ -114,7 +114,7 @@ after_answer (Ok (Applied version)) held follower = record { state = with_edits 
 after_answer (Err refused) held follower = follower
 
 -- the edit that is read, or none
-abbrev pub edit_read : Reading → List Change
+abbrev pub edit_read : TextReading → List Change
 edit_read (Ok edit) = edit
 edit_read (Err line) = []
 
@@ -128,8 +128,8 @@ IsAnswer answer (Err Misfit) = answer ≡ Err Misfit
 
 -- a packet is taken: its answer is given, and the follower is then what this answer leaves of it
 pub record Takes (before : Following) (packet : Packet) (result : TakeAnswer) (now : Following) : Type 0 where
-  pub answer : (reading : Reading) → Reads packet.text reading → IsAnswer (take_answer before packet.number reading) result
-  pub after : (reading : Reading) → Reads packet.text reading → IsSame (after_answer result (record { number = packet.number; edit = edit_read reading }) before) now
+  pub answer : (reading : TextReading) → Reads packet.text reading → IsAnswer (take_answer before packet.number reading) result
+  pub after : (reading : TextReading) → Reads packet.text reading → IsSame (after_answer result (record { number = packet.number; edit = edit_read reading }) before) now
 
 -- packets are taken one after the other, with these answers
 abbrev pub TakesAll : Following → List Packet → List TakeAnswer → Following → Type 0
