@@ -125,8 +125,8 @@ fn copy_of<J: Naming>(
     ensures { IfOk result (λ side. side ≡ told.now) }
 {
     let mut state = desk.state().copy(alloc)?;
-    let version = state.version();
-    make(&mut state, alloc, &[], version)?;
+    let start = state.version();
+    make(&mut state, alloc, &[], start)?;
     let head = Arc::try_clone(head)?;
     Ok(Side::new(alloc, state, told.again(), head))
 }
