@@ -3,6 +3,7 @@ use Rattle.std.specs.Prelude.{◌≡◌, ◌≤◌, ℕ, MatchBool, Bool, List, 
 use Rattle.std.specs.List.{AllZip}
 use Rattle.live_rounds.specs.Done.{HaveRefused as EachHasRefused}
 use Rattle.loaded_work.specs.Finders.{HasRefused}
+use Rattle.refusal_meaning.specs.Unread.{AreUnreadable}
 use Rattle.regex_gate.specs.Refusals.{IsUsed, Refusals}
 use Rattle.session_meaning.specs.Plain.{all_refused}
 
@@ -29,3 +30,7 @@ IsFirstUsed before now = (patterns : List (List ℕ)) × HaveRefused before now 
 -- the finders were used: the first alone, or each by its worker
 abbrev pub AreUsed : (shared : Bool) → List Refusals → List Refusals → Type 0
 AreUsed shared before now = MatchBool shared (AllZip IsUsed before now) (IsFirstUsed before now)
+
+-- whatever the first finder refused cannot be read
+abbrev pub HaveRefusedUnreadable : List Refusals → List Refusals → Type 0
+HaveRefusedUnreadable before now = (patterns : List (List ℕ)) → HaveRefused before now patterns → AreUnreadable patterns

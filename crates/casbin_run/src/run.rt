@@ -4,12 +4,12 @@ ghost use Rattle.outside.specs.Ends.{IsEndedOnce, ends_after};
 ghost use Rattle.outside.specs.Faults.{Rose};
 ghost use Rattle.regex_gate.specs.Refusals.{IsUsed};
 ghost use Rattle.casbin_run.specs.Demos.{EndsAs, some_workers};
-ghost use Rattle.casbin_run.specs.Ends.{Ends, may_write};
+ghost use Rattle.casbin_run.specs.Ends.{Ends, has_read, may_write};
 ghost use Rattle.casbin_run.specs.Finders.{AreUsed, Logs};
 ghost use Rattle.loaded_work.specs.Finders.{HasRefused};
 ghost use Rattle.casbin_run.specs.Given.{given};
 ghost use Rattle.casbin_run.specs.Helps.Running.{ComesTo};
-ghost use Rattle.casbin_run.specs.Helps.Tasks.{DidAll, IsQuiet, WorkStops, ground};
+ghost use Rattle.casbin_run.specs.Helps.Tasks.{DidAll, IsQuiet, WorkStops, ground, is_past};
 ghost use Rattle.loaded_work.specs.Helps.Working.{IsReady};
 ghost use Rattle.casbin_run.specs.Jobs.{HasSize, ask_for_input, ask_for_workers, has_workers, reads_input};
 ghost use Rattle.casbin_run.specs.Shown.{ReadsBack};
@@ -92,10 +92,10 @@ pub fn run_casbin<
         (taken (E.taken err.new) (E.faults err.new)) result }
     ensures quiet { may_write result ≡ false → K.taken out.new ≡ K.taken out.old }
 
-    // The input is read to its end and no further, or not at all.
-    ensures read_to_end { result ≡ Status.Done → ask_for_input (texts words.now) ≡ true
+    // The input is read to its end and no further, or not at all, unless it is too long, a read fails or memory runs out.
+    ensures read_to_end { has_read result ≡ true → ask_for_input (texts words.now) ≡ true
         → IfSome (S.left input.new) (λ rest. rest ≡ []) }
-    ensures ended { result ≡ Status.Done → ask_for_input (texts words.now) ≡ true
+    ensures ended { has_read result ≡ true → ask_for_input (texts words.now) ≡ true
         → S.ends input.new ≡ ends_after (S.ends input.old) true }
     ensures no_further { IsEndedOnce (S.ends input.old) (S.ends input.new) }
     ensures unread { ask_for_input (texts words.now) ≡ false
@@ -159,9 +159,9 @@ fn run_files<
         (taken (E.taken err.old) (E.faults err.old))
         (taken (E.taken err.new) (E.faults err.new)) result }
     ensures quiet { may_write result ≡ false → K.taken out.new ≡ K.taken out.old }
-    ensures read_to_end { result ≡ Status.Done → ask_for_input (texts words.now) ≡ true
+    ensures read_to_end { has_read result ≡ true → ask_for_input (texts words.now) ≡ true
         → IfSome (S.left input.new) (λ rest. rest ≡ []) }
-    ensures ended { result ≡ Status.Done → ask_for_input (texts words.now) ≡ true
+    ensures ended { has_read result ≡ true → ask_for_input (texts words.now) ≡ true
         → S.ends input.new ≡ ends_after (S.ends input.old) true }
     ensures no_further { IsEndedOnce (S.ends input.old) (S.ends input.new) }
     ensures unread { ask_for_input (texts words.now) ≡ false
@@ -268,10 +268,10 @@ fn do_any<R: Threads + Wait + Sync, S: Source, K: Sink, E: Sink, P: Finder, G: G
         (Rose (S.faults input.old) (S.faults input.new))
         (Rose (K.faults out.old) (K.faults out.new))) }
     ensures quiet { IfErr result (λ stop. IsQuiet stop → K.taken out.new ≡ K.taken out.old) }
-    ensures read_to_end { OnOk result (reads_input task.entry ≡ true
-        → IfSome (S.left input.new) (λ rest. rest ≡ [])) }
-    ensures ended { OnOk result (reads_input task.entry ≡ true
-        → S.ends input.new ≡ ends_after (S.ends input.old) true) }
+    ensures read_to_end { is_past result ≡ true → reads_input task.entry ≡ true
+        → IfSome (S.left input.new) (λ rest. rest ≡ []) }
+    ensures ended { is_past result ≡ true → reads_input task.entry ≡ true
+        → S.ends input.new ≡ ends_after (S.ends input.old) true }
     ensures no_further { IsEndedOnce (S.ends input.old) (S.ends input.new) }
     ensures unread { reads_input task.entry ≡ false
         → pulled (S.left input.new) (S.ends input.new) (S.faults input.new)
@@ -322,10 +322,10 @@ fn do_task<S: Source, K: Sink, E: Sink, P: Finder>(
         (Rose (S.faults input.old) (S.faults input.new))
         (Rose (K.faults out.old) (K.faults out.new))) }
     ensures quiet { IfErr result (λ stop. IsQuiet stop → K.taken out.new ≡ K.taken out.old) }
-    ensures read_to_end { OnOk result (reads_input task.entry ≡ true
-        → IfSome (S.left input.new) (λ rest. rest ≡ [])) }
-    ensures ended { OnOk result (reads_input task.entry ≡ true
-        → S.ends input.new ≡ ends_after (S.ends input.old) true) }
+    ensures read_to_end { is_past result ≡ true → reads_input task.entry ≡ true
+        → IfSome (S.left input.new) (λ rest. rest ≡ []) }
+    ensures ended { is_past result ≡ true → reads_input task.entry ≡ true
+        → S.ends input.new ≡ ends_after (S.ends input.old) true }
     ensures no_further { IsEndedOnce (S.ends input.old) (S.ends input.new) }
     ensures unread { reads_input task.entry ≡ false
         → pulled (S.left input.new) (S.ends input.new) (S.faults input.new)

@@ -41,10 +41,10 @@ pub returns-clause-unread : goal.returns-clause-unread
 returns-clause-unread g c none = refl
 
 pub returns-clause-read_to_end : goal.returns-clause-read_to_end
-returns-clause-read_to_end g c done reads = let both : true ≡ false = sym reads ∙ demo_unread (texts c.args.words.now) _ c.in-Some.ensures.asked in absurd cc
+returns-clause-read_to_end g c past reads = let both : true ≡ false = sym reads ∙ demo_unread (texts c.args.words.now) _ c.in-Some.ensures.asked in absurd cc
 
 pub returns-clause-ended : goal.returns-clause-ended
-returns-clause-ended g c done reads = let both : true ≡ false = sym reads ∙ demo_unread (texts c.args.words.now) _ c.in-Some.ensures.asked in absurd cc
+returns-clause-ended g c past reads = let both : true ≡ false = sym reads ∙ demo_unread (texts c.args.words.now) _ c.in-Some.ensures.asked in absurd cc
 
 pub returns-clause-quiet : goal.returns-clause-quiet
 returns-clause-quiet g c quiet = let both : true ≡ false = sym (demo_writes c.in-Some.count c.in-Some.workers (taken (g.K.Sink.taken c.args.out.now) (g.K.Sink.faults c.args.out.now)) (taken (g.K.Sink.taken c.run_demo.new.out) (g.K.Sink.faults c.run_demo.new.out)) (taken (g.E.Sink.taken c.args.err.now) (g.E.Sink.faults c.args.err.now)) (taken (g.E.Sink.taken c.run_demo.new.err) (g.E.Sink.faults c.run_demo.new.err)) c.run_demo.result c.run_demo.ensures.ends) ∙ quiet in absurd cc
