@@ -99,10 +99,11 @@ maps_alike refusals befores nows same = dropped nows ∙ ap (map refusals) same 
 -- words that ask for no demonstration, and those that ask for one
 module _ (g : Given) (before now : World) (err err_now : Taken) (status : Status) where
   pub ends_files : None ≡ demo_asked g.words → Ends g before now err err_now status → EndsAs g before now err err_now status
-  ends_files none ends = subst (λ (demo : Option (ℕ × ℕ)). MatchOption demo (Ends g before now err err_now status) (λ (d : ℕ × ℕ). EndsDemo d.0 d.1 before now err err_now status)) none ends
+  ends_files none ends = subst (λ (demo : Option (ℕ × ℕ)). MatchOption demo (Ends g before now err err_now status) (λ (d : ℕ × ℕ). (now.shelf ≡ before.shelf) × EndsDemo d.0 d.1 before now err err_now status)) none ends
 
-  pub ends_demo : (demo : ℕ × ℕ) → Some demo ≡ demo_asked g.words → EndsDemo demo.0 demo.1 before now err err_now status → EndsAs g before now err err_now status
-  ends_demo demo asked ends = subst (λ (found : Option (ℕ × ℕ)). MatchOption found (Ends g before now err err_now status) (λ (d : ℕ × ℕ). EndsDemo d.0 d.1 before now err err_now status)) asked ends
+  pub ends_demo : (demo : ℕ × ℕ) → Some demo ≡ demo_asked g.words → now.shelf ≡ before.shelf → EndsDemo demo.0 demo.1 before now err err_now status → EndsAs g before now err err_now status
+  ends_demo demo asked unfetched ends =
+      subst (λ (found : Option (ℕ × ℕ)). MatchOption found (Ends g before now err err_now status) (λ (d : ℕ × ℕ). (now.shelf ≡ before.shelf) × EndsDemo d.0 d.1 before now err err_now status)) asked (unfetched, ends)
 
 -- by what the sinks took, where this is all that changed of the world
 pub demo_ends : (count workers : ℕ) (before now : World) (err err_now : Taken) (status : Status) → DemoEnds count workers before.out now.out err err_now status → EndsDemo count workers before now err err_now status
