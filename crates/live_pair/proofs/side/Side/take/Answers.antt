@@ -1,5 +1,5 @@
 use Rattle.std.proofs.Common.{◌≡◌, ◌+◌, ◌≤◌, ◌++◌, ◌∷◌, [], List, length, sym, ap, subst, ◌∙◌}
-use Rattle.live_pair.proofs.SideLemmas.{CanMake, can_make, up_to_staged}
+use Rattle.live_pair.proofs.SideLemmas.{CanMake, can_make, up_to_kept, up_to_staged}
 use Rattle.live_pair.proofs.StartLemmas.{is_staged}
 use Rattle.live_pair.proofs.StoryLemmas.{next_staged}
 use Rattle.live_pair.specs.declared.edits.Event.TheVariants.{Staged}
@@ -44,6 +44,12 @@ make-requires-clause-until g c =
     let next : op.told ≡ i.told ++ Staged op.edits ∷ [] = next_staged i.told op.told op.edits one.0 one.1 op.last in
     let can : CanMake i.state op.edits c.version-start.result = can_make g.J.Naming.shapes g.J.Naming.opening g.J.Naming.first i.told op.told op.edits i.state c.version-start.result next c.kept.ensures.given c.self.invariant.0 c.version-start.ensures in
     can.until
+
+pub invariant_of-self : goal.invariant_of-self
+invariant_of-self g c = (
+  up_to_kept g.J.Naming.shapes g.J.Naming.opening g.J.Naming.first c.self.inside.told c.self.inside.state c.make.new.state c.in_default.ensures.shapes c.in_default.ensures.refused c.in_default.ensures.start_kept c.self.invariant.0,
+  c.self.invariant.1,
+)
 
 pub invariant_of-self-2 : goal.invariant_of-self-2
 invariant_of-self-2 g c =
