@@ -1,5 +1,5 @@
 -- Runs whose words ask for the demonstration, and those whose words do not.
-use Rattle.std.proofs.Common.{◌≡◌, ◌≤◌, ℕ, zero, suc, Bool, true, false, List, [], ◌∷◌, Option, Some, None, drop, refl, sym, ap, subst, ◌∙◌}
+use Rattle.std.proofs.Common.{◌≡◌, ◌≤◌, ℕ, Bool, true, false, List, [], ◌∷◌, Option, Some, None, drop, refl, sym, ap, subst, ◌∙◌}
 use Rattle.std.specs.Prelude.{◌==◌, ◌||◌, IfSome, MatchOption, map, not}
 use Rattle.std.specs.List.{AllZip}
 use Rattle.std.proofs.lemmas.Bool.{eqb-true}
@@ -75,8 +75,11 @@ first_alone [] (n ∷ now) used same = absurd used
 first_alone (b ∷ before) [] used same = absurd used
 
 pub no_workers : (workers : ℕ) → not (workers == 0) ≡ false → workers ≡ 0
-no_workers zero none = refl
-no_workers (suc workers) none = absurd cc
+no_workers workers none = by (workers == 0) refl none
+  where
+    by : (test : Bool) → (workers == 0) ≡ test → not test ≡ false → workers ≡ 0
+    by true is none = eqb-true workers 0 is
+    by false is none = absurd cc
 
 -- the finders of a demonstration
 pub demo_used : (workers : ℕ) (before now : List Refusals) → AllZip IsUsed before now → (workers ≡ 0 → drop 1 now ≡ drop 1 before) → AreUsed (not (workers == 0)) before now
