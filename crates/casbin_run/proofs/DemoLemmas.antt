@@ -91,7 +91,7 @@ demo_used workers before now used alone = by (workers == 0) refl
 
 -- what is behind the first is alike where the finders are
 pub maps_alike : {P : Type 0} (refusals : P → Refusals) (befores nows : List P) → drop 1 nows ≡ drop 1 befores → drop 1 (map refusals nows) ≡ drop 1 (map refusals befores)
-maps_alike refusals befores nows same = dropped nows ∙ ap (map refusals) same ∙ sym (dropped befores)
+maps_alike {P = P} refusals befores nows same = dropped nows ∙ ap (map refusals) same ∙ sym (dropped befores)
   where
     dropped : (list : List P) → drop 1 (map refusals list) ≡ map refusals (drop 1 list)
     dropped [] = refl
