@@ -13,7 +13,6 @@ use Rattle.near_miss.specs.declared.misses.NearMiss.{NearMiss}
 use Rattle.perm_base.specs.declared.shapes.Shapes.{Shapes}
 use Rattle.perm_base.specs.declared.shapes.TableId.TheVariants.{P}
 use Rattle.perm_value.specs.Datum.{Datum}
-use Rattle.policy_state.specs.States.{tables}
 use Rattle.policy_table.specs.Tables as table
 use Rattle.refusal_meaning.proofs.CallerLemmas.{unread_left, unread_right}
 use Rattle.regex_gate.specs.Refusals.{Refusals}
