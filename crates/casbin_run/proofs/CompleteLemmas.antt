@@ -16,7 +16,7 @@ use Rattle.casbin_run.specs.Given.{Given, IsInOrder}
 use Rattle.casbin_run.specs.Reached.{Reached, at_words, at_model, at_options, at_policy, at_task}
 use Rattle.casbin_run.specs.Worlds.{InputRose, OutRose, ShelfRose, World}
 use Rattle.loaded_work.specs.Sinks.{Taken}
-use Rattle.casbin_run.specs.Finders.{HaveRefused, HaveRefusedUnreadable, Logs}
+use Rattle.casbin_run.specs.Finders.{FirstHasRefused, HaveRefusedUnreadable, Logs}
 use Rattle.casbin_run.specs.Jobs.{ask_for_workers}
 use Rattle.casbin_run.proofs.OneEnd.{has_none}
 
@@ -87,6 +87,6 @@ module _ (law : HasOneEnd) (g : Given) (files : IsSome g.files) (input : IsSome 
         let done = ends.done in
         let answers = done.all.answers in
         let order = answers.answered.in_order in
-        let first : HaveRefused before.finders now.finders (all_refused answers.refused) = subst (λ (shared : Bool). Logs shared before.finders now.finders (all_refused answers.refused)) (has_none g.words order.job order.asked alone) answers.logged in
+        let first : FirstHasRefused before.finders now.finders (all_refused answers.refused) = subst (λ (shared : Bool). Logs shared before.finders now.finders (all_refused answers.refused)) (has_none g.words order.job order.asked alone) answers.logged in
         let calm : IsCalmlyAnswered g answers.text = record { refused = answers.refused; answered = answers.answered; unread = still (all_refused answers.refused) first } in
         done.all.took ∙ ap (with_back before.out.bytes) (law.one_text g answers.text text files input alone calm is)

@@ -4,7 +4,7 @@ use Rattle.std.specs.Prelude.{map}
 use Rattle.std.specs.List.{AllZip}
 use Rattle.regex_gate.proofs.CallerLemmas.{used_none}
 use Rattle.regex_gate.specs.Refusals.{IsUsed, Refusals, after_refusals}
-use Rattle.casbin_run.specs.Finders.{AreUsed, HaveRefused, IsFirstUsed, Logs}
+use Rattle.casbin_run.specs.Finders.{AreUsed, FirstHasRefused, IsFirstUsed, Logs}
 use Rattle.loaded_work.specs.Finders.{HasRefused}
 
 -- finders that were not asked
@@ -19,7 +19,7 @@ finders_same false (first ∷ others) = ([], (refl, refl))
 
 module _ {P : Type 0} (refusals : P → Refusals) (last : P) where
   -- the first one was asked
-  pub first_refused : (fs : List P) (first : P) → 0 < length fs → first ≡ get_or fs 0 first → (patterns : List (List ℕ)) → HasRefused (refusals first) (refusals last) patterns → HaveRefused (map refusals fs) (map refusals (slice_set fs 0 last)) patterns
+  pub first_refused : (fs : List P) (first : P) → 0 < length fs → first ≡ get_or fs 0 first → (patterns : List (List ℕ)) → HasRefused (refusals first) (refusals last) patterns → FirstHasRefused (map refusals fs) (map refusals (slice_set fs 0 last)) patterns
   first_refused [] first some here patterns is = absurd (omega (arith, some))
   first_refused (f ∷ fs) first some here patterns is = (is ∙ ap (λ (x : P). after_refusals (refusals x) patterns) here, refl)
 
