@@ -25,3 +25,4 @@ for ((n = first; n <= last; n++)); do
   fi
   echo "allocation $n refused: status 9, ${#answer} bytes of the answers"
 done
+echo "a run may need more allocations than $last"
