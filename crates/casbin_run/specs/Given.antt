@@ -32,26 +32,26 @@ abbrev pub FileIs : Option Files → List ℕ → Part → (List ℕ → Type 0)
 FileIs files name part fact = (bytes : List ℕ) × Holds files name bytes × (length bytes ≤ limit_of part) × fact bytes
 
 -- the bytes are those that are told
-abbrev pub Tells : Option (List ℕ) → List ℕ → Type 0
-Tells None bytes = ⊤
-Tells (Some told) bytes = told ≡ bytes
+abbrev pub AreTold : Option (List ℕ) → List ℕ → Type 0
+AreTold None bytes = ⊤
+AreTold (Some told) bytes = told ≡ bytes
 
 -- the input has at most as many bytes as it may have, and the fact holds of them
 abbrev pub InputIs : Option (List ℕ) → (List ℕ → Type 0) → Type 0
-InputIs input fact = (bytes : List ℕ) × Tells input bytes × (length bytes ≤ limit_of Input) × fact bytes
+InputIs input fact = (bytes : List ℕ) × AreTold input bytes × (length bytes ≤ limit_of Input) × fact bytes
 
 -- the model's file is this model
 abbrev pub ModelIs : Option Files → Job → ModelParts → Type 0
 ModelIs files job model = FileIs files job.files.model Model (λ bytes. IsModel bytes model)
 
 -- besides, it has all that the options name
-pub record Fits (files : Option Files) (job : Job) (model : ModelParts) : Type 0 where
+pub record ModelSuits (files : Option Files) (job : Job) (model : ModelParts) : Type 0 where
   pub is_model : ModelIs files job model
   pub none_absent : absent_in job.options model ≡ None
 
 -- besides, the policy's file is this policy
 pub record AreFiles (files : Option Files) (job : Job) (model : ModelParts) (policy : table.Policy) : Type 0 where
-  pub fits : Fits files job model
+  pub suits : ModelSuits files job model
   pub is_policy : FileIs files job.files.policy Policy (λ bytes. IsPolicy (shapes_with job.options model) bytes policy)
 
 -- the input says these items: requests alone, or a script; none where it is not read

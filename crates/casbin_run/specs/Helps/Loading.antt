@@ -18,7 +18,7 @@ use Rattle.loaded_work.specs.declared.loaded.Loaded.{Loaded}
 use Rattle.casbin_run.specs.declared.job.Job.{Job}
 use Rattle.casbin_run.specs.declared.job.Task.{Task}
 use Rattle.casbin_run.specs.Causes.{HasFault, HasPacketFault}
-use Rattle.casbin_run.specs.Given.{AreFiles, FileIs, Fits, InputIs, ModelIs}
+use Rattle.casbin_run.specs.Given.{AreFiles, FileIs, InputIs, ModelIs, ModelSuits}
 use Rattle.casbin_run.specs.Jobs.{absent_in, shapes_with}
 use Rattle.casbin_run.specs.Reached.{at_model, at_options, at_policy, fetches_to}
 
@@ -73,7 +73,7 @@ BehindModel files job fact = (model : ModelParts) × ModelIs files job model × 
 
 -- besides, the options fit it
 abbrev pub BehindOptions : Option Files → Job → (ModelParts → Type 0) → Type 0
-BehindOptions files job fact = (model : ModelParts) × Fits files job model × fact model
+BehindOptions files job fact = (model : ModelParts) × ModelSuits files job model × fact model
 
 -- one of these; `told` holds of the fetches that the shelf told
 abbrev pub LoadStops : Option Files → Job → (told : List FetchCall → Type 0) → (rose : Type 0) → Stop → Type 0

@@ -8,17 +8,18 @@ use Rattle.casbin_run.specs.Finders.{AreUsed}
 use Rattle.outside.proofs.CallerLemmas.{adds_none}
 use Rattle.casbin_run.specs.Worlds.{fetched, pulled, world}
 use Rattle.loaded_work.specs.Sinks.{taken}
-use Rattle.casbin_run.proofs.EndLemmas.{all_done, load_ends, nothing_done, on_both, words_end, work_ends}
+use Rattle.casbin_run.proofs.EarlyLemmas.{asks_read}
+use Rattle.casbin_run.proofs.EndLemmas.{all_done, load_done, nothing_done, on_both, words_end, work_ends}
 use Rattle.casbin_run.proofs.OneEnd.{has_none, workers_asked}
 use Rattle.casbin_run.proofs.run.answer.Goals as goal
 
 pub returns-in_default-clause-comes : goal.returns-in_default-clause-comes
-returns-in_default-clause-comes g c = nothing_done _ _ _ _ Words (words_end _ _ _ (sym c.in_default.ensures.asked) (adds_none (g.F.Shelf.calls c.args.shelf.now)) refl) (omega arith) refl refl refl
+returns-in_default-clause-comes g c = nothing_done _ _ _ _ Words refl (words_end _ _ _ (sym c.in_default.ensures.asked) (adds_none (g.F.Shelf.calls c.args.shelf.now)) refl) (omega arith) refl refl refl
 
 pub returns-in_err-loaded-clause-comes : goal.returns-in_err-loaded-clause-comes
 returns-in_err-loaded-clause-comes g c =
     let stop : c.from_residual.result ≡ Err c.in_err-loaded.field-0.0 = search rules in
-    rw stop (nothing_done _ _ _ _ c.in_err-loaded.field-0.0 (load_ends (given (texts c.args.words.now) (g.F.Shelf.files c.args.shelf.now) (g.S.Source.left c.args.input.now)) _ _ c.in-Some.job (sym c.in-Some.ensures.asked) refl refl c.in_err-loaded.field-0.0 c.in_err-loaded.ensures.stopped) c.load.ensures.counted refl refl refl)
+    rw stop (load_done (given (texts c.args.words.now) (g.F.Shelf.files c.args.shelf.now) (g.S.Source.left c.args.input.now)) _ _ _ c.in-Some.job (sym c.in-Some.ensures.asked) refl refl c.in_err-loaded.field-0.0 c.in_err-loaded.ensures.stopped c.load.ensures.counted refl)
 
 pub returns-clause-comes : goal.returns-clause-comes
 returns-clause-comes g c =
@@ -32,8 +33,8 @@ returns-clause-comes g c =
       silent = c.do_any.ensures.silent;
       err_counted = c.do_any.ensures.err_counted;
       quiet = c.do_any.ensures.quiet;
-      read_to_end = search rules;
-      ended = search rules;
+      read_to_end = λ past asks. c.do_any.ensures.read_to_end past (asks_read (texts c.args.words.now) c.in-Some.job asked asks);
+      ended = λ past asks. c.do_any.ensures.ended past (asks_read (texts c.args.words.now) c.in-Some.job asked asks);
       no_further = c.do_any.ensures.no_further;
       unread = search rules;
       shelf_counted = search rules;

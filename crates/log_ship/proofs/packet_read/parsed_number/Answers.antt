@@ -1,8 +1,8 @@
 use Rattle.std.proofs.Common.{◌≡◌, Ok, ap, decimal, sym, ◌∙◌, arith, true≢false}
 use Rattle.std.proofs.lemmas.Fmt.{parse-decimal}
 use Rattle.std.proofs.lemmas.Slice.Eq.{bytes_eq-Decides}
-use Rattle.log_ship.proofs.packet_read.number_of.Goals as goal
-use Rattle.log_ship.proofs.packet_read.number_of.Goals.{then-number-eq0-via-then-number-eq0, then-number-eq0-via-else-number-eq0+then-number-gt-MOST_VERSIONS}
+use Rattle.log_ship.proofs.packet_read.parsed_number.Goals as goal
+use Rattle.log_ship.proofs.packet_read.parsed_number.Goals.{then-number-eq0-via-then-number-eq0, then-number-eq0-via-else-number-eq0+then-number-gt-MOST_VERSIONS}
 
 pub returns-in_default : goal.returns-in_default
 returns-in_default c = λ number is.
