@@ -118,7 +118,10 @@ pub fn run_casbin<
         → drop 1 finders.new.items ≡ drop 1 finders.old.items }
     ensures idle { may_write result ≡ false → finders.new.items ≡ finders.old.items }
 {
-    let Some((count, workers)) = read_demo(words) else {
+    let Ok(demo) = read_demo(alloc, words) else {
+        return tell_stop(err, Stop::NoMemory);
+    };
+    let Some((count, workers)) = demo else {
         return run_files(
             rt, alloc, words, shelf, input, out, err, finders, gate, places,
         );
@@ -226,7 +229,7 @@ fn answer<
     ensures idle { IfErr result (λ stop. IsQuiet stop
         → finders.new.items ≡ finders.old.items) }
 {
-    let Some(job) = read_job(words) else {
+    let Some(job) = read_job(alloc, words)? else {
         return Err(Stop::Words);
     };
     let loaded = load(alloc, shelf, &job)?;
