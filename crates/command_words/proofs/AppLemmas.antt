@@ -1,5 +1,5 @@
 -- The commands as `clap` has them once they are built.
-use Rattle.std.proofs.Common.{◌≡◌, ◌∙◌, ◌⊎◌, ◌++◌, ℕ, Bool, true, false, cond, not, ◌&&◌, ◌||◌, List, [], ◌∷◌, map, find, is_some, Option, Some, None, refl, sym, ap, subst, ⊎_elim, bytes_eq, codes}
+use Rattle.std.proofs.Common.{◌≡◌, ◌∙◌, ◌++◌, ℕ, Bool, true, false, cond, not, ◌&&◌, ◌||◌, List, [], ◌∷◌, map, find, is_some, Option, Some, None, refl, sym, ap, subst, ⊎_elim, bytes_eq, codes}
 use Rattle.std.specs.List.{list_any}
 use Rattle.clap.specs.Words.{App, HasKind, HasMatchesOf, IsAmong, Rule, Shape, fault_of, found_of, is_simple, is_simple_and_free, kind_of, matches_of, rows_of}
 use Rattle.clap.specs.Faults.{built_fault, level_fault}

@@ -6,7 +6,7 @@ use Rattle.perm_base.specs.declared.shapes.Fit.{Fit}
 use Rattle.command_words.specs.Commands.{cache_in, command_from, command_with, count_of, enforcing, explaining, files_of, first_files, fits_at, has_json, implying, limit_in, most_in, on_files, options_in, options_of, options_with, role_options, serving, showing, subject_of, takes, value_or, workers_in}
 use Rattle.command_words.specs.Values.{fits_of, number_between}
 use Rattle.command_words.specs.FileNames.{FileNames, SubjectName}
-use Rattle.command_words.specs.Items.{Item, operand, flag, option, stray, are_different, begins_with_dash, is_dashes, is_name, is_operand, is_same, item_of, items, items_behind, operands, value_of, valued}
+use Rattle.command_words.specs.Items.{Item, operand, flag, option, stray, are_different, begins_with_dash, is_dashes, is_name, is_same, item_of, items, items_behind, operands, value_of, valued}
 use Rattle.command_words.specs.declared.command.Command.{Command}
 use Rattle.command_words.specs.declared.command.Command.TheVariants as asked
 use Rattle.command_words.specs.declared.command.Options.{Options}

@@ -1,10 +1,10 @@
 -- The forms of a word: what `clap` and the definition of items say of each.
-use Rattle.std.proofs.Common.{◌≡◌, ◌∙◌, ◌&&◌, ◌||◌, ◌==◌, ℕ, Bool, true, false, cond, not, List, [], ◌∷◌, take, drop, Option, Some, None, refl, sym, ap, subst, arith, bytes_eq, codes, IsUtf8, ne_eqb, eqb-true}
+use Rattle.std.proofs.Common.{◌≡◌, ◌∙◌, ◌&&◌, ◌||◌, ◌==◌, ℕ, Bool, true, false, cond, not, List, [], ◌∷◌, take, drop, Some, None, refl, sym, ap, subst, arith, bytes_eq, codes, IsUtf8, ne_eqb, eqb-true}
 use Rattle.std.proofs.lemmas.Bool.{eqb-false}
 use Rattle.std.specs.Prelude.{option_and_then}
 use Rattle.std.specs.List.{after_first, before_first, list_any}
 use Rattle.clap.specs.Lexer.{long_of, long_of_rest, name_and_value, short_of, short_of_rest, strip_byte}
-use Rattle.command_words.specs.Items.{Item, operand, flag, option, stray, assigned, is_assignment, is_dashes, is_equals, is_json, is_name, is_operand, item_of}
+use Rattle.command_words.specs.Items.{operand, flag, option, stray, assigned, is_assignment, is_dashes, is_equals, is_json, is_name, is_operand, item_of}
 use Rattle.command_words.proofs.TextLemmas.{and_false, before_none, behind_ascii, bytes_same, clash, or_true}
 
 -- `-` alone, or a word that does not begin with it

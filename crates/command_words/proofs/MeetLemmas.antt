@@ -1,19 +1,19 @@
 -- A walk of `clap` over the words meets the items, and finds no fault exactly where each of them passes.
-use Rattle.std.proofs.Common.{◌≡◌, ◌∙◌, ◌&&◌, ◌||◌, ℕ, suc, Bool, true, false, cond, not, List, [], ◌∷◌, ◌++◌, length, drop, map, fold, find, is_some, encode_utf8, Option, Some, None, refl, sym, ap, ap₂, subst, true≢false, bytes_eq, codes, IsUtf8, nat_lt}
+use Rattle.std.proofs.Common.{◌≡◌, ◌∙◌, ◌&&◌, ℕ, suc, Bool, true, false, cond, not, List, [], ◌∷◌, length, drop, map, fold, is_some, encode_utf8, Option, Some, None, refl, sym, ap, ap₂, subst, true≢false, bytes_eq, codes, IsUtf8, nat_lt}
 use Rattle.std.specs.Option.{option_map_or}
 use Rattle.std.specs.List.{after_first, before_first, list_any}
 use Rattle.std.proofs.lemmas.Bool.{and_parts}
 use Rattle.clap.specs.Faults.{bundle_fault, bundle_step_fault, flag_word_fault, flags_fault, long_fault, option_fault, other_fault, settle_fault, short_fault, step_fault, turn_fault, use_fault, walk_fault, word_fault}
 use Rattle.clap.specs.Kinds.{Kinds, or_else}
-use Rattle.clap.specs.Lexer.{long_of, name_and_value, short_of}
-use Rattle.clap.specs.Walk.{Held, Row, Rule, Step, Text, Waiting, Walk, idle, positional, next, trailing, value, after_flag, after_step, arg_by_id, arg_by_long, arg_by_short, has_row, is_pending, long_met, long_or_other, option_word, plain_word, pushed, settled, short_or_plain, subcommand_met, subcommand_or_other, takes_values, used, used_by_id, walked, word_met}
+use Rattle.clap.specs.Lexer.{long_of, name_and_value}
+use Rattle.clap.specs.Walk.{Held, Row, Rule, Step, Text, Waiting, Walk, idle, positional, next, trailing, value, after_flag, after_step, arg_by_long, has_row, is_pending, long_met, long_or_other, option_word, plain_word, pushed, settled, short_or_plain, subcommand_met, subcommand_or_other, takes_values, used_by_id, walked, word_met}
 use Rattle.clap.specs.Walk as walk
 use Rattle.clap.specs.Simple.{Shape}
 use Rattle.clap.specs.declared.error.kind.ErrorKind.TheVariants as kind
 use Rattle.command_words.specs.Items.{Item, operand, flag, option, stray, is_dashes, is_equals, is_name, is_operand, item_of}
 use Rattle.command_words.proofs.AppLemmas.{Apart, found_flag, found_id, found_letter, found_option, found_other, ready_flag, ready_operands, ready_option, ready_rules, ready_shape}
 use Rattle.command_words.proofs.FormLemmas.{AssignedWord, FlagWord, Form, NameWord, PlainWord, ShortWord, assigned_word, dashes_form, flag_word, form, long_form, name_word, plain_form, short_form}
-use Rattle.command_words.proofs.MetItems.{after_item, after_items, is_none, item_passes, items_pass, met_behind, met_items, met_valued, none, none_first, none_or, step_splits}
+use Rattle.command_words.proofs.MetItems.{after_item, after_items, item_passes, items_pass, met_behind, met_items, met_valued, none, none_first, none_or, step_splits}
 use Rattle.command_words.proofs.TextLemmas.{AreTexts, and_false, and_true, bytes_self, clash, first_char}
 
 -- what is held between two words

@@ -3,19 +3,18 @@ use Rattle.std.proofs.Common.{◌≡◌, ◌∙◌, ◌&&◌, ◌||◌, ℕ, Boo
 use Rattle.std.specs.Prelude.{option_and_then}
 use Rattle.std.specs.List.{after_first, before_first, list_all, list_any}
 use Rattle.std.proofs.lemmas.Bool.{false_from_ne_true, or_right}
-use Rattle.clap.specs.Faults.{check_fault, default_fault, defaults_fault, given_default_fault, level_fault, settle_fault, walk_fault}
+use Rattle.clap.specs.Faults.{check_fault, default_fault, defaults_fault, given_default_fault, settle_fault, walk_fault}
 use Rattle.clap.specs.Kinds.{Kinds, check_kinds, or_else}
-use Rattle.clap.specs.Matches.{first_value, matched_of, one_text, raw_values}
-use Rattle.clap.specs.Simple.{App, matches_of}
+use Rattle.clap.specs.Matches.{first_value, one_text}
+use Rattle.clap.specs.Simple.{matches_of}
 use Rattle.clap.specs.Takes.{is_given}
-use Rattle.clap.specs.Walk.{Row, Rule, Text, default_rows, finished, reading_by, has_row, idle, is_empty, nothing_held, one_of, row_text, rows_of, settled, walk, walked, with_default}
+use Rattle.clap.specs.Walk.{Row, Rule, Text, default_rows, finished, reading_by, has_row, idle, is_empty, nothing_held, row_text, rows_of, settled, walk, with_default}
 use Rattle.clap.specs.Faults.{fault_of}
 use Rattle.clap.specs.declared.builder.value_parser.Reading.TheVariants.{AsWritten}
 use Rattle.clap.specs.declared.parser.matches.Found.{Found}
 use Rattle.clap.specs.declared.parser.matches.ValueSource.TheVariants.{DefaultValue}
 use Rattle.clap.proofs.WalkLemmas.{first_value-rows, one_text-rows, raw_values-rows}
-use Rattle.perm_base.specs.declared.shapes.Fit.{Fit}
-use Rattle.command_words.specs.Commands.{cache_in, command_from, command_of, command_with, count_of, enforcing, explaining, files_of, first_files, has_json, implying, kind_named, most_in, on_files, options_in, options_of, options_with, serving, showing, subject_of, takes, value_or, workers_in}
+use Rattle.command_words.specs.Commands.{command_from, command_of, command_with, count_of, enforcing, explaining, files_of, first_files, has_json, implying, kind_named, on_files, options_in, options_of, options_with, serving, showing, subject_of, takes, value_or}
 use Rattle.command_words.specs.Helps.Matched.{app_for, command_told, operands_told, options_told}
 use Rattle.command_words.specs.Items.{Item, flag, are_different, is_dashes, is_same, items, operands, texts, value_of}
 use Rattle.command_words.specs.Values.{fits_of, number_between}
@@ -24,7 +23,7 @@ use Rattle.command_words.specs.declared.command.Command.TheVariants as asked
 use Rattle.command_words.specs.declared.command.Options.{Options}
 use Rattle.command_words.specs.declared.kind.Kind.{Kind}
 use Rattle.command_words.specs.declared.kind.Kind.TheVariants.{Enforce, Explain, Session, Check, Format, Implicit, Report, Ship, Follow, Demo}
-use Rattle.command_words.proofs.AppLemmas.{Apart, apart, fault_is, matches_are, ready_flag, ready_flags, ready_operands, ready_option, ready_rules, ready_shape}
+use Rattle.command_words.proofs.AppLemmas.{apart, fault_is, matches_are, ready_flag, ready_flags, ready_operands, ready_option, ready_rules, ready_shape}
 use Rattle.command_words.proofs.CutLemmas.{front_met, met_command}
 use Rattle.command_words.proofs.ItemLemmas.{flag_found, flag_row, operands_found, option_found, option_row, passes_is, taken}
 use Rattle.command_words.proofs.MeetLemmas.{end_rows, held_at, left_fault, resting, words_meet}
@@ -100,7 +99,7 @@ flag_other true other rows differs = go (has_row (codes "json") rows)
 
 -- ---- a parse of words, by the items that are met
 
-module _ (kind : Kind) (words : List Text) (texts : AreTexts words) where
+module _ (kind : Kind) (words : List Text) (utf8 : AreTexts words) where
   abbrev names : List Text
   names = options_of kind
 
@@ -111,7 +110,7 @@ module _ (kind : Kind) (words : List Text) (texts : AreTexts words) where
   passes = items_pass names (has_json kind) met []
 
   meets : (none (left_fault names (has_json kind) (apart kind) (resting idle (held_at [] None)) words) ≡ passes) × (passes ≡ true → end_rows names (has_json kind) (apart kind) (resting idle (held_at [] None)) words ≡ after_items met [])
-  meets = words_meet names (has_json kind) (apart kind) words texts
+  meets = words_meet names (has_json kind) (apart kind) words utf8
 
   fault_none : none (fault_of (app_for kind) words) ≡ passes
   fault_none =
@@ -232,9 +231,9 @@ told_command Demo f met json value words flags =
 pub parsed_words : (kind : Kind) (words : List Text) (f : Found) (json : Bool) → AreTexts words → fault_of (app_for kind) words ≡ [] → rows_of f ≡ matches_of (app_for kind) words
     → (one_text f (codes "json") ≡ None → json ≡ false) → (one_text f (codes "json") ≡ Some (codes "true") → json ≡ true) → (one_text f (codes "json") ≡ Some (codes "false") → json ≡ false)
     → command_told kind json f ≡ command_from kind (items (before_first is_dashes words)) (after_first is_dashes words)
-parsed_words kind words f json texts whole rows_are none_told true_told false_told =
-    told_command kind f (met_items words) json (value_told kind words texts f whole rows_are) (operands_are kind words texts f whole rows_are) (flag_is kind words texts f whole rows_are json none_told true_told false_told)
-    ∙ met_command kind words (sym (passes_test kind words texts) ∙ ok kind words texts f whole rows_are)
+parsed_words kind words f json utf8 whole rows_are none_told true_told false_told =
+    told_command kind f (met_items words) json (value_told kind words utf8 f whole rows_are) (operands_are kind words utf8 f whole rows_are) (flag_is kind words utf8 f whole rows_are json none_told true_told false_told)
+    ∙ met_command kind words (sym (passes_test kind words utf8) ∙ ok kind words utf8 f whole rows_are)
 
 -- ---- the first word
 

@@ -1,5 +1,5 @@
 -- Tests, and texts that are compared or cut.
-use Rattle.std.proofs.Common.{◌≡◌, ◌∙◌, ◌<◌, ◌+◌, ◌&&◌, ◌||◌, ℕ, suc, Bool, true, false, cond, not, List, [], ◌∷◌, length, drop, map, Option, Some, None, String, Global, refl, sym, ap, subst, true≢false, arith, bytes_eq, chars, encode_utf8_all, IsUtf8, slice_get, string_bytes}
+use Rattle.std.proofs.Common.{◌≡◌, ◌∙◌, ◌<◌, ◌+◌, ◌&&◌, ◌||◌, ℕ, suc, Bool, true, false, cond, not, List, [], ◌∷◌, length, drop, Some, String, Global, refl, sym, ap, true≢false, arith, bytes_eq, chars, encode_utf8_all, IsUtf8, slice_get}
 use Rattle.std.specs.List.{after_first, before_first, list_any, position_or_len}
 use Rattle.std.proofs.lemmas.List.Sums.{take_while-cons}
 use Rattle.std.proofs.lemmas.Slice.Eq.{bytes_eq-Decides}

@@ -1,6 +1,6 @@
 -- What `clap` reads of the commands, and what is looked up in its matches.
-use Rattle.std.specs.Prelude.{ℕ, ◌≡◌, ◌++◌, Bool, true, false, List, [], ◌∷◌, map, Option, Some, None, option_map, unwrap_or, codes}
-use Rattle.clap.specs.Words.{App, Rule, Shape, first_value, matched_of, new_rule, raw_values, with_rule}
+use Rattle.std.specs.Prelude.{ℕ, ◌++◌, Bool, true, false, List, [], ◌∷◌, map, Option, Some, None, option_map, unwrap_or, codes}
+use Rattle.clap.specs.Words.{App, Rule, first_value, matched_of, new_rule, raw_values, with_rule}
 use Rattle.clap.specs.Simple.{new_shape}
 use Rattle.clap.specs.declared.builder.action.ArgAction.TheVariants.{Append, SetTrue}
 use Rattle.clap.specs.declared.parser.matches.Found.{Found}

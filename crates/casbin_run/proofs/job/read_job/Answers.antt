@@ -1,6 +1,4 @@
-use Rattle.std.proofs.Common.{◌≡◌}
 use Rattle.command_words.specs.Items.{texts}
-use Rattle.casbin_run.specs.Jobs.{job_asked}
 use Rattle.casbin_run.proofs.JobLemmas.{job_limits, job_read, job_sizes, no_job_read}
 use Rattle.casbin_run.proofs.job.read_job.Goals as goal
 

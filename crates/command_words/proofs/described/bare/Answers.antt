@@ -1,6 +1,6 @@
-use Rattle.std.proofs.Common.{◌≡◌, [], ◌∷◌, true, codes, refl, ap, ap₂, ◌∙◌, rules}
+use Rattle.std.proofs.Common.{◌≡◌, [], true, ap, ap₂, ◌∙◌, rules}
 use Rattle.std.proofs.lemmas.Result.{IfOk-weaker}
-use Rattle.clap.specs.Simple.{App, app_of_fields, new_app, on_top}
+use Rattle.clap.specs.Simple.{App, app_of_fields, on_top}
 use Rattle.clap.specs.Words.{app_of, rule_of, with_rule}
 use Rattle.command_words.specs.Helps.Matched.{app_of_rules, operands_rule}
 use Rattle.command_words.proofs.described.bare.Goals as goal
