@@ -8,7 +8,7 @@ use Rattle.command_words.specs.Items.{texts}
 
 -- a test that is true and false
 pub clash : {X : Type 0} (test : Bool) → test ≡ true → test ≡ false → X
-clash test yes none = absurd (true≢false (sym yes ∙ none))
+clash test holds fails = absurd (true≢false (sym holds ∙ fails))
 
 -- two tests of which each follows from the other
 pub same_test : (a b : Bool) → (a ≡ true → b ≡ true) → (b ≡ true → a ≡ true) → a ≡ b

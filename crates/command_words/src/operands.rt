@@ -13,10 +13,10 @@ const MOST_COUNT: u32 = 100_000;
 pub(crate) fn operands_in<'m, 'a>(matches: &'m ArgMatches<'a>) -> &'m [&'a str]
     ensures { map (λ word. word.now) result.now ≡ operands_told (found_of matches.now) }
 {
-    match matches.get_strs("operands") {
-        Some(words) => words,
-        None => &[],
-    }
+    let Some(words) = matches.get_strs("operands") else {
+        return &[];
+    };
+    words
 }
 
 /// The files that two operands name.

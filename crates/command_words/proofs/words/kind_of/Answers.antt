@@ -7,7 +7,7 @@ pub returns-in_err-kind : goal.returns-in_err-kind
 returns-in_err-kind c =
     let is : c.args.words.now ≡ c.in_ok-name.name.now ∷ c.in_ok-name.others.now = search rules in
     let none : kind_named (string_bytes c.in_ok-name.name.now) ≡ None = search rules in
-    rw c.from_residual.ensures (no_command_named c.args.words.now c.in_ok-name.name.now c.in_ok-name.others.now is none)
+    rw c.from_residual-in_err-kind.ensures (no_command_named c.args.words.now c.in_ok-name.name.now c.in_ok-name.others.now is none)
 
 pub returns : goal.returns
 returns c =
