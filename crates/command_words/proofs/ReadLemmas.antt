@@ -1,11 +1,12 @@
 -- What a parse tells is what the words ask for.
 use Rattle.std.proofs.Common.{◌≡◌, ◌∙◌, ◌&&◌, ◌||◌, ℕ, Bool, true, false, cond, not, List, [], ◌∷◌, ◌++◌, fold, is_some, map, option_map, unwrap_or, slice_get, string_bytes, Global, String, Option, Some, None, refl, sym, ap, ap₂, bytes_eq, codes}
 use Rattle.std.specs.Prelude.{option_and_then}
+use Rattle.std.specs.Borrow.{Bor}
 use Rattle.std.specs.List.{after_first, before_first, list_all, list_any}
 use Rattle.std.proofs.lemmas.Bool.{false_from_ne_true, or_right}
 use Rattle.clap.specs.Faults.{check_fault, default_fault, defaults_fault, given_default_fault, settle_fault, walk_fault}
 use Rattle.clap.specs.Kinds.{Kinds, check_kinds, or_else}
-use Rattle.clap.specs.Matches.{first_value, one_text}
+use Rattle.clap.specs.Matches.{first_value, matched_of, one_text, raw_values}
 use Rattle.clap.specs.Simple.{matches_of}
 use Rattle.clap.specs.Takes.{is_given}
 use Rattle.clap.specs.Walk.{Row, Rule, Text, default_rows, finished, reading_by, has_row, idle, is_empty, nothing_held, row_text, rows_of, settled, walk, with_default}
@@ -246,3 +247,16 @@ module _ (words : List (String Global)) (first : String Global) (others : List (
 
   pub no_command_named : kind_named (string_bytes first) ≡ None → command_of (texts words) ≡ None
   no_command_named none_named = ap (λ (ws : List (String Global)). command_of (texts ws)) is ∙ ap by_kind none_named
+
+-- ---- the operands of the matches
+
+module _ (f : Found) (lent : Option (Bor (List (Bor Text)))) (told : option_map (λ (words : Bor (List (Bor Text))). map (λ (word : Bor Text). word.now) words.now) lent ≡ option_map raw_values (matched_of f (codes "operands"))) (at : ℕ) where
+  pub no_operand : lent ≡ None → None ≡ slice_get (operands_told f) at
+  no_operand is =
+      ap (λ (o : Option (List Text)). slice_get (unwrap_or o []) at)
+      (sym (ap (λ (l : Option (Bor (List (Bor Text)))). option_map (λ (words : Bor (List (Bor Text))). map (λ (word : Bor Text). word.now) words.now) l) is) ∙ told)
+
+  pub some_operand : (words : Bor (List (Bor Text))) → lent ≡ Some words → slice_get (map (λ (word : Bor Text). word.now) words.now) at ≡ slice_get (operands_told f) at
+  some_operand words is =
+      ap (λ (o : Option (List Text)). slice_get (unwrap_or o []) at)
+      (sym (ap (λ (l : Option (Bor (List (Bor Text)))). option_map (λ (ws : Bor (List (Bor Text))). map (λ (word : Bor Text). word.now) ws.now) l) is) ∙ told)

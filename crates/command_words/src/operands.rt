@@ -9,64 +9,62 @@ use clap::ArgMatches;
 
 const MOST_COUNT: u32 = 100_000;
 
-/// The operands, in their order.
-pub(crate) fn operands_in<'m, 'a>(matches: &'m ArgMatches<'a>) -> &'m [&'a str]
-    ensures { map (λ word. word.now) result.now ≡ operands_told (found_of matches.now) }
-{
-    let Some(words) = matches.get_strs("operands") else {
-        return &[];
-    };
-    words
-}
-
 /// The files that two operands name.
-pub(crate) fn files_of<'a>(operands: &[&'a str]) -> Option<Files<'a>>
-    ensures { result ≡ files_of (map (λ word. word.now) operands.now) }
+pub(crate) fn files_of<'a>(matches: &ArgMatches<'a>) -> Option<Files<'a>>
+    ensures { result ≡ files_of (operands_told (found_of matches.now)) }
 {
-    let model = operand(operands, 0)?;
-    let policy = operand(operands, 1)?;
-    let None = operand(operands, 2) else {
+    let model = operand(matches, 0)?;
+    let policy = operand(matches, 1)?;
+    let None = operand(matches, 2) else {
         return None;
     };
     Some(Files { model, policy })
 }
 
 /// The files that the first two operands name.
-pub(crate) fn first_files<'a>(operands: &[&'a str]) -> Option<Files<'a>>
-    ensures { result ≡ first_files (map (λ word. word.now) operands.now) }
+pub(crate) fn first_files<'a>(matches: &ArgMatches<'a>) -> Option<Files<'a>>
+    ensures { result ≡ first_files (operands_told (found_of matches.now)) }
 {
-    let model = operand(operands, 0)?;
-    let policy = operand(operands, 1)?;
+    let model = operand(matches, 0)?;
+    let policy = operand(matches, 1)?;
     Some(Files { model, policy })
 }
 
 /// The name that the third operand is, with the fourth as its domain.
-pub(crate) fn subject_of<'a>(operands: &[&'a str]) -> Option<Subject<'a>>
-    ensures { result ≡ subject_of (map (λ word. word.now) operands.now) }
+pub(crate) fn subject_of<'a>(matches: &ArgMatches<'a>) -> Option<Subject<'a>>
+    ensures { result ≡ subject_of (operands_told (found_of matches.now)) }
 {
-    let name = operand(operands, 2)?;
-    let domain = operand(operands, 3);
-    let None = operand(operands, 4) else {
+    let name = operand(matches, 2)?;
+    let domain = operand(matches, 3);
+    let None = operand(matches, 4) else {
         return None;
     };
     Some(Subject { name, domain })
 }
 
 /// The number that one operand is.
-pub(crate) fn count_of(operands: &[&str]) -> Option<u32>
-    ensures { result ≡ count_of (map (λ word. word.now) operands.now) }
+pub(crate) fn count_of(matches: &ArgMatches<'_>) -> Option<u32>
+    ensures { result ≡ count_of (operands_told (found_of matches.now)) }
 {
-    let count = operand(operands, 0)?;
-    let None = operand(operands, 1) else {
+    let count = operand(matches, 0)?;
+    let None = operand(matches, 1) else {
         return None;
     };
     number_between(count, 6, 1, MOST_COUNT)
 }
 
 // The operand at a place, counted from 0.
-fn operand<'a>(operands: &[&'a str], at: usize) -> Option<&'a str>
+fn operand<'a>(matches: &ArgMatches<'a>, at: usize) -> Option<&'a str>
     ensures { option_map (λ word. word.now) result
-        ≡ slice_get (map (λ word. word.now) operands.now) at }
+        ≡ slice_get (operands_told (found_of matches.now)) at }
 {
-    operands.get(at).copied()
+    let words = matches.get_strs("operands")?;
+    word_at(words, at)
+}
+
+fn word_at<'a>(words: &[&'a str], at: usize) -> Option<&'a str>
+    ensures { option_map (λ word. word.now) result
+        ≡ slice_get (map (λ word. word.now) words.now) at }
+{
+    words.get(at).copied()
 }

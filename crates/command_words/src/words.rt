@@ -8,7 +8,7 @@ ghost use Rattle.command_words.specs.Items.{is_dashes, items, texts};
 use crate::command::Command;
 use crate::described::parsed;
 use crate::kind::Kind;
-use crate::operands::{count_of, files_of, first_files, operands_in, subject_of};
+use crate::operands::{count_of, files_of, first_files, subject_of};
 use crate::options::{cache_in, most_in, options_in, workers_in};
 use clap::ArgMatches;
 use perm_base::NoMemory;
@@ -81,7 +81,7 @@ fn command_in<'a>(kind: Kind, json: bool, matches: &ArgMatches<'a>) -> Option<Co
 fn enforce<'a>(json: bool, matches: &ArgMatches<'a>) -> Option<Command<'a>>
     ensures { result ≡ command_told Kind.Enforce json (found_of matches.now) }
 {
-    let files = files_of(operands_in(matches))?;
+    let files = files_of(matches)?;
     let options = options_in(matches)?;
     let cache = cache_in(matches)?;
     Some(Command::Enforce {
@@ -95,7 +95,7 @@ fn enforce<'a>(json: bool, matches: &ArgMatches<'a>) -> Option<Command<'a>>
 fn explain<'a>(json: bool, matches: &ArgMatches<'a>) -> Option<Command<'a>>
     ensures { result ≡ command_told Kind.Explain json (found_of matches.now) }
 {
-    let files = files_of(operands_in(matches))?;
+    let files = files_of(matches)?;
     let options = options_in(matches)?;
     let most = most_in(matches)?;
     Some(Command::Explain {
@@ -109,7 +109,7 @@ fn explain<'a>(json: bool, matches: &ArgMatches<'a>) -> Option<Command<'a>>
 fn session<'a>(json: bool, matches: &ArgMatches<'a>) -> Option<Command<'a>>
     ensures { result ≡ command_told Kind.Session json (found_of matches.now) }
 {
-    let files = files_of(operands_in(matches))?;
+    let files = files_of(matches)?;
     let options = options_in(matches)?;
     let workers = workers_in(matches)?;
     Some(Command::Session {
@@ -123,23 +123,22 @@ fn session<'a>(json: bool, matches: &ArgMatches<'a>) -> Option<Command<'a>>
 fn check<'a>(matches: &ArgMatches<'a>) -> Option<Command<'a>>
     ensures { result ≡ command_told Kind.Check false (found_of matches.now) }
 {
-    let files = files_of(operands_in(matches))?;
+    let files = files_of(matches)?;
     Some(Command::Check(files))
 }
 
 fn format<'a>(matches: &ArgMatches<'a>) -> Option<Command<'a>>
     ensures { result ≡ command_told Kind.Format false (found_of matches.now) }
 {
-    let files = files_of(operands_in(matches))?;
+    let files = files_of(matches)?;
     Some(Command::Format(files))
 }
 
 fn implicit<'a>(matches: &ArgMatches<'a>) -> Option<Command<'a>>
     ensures { result ≡ command_told Kind.Implicit false (found_of matches.now) }
 {
-    let operands = operands_in(matches);
-    let files = first_files(operands)?;
-    let subject = subject_of(operands)?;
+    let files = first_files(matches)?;
+    let subject = subject_of(matches)?;
     let options = options_in(matches)?;
     Some(Command::Implicit {
         files,
@@ -151,7 +150,7 @@ fn implicit<'a>(matches: &ArgMatches<'a>) -> Option<Command<'a>>
 fn report<'a>(matches: &ArgMatches<'a>) -> Option<Command<'a>>
     ensures { result ≡ command_told Kind.Report false (found_of matches.now) }
 {
-    let files = files_of(operands_in(matches))?;
+    let files = files_of(matches)?;
     let options = options_in(matches)?;
     Some(Command::Report { files, options })
 }
@@ -159,7 +158,7 @@ fn report<'a>(matches: &ArgMatches<'a>) -> Option<Command<'a>>
 fn ship<'a>(matches: &ArgMatches<'a>) -> Option<Command<'a>>
     ensures { result ≡ command_told Kind.Ship false (found_of matches.now) }
 {
-    let files = files_of(operands_in(matches))?;
+    let files = files_of(matches)?;
     let options = options_in(matches)?;
     Some(Command::Ship { files, options })
 }
@@ -167,7 +166,7 @@ fn ship<'a>(matches: &ArgMatches<'a>) -> Option<Command<'a>>
 fn follow<'a>(matches: &ArgMatches<'a>) -> Option<Command<'a>>
     ensures { result ≡ command_told Kind.Follow false (found_of matches.now) }
 {
-    let files = files_of(operands_in(matches))?;
+    let files = files_of(matches)?;
     let options = options_in(matches)?;
     Some(Command::Follow { files, options })
 }
@@ -175,7 +174,7 @@ fn follow<'a>(matches: &ArgMatches<'a>) -> Option<Command<'a>>
 fn demo<'a>(matches: &ArgMatches<'a>) -> Option<Command<'a>>
     ensures { result ≡ command_told Kind.Demo false (found_of matches.now) }
 {
-    let count = count_of(operands_in(matches))?;
+    let count = count_of(matches)?;
     let workers = workers_in(matches)?;
     Some(Command::Demo { count, workers })
 }
