@@ -1,5 +1,5 @@
 -- Items that pass: those that a command takes, none of them twice. What is found among the rows behind them.
-use Rattle.std.proofs.Common.{◌≡◌, ◌∙◌, ◌&&◌, ◌||◌, ℕ, Bool, true, false, cond, not, List, [], ◌∷◌, ◌++◌, append_assoc, append-nil, is_some, option_map, unwrap_or, Option, Some, None, refl, sym, ap, ap₂, subst, true≢false, bytes_eq, codes}
+use Rattle.std.proofs.Common.{◌≡◌, ◌∙◌, ◌&&◌, ◌||◌, Bool, true, false, cond, not, List, [], ◌∷◌, ◌++◌, append_assoc, append-nil, is_some, option_map, unwrap_or, Option, Some, None, refl, sym, ap, ap₂, subst, true≢false, bytes_eq, codes}
 use Rattle.std.specs.List.{list_all, list_any}
 use Rattle.std.proofs.lemmas.Bool.{and_from, and_parts, not-true, or_parts}
 use Rattle.clap.specs.Walk.{Row, Text, has_row, without}

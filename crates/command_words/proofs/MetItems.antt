@@ -1,6 +1,6 @@
 -- The items that `clap` meets: those of the definition, but that `-` is a value behind the name of an option. What each item does to
 -- the rows of the matches.
-use Rattle.std.proofs.Common.{◌≡◌, ◌∙◌, ◌&&◌, ℕ, Bool, true, false, if◌then◌else◌, not, List, [], ◌∷◌, drop, map, refl, sym, ap, bytes_eq, codes, true≢false}
+use Rattle.std.proofs.Common.{◌≡◌, ◌∙◌, ◌&&◌, Bool, true, false, if◌then◌else◌, not, List, [], ◌∷◌, drop, map, refl, sym, ap, bytes_eq, codes, true≢false}
 use Rattle.std.specs.List.{list_any}
 use Rattle.clap.specs.Kinds.{Kinds, or_else}
 use Rattle.clap.specs.Walk.{Row, Text, has_row, used}

@@ -1,5 +1,5 @@
 -- What is found among the rows of matches once values are put in.
-use Rattle.std.proofs.Common.{◌≡◌, ◌∙◌, ◌||◌, ℕ, Bool, true, false, cond, List, [], ◌∷◌, ◌++◌, find, is_some, option_map, Option, Some, None, refl, sym, ap, true≢false, bytes_eq}
+use Rattle.std.proofs.Common.{◌≡◌, ◌∙◌, ◌||◌, Bool, true, false, cond, List, [], ◌∷◌, ◌++◌, find, is_some, option_map, Option, Some, None, refl, sym, ap, true≢false, bytes_eq}
 use Rattle.clap.specs.Walk.{Row, Text, has_row, stronger, with_values, without}
 use Rattle.clap.specs.declared.builder.value_parser.Reading.{Reading}
 use Rattle.clap.specs.declared.parser.matches.ValueSource.{ValueSource}
