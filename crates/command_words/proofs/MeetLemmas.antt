@@ -87,8 +87,8 @@ module _ (names : List Text) (json : Bool) (apart : Apart names) where
       → item_passes names json item rows ≡ (before && later) → Meets after words later (after_item item rows) items → Meets w (word ∷ words) owes_none rows (item ∷ items)
   taken_at w after word words owes_none before later item rows items turn moves test rest = (
     left_step w word words ∙ ap₂ (λ (a b : Bool). a && b) turn (ap (λ (v : Walk). none (left_fault v words)) moves ∙ rest.0)
-    ∙ four owes_none before later (passes items (after_item item rows))
-    ∙ sym (ap (λ (t : Bool). owes_none && (t && passes items (after_item item rows))) test),
+        ∙ four owes_none before later (passes items (after_item item rows))
+        ∙ sym (ap (λ (t : Bool). owes_none && (t && passes items (after_item item rows))) test),
     λ ok. ap (λ (v : Walk). end_rows v words) moves ∙ rest.1 (and_parts (item_passes names json item rows) (passes items (after_item item rows)) ok).1,
   )
 
@@ -472,9 +472,9 @@ module _ (names : List Text) (json : Bool) (apart : Apart names) where
     dashes_named : (words : List Text) → Meets (resting (walk.option name) waits) ((45 ∷ 45 ∷ []) ∷ words) true rows (met_behind name ((45 ∷ 45 ∷ []) ∷ words))
     dashes_named words = (
       left_step (resting (walk.option name) waits) (45 ∷ 45 ∷ []) words
-      ∙ ap₂ (λ (a b : Bool). a && b) (dashes_turn (walk.option name) waits)
-      (ap (λ (v : Walk). none (left_fault v words)) (dashes_move (walk.option name) waits) ∙ (all_behind words (walk.option name) rows (Some (name, []))).0
-      ∙ ap (λ (t : Bool). t && passes (map operand words) (paid waits)) (owed_name name rows within)),
+          ∙ ap₂ (λ (a b : Bool). a && b) (dashes_turn (walk.option name) waits)
+          (ap (λ (v : Walk). none (left_fault v words)) (dashes_move (walk.option name) waits) ∙ (all_behind words (walk.option name) rows (Some (name, []))).0
+          ∙ ap (λ (t : Bool). t && passes (map operand words) (paid waits)) (owed_name name rows within)),
       λ ok. absurd (true≢false (sym ok)),
     )
 
