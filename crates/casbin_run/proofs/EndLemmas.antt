@@ -47,6 +47,10 @@ module _ (g : Given) (before now : World) where
 pub words_end : (g : Given) (before now : World) → job_asked g.words ≡ None → Adds before.shelf.calls now.shelf.calls [] → now.input ≡ before.input → EndsBy g before now Words
 words_end g before now none told still = given_stops g before now Words at_words tt none (asked_early g before now at_words false told still)
 
+-- memory ran out at the words
+pub memory_end : (g : Given) (before now : World) → now.out.bytes ≡ before.out.bytes → Adds before.shelf.calls now.shelf.calls [] → now.input ≡ before.input → EndsBy g before now NoMemory
+memory_end g before now same told still = outside_stops g before now NoMemory at_words tt same (asked_early g before now at_words false told still)
+
 module _ (g : Given) (before now : World) (job : Job) (asked : job_asked g.words ≡ Some job) where
   module _ (same : now.out.bytes ≡ before.out.bytes) (still : now.input ≡ before.input) where
     -- the file is not there, or the shelf failed

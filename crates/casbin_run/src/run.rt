@@ -91,7 +91,10 @@ pub fn run_casbin<
         (F.files shelf.new) (taken (E.taken err.new) (E.faults err.new))
         finders.new.items (H.faults places.new)) result }
 {
-    let Some((count, workers)) = read_demo(words) else {
+    let Ok(demo) = read_demo(alloc, words) else {
+        return tell_stop(err, Stop::NoMemory);
+    };
+    let Some((count, workers)) = demo else {
         return run_files(
             rt, alloc, words, shelf, input, out, err, finders, gate, places,
         );
@@ -199,7 +202,7 @@ fn answer<
     ensures idle { IfErr result (λ stop. IsQuiet stop
         → finders.new.items ≡ finders.old.items) }
 {
-    let Some(job) = read_job(words) else {
+    let Some(job) = read_job(alloc, words)? else {
         return Err(Stop::Words);
     };
     let loaded = load(alloc, shelf, &job)?;
