@@ -21,3 +21,4 @@ pub mod ShownLemmas
 pub mod AskedLemmas
 pub mod ModelLemmas
 pub mod SomeEnd
+pub mod StreamingLemmas

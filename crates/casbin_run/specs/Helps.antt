@@ -8,3 +8,4 @@ pub mod Shipping
 pub mod Following
 pub mod Gathering
 pub mod Running
+pub mod Streaming

@@ -1,7 +1,8 @@
+use crate::slow::SlowSource;
 use crate::sure::run_sure;
 use crate::truth::truth;
 use anyhow::{Context, Result, ensure};
-use casbin_run::run_casbin;
+use casbin_run::{asks_to_serve, run_casbin, serve_casbin};
 use case_list::{Case, Field};
 use outside::{ListShelf, ListSink, ListSource, Text};
 use regex_gate::ListFinder;
@@ -9,13 +10,14 @@ use std::alloc::Global;
 use std::io::Write;
 
 // The fields of a case. Those that end in `-fails` have the numbers of the calls that fail, counted from 1.
-const KEYS: [&str; 11] = [
+const KEYS: [&str; 12] = [
     "words",
     "sure",
     "rule",
     "request",
     "shelf-fails",
     "input-fails",
+    "input-most",
     "out-fails",
     "out-most",
     "err-fails",
@@ -107,24 +109,32 @@ fn run(
     )
 }
 
-// Runs the program. What its contract says is of no use here, so this function keeps it from the others.
+// Runs the program, or serves the input where the words ask for it. What its contract says is of no use here, so this function keeps it from the others.
 fn run_over(
     alloc: Global,
     words: &[String],
     shelf: &mut ListShelf,
-    input: &mut ListSource,
+    input: &mut SlowSource,
     out: &mut ListSink,
     err: &mut ListSink,
     finders: &mut Vec<ListFinder>,
 ) -> Result<u8> {
     ensure!(finders.len() == 9, "a run has nine finders");
+    if asks_to_serve(words) {
+        let finder = &mut finders[0];
+        return Ok(serve_casbin(alloc, words, shelf, input, out, err, finder).code());
+    }
     Ok(run_casbin(alloc, words, shelf, input, out, err, finders).code())
 }
 
 // The input of a case.
-fn input(alloc: Global, case: &Case) -> Result<ListSource> {
+fn input(alloc: Global, case: &Case) -> Result<SlowSource> {
     let fails = case.numbers(alloc, "input-fails")?;
-    Ok(ListSource::new(case.text(alloc, "input")?, fails))
+    let most = case.numbers(alloc, "input-most")?.first().copied();
+    let most = most.unwrap_or(ROOM);
+    ensure!(most > 0, "an input gives a byte at least");
+    let source = ListSource::new(case.text(alloc, "input")?, fails);
+    Ok(SlowSource::new(source, most as usize))
 }
 
 // Puts the files of a case on a shelf.

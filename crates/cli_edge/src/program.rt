@@ -5,7 +5,7 @@ ghost use Rattle.run_status.specs.Statuses.{code_of};
 use crate::file_shelf::FileShelf;
 use crate::read_source::ReadSource;
 use crate::write_sink::WriteSink;
-use casbin_run::run_casbin;
+use casbin_run::{asks_to_serve, run_casbin, serve_casbin};
 use outside::NoMemory;
 use regex_keep::KeepingFinder;
 use run_status::{Status, Stop, tell_stop};
@@ -27,12 +27,21 @@ pub fn run_program(rt: &HostRuntime) -> Status {
     let Ok(mut finders) = finders(alloc) else {
         return tell_stop(&mut err, Stop::NoMemory);
     };
+    let mut shelf = FileShelf::new(alloc, rt);
+    let mut input = ReadSource::new(rt.stdin());
+    let mut out = WriteSink::new(rt.stdout());
+    if asks_to_serve(&words) {
+        let finder = &mut finders[0];
+        return serve_casbin(
+            alloc, &words, &mut shelf, &mut input, &mut out, &mut err, finder,
+        );
+    }
     run_casbin(
         alloc,
         &words,
-        &mut FileShelf::new(alloc, rt),
-        &mut ReadSource::new(rt.stdin()),
-        &mut WriteSink::new(rt.stdout()),
+        &mut shelf,
+        &mut input,
+        &mut out,
         &mut err,
         &mut finders,
     )

@@ -1,0 +1,5 @@
+pub mod KindLemmas
+pub mod KeepLemmas
+pub mod CutLemmas
+pub mod LineLemmas
+pub mod CallerLemmas
