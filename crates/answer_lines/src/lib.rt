@@ -13,5 +13,5 @@ mod verdicts;
 
 pub use answer::{Answer, Line};
 pub use law::edits_are_told_line_by_line;
-pub use line::{print_line, push_decided, push_line, push_line_number, push_numbered};
+pub use line::{print_line, push_decided, push_line};
 pub use lines::Lines;

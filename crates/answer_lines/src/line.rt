@@ -1,13 +1,12 @@
 ghost use Rattle.std.specs.Prelude.{◌≡◌, ◌++◌, IfOk, OnOk, codes, decimal, option_copied, true};
-ghost use Rattle.answer_lines.specs.LineText.{Appends, answer_text, decided_text, line_text, numbered};
+ghost use Rattle.answer_lines.specs.LineText.{Appends, decided_text, line_text};
 ghost use Rattle.answer_lines.specs.Told.{comes_with_rule, is_printable};
 
-use crate::answer::{Answer, Line};
+use crate::answer::Line;
 use crate::pieces::push_number;
 use crate::printing::push_answer;
 use crate::verdicts::push_verdict;
 use effect_fold::Verdict;
-use itoa::Buffer;
 use perm_base::{NoMemory, Rule, Text};
 use std::alloc::Global;
 
@@ -51,29 +50,6 @@ pub fn push_decided(
     push_front(text, number)?;
     push_verdict(text, version, verdict, rule)?;
     text.push_str("\n")?;
-    Ok(())
-}
-
-/// Appends the line that tells an answer under a number that may be greater than a `Line` has, as `push_line` appends it. It takes
-/// memory for the text alone, and refused is want of it alone.
-pub fn push_numbered(text: &mut String, number: u64, answer: &Answer) -> Result<(), NoMemory>
-    requires printable { is_printable answer.now ≡ true }
-    ensures appended { OnOk result (Appends text.old text.new
-        (numbered number (answer_text answer.now))) }
-{
-    push_line_number(text, number)?;
-    push_answer(text, answer)?;
-    text.push_str("\n")?;
-    Ok(())
-}
-
-/// Appends such a number, and the blank behind it.
-pub fn push_line_number(text: &mut String, number: u64) -> Result<(), NoMemory>
-    ensures { OnOk result (Appends text.old text.new (decimal number ++ codes " ")) }
-{
-    let mut digits = Buffer::new();
-    text.push_str(digits.format(number))?;
-    text.push_str(" ")?;
     Ok(())
 }
 

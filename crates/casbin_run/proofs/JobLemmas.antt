@@ -7,7 +7,6 @@ use Rattle.command_words.specs.declared.command.Command.{Command}
 use Rattle.command_words.specs.declared.command.Command.TheVariants as command
 use Rattle.command_words.proofs.CallerLemmas.{HasRanges, command_of-ranges}
 use Rattle.casbin_run.specs.Jobs.{HasSize, job_asked, job_of, limit_in}
-use Rattle.casbin_run.specs.Services.{service_asked, service_of}
 use Rattle.casbin_run.specs.declared.job.Job.{Job}
 use Rattle.casbin_run.specs.declared.job.Task.TheVariants.{Serve}
 
@@ -29,7 +28,6 @@ job_has (command.Session files options json workers) has = by (workers == 0)
     by : (test : Bool) → JobHas (if test then Some (record { files = files; options = Some options; task = Serve json }) else None)
     by false = tt
     by true = (has.0, has.1)
-job_has (command.Serve files options json) has = tt
 job_has (command.Check files) has = (omega arith, omega arith)
 job_has (command.Format files) has = (omega arith, omega arith)
 job_has (command.Implicit files subject options) has = has
@@ -60,7 +58,6 @@ job_sized (command.Session files options json workers) has = by (workers == 0)
     by : (test : Bool) → Sized (if test then Some (record { files = files; options = Some options; task = Serve json }) else None)
     by false = tt
     by true = tt
-job_sized (command.Serve files options json) has = tt
 job_sized (command.Check files) has = tt
 job_sized (command.Format files) has = tt
 job_sized (command.Implicit files subject options) has = tt
@@ -75,22 +72,3 @@ job_size words job asked = option_and_then_some job_of (command_of words) job as
 pub job_sizes : (words : List (List ℕ)) (result : Option Job) → result ≡ job_asked words → IfSome result (λ job. HasSize job.task)
 job_sizes words None asked = tt
 job_sizes words (Some job) asked = job_size words job (sym asked)
-
--- ---- a stream that is served
-
-service_has : (asked : Command) → HasRanges asked → JobHas (service_of asked)
-service_has (command.Serve files options json) has = has
-service_has (command.Enforce files options json cache) has = tt
-service_has (command.Explain files options json most) has = tt
-service_has (command.Session files options json workers) has = tt
-service_has (command.Check files) has = tt
-service_has (command.Format files) has = tt
-service_has (command.Implicit files subject options) has = tt
-service_has (command.Report files options) has = tt
-service_has (command.Ship files options) has = tt
-service_has (command.Follow files options) has = tt
-service_has (command.Demo count workers) has = tt
-
-pub service_limits : (words : List (List ℕ)) (result : Option Job) → result ≡ service_asked words → IfSome result (λ job. IsLimit (limit_in job.options))
-service_limits words None asked = tt
-service_limits words (Some job) asked = option_and_then_some service_of (command_of words) job (sym asked) (λ found told made. subst JobHas made (service_has found (command_of-ranges words found told)))

@@ -21,4 +21,3 @@ pub mod ShownLemmas
 pub mod AskedLemmas
 pub mod ModelLemmas
 pub mod SomeEnd
-pub mod StreamingLemmas

@@ -8,4 +8,3 @@ pub mod Shipping
 pub mod Following
 pub mod Gathering
 pub mod Running
-pub mod Streaming

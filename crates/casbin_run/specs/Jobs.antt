@@ -1,4 +1,4 @@
--- What a command is done on. A session is done on one thread, and a demonstration and a stream that is served are none of these.
+-- What a command is done on. A session is done on one thread, and a demonstration is none of these.
 use Rattle.std.specs.Prelude.{ℕ, ◌<◌, ◌≤◌, ⊤, ◌==◌, Bool, true, false, List, [], Option, Some, None, if◌then◌else◌}
 use Rattle.std.specs.Option.{option_and_then, option_map_or}
 use Rattle.command_words.specs.Commands.{command_of}
@@ -23,7 +23,6 @@ abbrev pub job_of : Command → Option Job
 job_of (command.Enforce files options json cache) = Some (record { files = files; options = Some options; task = enforcing json cache })
 job_of (command.Explain files options json most) = Some (record { files = files; options = Some options; task = Explain json most })
 job_of (command.Session files options json workers) = if workers == 0 then Some (record { files = files; options = Some options; task = Serve json }) else None
-job_of (command.Serve files options json) = None
 job_of (command.Check files) = Some (record { files = files; options = None; task = Check })
 job_of (command.Format files) = Some (record { files = files; options = None; task = Format })
 job_of (command.Implicit files subject options) = Some (record { files = files; options = Some options; task = Implicit subject })

@@ -2,7 +2,6 @@ ghost use Rattle.std.specs.Prelude.{◌≡◌, ◌<◌, ◌≤◌, IfSome};
 ghost use Rattle.command_words.specs.Items.{texts};
 ghost use Rattle.casbin_run.specs.Helps.Running.{job_on};
 ghost use Rattle.casbin_run.specs.Jobs.{HasSize, enforcing, job_asked, job_of, limit_in};
-ghost use Rattle.casbin_run.specs.Services.{json_of, service_asked, service_of};
 
 use command_words::{Command, Files, Options, Subject, read_words};
 
@@ -78,7 +77,6 @@ fn job_of(command: Command<'_>) -> Option<Job<'_>>
                 None
             }
         }
-        Command::Serve { .. } => None,
         Command::Check(files) => Some(job_on(files, None, Task::Check)),
         Command::Format(files) => Some(job_on(files, None, Task::Format)),
         Command::Implicit {
@@ -90,48 +88,6 @@ fn job_of(command: Command<'_>) -> Option<Job<'_>>
         Command::Ship { files, options } => Some(job_on(files, Some(options), Task::Ship)),
         Command::Follow { files, options } => Some(job_on(files, Some(options), Task::Follow)),
         Command::Demo { .. } => None,
-    }
-}
-
-/// What the words ask for, where they are `serve`: it is done on its files as a session is. It takes no memory.
-pub(crate) fn read_service(words: &[String]) -> Option<Job<'_>>
-    ensures asked { result ≡ service_asked (texts words.now) }
-    ensures limit { IfSome result (λ job.
-        (0 < limit_in job.options) × (limit_in job.options ≤ 250)) }
-{
-    service_of(read_words(words)?)
-}
-
-// On which files a stream is served.
-fn service_of(command: Command<'_>) -> Option<Job<'_>>
-    ensures { result ≡ service_of command.entry }
-{
-    match command {
-        Command::Serve {
-            files,
-            options,
-            json,
-        } => Some(job_on(files, Some(options), Task::Serve { json })),
-        Command::Enforce { .. }
-        | Command::Explain { .. }
-        | Command::Session { .. }
-        | Command::Check(_)
-        | Command::Format(_)
-        | Command::Implicit { .. }
-        | Command::Report { .. }
-        | Command::Ship { .. }
-        | Command::Follow { .. }
-        | Command::Demo { .. } => None,
-    }
-}
-
-/// Whether the requests of a session are JSON.
-pub(crate) fn json_of(task: &Task<'_>) -> bool
-    ensures { result ≡ json_of task.now }
-{
-    match task {
-        Task::Serve { json } => *json,
-        _ => false,
     }
 }
 

@@ -2,10 +2,11 @@ use crate::slow::SlowSource;
 use crate::sure::run_sure;
 use crate::truth::truth;
 use anyhow::{Context, Result, ensure};
-use casbin_run::{asks_to_serve, run_casbin, serve_casbin};
+use casbin_run::run_casbin;
 use case_list::{Case, Field};
 use outside::{ListShelf, ListSink, ListSource, Text};
 use regex_gate::ListFinder;
+use serve_run::{asks_to_serve, serve_casbin};
 use std::alloc::Global;
 use std::io::Write;
 

@@ -2,16 +2,16 @@
 use Rattle.std.proofs.Common.{◌≡◌, ℕ, ◌<◌, ◌≤◌, ◌&&◌, Bool, true, false, cond, List, [], ◌∷◌, ◌++◌, Option, Some, None, codes, nat_le, option_map, refl, subst, arith}
 use Rattle.std.proofs.lemmas.Bool.{and_parts, leb-true}
 use Rattle.std.proofs.lemmas.Option.{option_and_then_some}
-use Rattle.std.specs.List.{after_first, before_first, list_any}
+use Rattle.std.specs.List.{after_first, before_first}
 use Rattle.std.specs.Str.Parse.{digits_value}
 use Rattle.perm_base.specs.declared.shapes.Fit.{Fit}
-use Rattle.command_words.specs.Commands.{asked_stream, cache_in, command_of, command_with, count_of, enforcing, explaining, implying, kind_named, limit_in, most_in, on_files, options_with, serving, showing, value_or, workers_in}
+use Rattle.command_words.specs.Commands.{cache_in, command_of, command_with, count_of, enforcing, explaining, implying, kind_named, limit_in, most_in, on_files, options_with, serving, showing, value_or, workers_in}
 use Rattle.command_words.specs.FileNames.{FileNames, SubjectName}
-use Rattle.command_words.specs.Items.{Item, flag, is_dashes, is_same, items, operands, value_of}
+use Rattle.command_words.specs.Items.{Item, is_dashes, items, operands, value_of}
 use Rattle.command_words.specs.Values.{is_numeral, is_within, number_between}
 use Rattle.command_words.specs.declared.command.Command.{Command}
 use Rattle.command_words.specs.declared.command.Options.{Options}
-use Rattle.command_words.specs.declared.command.Command.TheVariants.{Enforce, Explain, Session, Serve, Check, Format, Implicit, Report, Ship, Follow, Demo}
+use Rattle.command_words.specs.declared.command.Command.TheVariants.{Enforce, Explain, Session, Check, Format, Implicit, Report, Ship, Follow, Demo}
 use Rattle.command_words.specs.declared.kind.Kind.{Kind}
 use Rattle.command_words.specs.declared.kind.Kind.TheVariants as kind
 
@@ -25,7 +25,6 @@ abbrev pub HasRanges : Command → Type 0
 HasRanges (Enforce files options json cache) = (0 < options.limit) × (options.limit ≤ 250) × CacheHas cache
 HasRanges (Explain files options json most) = (0 < options.limit) × (options.limit ≤ 250) × ((0 < most) × (most ≤ 1000))
 HasRanges (Session files options json workers) = (0 < options.limit) × (options.limit ≤ 250) × (workers ≤ 8)
-HasRanges (Serve files options json) = (0 < options.limit) × (options.limit ≤ 250)
 HasRanges (Check files) = Unit {0}
 HasRanges (Format files) = Unit {0}
 HasRanges (Implicit files subject options) = (0 < options.limit) × (options.limit ≤ 250)
@@ -142,7 +141,6 @@ command_within : (which : Kind) (items : List Item) (words : List (List ℕ)) (c
 command_within kind.Enforce items words command is = enforce_within _ _ (limit_in items) _ _ (cache_in items) command (limit_within items) (cache_within items) is
 command_within kind.Explain items words command is = explain_within _ _ (limit_in items) _ _ (most_in items) command (limit_within items) (most_within items) is
 command_within kind.Session items words command is = session_within _ _ (limit_in items) _ _ (workers_in items) command (limit_within items) (workers_within items) is
-command_within kind.Serve items words command is = files_within (asked_stream (list_any (is_same flag) items)) (λ files options has. has) _ (limit_in items) _ _ command (limit_within items) is
 command_within kind.Check items words command is = check_within _ command is
 command_within kind.Format items words command is = format_within _ command is
 command_within kind.Implicit items words command is = implicit_within _ _ (limit_in items) _ _ command (limit_within items) is

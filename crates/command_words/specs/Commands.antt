@@ -10,7 +10,7 @@ use Rattle.command_words.specs.declared.command.Command.{Command}
 use Rattle.command_words.specs.declared.command.Command.TheVariants as asked
 use Rattle.command_words.specs.declared.command.Options.{Options}
 use Rattle.command_words.specs.declared.kind.Kind.{Kind}
-use Rattle.command_words.specs.declared.kind.Kind.TheVariants.{Enforce, Explain, Session, Serve, Check, Format, Implicit, Report, Ship, Follow, Demo}
+use Rattle.command_words.specs.declared.kind.Kind.TheVariants.{Enforce, Explain, Session, Check, Format, Implicit, Report, Ship, Follow, Demo}
 
 -- the command of that name
 abbrev pub kind_named : List ℕ → Option Kind
@@ -18,7 +18,6 @@ kind_named name =
     if bytes_eq name (codes "enforce") then Some Enforce
     else if bytes_eq name (codes "explain") then Some Explain
     else if bytes_eq name (codes "session") then Some Session
-    else if bytes_eq name (codes "serve") then Some Serve
     else if bytes_eq name (codes "check") then Some Check
     else if bytes_eq name (codes "format") then Some Format
     else if bytes_eq name (codes "implicit") then Some Implicit
@@ -37,7 +36,6 @@ abbrev pub options_of : Kind → List (List ℕ)
 options_of Enforce = codes "cache" ∷ role_options
 options_of Explain = codes "most" ∷ role_options
 options_of Session = codes "workers" ∷ role_options
-options_of Serve = role_options
 options_of Check = []
 options_of Format = []
 options_of Implicit = role_options
@@ -51,7 +49,6 @@ abbrev pub has_json : Kind → Bool
 has_json Enforce = true
 has_json Explain = true
 has_json Session = true
-has_json Serve = true
 has_json Check = false
 has_json Format = false
 has_json Implicit = false
@@ -143,9 +140,6 @@ abbrev pub on_files : (FileNames → Options → Command) → Option FileNames �
 on_files make (Some files) (Some options) = Some (make files options)
 on_files make _ _ = None
 
-abbrev pub asked_stream : Bool → FileNames → Options → Command
-asked_stream json files options = asked.Serve files options json
-
 abbrev pub showing : Option ℕ → Option ℕ → Option Command
 showing (Some count) (Some workers) = Some (asked.Demo count workers)
 showing _ _ = None
@@ -155,7 +149,6 @@ abbrev pub command_with : Kind → List Item → List (List ℕ) → Option Comm
 command_with Enforce items operands = enforcing (list_any (is_same flag) items) (files_of operands) (options_in items) (cache_in items)
 command_with Explain items operands = explaining (list_any (is_same flag) items) (files_of operands) (options_in items) (most_in items)
 command_with Session items operands = serving (list_any (is_same flag) items) (files_of operands) (options_in items) (workers_in items)
-command_with Serve items operands = on_files (asked_stream (list_any (is_same flag) items)) (files_of operands) (options_in items)
 command_with Check items operands = option_map asked.Check (files_of operands)
 command_with Format items operands = option_map asked.Format (files_of operands)
 command_with Implicit items operands = implying (first_files operands) (subject_of operands) (options_in items)

@@ -73,12 +73,6 @@ pub enum Command<'a> {
         json: bool,
         workers: u8,
     },
-    /// The items of a stream are answered as they come.
-    Serve {
-        files: Files<'a>,
-        options: Options,
-        json: bool,
-    },
     /// A model and a policy are checked.
     Check(Files<'a>),
     /// A model and a policy are printed.

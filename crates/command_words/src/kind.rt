@@ -12,7 +12,6 @@ pub(crate) enum Kind {
     Enforce,
     Explain,
     Session,
-    Serve,
     Check,
     Format,
     Implicit,
@@ -31,7 +30,6 @@ impl Kind {
             "enforce" => Some(Kind::Enforce),
             "explain" => Some(Kind::Explain),
             "session" => Some(Kind::Session),
-            "serve" => Some(Kind::Serve),
             "check" => Some(Kind::Check),
             "format" => Some(Kind::Format),
             "implicit" => Some(Kind::Implicit),
@@ -59,7 +57,7 @@ impl Kind {
         ensures { result ≡ has_json self }
     {
         match self {
-            Kind::Enforce | Kind::Explain | Kind::Session | Kind::Serve => true,
+            Kind::Enforce | Kind::Explain | Kind::Session => true,
             Kind::Check | Kind::Format | Kind::Implicit | Kind::Report => false,
             Kind::Ship | Kind::Follow | Kind::Demo => false,
         }
@@ -72,7 +70,6 @@ impl Kind {
             Kind::Enforce => name == "cache" || is_of_roles(name),
             Kind::Explain => name == "most" || is_of_roles(name),
             Kind::Implicit | Kind::Report | Kind::Ship | Kind::Follow => is_of_roles(name),
-            Kind::Serve => is_of_roles(name),
             Kind::Session => name == "workers" || is_of_roles(name),
             Kind::Check | Kind::Format => false,
             Kind::Demo => name == "workers",

@@ -20,7 +20,6 @@ const MOST_COUNT: u32 = 100_000;
 /// - `enforce MODEL POLICY [--limit L] [--match LIST] [--domain-match LIST] [--cache C] [--json]`
 /// - `explain MODEL POLICY [--most K] [--limit L] [--match LIST] [--domain-match LIST] [--json]`
 /// - `session MODEL POLICY [--workers W] [--limit L] [--match LIST] [--domain-match LIST] [--json]`
-/// - `serve MODEL POLICY [--limit L] [--match LIST] [--domain-match LIST] [--json]`
 /// - `check MODEL POLICY`
 /// - `format MODEL POLICY`
 /// - `implicit MODEL POLICY NAME [DOMAIN] [--limit L] [--match LIST] [--domain-match LIST]`
@@ -52,7 +51,6 @@ fn command_from<'a>(kind: Kind, before: &'a [String], behind: &'a [String]) -> O
         Kind::Enforce => enforce(before, behind),
         Kind::Explain => explain(before, behind),
         Kind::Session => session(before, behind),
-        Kind::Serve => serve(before, behind),
         Kind::Check => check(before, behind),
         Kind::Format => format(before, behind),
         Kind::Implicit => implicit(before, behind),
@@ -123,19 +121,6 @@ fn session<'a>(before: &'a [String], behind: &'a [String]) -> Option<Command<'a>
         options,
         json: stands(&Item::Flag, before),
         workers,
-    })
-}
-
-fn serve<'a>(before: &'a [String], behind: &'a [String]) -> Option<Command<'a>>
-    ensures { let given = items (texts before.now) in
-        result ≡ command_with Kind.Serve given (operands given ++ texts behind.now) }
-{
-    let files = files_of(before, behind)?;
-    let options = options_in(before)?;
-    Some(Command::Serve {
-        files,
-        options,
-        json: stands(&Item::Flag, before),
     })
 }
 

@@ -1,4 +1,5 @@
 pub mod TextLemmas
+pub mod NumberLemmas
 pub mod SayLemmas
 pub mod ItemLemmas
 pub mod ServeLemmas

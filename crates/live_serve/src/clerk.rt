@@ -1,5 +1,4 @@
 ghost use Rattle.std.specs.Prelude.{◌≡◌, ◌≤◌, ◌∷◌, ◌++◌, [], All, IfErr, OnOk, Some, map, true};
-ghost use Rattle.answer_lines.specs.LineText.{Appends};
 ghost use Rattle.decision.specs.Programs.{Suits};
 ghost use Rattle.item_stream.specs.Seen as cut;
 ghost use Rattle.outside.specs.Faults.{Rose};
@@ -16,11 +15,12 @@ ghost use Rattle.live_serve.specs.Helps.Telling.{TellStops};
 
 use crate::cause::cause_text;
 use crate::script::script_of;
-use answer_lines::{push_line_number, push_numbered};
+use crate::text::{push_refused, push_told};
+use answer_lines::Line;
 use decision::{Program, Scratch};
 use item_stream::Section;
 use live_round::answer_item;
-use perm_base::{NoMemory, Sink, push_all};
+use perm_base::{Sink, push_all};
 use policy_desk::Desk;
 use regex_gate::Finder;
 use run_status::Stop;
@@ -36,6 +36,8 @@ pub struct Clerk {
     number: u64,
     // The line that is told, and nothing before it.
     text: String,
+    // The same under the number 0.
+    plain: String,
 }
 
 impl Clerk {
@@ -48,6 +50,7 @@ impl Clerk {
             scratch: Scratch::for_program(alloc, program),
             number: 0,
             text: String::new(alloc),
+            plain: String::new(alloc),
         }
     }
 
@@ -193,7 +196,8 @@ impl Clerk {
         let number = self.number.saturating_add(1);
         self.number = number;
         self.text.clear();
-        push_numbered(&mut self.text, number, &answer)?;
+        let line = Line { number: 0, answer };
+        push_told(&mut self.text, &mut self.plain, number, &line)?;
         push_all(out, self.text.as_bytes())?;
         Ok(())
     }
@@ -216,22 +220,4 @@ impl Clerk {
         push_all(out, self.text.as_bytes())?;
         Ok(())
     }
-}
-
-// Appends the line of a section that is no script.
-fn push_refused(text: &mut String, number: u64, cause: &str) -> Result<(), NoMemory>
-    ensures { OnOk result (Appends text.old text.new (refused_text number cause.now)) }
-{
-    push_line_number(text, number)?;
-    push_words(text, "refused: script ", cause)?;
-    text.push_str("\n")?;
-    Ok(())
-}
-
-fn push_words(text: &mut String, first: &str, second: &str) -> Result<(), NoMemory>
-    ensures { OnOk result (Appends text.old text.new (first.now ++ second.now)) }
-{
-    text.push_str(first)?;
-    text.push_str(second)?;
-    Ok(())
 }

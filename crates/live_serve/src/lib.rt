@@ -8,6 +8,7 @@ mod laws;
 mod piece;
 mod script;
 mod stream;
+mod text;
 
 pub use clerk::Clerk;
 pub use laws::{items_are_answered_as_in_a_session, script_is_a_stream_of_its_items};

@@ -12,4 +12,4 @@ pub use law::{line_tells_the_status, lines_in_full};
 pub use part::Part;
 pub use status::Status;
 pub use stop::Stop;
-pub use telling::{push_stop, tell_hits, tell_serving, tell_stop};
+pub use telling::{push_stop, tell_hits, tell_stop};

@@ -1,6 +1,6 @@
 ghost use Rattle.std.specs.Prelude.{◌≡◌, ◌++◌, decimal};
 ghost use Rattle.outside.specs.Pushes.{PushesAll};
-ghost use Rattle.run_status.specs.Hits.{hits_line, serving_line};
+ghost use Rattle.run_status.specs.Hits.{hits_line};
 ghost use Rattle.run_status.specs.Messages.{line_of};
 ghost use Rattle.run_status.specs.Statuses.{status_of};
 ghost use Rattle.run_status.specs.Told.{IsTold};
@@ -46,31 +46,6 @@ fn push_hits<E: Sink>(err: &mut E, hits: u64) -> Result<(), Failed>
 {
     push_numbered(err, "cache: hits ", hits)?;
     push_all(err, b"\n")
-}
-
-/// Tells what is served, a model and so many rules: pushes the line. Where a push fails, no more is told. It takes no memory.
-pub fn tell_serving<E: Sink>(err: &mut E, model: &str, rules: u32)
-    ensures { IsTold (E.taken err.old) (E.taken err.new)
-        (E.faults err.old) (E.faults err.new) (serving_line model.now rules) }
-{
-    let _ = push_serving(err, model, rules);
-}
-
-fn push_serving<E: Sink>(err: &mut E, model: &str, rules: u32) -> Result<(), Failed>
-    ensures { PushesAll (E.taken err.old) (E.taken err.new)
-        (E.faults err.old) (E.faults err.new) (serving_line model.now rules) result }
-{
-    push_named(err, "serving ", model)?;
-    push_numbered(err, ": ", u64::from(rules))?;
-    push_all(err, b" rules\n")
-}
-
-fn push_named<E: Sink>(err: &mut E, text: &str, name: &str) -> Result<(), Failed>
-    ensures { PushesAll (E.taken err.old) (E.taken err.new)
-        (E.faults err.old) (E.faults err.new) (text.now ++ name.now) result }
-{
-    push_text(err, text)?;
-    push_all(err, name.as_bytes())
 }
 
 fn push_message<E: Sink>(err: &mut E, message: Message) -> Result<(), Failed>

@@ -25,4 +25,3 @@ pub use laws::{
 pub use reading::read_script;
 pub use requests::{next_request, read_request};
 pub use script::Script;
-pub use word::{begins_block, ends_block};

@@ -66,7 +66,7 @@ fn word_end(line: &[u8]) -> usize
 }
 
 /// Whether the line begins a block.
-pub fn begins_block(line: &str) -> bool
+pub(crate) fn begins_block(line: &str) -> bool
     ensures { result ≡ begins_block line.now }
 {
     let (word, _) = word_and_arguments(line);
@@ -74,7 +74,7 @@ pub fn begins_block(line: &str) -> bool
 }
 
 /// Whether the line ends a block.
-pub fn ends_block(line: &str) -> bool
+pub(crate) fn ends_block(line: &str) -> bool
     ensures { result ≡ ends_block line.now }
 {
     before_blanks(line) == "end"

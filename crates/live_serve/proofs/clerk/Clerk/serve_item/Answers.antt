@@ -17,24 +17,24 @@ returns-in_err-answer-clause-stopped g c =
 pub returns-in_err-answer-clause-used : goal.returns-in_err-answer-clause-used
 returns-in_err-answer-clause-used g c = asked_used c.args.program.now _ _ (seen c.args.item.now) c.in_err-answer.ensures.refused
 
-pub push_numbered-requires : goal.push_numbered-requires
-push_numbered-requires g c =
+pub push_told-requires-clause-printable : goal.push_told-requires-clause-printable
+push_told-requires-clause-printable g c =
     let somewhere = c.requires.stands in
     c.replies_are_printable.ensures.printable c.args.program.now _ somewhere.0 _ somewhere.1 _ _ (seen c.args.item.now) c.in_ok-answer.answer c.requires.has_name (c.in_ok-answer.ensures.step.replied somewhere.0 somewhere.1 somewhere.2)
 
-pub returns-in_err-push_numbered-clause-stopped : goal.returns-in_err-push_numbered-clause-stopped
-returns-in_err-push_numbered-clause-stopped g c =
-    let p = err_from_is_err_and c.from_residual-in_err-push_numbered.result c.from_residual-in_err-push_numbered.ensures.1 in
+pub returns-in_err-push_told-clause-stopped : goal.returns-in_err-push_told-clause-stopped
+returns-in_err-push_told-clause-stopped g c =
+    let p = err_from_is_err_and c.from_residual-in_err-push_told.result c.from_residual-in_err-push_told.ensures.1 in
     rw (p.1, p.2) (halts_none c.args.program.now (standing c.args.self.now) _ _ _ _ refl)
 
-pub returns-in_err-push_numbered-clause-used : goal.returns-in_err-push_numbered-clause-used
-returns-in_err-push_numbered-clause-used g c = asked_used c.args.program.now _ _ (seen c.args.item.now) c.in_ok-answer.ensures.step.asked
+pub returns-in_err-push_told-clause-used : goal.returns-in_err-push_told-clause-used
+returns-in_err-push_told-clause-used g c = asked_used c.args.program.now _ _ (seen c.args.item.now) c.in_ok-answer.ensures.step.asked
 
 pub returns-in_err-push_all-clause-stopped : goal.returns-in_err-push_all-clause-stopped
 returns-in_err-push_all-clause-stopped g c =
     let p = err_from_is_err_and c.from_residual-in_err-push_all.result c.from_residual-in_err-push_all.ensures.1 in
     let empty : string_bytes c.clear.new.self ≡ [] = search rules in
-    let text : c.as_bytes.result.now ≡ numbered c.saturating_add-number.result (answer_text c.in_ok-answer.answer) = c.as_bytes.ensures.value ∙ c.in_ok-push_numbered.ensures.appended ∙ ap (λ (t : List ℕ). t ++ numbered c.saturating_add-number.result (answer_text c.in_ok-answer.answer)) empty in
+    let text : c.as_bytes.result.now ≡ numbered c.saturating_add-number.result (answer_text c.in_ok-answer.answer) = c.as_bytes.ensures.value ∙ c.in_ok-push_told.ensures ∙ ap (λ (t : List ℕ). t ++ numbered c.saturating_add-number.result (answer_text c.in_ok-answer.answer)) empty in
     rw (p.1, p.2) (item_halts c.args.program.now _ _ (standing c.args.self.now) c.answer_item.new.desk (seen c.args.item.now) c.in_ok-answer.answer c.as_bytes.result.now c.in_ok-answer.ensures.step (text ∙ ap (λ (n : ℕ). numbered n (answer_text c.in_ok-answer.answer)) c.saturating_add-number.ensures) _ _ _
     c.in_err-push_all.ensures.stopped c.in_err-push_all.ensures.failed)
 
@@ -44,7 +44,7 @@ returns-in_err-push_all-clause-used g c = asked_used c.args.program.now _ _ (see
 pub returns-clause-served : goal.returns-clause-served
 returns-clause-served g c =
     let empty : string_bytes c.clear.new.self ≡ [] = search rules in
-    let text : c.as_bytes.result.now ≡ numbered c.saturating_add-number.result (answer_text c.in_ok-answer.answer) = c.as_bytes.ensures.value ∙ c.in_ok-push_numbered.ensures.appended ∙ ap (λ (t : List ℕ). t ++ numbered c.saturating_add-number.result (answer_text c.in_ok-answer.answer)) empty in
+    let text : c.as_bytes.result.now ≡ numbered c.saturating_add-number.result (answer_text c.in_ok-answer.answer) = c.as_bytes.ensures.value ∙ c.in_ok-push_told.ensures ∙ ap (λ (t : List ℕ). t ++ numbered c.saturating_add-number.result (answer_text c.in_ok-answer.answer)) empty in
     item_pushed c.args.program.now _ _ (standing c.args.self.now) c.answer_item.new.desk (seen c.args.item.now) c.in_ok-answer.answer c.as_bytes.result.now c.in_ok-answer.ensures.step (text ∙ ap (λ (n : ℕ). numbered n (answer_text c.in_ok-answer.answer)) c.saturating_add-number.ensures) c.saturating_add-number.result _ _
     c.answer_item.ensures.shapes c.saturating_add-number.ensures c.in_ok-push_all.ensures.took
 
