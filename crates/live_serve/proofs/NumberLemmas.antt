@@ -28,7 +28,7 @@ regrouped : (a b c d : List ℕ) → (a ++ b) ++ (c ++ d) ≡ a ++ ((b ++ c) ++ 
 regrouped a b c d = simp append_assoc
 
 -- behind another number it is that line
-pub told_again : (old text : List ℕ) (zero number : ℕ) (told : List ℕ) → zero ≡ 0 → text ≡ numbered zero told → (old ++ (decimal number ++ codes " ")) ++ drop 2 text ≡ old ++ numbered number told
-told_again old text zero number told none is =
+pub told_again : (old text : List ℕ) (front number : ℕ) (told : List ℕ) → front ≡ 0 → text ≡ numbered front told → (old ++ (decimal number ++ codes " ")) ++ drop 2 text ≡ old ++ numbered number told
+told_again old text front number told none is =
     ap (λ (t : List ℕ). (old ++ (decimal number ++ codes " ")) ++ drop 2 t) (is ∙ ap (λ (n : ℕ). numbered n told) none)
     ∙ ap (λ (t : List ℕ). (old ++ (decimal number ++ codes " ")) ++ t) (front_0 told) ∙ regrouped old (decimal number ++ codes " ") told (codes "\n")

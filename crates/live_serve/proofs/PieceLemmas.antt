@@ -17,6 +17,10 @@ use Rattle.regex_gate.specs.Refusals.{IsUsed, Refusals}
 use Rattle.run_status.specs.declared.stop.Stop.{Stop}
 use Rattle.run_status.specs.declared.stop.Stop.TheVariants.{NoMemory}
 
+-- of the same bytes
+pub goes_same : (old new : Stage) (one other : List ℕ) (sections : List Section) (used : ℕ) → one ≡ other → GoesTo old one sections new (drop used one) → GoesTo old other sections new (drop used other)
+goes_same old new one other sections used same goes = subst (λ (bytes : List ℕ). GoesTo old bytes sections new (drop used bytes)) same goes
+
 -- some sections of a piece are answered, and these bytes of it are not looked at
 pub record IsAmid (json : Bool) (model : ModelParts) (before now : Refusals) (old new : Standing) (stage stage_now : Stage) (piece rest : List ℕ) (out out_now : Option (List ℕ)) (a b : ℕ) : Type 0 where
   pub takes : TakesPiece json model before now old new stage stage_now piece rest out out_now
@@ -92,7 +96,16 @@ module _ (json : Bool) (model : ModelParts) (before : Refusals) (old : Standing)
     pub amid_all : length piece ≤ at → TakesPiece json model before between old mid stage stage_mid piece [] out out_mid
     amid_all past = subst (λ (r : List ℕ). TakesPiece json model before between old mid stage stage_mid piece r out out_mid) (drop_all at piece past) so.takes
 
--- ---- a section that may have ended
+-- ---- a section
+
+-- one of the same lines
+pub section_pushed : (json : Bool) (one other : List ℕ) → one ≡ other → (model : ModelParts) (before now : Refusals) (old new : Standing) (out out_now : Option (List ℕ)) → OfSection json (Some one) (Pushed model before now old new out out_now) → OfSection json (Some other) (Pushed model before now old new out out_now)
+section_pushed json one other same model before now old new out out_now so = subst (λ (lines : List ℕ). OfSection json (Some lines) (Pushed model before now old new out out_now)) same so
+
+pub section_stops : (json : Bool) (one other : List ℕ) → one ≡ other → (model : ModelParts) (old : Standing) (out out_now : Option (List ℕ)) (out_rose : Type 0) (stop : Stop) → SectionStops json model old (Some one) out out_now out_rose stop → SectionStops json model old (Some other) out out_now out_rose stop
+section_stops json one other same model old out out_now out_rose stop stops = subst (λ (lines : List ℕ). SectionStops json model old (Some lines) out out_now out_rose stop) same stops
+
+-- ---- one that may have ended
 
 module _ (json : Bool) (model : ModelParts) (old new : Standing) (ended : Option Section) (out out_now : Option (List ℕ)) where
   pub ended_none : (refusals : Refusals) → new ≡ old → out_now ≡ out → ended ≡ None → TakesEnded json model refusals refusals old new ended out out_now

@@ -186,6 +186,10 @@ asked_used model before now it asked = record { more = asked.refused; refused = 
 
 -- ---- what is no item
 
+-- a line of the same text
+pub tells_same : (out out_now : Option (List ℕ)) (one other : List ℕ) (out_rose : Type 0) (stop : Stop) → one ≡ other → TellStops out out_now one out_rose stop → TellStops out out_now other out_rose stop
+tells_same out out_now one other out_rose stop same stops = subst (λ (text : List ℕ). TellStops out out_now text out_rose stop) same stops
+
 module _ (model : ModelParts) (old : Standing) (saying : Saying) (text : List ℕ) (calm : (items : List Said) → behind items saying ≡ items) (is : (shapes : Shapes) (opening : Policy) (items : List Said) → IsText model shapes opening items (next_number (old.number)) saying [] text) where
   abbrev told : Standing
   told = record { desk = old.desk; number = next_number (old.number) }

@@ -1,6 +1,7 @@
 -- A whole stream: pieces one after the other, and what is left.
-use Rattle.std.proofs.Common.{◌≡◌, ℕ, zero, suc, ◌+◌, ◌<◌, ◌≤◌, Bool, List, [], ◌∷◌, ◌++◌, length, take, refl, sym, ap, subst, ◌∙◌, append-nil, append_assoc, arith}
+use Rattle.std.proofs.Common.{◌≡◌, ℕ, ◌+◌, ◌<◌, ◌≤◌, ◌&&◌, Bool, eqb, not, List, [], ◌∷◌, ◌++◌, length, take, refl, sym, ap, subst, ◌∙◌, append-nil, append_assoc, arith}
 use Rattle.std.specs.Prelude.{IfSome, Option, Some, None, Ok, Err}
+use Rattle.std.proofs.lemmas.Bool.{ne_eqb}
 use Rattle.std.proofs.lemmas.List.{length-append}
 use Rattle.item_stream.proofs.CallerLemmas.{goes_all, goes_first, goes_further, goes_nowhere, goes_whole}
 use Rattle.item_stream.specs.Sections.{GoesTo, Section, Stage, first_stage, left_at, listed, sections_of, whole_sections}
@@ -175,8 +176,8 @@ module _ (json : Bool) (model : ModelParts) (before : Refusals) (desk : Work) (b
 
 -- an answer that something came, or that the source failed, is none that it is at its end
 pub some_came : (ends ends_now : Option ℕ) (had : List ℕ) (count : ℕ) → ends_now ≡ ends_after ends (is_end had (Ok count)) → 0 < count → ends_now ≡ ends
-some_came ends ends_now had zero told some = absurd (omega (arith, some))
-some_came ends ends_now had (suc count) told some = told ∙ ends_kept ends
+some_came ends ends_now had count told some =
+    told ∙ ap (λ (test : Bool). ends_after ends (test && not (eqb (length had) 0))) (ne_eqb count 0 (λ e. absurd (omega (arith, e, some)))) ∙ ends_kept ends
 
 pub ended_or_not : (ends mid now : Option ℕ) (said : Bool) → mid ≡ ends → now ≡ ends_after mid said → IsEndedOnce ends now
 ended_or_not ends mid now said same told = subst (λ (e : Option ℕ). IsEndedOnce e now) same (ended_once mid now said told)

@@ -64,8 +64,8 @@ impl Clerk {
         out: &mut K,
         finder: &mut P,
     ) -> Result<(), Stop>
-        requires suits { Suits program.now self.old.desk.state.shapes }
-        requires stands { StandsSomewhere self.old.desk }
+        requires suits { Suits program.now (standing self.old).desk.state.shapes }
+        requires stands { StandsSomewhere (standing self.old).desk }
         ensures served { OnOk result (OfSection json (cut.seen section.now)
             (Pushed program.now (P.refusals finder.old) (P.refusals finder.new)
             (standing self.old) (standing self.new) (K.taken out.old) (K.taken out.new))) }
@@ -91,8 +91,8 @@ impl Clerk {
         out: &mut K,
         finder: &mut P,
     ) -> Result<(), Stop>
-        requires suits { Suits program.now self.old.desk.state.shapes }
-        requires stands { StandsSomewhere self.old.desk }
+        requires suits { Suits program.now (standing self.old).desk.state.shapes }
+        requires stands { StandsSomewhere (standing self.old).desk }
         ensures served { OnOk result (TakesEnded json program.now
             (P.refusals finder.old) (P.refusals finder.new) (standing self.old) (standing self.new)
             (cut.seen_option section) (K.taken out.old) (K.taken out.new)) }
@@ -118,8 +118,8 @@ impl Clerk {
         out: &mut K,
         finder: &mut P,
     ) -> Result<(), Stop>
-        requires suits { Suits program.now self.old.desk.state.shapes }
-        requires stands { StandsSomewhere self.old.desk }
+        requires suits { Suits program.now (standing self.old).desk.state.shapes }
+        requires stands { StandsSomewhere (standing self.old).desk }
         ensures served { OnOk result (OfSection json (Some lines.now)
             (Pushed program.now (P.refusals finder.old) (P.refusals finder.new)
             (standing self.old) (standing self.new) (K.taken out.old) (K.taken out.new))) }
@@ -144,8 +144,8 @@ impl Clerk {
         out: &mut K,
         finder: &mut P,
     ) -> Result<(), Stop>
-        requires suits { Suits program.now self.old.desk.state.shapes }
-        requires stands { StandsSomewhere self.old.desk }
+        requires suits { Suits program.now (standing self.old).desk.state.shapes }
+        requires stands { StandsSomewhere (standing self.old).desk }
         requires have_names { All (λ item. is_named item ≡ true) (map seen script.now) }
         ensures served { OnOk result
             (Pushed program.now (P.refusals finder.old) (P.refusals finder.new)
@@ -172,8 +172,8 @@ impl Clerk {
         out: &mut K,
         finder: &mut P,
     ) -> Result<(), Stop>
-        requires suits { Suits program.now self.old.desk.state.shapes }
-        requires stands { StandsSomewhere self.old.desk }
+        requires suits { Suits program.now (standing self.old).desk.state.shapes }
+        requires stands { StandsSomewhere (standing self.old).desk }
         requires has_name { is_named (seen item.now) ≡ true }
         ensures served { OnOk result
             (Pushed program.now (P.refusals finder.old) (P.refusals finder.new)
@@ -205,13 +205,13 @@ impl Clerk {
     // Pushes the line that tells why a section is no script.
     fn refuse<K: Sink>(&mut self, cause: &str, out: &mut K) -> Result<(), Stop>
         ensures told { OnOk result (K.taken out.new ≡ with_back (K.taken out.old)
-            (refused_text (next_number self.old.number) cause.now)) }
+            (refused_text (next_number (standing self.old).number) cause.now)) }
         ensures stopped { IfErr result (TellStops (K.taken out.old) (K.taken out.new)
-            (refused_text (next_number self.old.number) cause.now)
+            (refused_text (next_number (standing self.old).number) cause.now)
             (Rose (K.faults out.old) (K.faults out.new))) }
         ensures counted { K.faults out.old ≤ K.faults out.new }
         ensures stays { standing self.new
-            ≡ record { desk = self.old.desk; number = next_number self.old.number } }
+            ≡ record { desk = (standing self.old).desk; number = next_number (standing self.old).number } }
     {
         let number = self.number.saturating_add(1);
         self.number = number;

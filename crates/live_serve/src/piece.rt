@@ -1,4 +1,4 @@
-ghost use Rattle.std.specs.Prelude.{◌≡◌, ◌≤◌, [], IfErr, OnOk};
+ghost use Rattle.std.specs.Prelude.{◌≡◌, ◌≤◌, [], IfErr, OnOk, drop, length};
 ghost use Rattle.decision.specs.Programs.{Suits};
 ghost use Rattle.outside.specs.Faults.{Rose};
 ghost use Rattle.regex_gate.specs.Refusals.{IsUsed};
@@ -26,8 +26,8 @@ pub fn serve_piece<K: Sink, P: Finder>(
     out: &mut K,
     finder: &mut P,
 ) -> Result<(), Stop>
-    requires suits { Suits program.now clerk.old.desk.state.shapes }
-    requires stands { StandsSomewhere clerk.old.desk }
+    requires suits { Suits program.now (standing clerk.old).desk.state.shapes }
+    requires stands { StandsSomewhere (standing clerk.old).desk }
     ensures served { OnOk result (TakesPiece json program.now
         (P.refusals finder.old) (P.refusals finder.new) (standing clerk.old) (standing clerk.new)
         sections.old sections.new piece.now [] (K.taken out.old) (K.taken out.new)) }
@@ -38,9 +38,17 @@ pub fn serve_piece<K: Sink, P: Finder>(
 {
     let mut at = 0;
     while at < piece.len() {
-        let (used, section) = sections.take_line(alloc, &piece[at..])?;
+        let (used, section) = sections.take_line(alloc, rest_of(piece, at))?;
         at += used;
         clerk.serve_ended(alloc, program, json, section, out, finder)?;
     }
     Ok(())
+}
+
+// The bytes from a place on.
+fn rest_of(piece: &[u8], at: usize) -> &[u8]
+    requires { at ≤ length piece.now }
+    ensures { result.now ≡ drop at piece.now }
+{
+    &piece[at..]
 }

@@ -1,4 +1,4 @@
-ghost use Rattle.std.specs.Prelude.{All, IfOk, MatchResult, map, true};
+ghost use Rattle.std.specs.Prelude.{◌≡◌, All, IfOk, MatchResult, map, true};
 ghost use Rattle.script_read.specs.Named.{is_named};
 ghost use Rattle.script_read.specs.Said.{seen};
 ghost use Rattle.script_read.specs.Script.{IsScript, IsScriptFault};

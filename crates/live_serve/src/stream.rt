@@ -1,4 +1,4 @@
-ghost use Rattle.std.specs.Prelude.{◌≡◌, ◌≤◌, [], IfErr, IfSome, OnOk};
+ghost use Rattle.std.specs.Prelude.{◌≡◌, ◌≤◌, [], IfErr, IfSome, OnOk, length, take};
 ghost use Rattle.decision.specs.Programs.{Suits};
 ghost use Rattle.item_stream.specs.Sections.{first_stage, left_at, sections_of};
 ghost use Rattle.live_round.specs.Desks.{StandsBehind};
@@ -84,17 +84,17 @@ fn serve_pieces<S: Source, K: Sink, P: Finder>(
     out: &mut K,
     finder: &mut P,
 ) -> Result<(), Stop>
-    requires suits { Suits program.now clerk.old.desk.state.shapes }
-    requires first { StandsBehind (tables clerk.old.desk.state) [] clerk.old.desk }
-    requires no_line { standing clerk.old ≡ at_first clerk.old.desk }
+    requires suits { Suits program.now (standing clerk.old).desk.state.shapes }
+    requires first { StandsBehind (tables (standing clerk.old).desk.state) [] (standing clerk.old).desk }
+    requires no_line { standing clerk.old ≡ at_first (standing clerk.old).desk }
     requires no_byte { sections.old ≡ first_stage }
     ensures served { OnOk result (OfRead (S.left input.old) (S.left input.new) (λ read.
-        TookTexts (service json program.now clerk.old.desk)
+        TookTexts (service json program.now (standing clerk.old).desk)
         (P.refusals finder.old) (P.refusals finder.new)
         (sections_of read) (K.taken out.old) (K.taken out.new))) }
     ensures read_to_end { OnOk result (IfSome (S.left input.new) (λ rest. rest ≡ [])) }
     ensures stopped { IfErr result (λ stop. OfRead (S.left input.old) (S.left input.new)
-        (ServeStops (service json program.now clerk.old.desk)
+        (ServeStops (service json program.now (standing clerk.old).desk)
         (P.refusals finder.old) (P.refusals finder.new) (K.taken out.old) (K.taken out.new)
         (Rose (S.faults input.old) (S.faults input.new))
         (Rose (K.faults out.old) (K.faults out.new)) stop)) }
@@ -112,7 +112,7 @@ fn serve_pieces<S: Source, K: Sink, P: Finder>(
         if count == 0 {
             return serve_rest(alloc, clerk, sections, program, json, out, finder);
         }
-        let read = &piece[..count];
+        let read = front_of(&piece, count);
         serve_piece(alloc, clerk, sections, program, json, read, out, finder)?;
         pulls += 1;
     }
@@ -129,8 +129,8 @@ fn serve_rest<K: Sink, P: Finder>(
     out: &mut K,
     finder: &mut P,
 ) -> Result<(), Stop>
-    requires suits { Suits program.now clerk.old.desk.state.shapes }
-    requires stands { StandsSomewhere clerk.old.desk }
+    requires suits { Suits program.now (standing clerk.old).desk.state.shapes }
+    requires stands { StandsSomewhere (standing clerk.old).desk }
     ensures served { OnOk result (TakesEnded json program.now
         (P.refusals finder.old) (P.refusals finder.new) (standing clerk.old) (standing clerk.new)
         (left_at sections.old) (K.taken out.old) (K.taken out.new)) }
@@ -141,4 +141,13 @@ fn serve_rest<K: Sink, P: Finder>(
 {
     let section = sections.take_rest(alloc)?;
     clerk.serve_ended(alloc, program, json, section, out, finder)
+}
+
+// The first so many bytes.
+fn front_of(piece: &[u8], count: usize) -> &[u8]
+    requires { count ≤ length piece.now }
+    ensures front { result.now ≡ take count piece.now }
+    ensures long { length result.now ≡ count }
+{
+    &piece[..count]
 }

@@ -90,8 +90,8 @@ module _ (files : Option Files) (job : Job) (opened : Opened) (is : IsOpened fil
     }
 
     pub job_stops : (stop : Stop) → StopsOpened job opened before now stop → StopsJob files job (shelved calls faults before) (shelved calls_now faults_now now) stop
-    job_stops stop (inl (memory, same)) = helps.StopsJob.behind_files opened.program (tables opened.state) is_open memory (ap (shelved calls_now faults_now) same)
-    job_stops stop (inr (told, stops)) = helps.StopsJob.in_stream opened.program (tables opened.state) is_open (announced told) (subst (λ (on : Service). IsCutOff on before now stop) same_service stops)
+    job_stops stop (inl (memory, same)) = helps.behind_files opened.program (tables opened.state) is_open memory (ap (shelved calls_now faults_now) same)
+    job_stops stop (inr (told, stops)) = helps.in_stream opened.program (tables opened.state) is_open (announced told) (subst (λ (on : Service). IsCutOff on before now stop) same_service stops)
 
 -- ---- for words
 
@@ -100,9 +100,9 @@ module _ (words : List (List ℕ)) (files : Option Files) (job : Job) (asked : j
   has_served so = record { job = job; model = so.model; policy = so.policy; asked = asked; opened = so.opened; told = so.told; served = so.served }
 
   pub stops_serving : (stop : Stop) → StopsJob files job before now stop → StopsServing words files before now stop
-  stops_serving stop (helps.StopsJob.at_files stops same) = services.StopsServing.at_files job asked stops same
-  stops_serving stop (helps.StopsJob.behind_files model policy opened memory same) = services.StopsServing.behind_files job model policy asked opened memory same
-  stops_serving stop (helps.StopsJob.in_stream model policy opened told stops) = services.StopsServing.in_stream job model policy asked opened told stops
+  stops_serving stop (helps.at_files stops same) = services.at_files job asked stops same
+  stops_serving stop (helps.behind_files model policy opened memory same) = services.behind_files job model policy asked opened memory same
+  stops_serving stop (helps.in_stream model policy opened told stops) = services.in_stream job model policy asked opened told stops
 
 -- a stop that was told is the end
 pub stopped_serving : (words : List (List ℕ)) (files : Option Files) (before mid now : Moment) (status : Status) (stop : Stop) → status ≡ status_of stop → StopsServing words files before mid stop → IsTold mid.err now.err mid.err_faults now.err_faults (line_of stop) → AskedErr mid now → EndsServing words files before now status

@@ -1,18 +1,19 @@
 -- Words that are read as those of a session.
-use Rattle.std.proofs.Common.{◌≡◌, ℕ, ◌+◌, ◌<◌, ◌≤◌, List, [], ◌∷◌, ◌++◌, length, take, sym, ap, subst, ◌∙◌}
-use Rattle.std.specs.Prelude.{Option, Some, None, IfSome, String, get_or, option_map, string_bytes}
+use Rattle.std.proofs.Common.{◌≡◌, ℕ, suc, ◌+◌, ◌<◌, ◌≤◌, ◌||◌, Bool, true, false, not, List, [], ◌∷◌, ◌++◌, length, take, drop, drop-cons, sym, ap, subst, ◌∙◌, arith}
+use Rattle.std.specs.Prelude.{Option, Some, None, IfSome, String, bytes_eq, codes, get_or, if◌then◌else◌, option_map, string_bytes}
 use Rattle.std.specs.Global.{Vec}
 use Rattle.std.specs.Option.{option_and_then}
 use Rattle.std.specs.declared.alloc.Global.{Global}
-use Rattle.std.proofs.lemmas.List.{map_push, take_all, take_more}
+use Rattle.std.proofs.lemmas.Bool.{cond-false, cond-true}
+use Rattle.std.proofs.lemmas.List.{drop_all, map_push, take_all, take_more}
 use Rattle.std.proofs.lemmas.Option.{option_and_then_some}
 use Rattle.command_words.proofs.CallerLemmas.{HasRanges, command_of-ranges}
 use Rattle.command_words.specs.Commands.{command_of}
-use Rattle.command_words.specs.Items.{texts}
+use Rattle.command_words.specs.Items.{is_dashes, texts}
 use Rattle.command_words.specs.declared.command.Command.{Command}
 use Rattle.command_words.specs.declared.command.Command.TheVariants as command
 use Rattle.serve_run.specs.Helps.Reading.{all_texts}
-use Rattle.serve_run.specs.Words.{job_asked, job_of, session_of}
+use Rattle.serve_run.specs.Words.{has_workers, is_workers, job_asked, job_of, session_of}
 use Rattle.serve_run.specs.declared.words.Job.{Job}
 
 -- a word more
@@ -23,6 +24,43 @@ texts_more first made others n copy word within is same before =
 
 pub texts_all : (first : List ℕ) (made others : List (String Global)) (n : ℕ) → length others ≤ n → texts made ≡ first ∷ texts (take n others) → texts made ≡ first ∷ texts others
 texts_all first made others n past before = before ∙ ap (λ (l : List (String Global)). first ∷ texts l) (take_all n others past)
+
+-- ---- the words of a session
+
+pub session_none : (words : List (String Global)) → words ≡ [] → None ≡ session_of (texts words)
+session_none words none = ap (λ (w : List (String Global)). session_of (texts w)) (sym none)
+
+-- by the tests of the first word and of the others
+pub session_by : (words others : List (String Global)) (name : String Global) (serve workers : Bool) → words ≡ name ∷ others → bytes_eq (string_bytes name) (codes "serve") ≡ serve → has_workers (texts others) ≡ workers
+    → (if not serve then None else if workers then None else Some (codes "session" ∷ texts others)) ≡ session_of (texts words)
+session_by words others name serve workers is serves tells =
+    ap (λ (test : Bool). if not test then None else if workers then None else Some (codes "session" ∷ texts others)) (sym serves)
+    ∙ ap (λ (test : Bool). if not (bytes_eq (string_bytes name) (codes "serve")) then None else if test then None else Some (codes "session" ∷ texts others)) (sym tells)
+    ∙ ap (λ (w : List (String Global)). session_of (texts w)) (sym is)
+
+-- ---- workers, from a word on
+
+module _ (words : List (String Global)) (n : ℕ) (word : String Global) (whole : Bool) (so : whole ≡ has_workers (texts (drop n words))) (within : n < length words) (is : word ≡ get_or words n word) where
+  workers_at : whole ≡ (if is_dashes (string_bytes word) then false else is_workers (string_bytes word) || has_workers (texts (drop (n + 1) words)))
+  workers_at =
+      let next : suc n ≡ n + 1 = omega arith in
+      so ∙ ap (λ (l : List (String Global)). has_workers (texts l)) (drop-cons words n word within ∙ ap (λ (w : String Global). w ∷ drop (suc n) words) (sym is) ∙ ap (λ (k : ℕ). word ∷ drop k words) next)
+
+  pub workers_end : is_dashes (string_bytes word) ≡ true → false ≡ whole
+  workers_end dashes = sym (workers_at ∙ cond-true (is_dashes (string_bytes word)) false (is_workers (string_bytes word) || has_workers (texts (drop (n + 1) words))) dashes)
+
+  module _ (other : is_dashes (string_bytes word) ≡ false) where
+    workers_here : whole ≡ (is_workers (string_bytes word) || has_workers (texts (drop (n + 1) words)))
+    workers_here = workers_at ∙ cond-false (is_dashes (string_bytes word)) false (is_workers (string_bytes word) || has_workers (texts (drop (n + 1) words))) other
+
+    pub workers_found : is_workers (string_bytes word) ≡ true → true ≡ whole
+    workers_found found = sym (workers_here ∙ ap (λ (test : Bool). test || has_workers (texts (drop (n + 1) words))) found)
+
+    pub workers_on : is_workers (string_bytes word) ≡ false → whole ≡ has_workers (texts (drop (n + 1) words))
+    workers_on none = workers_here ∙ ap (λ (test : Bool). test || has_workers (texts (drop (n + 1) words))) none
+
+pub workers_none : (words : List (String Global)) (n : ℕ) (whole : Bool) → whole ≡ has_workers (texts (drop n words)) → length words ≤ n → false ≡ whole
+workers_none words n whole so past = sym (so ∙ ap (λ (l : List (String Global)). has_workers (texts l)) (drop_all n words past))
 
 -- ---- what is asked for
 

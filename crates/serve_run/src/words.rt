@@ -1,6 +1,6 @@
-ghost use Rattle.std.specs.Prelude.{◌≡◌, ◌∷◌, ◌<◌, ◌≤◌, IfOk, IfSome, option_map};
+ghost use Rattle.std.specs.Prelude.{◌≡◌, ◌∷◌, ◌<◌, ◌≤◌, IfOk, IfSome, bytes_eq, codes, option_map};
 ghost use Rattle.command_words.specs.Commands.{command_of};
-ghost use Rattle.command_words.specs.Items.{texts};
+ghost use Rattle.command_words.specs.Items.{is_dashes, texts};
 ghost use Rattle.std.specs.Option.{option_and_then};
 ghost use Rattle.serve_run.specs.Words.{has_workers, is_to_serve, is_workers, job_of, session_of};
 ghost use Rattle.serve_run.specs.Helps.Reading.{all_texts};
@@ -22,9 +22,16 @@ pub fn asks_to_serve(words: &[String]) -> bool
     ensures { result ≡ is_to_serve (texts words.now) }
 {
     match words.first() {
-        Some(name) => name.as_str() == "serve",
+        Some(name) => is_serve(name.as_str()),
         None => false,
     }
+}
+
+// The name of the command.
+fn is_serve(name: &str) -> bool
+    ensures { result ≡ bytes_eq name.now (codes "serve") }
+{
+    name == "serve"
 }
 
 /// The words of a session that is done on the same files, where the words are `serve` and tell no number of workers.
@@ -38,7 +45,7 @@ pub(crate) fn session_words(
     let Some((name, others)) = words.split_first() else {
         return Ok(None);
     };
-    if name.as_str() != "serve" {
+    if !is_serve(name.as_str()) {
         return Ok(None);
     }
     if has_workers(others) {
@@ -65,7 +72,7 @@ fn has_workers(words: &[String]) -> bool
     ensures { result ≡ has_workers (texts words.now) }
 {
     for word in words {
-        if word.as_str() == "--" {
+        if is_dashes(word.as_str()) {
             return false;
         }
         if is_workers(word.as_str()) {
@@ -73,6 +80,13 @@ fn has_workers(words: &[String]) -> bool
         }
     }
     false
+}
+
+// Whether all words behind this one are operands.
+fn is_dashes(word: &str) -> bool
+    ensures { result ≡ is_dashes word.now }
+{
+    word == "--"
 }
 
 // Whether the word tells a number of workers, or says that the next one does.

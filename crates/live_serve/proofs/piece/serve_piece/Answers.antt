@@ -1,11 +1,11 @@
 use Rattle.std.proofs.Common.{◌≡◌, ◌+◌, [], Err, drop, refl, sym, subst, arith, rules}
 use Rattle.std.proofs.lemmas.Result.{err_from_is_err_and}
 use Rattle.decision.specs.Programs.{Suits}
-use Rattle.item_stream.specs.Sections.{GoesTo, listed}
+use Rattle.item_stream.specs.Sections.{listed}
 use Rattle.item_stream.specs.Seen.{seen_option}
 use Rattle.regex_gate.proofs.CallerLemmas.{used_then}
 use Rattle.live_serve.specs.Standings.{standing}
-use Rattle.live_serve.proofs.PieceLemmas.{amid_all, amid_halts, amid_next, amid_none, amid_stops, amid_used}
+use Rattle.live_serve.proofs.PieceLemmas.{goes_same, amid_all, amid_halts, amid_next, amid_none, amid_stops, amid_used}
 use Rattle.live_serve.proofs.piece.serve_piece.Goals as goal
 
 pub loop-at-init : goal.loop-at-init
@@ -31,7 +31,7 @@ serve_ended-requires-clause-stands g c = λ lifetimes outlive. c.loop-at.invaria
 pub returns-in_err-serve_ended-clause-stopped : goal.returns-in_err-serve_ended-clause-stopped
 returns-in_err-serve_ended-clause-stopped g c =
     let stop : c.from_residual-in_err-serve_ended.result ≡ Err c.in_err-serve_ended.field-0.0 = search rules in
-    let goes : GoesTo c.loop-at.sections (drop c.loop-at.at c.args.piece.now) (listed (seen_option c.in_ok-used.section) []) c.take_line.new.self (drop c.in_ok-used.used (drop c.loop-at.at c.args.piece.now)) = search rules in
+    let goes = goes_same c.loop-at.sections c.take_line.new.self c.rest_of.result.now (drop c.loop-at.at c.args.piece.now) (listed (seen_option c.in_ok-used.section) []) c.in_ok-used.used c.rest_of.ensures c.in_ok-used.ensures.goes in
     rw stop (amid_halts c.args.json c.args.program.now _ _ _ c.args.piece.now _ _ _ _ _ c.loop-at.at _ _ c.loop-at.invariant c.take_line.new.self c.in_ok-used.used (c.loop-at.at + c.in_ok-used.used) (seen_option c.in_ok-used.section) goes refl _ _ c.in_err-serve_ended.field-0.0 c.in_err-serve_ended.ensures.stopped)
 
 pub returns-in_err-serve_ended-clause-counted : goal.returns-in_err-serve_ended-clause-counted
@@ -42,7 +42,7 @@ returns-in_err-serve_ended-clause-used g c = used_then _ _ _ (amid_used c.args.j
 
 pub loop-at-preserved : goal.loop-at-preserved
 loop-at-preserved g c =
-    let goes : GoesTo c.loop-at.sections (drop c.loop-at.at c.args.piece.now) (listed (seen_option c.in_ok-used.section) []) c.take_line.new.self (drop c.in_ok-used.used (drop c.loop-at.at c.args.piece.now)) = search rules in
+    let goes = goes_same c.loop-at.sections c.take_line.new.self c.rest_of.result.now (drop c.loop-at.at c.args.piece.now) (listed (seen_option c.in_ok-used.section) []) c.in_ok-used.used c.rest_of.ensures c.in_ok-used.ensures.goes in
     amid_next c.args.json c.args.program.now _ _ _ c.args.piece.now _ _ _ _ _ c.loop-at.at _ _ c.loop-at.invariant c.take_line.new.self c.in_ok-used.used (c.loop-at.at + c.in_ok-used.used) (seen_option c.in_ok-used.section) goes refl _ (standing c.serve_ended.new.self) _ _
     c.in_ok-serve_ended.ensures.served c.serve_ended.ensures.counted
 

@@ -1,4 +1,4 @@
-use Rattle.std.proofs.Common.{◌≡◌, ◌+◌, ◌<◌, Err, inl, length, refl, sym, subst, ap, ◌∙◌, arith, rules}
+use Rattle.std.proofs.Common.{◌≡◌, ℕ, ◌+◌, ◌<◌, List, Err, inl, length, refl, sym, subst, ap, ◌∙◌, arith, rules}
 use Rattle.std.proofs.lemmas.Result.{IfErr-weaker, on_ok_weaker}
 use Rattle.decision.specs.Programs.{Suits}
 use Rattle.item_stream.specs.Sections.{left_at}
@@ -80,8 +80,8 @@ serve_piece-requires-clause-stands g c = λ lifetimes outlive. c.loop-pulls.inva
 pub returns-in_err-serve_piece-clause-stopped : goal.returns-in_err-serve_piece-clause-stopped
 returns-in_err-serve_piece-clause-stopped g c =
     let stop : c.from_residual.result ≡ Err c.in_err-serve_piece.field-0.0 = search rules in
-    let given : g.S.Source.left c.loop-pulls.input ≡ with_front c.range-read.result.now (g.S.Source.left c.pull.new.self) = search rules in
-    rw stop (piece_stops c.args.json c.args.program.now _ c.args.clerk.now.desk c.requires.first _ _ _ _ _ _ _ _ _ _ _ _ _ _ c.loop-pulls.invariant c.range-read.result.now (g.S.Source.left c.pull.new.self) given (g.P.Finder.refusals c.serve_piece.new.finder) _ _ _ c.in_err-serve_piece.field-0.0 c.in_err-serve_piece.ensures.stopped)
+    let given : g.S.Source.left c.loop-pulls.input ≡ with_front c.front_of-read.result.now (g.S.Source.left c.pull.new.self) = c.in-Ok.ensures.given ∙ ap (λ (bytes : List ℕ). with_front bytes (g.S.Source.left c.pull.new.self)) (sym c.front_of-read.ensures.front) in
+    rw stop (piece_stops c.args.json c.args.program.now _ c.args.clerk.now.desk c.requires.first _ _ _ _ _ _ _ _ _ _ _ _ _ _ c.loop-pulls.invariant c.front_of-read.result.now (g.S.Source.left c.pull.new.self) given (g.P.Finder.refusals c.serve_piece.new.finder) _ _ _ c.in_err-serve_piece.field-0.0 c.in_err-serve_piece.ensures.stopped)
 
 pub returns-in_err-serve_piece-clause-no_further : goal.returns-in_err-serve_piece-clause-no_further
 returns-in_err-serve_piece-clause-no_further g c = ended_or_not _ _ _ _ c.loop-pulls.invariant.ends_same c.pull.ensures.told
@@ -98,10 +98,10 @@ returns-in_err-serve_piece-clause-used g c = used_then _ _ _ (served_used c.args
 pub loop-pulls-preserved : goal.loop-pulls-preserved
 loop-pulls-preserved g c =
     let some : 0 < c.in-Ok.count = omega arith in
-    let given : g.S.Source.left c.loop-pulls.input ≡ with_front c.range-read.result.now (g.S.Source.left c.pull.new.self) = search rules in
-    let long : 0 < length c.range-read.result.now = search rules in
-    served_more c.args.json c.args.program.now _ c.args.clerk.now.desk c.requires.first _ _ _ _ _ _ _ _ _ _ _ _ _ _ c.loop-pulls.invariant c.range-read.result.now (g.S.Source.left c.pull.new.self) given (g.P.Finder.refusals c.serve_piece.new.finder) (standing c.serve_piece.new.clerk) c.serve_piece.new.sections _
-    (c.loop-pulls.pulls + 1) _ _ (g.S.Source.ends c.pull.new.self) (some_came _ _ _ c.in-Ok.count c.pull.ensures.told some) long c.in_ok-serve_piece.ensures.served refl c.pull.ensures.counted c.serve_piece.ensures.counted
+    let given : g.S.Source.left c.loop-pulls.input ≡ with_front c.front_of-read.result.now (g.S.Source.left c.pull.new.self) = c.in-Ok.ensures.given ∙ ap (λ (bytes : List ℕ). with_front bytes (g.S.Source.left c.pull.new.self)) (sym c.front_of-read.ensures.front) in
+    let long : 0 < length c.front_of-read.result.now = omega (arith, c.front_of-read.ensures.long, some) in
+    served_more c.args.json c.args.program.now _ c.args.clerk.now.desk c.requires.first _ _ _ _ _ _ _ _ _ _ _ _ _ _ c.loop-pulls.invariant c.front_of-read.result.now (g.S.Source.left c.pull.new.self) given (g.P.Finder.refusals c.serve_piece.new.finder) (standing c.serve_piece.new.clerk) c.serve_piece.new.sections _
+    (c.loop-pulls.pulls + 1) _ _ (g.S.Source.ends c.pull.new.self) (some_came _ _ _ c.in-Ok.count c.in-Ok.ensures.told some) long c.in_ok-serve_piece.ensures.served refl c.pull.ensures.counted c.serve_piece.ensures.counted
 
 -- so often
 pub returns-clause-stopped : goal.returns-clause-stopped

@@ -2,6 +2,7 @@ use Rattle.std.proofs.Common.{◌≡◌, refl, subst, sym}
 use Rattle.std.specs.Prelude.{Option, OnOk}
 use Rattle.std.proofs.lemmas.Result.{IfErr-weaker, err_from_is_err_and, on_ok_weaker}
 use Rattle.item_stream.specs.Sections.{Section, left_at}
+use Rattle.outside.specs.Faults.{Rose}
 use Rattle.regex_gate.proofs.CallerLemmas.{used_none}
 use Rattle.live_serve.specs.Helps.Ending.{LeavesEnded, TakesEnded}
 use Rattle.live_serve.specs.Standings.{standing}
@@ -22,4 +23,6 @@ returns-clause-served g c =
     c.serve_ended.ensures.served
 
 pub returns-clause-stopped : goal.returns-clause-stopped
-returns-clause-stopped g c = rw c.in_ok-section.ensures at c.serve_ended.ensures.stopped
+returns-clause-stopped g c =
+    IfErr-weaker c.serve_ended.result _ _ (λ stop leaves. subst (λ (l : Option Section). LeavesEnded c.args.json c.args.program.now (standing c.args.clerk.now) l (g.K.Sink.taken c.args.out.now) (g.K.Sink.taken c.serve_ended.new.out) (Rose (g.K.Sink.faults c.args.out.now) (g.K.Sink.faults c.serve_ended.new.out)) stop) c.in_ok-section.ensures leaves)
+    c.serve_ended.ensures.stopped

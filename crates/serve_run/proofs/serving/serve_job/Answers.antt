@@ -2,7 +2,7 @@ use Rattle.std.proofs.Common.{◌≡◌, Err, inl, refl, rules}
 use Rattle.std.specs.Prelude.{None}
 use Rattle.std.proofs.lemmas.Result.{IfErr-weaker, on_ok_weaker}
 use Rattle.regex_gate.proofs.CallerLemmas.{used_none}
-use Rattle.serve_run.specs.Helps.Serving.StopsJob.{at_files}
+use Rattle.serve_run.specs.Helps.Serving.{at_files}
 use Rattle.serve_run.specs.Moments.{moment}
 use Rattle.serve_run.proofs.ServeLemmas.{job_served, job_stops}
 use Rattle.serve_run.proofs.serving.serve_job.Goals as goal

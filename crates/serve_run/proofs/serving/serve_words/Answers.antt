@@ -3,7 +3,7 @@ use Rattle.std.specs.Prelude.{Some, None}
 use Rattle.std.proofs.lemmas.Result.{IfErr-weaker, err_from_is_err_and, on_ok_weaker}
 use Rattle.command_words.specs.Items.{texts}
 use Rattle.regex_gate.proofs.CallerLemmas.{used_none}
-use Rattle.serve_run.specs.Services.StopsServing.{at_words, before_files}
+use Rattle.serve_run.specs.Services.{at_words, before_files}
 use Rattle.serve_run.specs.Words.{job_asked}
 use Rattle.serve_run.proofs.ServeLemmas.{has_served, stops_serving}
 use Rattle.serve_run.proofs.WordLemmas.{asked_by, asked_none}

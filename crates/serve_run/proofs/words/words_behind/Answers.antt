@@ -1,4 +1,5 @@
-use Rattle.std.proofs.Common.{rules}
+use Rattle.std.proofs.Common.{◌≡◌, ◌∷◌, ◌++◌, [], ap, ◌∙◌, rules}
+use Rattle.std.specs.Prelude.{string_bytes}
 use Rattle.serve_run.proofs.WordLemmas.{texts_all, texts_more}
 use Rattle.serve_run.proofs.words.words_behind.Goals as goal
 

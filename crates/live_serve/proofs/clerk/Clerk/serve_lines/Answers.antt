@@ -7,7 +7,7 @@ use Rattle.script_read.specs.Said.{seen}
 use Rattle.live_serve.specs.Lines.{next_number, refused_text}
 use Rattle.live_serve.specs.Sayings.{fault, said}
 use Rattle.live_serve.specs.Standings.{standing}
-use Rattle.live_serve.proofs.ServeLemmas.{fault_halts, fault_pushed}
+use Rattle.live_serve.proofs.ServeLemmas.{fault_halts, fault_pushed, tells_same}
 use Rattle.live_serve.proofs.clerk.Clerk.serve_lines.Goals as goal
 
 pub returns-in_err-script_of-clause-stopped : goal.returns-in_err-script_of-clause-stopped
@@ -37,10 +37,11 @@ returns-in-Err-clause-served g c =
 
 pub returns-in-Err-clause-stopped : goal.returns-in-Err-clause-stopped
 returns-in-Err-clause-stopped g c =
+    let text = ap (refused_text (next_number c.args.self.now.number)) c.cause_text.ensures in
     IfErr-weaker c.refuse.result _ _ (λ stop stops. inl (
       fault c.in-Err.fault ∷ [],
       inr (record { first = c.in-Err.fault; bad = search rules; are = refl }),
-      fault_halts c.args.program.now (g.P.Finder.refusals c.args.finder.now) (standing c.args.self.now) (standing c.refuse.new.self) _ _ _ c.in-Err.fault stop (rw c.cause_text.ensures at stops),
+      fault_halts c.args.program.now (g.P.Finder.refusals c.args.finder.now) (standing c.args.self.now) (standing c.refuse.new.self) _ _ _ c.in-Err.fault stop (tells_same _ _ _ _ _ stop text stops),
     )) c.refuse.ensures.stopped
 
 pub returns-in-Err-clause-used : goal.returns-in-Err-clause-used
