@@ -6,7 +6,7 @@ use Rattle.edit_calls.specs.declared.call.Call.{Call}
 use Rattle.perm_base.specs.declared.shapes.TableId.{TableId}
 use Rattle.policy_table.specs.Tables.{Fields}
 use Rattle.script_read.specs.Blocks.{Part, at_line, block, block_call, block_of, call_of, ended_block, inner_rule, part_item, parts_inside, rule_before, rules_of, single, table_of_block}
-use Rattle.script_read.specs.Items.{FieldReader, RequestReader}
+use Rattle.script_read.specs.Items.{FieldReader, RequestReader, line_item}
 use Rattle.script_read.specs.Lines.{ends_block}
 use Rattle.script_read.specs.Results.{followed, mapped}
 use Rattle.script_read.specs.Said.{Said, edits}
@@ -23,7 +23,7 @@ at_any one other (Ok y) x e = e
 at_any one other (Err why) x e = absurd cc
 
 pub single_same : (fields : FieldReader) (request : RequestReader) (one other : ℕ) (text : List ℕ) (it : Said) → part_item fields request (single (line one text)) ≡ Ok it → part_item fields request (single (line other text)) ≡ Ok it
-single_same fields request one other text it e = at_any (given_number one) (given_number other) _ it e
+single_same fields request one other text it e = at_any (given_number one) (given_number other) (line_item fields request text) it e
 
 -- ---- the rules of a block
 

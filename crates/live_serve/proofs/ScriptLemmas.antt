@@ -1,6 +1,6 @@
 -- A stream that is a script in order, in which nothing is too long: each of its sections says one item of the script.
-use Rattle.std.proofs.Common.{◌≡◌, ◌⊎◌, inl, inr, ℕ, zero, suc, ◌+◌, ◌-◌, ◌<◌, ◌≤◌, Bool, true, false, List, [], ◌∷◌, ◌++◌, length, map, Some, None, Ok, refl, sym, ap, subst, ◌∙◌, append_assoc, append-nil, arith}
-use Rattle.std.specs.Prelude.{IsUtf8, Option, filter, get_or, is_some, nat_le, nat_lt, not, option_map, if◌then◌else◌}
+use Rattle.std.proofs.Common.{◌≡◌, ◌⊎◌, inl, inr, ℕ, ◌+◌, ◌-◌, ◌<◌, ◌≤◌, Bool, true, false, List, [], ◌∷◌, ◌++◌, length, map, Some, None, Ok, refl, sym, ap, subst, ◌∙◌, append_assoc, append-nil, arith, rules, tests}
+use Rattle.std.specs.Prelude.{IsUtf8, Option, filter, is_some, nat_le, nat_lt, not, option_map, if◌then◌else◌}
 use Rattle.std.specs.List.{AllByRecursion}
 use Rattle.std.proofs.lemmas.Grind.{flat_map-append}
 use Rattle.std.proofs.lemmas.List.{map_push}
@@ -73,14 +73,9 @@ adds count text raw = by (nat_lt 65536 (length raw)) (nat_le 200002 count) (nat_
 
 -- ---- a section as a script of its own
 
--- an LF is ASCII
-low : (at : ℕ) → get_or (10 ∷ []) at 0 < 128
-low zero = omega arith
-low (suc at) = omega arith
-
 utf8_ends : (lines : List (List ℕ)) → AllByRecursion IsGood lines → IsUtf8 (with_ends lines)
 utf8_ends [] good = IsUtf8-nil
-utf8_ends (raw ∷ lines) good = IsUtf8-append (raw ++ 10 ∷ []) (with_ends lines) (IsUtf8-append raw (10 ∷ []) good.0.utf8 (IsUtf8-from_ascii (10 ∷ []) low)) (utf8_ends lines good.1)
+utf8_ends (raw ∷ lines) good = IsUtf8-append (raw ++ 10 ∷ []) (with_ends lines) (IsUtf8-append raw (10 ∷ []) good.0.utf8 (IsUtf8-from_ascii (10 ∷ []) (search (rules, tests)))) (utf8_ends lines good.1)
 
 no_ends : (lines : List (List ℕ)) → AllByRecursion IsGood lines → AllByRecursion (λ (raw : List ℕ). has_byte 10 raw ≡ false) lines
 no_ends [] good = tt
