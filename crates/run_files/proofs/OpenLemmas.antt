@@ -69,7 +69,7 @@ policy_opens files mid names options model shapes calls calls_mid calls_now befo
     later (CannotRead Policy) stops = (model, fits, ⊎_elim (λ lacks. inl (lacks.0, both false lacks.1)) (λ rose. inr (rose_later before faults now earlier rose.0, both true rose.1)) stops)
     later (TooLong Policy) stops = (model, fits, (stops.0, both false stops.1))
     later (NoPolicy fault) stops = (model, fits, (stops.0, both false stops.1))
-    later NoMemory stops = inr (both false stops)
+    later NoMemory stops = inr (model, fits, both false stops)
     later _ stops = absurd stops
 
 -- ---- what is opened

@@ -43,5 +43,5 @@ OpenStops files names options told rose (NoRelation relation) = BehindModel file
 OpenStops files names options told rose (CannotRead Policy) = BehindOptions files names options (λ model. Lost files names.policy (λ failed. told (both_fetches names failed)) rose)
 OpenStops files names options told rose (TooLong Policy) = BehindOptions files names options (λ model. OfFile files names.policy (λ bytes. limit_of Policy < length bytes) × told (both_fetches names false))
 OpenStops files names options told rose (NoPolicy fault) = BehindOptions files names options (λ model. FileIs files names.policy Policy (λ bytes. IsPolicyFault (shapes_with options model) bytes fault) × told (both_fetches names false))
-OpenStops files names options told rose NoMemory = told (first_fetch names false) ⊎ told (both_fetches names false)
+OpenStops files names options told rose NoMemory = told (first_fetch names false) ⊎ BehindOptions files names options (λ model. told (both_fetches names false))
 OpenStops files names options told rose _ = ⊥

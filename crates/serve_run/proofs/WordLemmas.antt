@@ -13,7 +13,7 @@ use Rattle.command_words.specs.Items.{is_dashes, texts}
 use Rattle.command_words.specs.declared.command.Command.{Command}
 use Rattle.command_words.specs.declared.command.Command.TheVariants as command
 use Rattle.serve_run.specs.Helps.Reading.{all_texts}
-use Rattle.serve_run.specs.Words.{has_workers, is_workers, job_asked, job_of, session_of}
+use Rattle.serve_run.specs.Words.{has_workers, is_to_serve, is_workers, job_asked, job_of, session_of}
 use Rattle.serve_run.specs.declared.words.Job.{Job}
 
 -- a word more
@@ -24,6 +24,14 @@ texts_more first made others n copy word within is same before =
 
 pub texts_all : (first : List ℕ) (made others : List (String Global)) (n : ℕ) → length others ≤ n → texts made ≡ first ∷ texts (take n others) → texts made ≡ first ∷ texts others
 texts_all first made others n past before = before ∙ ap (λ (l : List (String Global)). first ∷ texts l) (take_all n others past)
+
+-- ---- the first word
+
+pub serve_none : (words : List (String Global)) → words ≡ [] → false ≡ is_to_serve (texts words)
+serve_none words none = ap (λ (w : List (String Global)). is_to_serve (texts w)) (sym none)
+
+pub serve_some : (words others : List (String Global)) (name : String Global) → words ≡ name ∷ others → bytes_eq (string_bytes name) (codes "serve") ≡ is_to_serve (texts words)
+serve_some words others name is = ap (λ (w : List (String Global)). is_to_serve (texts w)) (sym is)
 
 -- ---- the words of a session
 

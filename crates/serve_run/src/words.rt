@@ -21,10 +21,10 @@ pub(crate) struct Job<'a> {
 pub fn asks_to_serve(words: &[String]) -> bool
     ensures { result ≡ is_to_serve (texts words.now) }
 {
-    match words.first() {
-        Some(name) => is_serve(name.as_str()),
-        None => false,
-    }
+    let Some((name, others)) = words.split_first() else {
+        return false;
+    };
+    is_serve(name.as_str())
 }
 
 // The name of the command.

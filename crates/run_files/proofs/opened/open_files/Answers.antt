@@ -25,7 +25,8 @@ returns-in_err-tables-clause-stopped g c =
 pub returns-in_err-opened-clause-stopped : goal.returns-in_err-opened-clause-stopped
 returns-in_err-opened-clause-stopped g c =
     let p = err_from_is_err_and c.from_residual-in_err-opened.result c.from_residual-in_err-opened.ensures.1 in
-    rw (p.1, p.2) (inr (both_told (g.F.Shelf.calls c.args.shelf.now) (g.F.Shelf.calls c.read_model_file.new.shelf) (g.F.Shelf.calls c.read_policy_file.new.shelf) c.args.files.now false (search rules) (search rules)))
+    let fits : Fits (g.F.Shelf.files c.args.shelf.now) c.args.files.now c.args.options.now c.in_ok-model.model = record { is_model = search rules; none_absent = search rules } in
+    rw (p.1, p.2) (inr (c.in_ok-model.model, fits, both_told (g.F.Shelf.calls c.args.shelf.now) (g.F.Shelf.calls c.read_model_file.new.shelf) (g.F.Shelf.calls c.read_policy_file.new.shelf) c.args.files.now false (search rules) (search rules)))
 
 pub returns-clause-opened : goal.returns-clause-opened
 returns-clause-opened g c =
