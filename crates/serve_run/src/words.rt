@@ -21,7 +21,7 @@ pub(crate) struct Job<'a> {
 pub fn asks_to_serve(words: &[String]) -> bool
     ensures { result ≡ is_to_serve (texts words.now) }
 {
-    let Some((name, others)) = words.split_first() else {
+    let Some((name, _)) = words.split_first() else {
         return false;
     };
     is_serve(name.as_str())
