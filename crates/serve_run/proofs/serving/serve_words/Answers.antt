@@ -31,22 +31,22 @@ returns-in_default-clause-no_further g c = inl refl
 pub returns-in_default-clause-used : goal.returns-in_default-clause-used
 returns-in_default-clause-used g c = used_none (g.P.Finder.refusals c.args.finder.now)
 
-pub returns-in_default-2-clause-stopped : goal.returns-in_default-2-clause-stopped
-returns-in_default-2-clause-stopped g c = at_words (asked_by (texts c.args.words.now) c.in_ok-session.session c.in_ok-session.ensures c.in-Some.session c.in-Some.is c.deref.result.now c.deref.ensures.value None c.in_default-2.ensures.asked) refl refl
+pub returns-in_default-read_job-clause-stopped : goal.returns-in_default-read_job-clause-stopped
+returns-in_default-read_job-clause-stopped g c = at_words (asked_by (texts c.args.words.now) c.in_ok-session.session c.in_ok-session.ensures c.in-Some.session c.in-Some.is c.deref.result.now c.deref.ensures.value None c.in_default-read_job.ensures.asked) refl refl
 
-pub returns-in_default-2-clause-no_further : goal.returns-in_default-2-clause-no_further
-returns-in_default-2-clause-no_further g c = inl refl
+pub returns-in_default-read_job-clause-no_further : goal.returns-in_default-read_job-clause-no_further
+returns-in_default-read_job-clause-no_further g c = inl refl
 
-pub returns-in_default-2-clause-used : goal.returns-in_default-2-clause-used
-returns-in_default-2-clause-used g c = used_none (g.P.Finder.refusals c.args.finder.now)
+pub returns-in_default-read_job-clause-used : goal.returns-in_default-read_job-clause-used
+returns-in_default-read_job-clause-used g c = used_none (g.P.Finder.refusals c.args.finder.now)
 
 -- a job
 pub returns-clause-done : goal.returns-clause-done
 returns-clause-done g c =
-    let asked : job_asked (texts c.args.words.now) ≡ Some c.in-Some-2.job = asked_by (texts c.args.words.now) c.in_ok-session.session c.in_ok-session.ensures c.in-Some.session c.in-Some.is c.deref.result.now c.deref.ensures.value (Some c.in-Some-2.job) c.in-Some-2.ensures.asked in
-    on_ok_weaker c.serve_job.result (has_served (texts c.args.words.now) (g.F.Shelf.files c.args.shelf.now) c.in-Some-2.job asked _ _) c.serve_job.ensures.served
+    let asked : job_asked (texts c.args.words.now) ≡ Some c.in-Some-job.job = asked_by (texts c.args.words.now) c.in_ok-session.session c.in_ok-session.ensures c.in-Some.session c.in-Some.is c.deref.result.now c.deref.ensures.value (Some c.in-Some-job.job) c.in-Some-job.ensures.asked in
+    on_ok_weaker c.serve_job.result (has_served (texts c.args.words.now) (g.F.Shelf.files c.args.shelf.now) c.in-Some-job.job asked _ _) c.serve_job.ensures.served
 
 pub returns-clause-stopped : goal.returns-clause-stopped
 returns-clause-stopped g c =
-    let asked : job_asked (texts c.args.words.now) ≡ Some c.in-Some-2.job = asked_by (texts c.args.words.now) c.in_ok-session.session c.in_ok-session.ensures c.in-Some.session c.in-Some.is c.deref.result.now c.deref.ensures.value (Some c.in-Some-2.job) c.in-Some-2.ensures.asked in
-    IfErr-weaker c.serve_job.result _ _ (stops_serving (texts c.args.words.now) (g.F.Shelf.files c.args.shelf.now) c.in-Some-2.job asked _ _) c.serve_job.ensures.stopped
+    let asked : job_asked (texts c.args.words.now) ≡ Some c.in-Some-job.job = asked_by (texts c.args.words.now) c.in_ok-session.session c.in_ok-session.ensures c.in-Some.session c.in-Some.is c.deref.result.now c.deref.ensures.value (Some c.in-Some-job.job) c.in-Some-job.ensures.asked in
+    IfErr-weaker c.serve_job.result _ _ (stops_serving (texts c.args.words.now) (g.F.Shelf.files c.args.shelf.now) c.in-Some-job.job asked _ _) c.serve_job.ensures.stopped
