@@ -1,3 +1,4 @@
+use crate::slow::SlowSource;
 use crate::sure::run_sure;
 use crate::truth::truth;
 use anyhow::{Context, Result, ensure};
@@ -7,19 +8,21 @@ use live_pair::ListPlaces;
 use live_rounds::FreeGate;
 use outside::{ListShelf, ListSink, ListSource, Text};
 use regex_gate::ListFinder;
+use serve_run::{asks_to_serve, serve_casbin};
 use std::alloc::Global;
 use std::io::Write;
 use std::sync::Wait;
 use std::thread::Threads;
 
 // The fields of a case. Those that end in `-fails` have the numbers of the calls that fail, counted from 1.
-const KEYS: [&str; 12] = [
+const KEYS: [&str; 13] = [
     "words",
     "sure",
     "rule",
     "request",
     "shelf-fails",
     "input-fails",
+    "input-most",
     "out-fails",
     "out-most",
     "err-fails",
@@ -122,19 +125,23 @@ fn run<R: Threads + Wait + Sync>(
     )
 }
 
-// Runs the program. What its contract says is of no use here, so this function keeps it from the others.
+// Runs the program, or serves the input where the words ask for it. What its contract says is of no use here, so this function keeps it from the others.
 fn run_over<R: Threads + Wait + Sync>(
     rt: &R,
     alloc: Global,
     words: &[String],
     shelf: &mut ListShelf,
-    input: &mut ListSource,
+    input: &mut SlowSource,
     out: &mut ListSink,
     err: &mut ListSink,
     finders: &mut Vec<ListFinder>,
     places: &mut ListPlaces,
 ) -> Result<u8> {
     ensure!(finders.len() == 9, "a run has nine finders");
+    if asks_to_serve(words) {
+        let finder = &mut finders[0];
+        return Ok(serve_casbin(alloc, words, shelf, input, out, err, finder).code());
+    }
     let status = run_casbin(
         rt, alloc, words, shelf, input, out, err, finders, &FreeGate, places,
     );
@@ -142,9 +149,13 @@ fn run_over<R: Threads + Wait + Sync>(
 }
 
 // The input of a case.
-fn input(alloc: Global, case: &Case) -> Result<ListSource> {
+fn input(alloc: Global, case: &Case) -> Result<SlowSource> {
     let fails = case.numbers(alloc, "input-fails")?;
-    Ok(ListSource::new(case.text(alloc, "input")?, fails))
+    let most = case.numbers(alloc, "input-most")?.first().copied();
+    let most = most.unwrap_or(ROOM);
+    ensure!(most > 0, "an input gives a byte at least");
+    let source = ListSource::new(case.text(alloc, "input")?, fails);
+    Ok(SlowSource::new(source, most as usize))
 }
 
 // Puts the files of a case on a shelf.

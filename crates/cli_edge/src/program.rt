@@ -11,6 +11,7 @@ use live_rounds::FreeGate;
 use outside::NoMemory;
 use regex_keep::KeepingFinder;
 use run_status::{Status, Stop, tell_stop};
+use serve_run::{asks_to_serve, serve_casbin};
 use std::alloc::Global;
 use std::process::ExitCode;
 use std::{env, io};
@@ -29,13 +30,22 @@ pub fn run_program(rt: &HostRuntime) -> Status {
     let Ok(mut finders) = finders(alloc) else {
         return tell_stop(&mut err, Stop::NoMemory);
     };
+    let mut shelf = FileShelf::new(alloc, rt);
+    let mut input = ReadSource::new(rt.stdin());
+    let mut out = WriteSink::new(rt.stdout());
+    if asks_to_serve(&words) {
+        let finder = &mut finders[0];
+        return serve_casbin(
+            alloc, &words, &mut shelf, &mut input, &mut out, &mut err, finder,
+        );
+    }
     run_casbin(
         rt,
         alloc,
         &words,
-        &mut FileShelf::new(alloc, rt),
-        &mut ReadSource::new(rt.stdin()),
-        &mut WriteSink::new(rt.stdout()),
+        &mut shelf,
+        &mut input,
+        &mut out,
         &mut err,
         &mut finders,
         &FreeGate,

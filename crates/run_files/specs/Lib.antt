@@ -1,0 +1,4 @@
+pub mod Files
+pub mod Stops
+pub mod Opened
+pub mod Helps
