@@ -27,7 +27,7 @@ use Rattle.run_status.specs.declared.part.Part.{Part}
 use Rattle.run_status.specs.declared.part.Part.TheVariants.{Model, Policy, Input, Report}
 use Rattle.run_status.specs.declared.stop.Stop.{Stop}
 use Rattle.run_status.specs.declared.stop.Stop.TheVariants.{CannotRead, TooLong, NoMemory}
-use Rattle.run_files.specs.Files.{absent_with, shapes_with}
+use Rattle.run_files.specs.Files.{absent_in, domains_in, limit_in, names_in, shapes_with}
 use Rattle.run_files.specs.Helps.Reading.{FetchStops, ModelStops, PolicyStops, ShapesStop, fetch_stop}
 
 -- a fetch that ended so, from the shelf's own clause
@@ -73,29 +73,29 @@ policy_stops files name shapes told rose bytes policy.NoMemory holds within so f
 policy_stops files name shapes told rose bytes e holds within so fault = ((bytes, holds, within, fault (λ is. absurd cc)), so)
 
 -- what making shapes comes to, from its clause
-abbrev pub TellsMissing : Options → ModelParts → Result Shapes ShapeFault → Type 0
-TellsMissing options parts result = (relation : ℕ) → IsErrOf result (shape.NoRelation relation) ↔ (absent_with options parts ≡ Some relation)
+abbrev pub TellsMissing : Option Options → ModelParts → Result Shapes ShapeFault → Type 0
+TellsMissing options parts result = (relation : ℕ) → IsErrOf result (shape.NoRelation relation) ↔ (absent_in options parts ≡ Some relation)
 
-pub shapes_stop : (options : Options) (parts : ModelParts) (result : Result Shapes ShapeFault) → TellsMissing options parts result → IfErr result (λ e. ShapesStop options parts (shape_stop_of e))
+pub shapes_stop : (options : Option Options) (parts : ModelParts) (result : Result Shapes ShapeFault) → TellsMissing options parts result → IfErr result (λ e. ShapesStop options parts (shape_stop_of e))
 shapes_stop options parts (Ok shapes) missing = tt
 shapes_stop options parts (Err (shape.NoRelation relation)) missing = (missing relation).0 refl
 shapes_stop options parts (Err shape.NoMemory) missing = tt
 
 -- shapes that were made name nothing that is absent
-pub none_absent : (options : Options) (parts : ModelParts) (result : Result Shapes ShapeFault) → TellsMissing options parts result → OnOk result (absent_with options parts ≡ None)
+pub none_absent : (options : Option Options) (parts : ModelParts) (result : Result Shapes ShapeFault) → TellsMissing options parts result → OnOk result (absent_in options parts ≡ None)
 none_absent options parts (Err e) missing = tt
-none_absent options parts (Ok shapes) missing = by (absent_with options parts) refl
+none_absent options parts (Ok shapes) missing = by (absent_in options parts) refl
   where
-    by : (absent : Option ℕ) → absent_with options parts ≡ absent → absent ≡ None
+    by : (absent : Option ℕ) → absent_in options parts ≡ absent → absent ≡ None
     by None e = refl
     by (Some relation) e = let wrong : IsErrOf (Ok shapes) (shape.NoRelation relation) = (missing relation).1 e in absurd cc
 
 -- shapes with these lists suit the model
-pub suits_with : (parts : ModelParts) (options : Options) (shapes : Shapes) → AreNamedOnce options.names → AreNamedOnce options.domains → absent_with options parts ≡ None → 0 < options.limit → options.limit ≤ 250 → shapes ≡ shapes_with options parts → Suits parts shapes
+pub suits_with : (parts : ModelParts) (options : Option Options) (shapes : Shapes) → AreNamedOnce (names_in options) → AreNamedOnce (domains_in options) → absent_in options parts ≡ None → 0 < limit_in options → limit_in options ≤ 250 → shapes ≡ shapes_with options parts → Suits parts shapes
 suits_with parts options shapes names domains none some most is = record {
-  names = options.names;
-  domains = options.domains;
-  limit = options.limit;
+  names = names_in options;
+  domains = domains_in options;
+  limit = limit_in options;
   names_once = names;
   domains_once = domains;
   present = none;

@@ -1,4 +1,3 @@
 pub mod Files
-pub mod Stops
-pub mod Opened
+pub mod Loads
 pub mod Helps

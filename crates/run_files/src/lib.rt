@@ -1,7 +1,6 @@
-//! The files of a run: a model and a policy of its shapes are fetched, read, and opened to answer by.
+//! The files of a run: a model and a policy of its shapes are fetched and read.
 #![tactic(auto)]
 
-mod opened;
-mod reading;
+mod files;
 
-pub use opened::{Opened, open_files};
+pub use files::load_files;

@@ -15,9 +15,9 @@ use Rattle.policy_desk.specs.Desks.{Work}
 use Rattle.policy_state.specs.States.{State, tables}
 use Rattle.policy_table.specs.Tables.{Policy}
 use Rattle.policy_table.specs.declared.change.Change.{Change}
-use Rattle.run_files.specs.Opened.{IsOpened}
-use Rattle.run_files.specs.Stops.{OpenStops, both_fetches}
-use Rattle.run_files.specs.declared.opened.Opened.{Opened}
+use Rattle.serve_run.specs.Helps.Opened.{IsOpened}
+use Rattle.run_files.specs.Loads.{LoadStops, both_fetches}
+use Rattle.serve_run.specs.declared.opened.Opened.{Opened}
 use Rattle.run_status.proofs.CallerLemmas.{is_never_done}
 use Rattle.run_status.specs.Messages.{line_of}
 use Rattle.run_status.specs.Statuses.{status_of}

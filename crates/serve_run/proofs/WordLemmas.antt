@@ -12,6 +12,7 @@ use Rattle.command_words.specs.Commands.{command_of}
 use Rattle.command_words.specs.Items.{is_dashes, texts}
 use Rattle.command_words.specs.declared.command.Command.{Command}
 use Rattle.command_words.specs.declared.command.Command.TheVariants as command
+use Rattle.run_files.specs.Files.{limit_in}
 use Rattle.serve_run.specs.Helps.Reading.{all_texts}
 use Rattle.serve_run.specs.Words.{has_workers, is_to_serve, is_workers, job_asked, job_of, session_of}
 use Rattle.serve_run.specs.declared.words.Job.{Job}
@@ -74,7 +75,7 @@ workers_none words n whole so past = sym (so ∙ ap (λ (l : List (String Global
 
 -- the limit of a job
 abbrev JobHas : Option Job → Type 0
-JobHas job = IfSome job (λ job. (0 < job.options.limit) × (job.options.limit ≤ 250))
+JobHas job = IfSome job (λ job. (0 < limit_in job.options) × (limit_in job.options ≤ 250))
 
 job_has : (asked : Command) → HasRanges asked → JobHas (job_of asked)
 job_has (command.Session files options json workers) has = (has.0, has.1)

@@ -9,7 +9,7 @@ use Rattle.outside.specs.Log.{Adds}
 use Rattle.perm_base.specs.declared.shapes.TableId.TheVariants.{P}
 use Rattle.policy_table.specs.Tables.{Policy, rows}
 use Rattle.run_files.specs.Files.{AreFiles, shapes_with}
-use Rattle.run_files.specs.Stops.{OpenStops, both_fetches}
+use Rattle.run_files.specs.Loads.{LoadStops, both_fetches}
 use Rattle.run_status.specs.Messages.{line_of}
 use Rattle.run_status.specs.Statuses.{status_of}
 use Rattle.run_status.specs.Told.{IsTold}
@@ -58,7 +58,7 @@ pub record HasServed (words : List (List ℕ)) (files : Option Files) (before no
 pub data StopsServing (words : List (List ℕ)) (files : Option Files) (before now : Moment) (stop : Stop) : Type 0 where
   at_words : job_asked words ≡ None → stop ≡ Words → now ≡ before → StopsServing words files before now stop
   before_files : stop ≡ NoMemory → now ≡ before → StopsServing words files before now stop
-  at_files : (job : Job) → job_asked words ≡ Some job → OpenStops files job.files job.options (Adds before.calls now.calls) (Rose before.shelf_faults now.shelf_faults) stop → AskedShelf before now → StopsServing words files before now stop
+  at_files : (job : Job) → job_asked words ≡ Some job → LoadStops files job.files job.options (Adds before.calls now.calls) (Rose before.shelf_faults now.shelf_faults) stop → AskedShelf before now → StopsServing words files before now stop
   behind_files : (job : Job) (model : ModelParts) (policy : Policy) → job_asked words ≡ Some job → IsOpen files job model policy before now → stop ≡ NoMemory → AskedShelf before now → StopsServing words files before now stop
   in_stream : (job : Job) (model : ModelParts) (policy : Policy) → job_asked words ≡ Some job → IsOpen files job model policy before now → IsAnnounced job policy before now → IsCutOff (service_on job model policy) before now stop → StopsServing words files before now stop
 

@@ -29,7 +29,7 @@ session_of (name ∷ words) = if not (bytes_eq name (codes "serve")) then None e
 
 -- what a session is done on
 abbrev pub job_of : Command → Option Job
-job_of (command.Session files options json workers) = Some (record { files = files; options = options; json = json })
+job_of (command.Session files options json workers) = Some (record { files = files; options = Some options; json = json })
 job_of _ = None
 
 -- what the words ask for

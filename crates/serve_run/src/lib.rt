@@ -1,6 +1,7 @@
 //! The run of a stream that is served, from words and files to answers.
 #![tactic(auto)]
 
+mod opened;
 mod serving;
 mod telling;
 mod words;

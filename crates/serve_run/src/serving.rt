@@ -3,19 +3,20 @@ ghost use Rattle.command_words.specs.Items.{texts};
 ghost use Rattle.decision.specs.Programs.{Suits};
 ghost use Rattle.outside.specs.Ends.{IsEndedOnce};
 ghost use Rattle.regex_gate.specs.Refusals.{IsUsed};
+ghost use Rattle.run_files.specs.Files.{limit_in};
 ghost use Rattle.run_status.specs.declared.status.Status.TheVariants as status;
 ghost use Rattle.version_log.specs.Log.{versions};
 ghost use Rattle.serve_run.specs.Moments.{moment};
 ghost use Rattle.serve_run.specs.Services.{EndsServing, HasServed, StopsServing};
 ghost use Rattle.serve_run.specs.Helps.Serving.{ServedJob, ServedOpened, StopsJob, StopsOpened};
 
+use crate::opened::{Opened, open_files};
 use crate::telling::tell_serving;
 use crate::words::{Job, read_job, session_words};
 use live_serve::serve_stream;
 use perm_base::{Shelf, Sink, Source};
 use policy_desk::open_desk;
 use regex_gate::Finder;
-use run_files::{Opened, open_files};
 use run_status::{Status, Stop, tell_stop};
 use std::alloc::Global;
 
@@ -108,7 +109,7 @@ fn serve_job<F: Shelf, S: Source, K: Sink, E: Sink, P: Finder>(
     err: &mut E,
     finder: &mut P,
 ) -> Result<(), Stop>
-    requires { (0 < job.now.options.limit) × (job.now.options.limit ≤ 250) }
+    requires { (0 < limit_in job.now.options) × (limit_in job.now.options ≤ 250) }
     ensures served { OnOk result (ServedJob (F.files shelf.old) job.now
         (moment (F.calls shelf.old) (F.faults shelf.old) (S.left input.old) (S.faults input.old)
         (K.taken out.old) (K.faults out.old) (E.taken err.old) (E.faults err.old) (P.refusals finder.old))

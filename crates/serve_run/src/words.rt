@@ -2,6 +2,7 @@ ghost use Rattle.std.specs.Prelude.{◌≡◌, ◌∷◌, ◌<◌, ◌≤◌, If
 ghost use Rattle.command_words.specs.Commands.{command_of};
 ghost use Rattle.command_words.specs.Items.{is_dashes, texts};
 ghost use Rattle.std.specs.Option.{option_and_then};
+ghost use Rattle.run_files.specs.Files.{limit_in};
 ghost use Rattle.serve_run.specs.Words.{has_workers, is_to_serve, is_workers, job_of, session_of};
 ghost use Rattle.serve_run.specs.Helps.Reading.{all_texts};
 
@@ -13,7 +14,7 @@ use std::alloc::Global;
 #[derive(Drop)]
 pub(crate) struct Job<'a> {
     pub files: Files<'a>,
-    pub options: Options,
+    pub options: Option<Options>,
     pub json: bool,
 }
 
@@ -100,7 +101,7 @@ fn is_workers(word: &str) -> bool
 pub(crate) fn read_job(session: &[String]) -> Option<Job<'_>>
     ensures asked { result ≡ option_and_then job_of (command_of (texts session.now)) }
     ensures limit { IfSome result (λ job.
-        (0 < job.options.limit) × (job.options.limit ≤ 250)) }
+        (0 < limit_in job.options) × (limit_in job.options ≤ 250)) }
 {
     job_of(read_words(session)?)
 }
@@ -117,7 +118,7 @@ fn job_of(command: Command<'_>) -> Option<Job<'_>>
             ..
         } => Some(Job {
             files,
-            options,
+            options: Some(options),
             json,
         }),
         Command::Enforce { .. }

@@ -13,8 +13,8 @@ use Rattle.run_status.specs.declared.part.Part.{Part}
 use Rattle.run_status.specs.declared.part.Part.TheVariants.{Model, Policy}
 use Rattle.run_status.specs.declared.stop.Stop.{Stop}
 use Rattle.run_status.specs.declared.stop.Stop.TheVariants.{NoModel, NoRelation, NoPolicy, CannotRead, TooLong, NoMemory}
-use Rattle.run_files.specs.Files.{FileIs, absent_with}
-use Rattle.run_files.specs.Stops.{Lost}
+use Rattle.run_files.specs.Files.{FileIs, absent_in}
+use Rattle.run_files.specs.Loads.{Lost}
 
 -- the stop that comes of a file that was not fetched
 abbrev pub fetch_stop : Part → Fetch → Stop
@@ -39,8 +39,8 @@ ModelStops files name told rose NoMemory = told false
 ModelStops files name told rose _ = ⊥
 
 -- the options do not fit the model
-abbrev pub ShapesStop : Options → ModelParts → Stop → Type 0
-ShapesStop options model (NoRelation relation) = absent_with options model ≡ Some relation
+abbrev pub ShapesStop : Option Options → ModelParts → Stop → Type 0
+ShapesStop options model (NoRelation relation) = absent_in options model ≡ Some relation
 ShapesStop options model NoMemory = ⊤
 ShapesStop options model _ = ⊥
 

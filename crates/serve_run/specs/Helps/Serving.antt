@@ -7,8 +7,8 @@ use Rattle.outside.specs.Files.{Files}
 use Rattle.outside.specs.Log.{Adds}
 use Rattle.policy_state.specs.States.{tables}
 use Rattle.policy_table.specs.Tables.{Policy}
-use Rattle.run_files.specs.Stops.{OpenStops}
-use Rattle.run_files.specs.declared.opened.Opened.{Opened}
+use Rattle.run_files.specs.Loads.{LoadStops}
+use Rattle.serve_run.specs.declared.opened.Opened.{Opened}
 use Rattle.run_status.specs.Told.{IsTold}
 use Rattle.run_status.specs.declared.stop.Stop.{Stop}
 use Rattle.run_status.specs.declared.stop.Stop.TheVariants.{NoMemory}
@@ -43,6 +43,6 @@ pub record ServedJob (files : Option Files) (job : Job) (before now : Moment) : 
 
 -- why it was not
 pub data StopsJob (files : Option Files) (job : Job) (before now : Moment) (stop : Stop) : Type 0 where
-  at_files : OpenStops files job.files job.options (Adds before.calls now.calls) (Rose before.shelf_faults now.shelf_faults) stop → AskedShelf before now → StopsJob files job before now stop
+  at_files : LoadStops files job.files job.options (Adds before.calls now.calls) (Rose before.shelf_faults now.shelf_faults) stop → AskedShelf before now → StopsJob files job before now stop
   behind_files : (model : ModelParts) (policy : Policy) → IsOpen files job model policy before now → stop ≡ NoMemory → AskedShelf before now → StopsJob files job before now stop
   in_stream : (model : ModelParts) (policy : Policy) → IsOpen files job model policy before now → IsAnnounced job policy before now → IsCutOff (service_on job model policy) before now stop → StopsJob files job before now stop

@@ -1,7 +1,6 @@
 use Rattle.std.proofs.Common.{◌≡◌, ◌<◌, Bool, true, false, List, ℕ, ap, arith, length, subst, sym, ◌∙◌}
 use Rattle.std.specs.Prelude.{map, slice_set}
 use Rattle.std.proofs.lemmas.Result.{IfErr-weaker, on_ok_weaker}
-
 use Rattle.casbin_run.specs.Finders.{AreUsed, Logs}
 use Rattle.casbin_run.specs.Helps.Tasks.{ground}
 use Rattle.casbin_run.specs.Jobs.{has_workers, reads_input}

@@ -6,7 +6,7 @@ use Rattle.outside.specs.Log.{Adds, call}
 use Rattle.run_status.specs.Parts.{limit_of}
 use Rattle.run_status.specs.declared.part.Part.TheVariants as part
 use Rattle.run_files.proofs.ReadingLemmas.{model_stops}
-use Rattle.run_files.proofs.reading.read_model_file.Goals as goal
+use Rattle.run_files.proofs.files.read_model_file.Goals as goal
 
 pub returns-in_err-read_model-clause-stopped : goal.returns-in_err-read_model-clause-stopped
 returns-in_err-read_model-clause-stopped g c =

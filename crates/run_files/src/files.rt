@@ -9,13 +9,12 @@ ghost use Rattle.policy_csv.specs.Policy.{IsPolicy};
 ghost use Rattle.policy_table.specs.Limits.{AreSound};
 ghost use Rattle.run_status.specs.Parts.{limit_of};
 ghost use Rattle.run_status.specs.declared.part.Part.TheVariants as parts;
-ghost use Rattle.casbin_run.specs.Given.{FileIs};
-ghost use Rattle.casbin_run.specs.Jobs.{absent_in, limit_in, shapes_with};
-ghost use Rattle.casbin_run.specs.Helps.Loading.{FetchStops, fetch_stop, IsLoaded, LoadStops, ModelStops, PolicyStops, ShapesStop};
 ghost use Rattle.loaded_work.specs.Helps.Working.{IsReady};
+ghost use Rattle.run_files.specs.Files.{FileIs, absent_in, limit_in, shapes_with};
+ghost use Rattle.run_files.specs.Loads.{IsLoaded, LoadStops, both_fetches};
+ghost use Rattle.run_files.specs.Helps.Reading.{FetchStops, ModelStops, PolicyStops, ShapesStop, fetch_stop};
 
-use crate::job::Job;
-use command_words::Options;
+use command_words::{Files, Options};
 use loaded_work::Loaded;
 use model_conf::{Model, read_model, shapes_of};
 use perm_base::{Fetch, Shapes, Shelf};
@@ -27,22 +26,28 @@ use std::alloc::Global;
 // By how many links a name has a role at most, unless it is told.
 const MOST_LINKS: u8 = 10;
 
-/// Fetches and reads the model, tries the options against it, and then fetches and reads the policy.
-pub(crate) fn load<F: Shelf>(alloc: Global, shelf: &mut F, job: &Job<'_>) -> Result<Loaded, Stop>
-    requires { (0 < limit_in job.now.options) × (limit_in job.now.options ≤ 250) }
-    ensures loaded { IfOk result (IsLoaded (F.files shelf.old) job.now) }
+/// Fetches and reads the model, tries the options against it, and then fetches and reads the policy. Exactly where another cause is
+/// said to come, want of memory may come instead.
+pub fn load_files<F: Shelf>(
+    alloc: Global,
+    shelf: &mut F,
+    files: &Files<'_>,
+    options: &Option<Options>,
+) -> Result<Loaded, Stop>
+    requires { (0 < limit_in options.now) × (limit_in options.now ≤ 250) }
+    ensures loaded { IfOk result (IsLoaded (F.files shelf.old) files.now options.now) }
     ensures ready { IfOk result (λ loaded. IsReady loaded) }
     ensures fetched { OnOk result (Adds (F.calls shelf.old) (F.calls shelf.new)
-        (call job.now.files.model false ∷ call job.now.files.policy false ∷ [])) }
-    ensures stopped { IfErr result (LoadStops (F.files shelf.old) job.now
+        (both_fetches files.now false)) }
+    ensures stopped { IfErr result (LoadStops (F.files shelf.old) files.now options.now
         (Adds (F.calls shelf.old) (F.calls shelf.new))
         (Rose (F.faults shelf.old) (F.faults shelf.new))) }
     ensures same_files { F.files shelf.new ≡ F.files shelf.old }
     ensures counted { F.faults shelf.old ≤ F.faults shelf.new }
 {
-    let model = read_model_file(alloc, shelf, job.files.model)?;
-    let shapes = policy_shapes(alloc, &model, &job.options)?;
-    let tables = read_policy_file(alloc, shelf, job.files.policy, &shapes)?;
+    let model = read_model_file(alloc, shelf, files.model)?;
+    let shapes = policy_shapes(alloc, &model, options)?;
+    let tables = read_policy_file(alloc, shelf, files.policy, &shapes)?;
     Ok(Loaded {
         model,
         shapes,

@@ -1,7 +1,7 @@
 use Rattle.std.proofs.Common.{None, Some, Ok, Err, arith}
 use Rattle.std.proofs.lemmas.Result.{err_from_is_err_and}
-use Rattle.casbin_run.proofs.ReadingLemmas.{none_absent, shapes_stop, suits_with}
-use Rattle.casbin_run.proofs.files.policy_shapes.Goals as goal
+use Rattle.run_files.proofs.ReadingLemmas.{none_absent, shapes_stop, suits_with}
+use Rattle.run_files.proofs.files.policy_shapes.Goals as goal
 
 pub returns-in_err-shapes_of-clause-stopped : goal.returns-in_err-shapes_of-clause-stopped
 returns-in_err-shapes_of-clause-stopped c =
