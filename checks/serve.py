@@ -26,6 +26,15 @@ def held(client):
     raise RuntimeError("no VmRSS")
 
 
+def runs(process):
+    """Whether a process runs; one that has ended may still wait for whoever asks its status."""
+    try:
+        with open(f"/proc/{process}/stat") as stat:
+            return stat.read().rsplit(") ", 1)[1][0] != "Z"
+    except FileNotFoundError:
+        return False
+
+
 def check(what, got, wanted):
     if got != wanted:
         sys.exit(f"{what}: {got!r}, and not {wanted!r}")
@@ -127,7 +136,7 @@ def killed_client():
     os.kill(child, signal.SIGKILL)
     os.waitpid(child, 0)
     for _ in range(50):
-        if not os.path.exists(f"/proc/{server}"):
+        if not runs(server):
             print("a client that is killed: the program ended")
             return
         time.sleep(0.1)
