@@ -1,11 +1,11 @@
 -- A part of a script whose lines have other numbers says the same item.
 use Rattle.std.proofs.Common.{◌≡◌, ℕ, Bool, true, false, List, [], ◌∷◌, ◌++◌, map, Some, None, Result, Ok, Err, refl, sym, ap, subst, ◌∙◌, append_assoc, append-nil}
-use Rattle.std.specs.Prelude.{Option, ok_or}
+use Rattle.std.specs.Prelude.{Option, if◌then◌else◌, ok_or}
 use Rattle.std.specs.List.{AllByRecursion}
 use Rattle.edit_calls.specs.declared.call.Call.{Call}
 use Rattle.perm_base.specs.declared.shapes.TableId.{TableId}
 use Rattle.policy_table.specs.Tables.{Fields}
-use Rattle.script_read.specs.Blocks.{Part, at_line, block, block_call, block_of, call_of, ended_block, inner_rule, part_item, parts_inside, rule_before, rules_of, single, table_of_block}
+use Rattle.script_read.specs.Blocks.{Part, at_line, block, block_call, block_of, call_of, ended_block, inner_rule, part_item, parts, parts_inside, rule_before, rules_of, single, table_of_block}
 use Rattle.script_read.specs.Items.{FieldReader, RequestReader, line_item}
 use Rattle.script_read.specs.Lines.{ends_block}
 use Rattle.script_read.specs.Results.{followed, mapped}
@@ -48,6 +48,7 @@ rules_same fields table [] [] found same e = e
 rules_same fields table [] (o ∷ others) found same e = absurd cc
 rules_same fields table (l ∷ lines) [] found same e = absurd cc
 rules_same fields table (l ∷ lines) (o ∷ others) found same e =
+    let conses : l.text ∷ texts_of lines ≡ o.text ∷ texts_of others = same in
     let text : l.text ≡ o.text = cc in
     let texts : texts_of lines ≡ texts_of others = cc in
     rules_by fields (given_number o.number) (given_number o.number) (inner_rule fields table o.text) (λ (t : TableId). rules_of fields (Some t) lines) (λ (t : TableId). rules_of fields (Some t) others) found (λ t x. rules_same fields (Some t) lines others x texts)
@@ -100,6 +101,8 @@ abbrev pub AllByEnds : List Line → Type 0
 AllByEnds lines = AllByRecursion (λ (l : Line). ends_block l.text ≡ false) lines
 
 pub block_parts : (begin end : Line) (inside lines : List Line) → AllByEnds lines → ends_block end.text ≡ true → parts_inside begin inside (lines ++ end ∷ []) ≡ block begin (inside ++ lines) (Some end.number) ∷ []
-block_parts begin end inside [] none ends = rw ends (ap (λ (l : List Line). block begin l (Some end.number) ∷ []) (sym (append-nil inside)))
+block_parts begin end inside [] none ends =
+    ap (λ (b : Bool). if b then block begin inside (Some end.number) ∷ [] else parts_inside begin (inside ++ end ∷ []) []) ends ∙ ap (λ (l : List Line). block begin l (Some end.number) ∷ []) (sym (append-nil inside))
 block_parts begin end inside (l ∷ lines) none ends =
-    rw none.0 (block_parts begin end (inside ++ l ∷ []) lines none.1 ends ∙ ap (λ (k : List Line). block begin k (Some end.number) ∷ []) (append_assoc inside (l ∷ []) lines))
+    ap (λ (b : Bool). if b then block begin inside (Some l.number) ∷ parts (lines ++ end ∷ []) else parts_inside begin (inside ++ l ∷ []) (lines ++ end ∷ [])) none.0
+    ∙ block_parts begin end (inside ++ l ∷ []) lines none.1 ends ∙ ap (λ (k : List Line). block begin k (Some end.number) ∷ []) (append_assoc inside (l ∷ []) lines)

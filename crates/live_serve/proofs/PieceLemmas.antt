@@ -9,7 +9,7 @@ use Rattle.live_serve.specs.Sayings.{AllSay, Saying}
 use Rattle.live_serve.specs.Serving.{Halts, OfSection, Pushed, SectionStops, Standing, StandsSomewhere}
 use Rattle.live_serve.specs.Streams.{LeavesPiece, TakesPiece}
 use Rattle.live_serve.proofs.SayLemmas.{say_one, say_then}
-use Rattle.live_serve.proofs.ServeLemmas.{halts_all, halts_none, halts_since, halts_then, pushed_none, pushed_somewhere, pushed_then, pushed_used}
+use Rattle.live_serve.proofs.ServeLemmas.{halts_since, halts_then, pushed_none, pushed_somewhere, pushed_then, pushed_used, took_all, took_none}
 use Rattle.model_conf.specs.ModelText.{ModelParts}
 use Rattle.outside.proofs.CallerLemmas.{rose_later}
 use Rattle.outside.specs.Faults.{Rose}
@@ -52,7 +52,7 @@ module _ (json : Bool) (model : ModelParts) (before : Refusals) (old : Standing)
       rest = drop at piece;
       goes = subst (λ (s : List Section). GoesTo stage piece s stage_mid (drop at piece)) (sym (append-nil so.takes.sections)) so.takes.goes;
       say = so.takes.say;
-      halts = halts_all model before between old mid out out_mid out_rose so.takes.sayings so.takes.pushed;
+      halts = took_all model before between old mid out out_mid so.takes.sayings so.takes.pushed;
     }
 
     pub amid_used : IsUsed before between
@@ -121,7 +121,7 @@ module _ (json : Bool) (model : ModelParts) (old new : Standing) (ended : Option
 module _ (json : Bool) (model : ModelParts) (old : Standing) (ended : Option Section) (out out_now : Option (List ℕ)) (out_rose : Type 0) where
   -- before it is looked at
   pub ended_stops : out_now ≡ out → LeavesEnded json model old ended out out_now out_rose NoMemory
-  ended_stops same = record { sections = []; others = listed ended []; parts = refl; sayings = []; say = refl; halts = halts_none model old out out_now out_rose [] same }
+  ended_stops same = record { sections = []; others = listed ended []; parts = refl; sayings = []; say = refl; halts = took_none model old out out_now [] same }
 
   pub ended_halts : (it : Section) → ended ≡ Some it → (stop : Stop) → SectionStops json model old it out out_now out_rose stop → LeavesEnded json model old ended out out_now out_rose stop
   ended_halts it some stop (inl (sayings, says, halts)) =

@@ -106,7 +106,8 @@ module _ (json : Bool) (reader : Reader json) where
   -- a line by itself
   line_says : (n : ℕ) (raw : List ℕ) (it : Said) → IsGood raw → is_passed (without_cr raw) ≡ false → begins_block (without_cr raw) ≡ false → part_item reader.fields reader.request (single (line n (without_cr raw))) ≡ Ok it → Says json (Some (raw ++ 10 ∷ [])) (item it ∷ [])
   line_says n raw it good full plain says =
-      let alone : parts (lined 1 (raw ∷ [])) ≡ single (line 1 (without_cr raw)) ∷ [] = rw (full, plain) refl in
+      let alone : parts (lined 1 (raw ∷ [])) ≡ single (line 1 (without_cr raw)) ∷ []
+      = ap (λ (p : Bool). parts (if not p then line 1 (without_cr raw) ∷ [] else [])) full ∙ ap (λ (b : Bool). if b then parts_inside (line 1 (without_cr raw)) [] [] else single (line 1 (without_cr raw)) ∷ []) plain in
       subst (λ (t : List ℕ). Says json (Some t) (item it ∷ [])) (append-nil (raw ++ 10 ∷ []))
       (says_it (with_ends (raw ∷ [])) it (one_script (raw ∷ []) (single (line 1 (without_cr raw))) it (good, tt) alone (single_same reader.fields reader.request n 1 (without_cr raw) it says)))
 
@@ -125,10 +126,10 @@ module _ (json : Bool) (reader : Reader json) where
   -- all full lines and the last
   lined_all : (n : ℕ) (lines : List (List ℕ)) (last : List ℕ) → AllByRecursion (λ (raw : List ℕ). is_passed (without_cr raw) ≡ false) lines → is_passed (without_cr last) ≡ false
       → (m : ℕ) × (lined n (lines ++ last ∷ []) ≡ numbered n (map without_cr lines) ++ line m (without_cr last) ∷ [])
-  lined_all n [] last full is = (n, rw is refl)
+  lined_all n [] last full is = (n, ap (λ (p : Bool). if not p then line n (without_cr last) ∷ [] else []) is)
   lined_all n (raw ∷ lines) last full is =
       let rest = lined_all (n + 1) lines last full.1 is in
-      (rest.0, rw full.0 (ap (λ (l : List Line). line n (without_cr raw) ∷ l) rest.1))
+      (rest.0, ap (λ (p : Bool). if not p then line n (without_cr raw) ∷ lined (n + 1) (lines ++ last ∷ []) else lined (n + 1) (lines ++ last ∷ [])) full.0 ∙ ap (λ (l : List Line). line n (without_cr raw) ∷ l) rest.1)
 
   none_end : (n : ℕ) (lines : List (List ℕ)) → AllByRecursion (λ (raw : List ℕ). ends_block (without_cr raw) ≡ false) lines → AllByEnds (numbered n (map without_cr lines))
   none_end n [] on = tt
@@ -152,7 +153,9 @@ module _ (json : Bool) (reader : Reader json) where
       let rest = lined_all 2 lines last inner.full full in
       let end : Line = line rest.0 (without_cr last) in
       let whole : parts (lined 1 (first ∷ (lines ++ last ∷ []))) ≡ block (line 1 (without_cr first)) (numbered 2 (map without_cr lines)) (Some rest.0) ∷ []
-      = rw (inner.first_full, inner.begins, rest.1) (block_parts (line 1 (without_cr first)) end [] (numbered 2 (map without_cr lines)) (none_end 2 lines inner.on) ends) in
+      = ap (λ (p : Bool). parts (if not p then line 1 (without_cr first) ∷ lined 2 (lines ++ last ∷ []) else lined 2 (lines ++ last ∷ []))) inner.first_full
+      ∙ ap (λ (b : Bool). if b then parts_inside (line 1 (without_cr first)) [] (lined 2 (lines ++ last ∷ [])) else single (line 1 (without_cr first)) ∷ parts (lined 2 (lines ++ last ∷ []))) inner.begins
+      ∙ ap (λ (l : List Line). parts_inside (line 1 (without_cr first)) [] l) rest.1 ∙ block_parts (line 1 (without_cr first)) end [] (numbered 2 (map without_cr lines)) (none_end 2 lines inner.on) ends in
       let same : texts_of inside ≡ texts_of (numbered 2 (map without_cr lines)) = inner.texts_are ∙ sym (texts_again 2 lines) in
       subst (λ (t : List ℕ). Says json (Some t) (item it ∷ [])) (ends_more (first ∷ lines) last)
       (says_it (with_ends (first ∷ (lines ++ last ∷ []))) it (one_script (first ∷ (lines ++ last ∷ [])) (block (line 1 (without_cr first)) (numbered 2 (map without_cr lines)) (Some rest.0)) it (good_more (first ∷ lines) last inner.good good) whole
@@ -196,14 +199,15 @@ module _ (json : Bool) (reader : Reader json) where
       inner = record { good = (good, tt); first_is = refl; first_full = is-passed; begins = is-begin; full = tt; on = tt; texts_are = refl }
 
       says_inside : SayItems reader (parts_inside (line n (without_cr raw)) [] (lined (n + 1) raws)) items
-      says_inside = rw is-begin at says
+      says_inside = subst (λ (b : Bool). SayItems reader (if b then parts_inside (line n (without_cr raw)) [] (lined (n + 1) raws) else single (line n (without_cr raw)) ∷ parts (lined (n + 1) raws)) items) is-begin says
 
       begun : (held : Held) → Adds 0 [] raw held → AllShort (sections_on held raws) → AllSay json (sections_on held raws) (said items)
       begun held (long is) short = absurd (long_is_told raws (subst (λ (h : Held). AllShort (sections_on h raws)) is short))
       begun held (more is) short =
           subst (λ (h : Held). AllSay json (sections_on h raws) (said items)) (sym is)
           (inside (n + 1) (line n (without_cr raw)) [] raw [] 1 (raw ++ 10 ∷ []) items inner (sym (append-nil (raw ++ 10 ∷ []))) says_inside (subst (λ (h : Held). AllShort (sections_on h raws)) is short))
-  outside_by raw raws good out inside n items false false is-passed is-begin says short = alone items (rw is-begin at says) (joined 0 [] raw) (adds 0 [] raw) short
+  outside_by raw raws good out inside n items false false is-passed is-begin says short =
+      alone items (subst (λ (b : Bool). SayItems reader (if b then parts_inside (line n (without_cr raw)) [] (lined (n + 1) raws) else single (line n (without_cr raw)) ∷ parts (lined (n + 1) raws)) items) is-begin says) (joined 0 [] raw) (adds 0 [] raw) short
     where
       alone : (items : List Said) → SayItems reader (single (line n (without_cr raw)) ∷ parts (lined (n + 1) raws)) items → (held : Held) → Adds 0 [] raw held → AllShort (listed (section_of held) (sections_on nothing raws)) → AllSay json (listed (section_of held) (sections_on nothing raws)) (said items)
       alone [] says held add short = absurd says
@@ -223,7 +227,7 @@ module _ (json : Bool) (reader : Reader json) where
   inside_by raw raws good out inside n begin inner first lines count text items false false is-passed is-end is text-is says short = on (joined count text raw) (adds count text raw) short
     where
       says_on : SayItems reader (parts_inside begin (inner ++ line n (without_cr raw) ∷ []) (lined (n + 1) raws)) items
-      says_on = rw is-end at says
+      says_on = subst (λ (b : Bool). SayItems reader (if b then block begin inner (Some n) ∷ parts (lined (n + 1) raws) else parts_inside begin (inner ++ line n (without_cr raw) ∷ []) (lined (n + 1) raws)) items) is-end says
 
       longer : text ++ (raw ++ 10 ∷ []) ≡ with_ends (first ∷ (lines ++ raw ∷ []))
       longer = ap (λ (t : List ℕ). t ++ (raw ++ 10 ∷ [])) text-is ∙ sym (ends_more (first ∷ lines) raw)
@@ -233,7 +237,8 @@ module _ (json : Bool) (reader : Reader json) where
       on held (more it) short =
           subst (λ (h : Held). AllSay json (sections_on h raws) (said items)) (sym it)
           (inside (n + 1) begin (inner ++ line n (without_cr raw) ∷ []) first (lines ++ raw ∷ []) (count + 1) (text ++ (raw ++ 10 ∷ [])) items (inner_more begin inner first lines n raw is good is-passed is-end) longer says_on (subst (λ (h : Held). AllShort (sections_on h raws)) it short))
-  inside_by raw raws good out inside n begin inner first lines count text items false true is-passed is-end is text-is says short = closed items (rw is-end at says) (joined count text raw) (adds count text raw) short
+  inside_by raw raws good out inside n begin inner first lines count text items false true is-passed is-end is text-is says short =
+      closed items (subst (λ (b : Bool). SayItems reader (if b then block begin inner (Some n) ∷ parts (lined (n + 1) raws) else parts_inside begin (inner ++ line n (without_cr raw) ∷ []) (lined (n + 1) raws)) items) is-end says) (joined count text raw) (adds count text raw) short
     where
       closed : (items : List Said) → SayItems reader (block begin inner (Some n) ∷ parts (lined (n + 1) raws)) items → (held : Held) → Adds count text raw held → AllShort (listed (section_of held) (sections_on nothing raws)) → AllSay json (listed (section_of held) (sections_on nothing raws)) (said items)
       closed [] says held add short = absurd says

@@ -121,12 +121,12 @@ first_more model old sayings more texts some = record {
 }
 
 -- nothing was pushed
-pub halts_none : (model : ModelParts) (old : Standing) (out out_now : Option (List ℕ)) (out_rose : Type 0) (sayings : List Saying) → out_now ≡ out → Halts model old out out_now out_rose NoMemory sayings
-halts_none model old out out_now out_rose sayings same = record { texts = []; first = first_none model old sayings; took = same ∙ with_back-nothing out }
+pub took_none : (model : ModelParts) (old : Standing) (out out_now : Option (List ℕ)) (sayings : List Saying) → out_now ≡ out → TookFirst model old out out_now sayings
+took_none model old out out_now sayings same = record { texts = []; first = first_none model old sayings; took = same ∙ with_back-nothing out }
 
 -- all was
-pub halts_all : (model : ModelParts) (before now : Refusals) (old new : Standing) (out out_now : Option (List ℕ)) (out_rose : Type 0) (sayings : List Saying) → Pushed model before now old new out out_now sayings → Halts model old out out_now out_rose NoMemory sayings
-halts_all model before now old new out out_now out_rose sayings is = record { texts = is.texts; first = first_all model before now old new sayings is.texts is.serves; took = is.took }
+pub took_all : (model : ModelParts) (before now : Refusals) (old new : Standing) (out out_now : Option (List ℕ)) (sayings : List Saying) → Pushed model before now old new out out_now sayings → TookFirst model old out out_now sayings
+took_all model before now old new out out_now sayings is = record { texts = is.texts; first = first_all model before now old new sayings is.texts is.serves; took = is.took }
 
 pub halts_then : (model : ModelParts) (before between : Refusals) (old mid : Standing) (out out_mid out_now : Option (List ℕ)) (out_rose : Type 0) (stop : Stop) (sayings more : List Saying) → Pushed model before between old mid out out_mid sayings → Halts model mid out_mid out_now out_rose stop more
     → Halts model old out out_now out_rose stop (sayings ++ more)
@@ -220,7 +220,7 @@ module _ (model : ModelParts) (old : Standing) (saying : Saying) (text : List �
     },
     rose,
   )
-  told_halts out out_now out_rose NoMemory same = halts_none model old out out_now out_rose (saying ∷ []) same
+  told_halts out out_now out_rose NoMemory same = took_none model old out out_now (saying ∷ []) same
   told_halts out out_now out_rose _ stops = absurd stops
 
 module _ (model : ModelParts) (refusals : Refusals) (old new : Standing) (out out_now : Option (List ℕ)) where
@@ -256,11 +256,12 @@ module _ (model : ModelParts) (before : Refusals) (old : Standing) (out : Option
       counted = omega (arith, so.counted, counted);
     }
 
-    pub done_halts : (out_rose : Type 0) (stop : Stop) → Halts model mid out_mid out_now out_rose stop (item (seen it) ∷ []) → Halts model old out out_now out_rose stop (said (map seen items))
-    done_halts out_rose stop halts =
-        subst (Halts model old out out_now out_rose stop) (said_parts items (n + 1))
+    pub done_halts : (script : List Item) → items ≡ script → (out_rose : Type 0) (stop : Stop) → Halts model mid out_mid out_now out_rose stop (item (seen it) ∷ []) → Halts model old out out_now out_rose stop (said (map seen script))
+    done_halts script same out_rose stop halts =
+        subst (λ (l : List Item). Halts model old out out_now out_rose stop (said (map seen l))) same
+        (subst (λ (sayings : List Saying). Halts model old out out_now out_rose stop sayings) (said_parts items (n + 1))
         (halts_more model old out out_now out_rose stop (said (map seen (take (n + 1) items))) (said (map seen (drop (n + 1) items)))
-        (subst (Halts model old out out_now out_rose stop) (sym (said_more items n it within is)) (halts_then model before between old mid out out_mid out_now out_rose stop (said (map seen (take n items))) (item (seen it) ∷ []) so.pushed halts)))
+        (subst (λ (sayings : List Saying). Halts model old out out_now out_rose stop sayings) (sym (said_more items n it within is)) (halts_then model before between old mid out out_mid out_now out_rose stop (said (map seen (take n items))) (item (seen it) ∷ []) so.pushed halts))))
 
   pub done_all : (script : List Item) → items ≡ script → (n : ℕ) → length items ≤ n → (now : Refusals) (new : Standing) (out_now : Option (List ℕ)) (b : ℕ) → AreDone model before now old new out out_now items n a b → Pushed model before now old new out out_now (said (map seen script))
   done_all script same n past now new out_now b so = subst (λ (l : List Item). Pushed model before now old new out out_now (said (map seen l))) (taken ∙ same) so.pushed

@@ -1,6 +1,6 @@
 -- A whole stream: pieces one after the other, and what is left.
-use Rattle.std.proofs.Common.{◌≡◌, ℕ, ◌+◌, ◌<◌, ◌≤◌, ◌&&◌, Bool, eqb, not, List, [], ◌∷◌, ◌++◌, length, take, refl, sym, ap, subst, ◌∙◌, append-nil, append_assoc, arith}
-use Rattle.std.specs.Prelude.{IfSome, Option, Some, None, Ok, Err}
+use Rattle.std.proofs.Common.{◌≡◌, ℕ, ◌+◌, ◌<◌, ◌≤◌, ◌&&◌, Bool, eqb, List, [], ◌∷◌, ◌++◌, length, take, refl, sym, ap, subst, ◌∙◌, append-nil, append_assoc, arith}
+use Rattle.std.specs.Prelude.{IfSome, Option}
 use Rattle.std.proofs.lemmas.Bool.{ne_eqb}
 use Rattle.std.proofs.lemmas.List.{length-append}
 use Rattle.item_stream.proofs.CallerLemmas.{goes_all, goes_first, goes_further, goes_nowhere, goes_whole}
@@ -14,10 +14,9 @@ use Rattle.live_serve.proofs.SayLemmas.{say_then}
 use Rattle.live_serve.proofs.ServeLemmas.{halts_since, halts_then, pushed_none, pushed_somewhere, pushed_then, pushed_used}
 use Rattle.model_conf.specs.ModelText.{ModelParts}
 use Rattle.outside.proofs.CallerLemmas.{ended_once, ends_kept, rose_later, with_front-append, with_front-nothing}
-use Rattle.outside.specs.Ends.{IsEndedOnce, ends_after, is_end}
+use Rattle.outside.specs.Ends.{IsEndedOnce, ends_after}
 use Rattle.outside.specs.Faults.{Rose}
 use Rattle.outside.specs.Told.{with_front}
-use Rattle.outside.specs.declared.fault.Failed.{Failed}
 use Rattle.policy_desk.specs.Desks.{Work}
 use Rattle.policy_state.specs.States.{tables}
 use Rattle.regex_gate.proofs.CallerLemmas.{used_then}
@@ -175,9 +174,9 @@ module _ (json : Bool) (model : ModelParts) (before : Refusals) (desk : Work) (b
 -- ---- one pull
 
 -- an answer that something came, or that the source failed, is none that it is at its end
-pub some_came : (ends ends_now : Option ℕ) (had : List ℕ) (count : ℕ) → ends_now ≡ ends_after ends (is_end had (Ok count)) → 0 < count → ends_now ≡ ends
-some_came ends ends_now had count told some =
-    told ∙ ap (λ (test : Bool). ends_after ends (test && not (eqb (length had) 0))) (ne_eqb count 0 (λ e. absurd (omega (arith, e, some)))) ∙ ends_kept ends
+pub some_came : (ends ends_now : Option ℕ) (count : ℕ) (said : Bool) → ends_now ≡ ends_after ends (eqb count 0 && said) → 0 < count → ends_now ≡ ends
+some_came ends ends_now count said told some =
+    told ∙ ap (λ (test : Bool). ends_after ends (test && said)) (ne_eqb count 0 (λ e. absurd (omega (arith, e, some)))) ∙ ends_kept ends
 
 pub ended_or_not : (ends mid now : Option ℕ) (said : Bool) → mid ≡ ends → now ≡ ends_after mid said → IsEndedOnce ends now
 ended_or_not ends mid now said same told = subst (λ (e : Option ℕ). IsEndedOnce e now) same (ended_once mid now said told)

@@ -60,24 +60,24 @@ impl Clerk {
         alloc: Global,
         program: &Program,
         json: bool,
-        section: &Section,
+        section: Section,
         out: &mut K,
         finder: &mut P,
     ) -> Result<(), Stop>
         requires suits { Suits program.now (standing self.old).desk.state.shapes }
         requires stands { StandsSomewhere (standing self.old).desk }
-        ensures served { OnOk result (OfSection json (cut.seen section.now)
+        ensures served { OnOk result (OfSection json (cut.seen section)
             (Pushed program.now (P.refusals finder.old) (P.refusals finder.new)
             (standing self.old) (standing self.new) (K.taken out.old) (K.taken out.new))) }
         ensures stopped { IfErr result (SectionStops json program.now (standing self.old)
-            (cut.seen section.now) (K.taken out.old) (K.taken out.new)
+            (cut.seen section) (K.taken out.old) (K.taken out.new)
             (Rose (K.faults out.old) (K.faults out.new))) }
         ensures counted { K.faults out.old ≤ K.faults out.new }
         ensures used { IsUsed (P.refusals finder.old) (P.refusals finder.new) }
     {
         match section {
             Section::TooLong => self.refuse("too long", out),
-            Section::Lines(lines) => self.serve_lines(alloc, program, json, lines, out, finder),
+            Section::Lines(lines) => self.serve_lines(alloc, program, json, &lines, out, finder),
         }
     }
 
@@ -104,7 +104,7 @@ impl Clerk {
     {
         match section {
             None => Ok(()),
-            Some(section) => self.serve_section(alloc, program, json, &section, out, finder),
+            Some(section) => self.serve_section(alloc, program, json, section, out, finder),
         }
     }
 
@@ -129,7 +129,8 @@ impl Clerk {
         ensures counted { K.faults out.old ≤ K.faults out.new }
         ensures used { IsUsed (P.refusals finder.old) (P.refusals finder.new) }
     {
-        match script_of(alloc, lines, json)? {
+        let read = script_of(alloc, lines, json)?;
+        match read {
             Ok(script) => self.serve_items(alloc, program, &script, out, finder),
             Err(fault) => self.refuse(cause_text(fault), out),
         }

@@ -1,4 +1,4 @@
-ghost use Rattle.std.specs.Prelude.{◌≡◌, ◌≤◌, [], IfErr, OnOk, drop, length};
+ghost use Rattle.std.specs.Prelude.{◌≡◌, ◌≤◌, ◌+◌, [], IfErr, OnOk, drop, length};
 ghost use Rattle.decision.specs.Programs.{Suits};
 ghost use Rattle.outside.specs.Faults.{Rose};
 ghost use Rattle.regex_gate.specs.Refusals.{IsUsed};
@@ -48,7 +48,8 @@ pub fn serve_piece<K: Sink, P: Finder>(
 // The bytes from a place on.
 fn rest_of(piece: &[u8], at: usize) -> &[u8]
     requires { at ≤ length piece.now }
-    ensures { result.now ≡ drop at piece.now }
+    ensures rest { result.now ≡ drop at piece.now }
+    ensures long { length result.now + at ≡ length piece.now }
 {
     &piece[at..]
 }

@@ -17,13 +17,18 @@ use Rattle.serve_run.specs.Helps.Reading.{all_texts}
 use Rattle.serve_run.specs.Words.{has_workers, is_to_serve, is_workers, job_asked, job_of, session_of}
 use Rattle.serve_run.specs.declared.words.Job.{Job}
 
+-- a word that was pushed
+pub texts_pushed : (made now : List (String Global)) (copy : String Global) (text : List ℕ) → now ≡ made ++ copy ∷ [] → string_bytes copy ≡ text → texts now ≡ texts made ++ text ∷ []
+texts_pushed made now copy text pushed same =
+    ap texts pushed ∙ map_push (λ (w : String Global). string_bytes w) made copy ∙ ap (λ (b : List ℕ). texts made ++ b ∷ []) same
+
 -- a word more
-pub texts_more : (first : List ℕ) (made others : List (String Global)) (n : ℕ) (copy word : String Global) → n < length others → word ≡ get_or others n word → string_bytes copy ≡ string_bytes word → texts made ≡ first ∷ texts (take n others) → texts (made ++ copy ∷ []) ≡ first ∷ texts (take (n + 1) others)
-texts_more first made others n copy word within is same before =
-    map_push (λ (w : String Global). string_bytes w) made copy ∙ ap (λ (b : List ℕ). texts made ++ b ∷ []) same ∙ ap (λ (t : List (List ℕ)). t ++ string_bytes word ∷ []) before
+pub texts_more : (first : List ℕ) (made now : List (List ℕ)) (others : List (String Global)) (n : ℕ) (word : String Global) (text : List ℕ) → n < length others → word ≡ get_or others n word → text ≡ string_bytes word → made ≡ first ∷ texts (take n others) → now ≡ made ++ text ∷ [] → now ≡ first ∷ texts (take (n + 1) others)
+texts_more first made now others n word text within is same before pushed =
+    pushed ∙ ap (λ (b : List ℕ). made ++ b ∷ []) same ∙ ap (λ (t : List (List ℕ)). t ++ string_bytes word ∷ []) before
     ∙ sym (ap (λ (l : List (String Global)). first ∷ texts l) (take_more others n word within ∙ ap (λ (w : String Global). take n others ++ w ∷ []) (sym is)) ∙ ap (λ (t : List (List ℕ)). first ∷ t) (map_push (λ (w : String Global). string_bytes w) (take n others) word))
 
-pub texts_all : (first : List ℕ) (made others : List (String Global)) (n : ℕ) → length others ≤ n → texts made ≡ first ∷ texts (take n others) → texts made ≡ first ∷ texts others
+pub texts_all : (first : List ℕ) (made : List (List ℕ)) (others : List (String Global)) (n : ℕ) → length others ≤ n → made ≡ first ∷ texts (take n others) → made ≡ first ∷ texts others
 texts_all first made others n past before = before ∙ ap (λ (l : List (String Global)). first ∷ texts l) (take_all n others past)
 
 -- ---- the first word

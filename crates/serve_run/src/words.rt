@@ -1,6 +1,7 @@
-ghost use Rattle.std.specs.Prelude.{◌≡◌, ◌∷◌, ◌<◌, ◌≤◌, IfOk, IfSome, bytes_eq, codes, option_map};
+ghost use Rattle.std.specs.Prelude.{◌≡◌, ◌∷◌, ◌++◌, ◌<◌, ◌≤◌, [], IfOk, IfSome, OnOk, bytes_eq, codes, nat_eq, option_map};
 ghost use Rattle.command_words.specs.Commands.{command_of};
 ghost use Rattle.command_words.specs.Items.{is_dashes, texts};
+ghost use Rattle.std.specs.List.{starts_with};
 ghost use Rattle.std.specs.Option.{option_and_then};
 ghost use Rattle.run_files.specs.Files.{limit_in};
 ghost use Rattle.serve_run.specs.Words.{has_workers, is_to_serve, is_workers, job_of, session_of};
@@ -22,7 +23,7 @@ pub(crate) struct Job<'a> {
 pub fn asks_to_serve(words: &[String]) -> bool
     ensures { result ≡ is_to_serve (texts words.now) }
 {
-    let Some((name, _)) = words.split_first() else {
+    let Some((name, _others)) = words.split_first() else {
         return false;
     };
     is_serve(name.as_str())
@@ -60,12 +61,27 @@ pub(crate) fn session_words(
 fn words_behind(alloc: Global, first: &str, others: &[String]) -> Result<Vec<String>, NoMemory>
     ensures { IfOk result (λ words. all_texts words ≡ first.now ∷ texts others.now) }
 {
-    let mut words = Vec::new(alloc);
-    words.push(String::from_str(alloc, first)?)?;
+    let mut words = one_word(alloc, first)?;
     for word in others {
-        words.push(String::from_str(alloc, word.as_str())?)?;
+        push_word(alloc, &mut words, word.as_str())?;
     }
     Ok(words)
+}
+
+fn one_word(alloc: Global, word: &str) -> Result<Vec<String>, NoMemory>
+    ensures { IfOk result (λ words. all_texts words ≡ word.now ∷ []) }
+{
+    let mut words = Vec::new(alloc);
+    push_word(alloc, &mut words, word)?;
+    Ok(words)
+}
+
+fn push_word(alloc: Global, words: &mut Vec<String>, word: &str) -> Result<(), NoMemory>
+    ensures { OnOk result (all_texts words.new ≡ all_texts words.old ++ word.now ∷ []) }
+{
+    let copy = String::from_str(alloc, word)?;
+    words.push(copy)?;
+    Ok(())
 }
 
 // Whether a number of workers is told before the first `--`.
@@ -94,7 +110,13 @@ fn is_dashes(word: &str) -> bool
 fn is_workers(word: &str) -> bool
     ensures { result ≡ is_workers word.now }
 {
-    word == "--workers" || word.starts_with("--workers=")
+    word == "--workers" || tells_workers(word.as_bytes())
+}
+
+fn tells_workers(word: &[u8]) -> bool
+    ensures { result ≡ starts_with nat_eq word.now (codes "--workers=") }
+{
+    word.starts_with(b"--workers=")
 }
 
 /// What the words of a session ask for.

@@ -3,6 +3,7 @@ use Rattle.std.proofs.lemmas.Result.{IfErr-weaker, on_ok_weaker}
 use Rattle.decision.specs.Programs.{Suits}
 use Rattle.item_stream.specs.Sections.{left_at}
 use Rattle.outside.proofs.CallerLemmas.{rose_later}
+use Rattle.outside.specs.Faults.{Rose}
 use Rattle.outside.specs.Told.{with_front}
 use Rattle.regex_gate.proofs.CallerLemmas.{used_then}
 use Rattle.live_serve.specs.Standings.{standing}
@@ -17,7 +18,7 @@ pub returns-in_default-clause-stopped : goal.returns-in_default-clause-stopped
 returns-in_default-clause-stopped g c =
     let so = c.loop-pulls.invariant in
     let same : g.S.Source.left c.pull.new.self ≡ g.S.Source.left c.loop-pulls.input = search rules in
-    (so.read, so.left_is ∙ ap (with_front so.read) (sym same), served_whole c.args.json c.args.program.now _ c.args.clerk.now.desk c.requires.first _ _ _ _ _ _ _ _ _ _ _ _ _ _ so, rose_later _ _ _ so.input_counted (search rules))
+    (so.read, so.left_is ∙ ap (with_front so.read) (sym same), (served_whole c.args.json c.args.program.now _ c.args.clerk.now.desk c.requires.first _ _ _ _ _ _ _ _ _ _ _ _ _ _ so, rose_later (g.S.Source.faults c.args.input.now) (g.S.Source.faults c.loop-pulls.input) (g.S.Source.faults c.pull.new.self) so.input_counted (search rules)))
 
 pub returns-in_default-clause-no_further : goal.returns-in_default-clause-no_further
 returns-in_default-clause-no_further g c = ended_or_not _ _ _ _ c.loop-pulls.invariant.ends_same c.pull.ensures.told
@@ -55,8 +56,8 @@ pub returns-then-count-eq0-clause-stopped : goal.returns-then-count-eq0-clause-s
 returns-then-count-eq0-clause-stopped g c =
     let none : c.in-Ok.count ≡ 0 = omega arith in
     let same = nothing_came _ (g.S.Source.left c.pull.new.self) c.pull.new.buf c.in-Ok.count none c.in-Ok.ensures.given in
-    IfErr-weaker c.serve_rest.result _ _ (end_stops c.args.json c.args.program.now _ c.args.clerk.now.desk c.requires.first _ _ _ _ _ _ _ _ _ _ _ _ _ _ c.loop-pulls.invariant (g.S.Source.left c.pull.new.self) same (left_at c.loop-pulls.sections) refl (g.P.Finder.refusals c.serve_rest.new.finder) _ _ _)
-    c.serve_rest.ensures.stopped
+    IfErr-weaker c.serve_rest.result _ _ (end_stops c.args.json c.args.program.now _ c.args.clerk.now.desk c.requires.first _ _ _ _ _ _ _ _ _ _ _ _ _ _ c.loop-pulls.invariant (g.S.Source.left c.pull.new.self) same (left_at c.loop-pulls.sections) refl (g.P.Finder.refusals c.serve_rest.new.finder) (g.K.Sink.taken c.serve_rest.new.out)
+    (Rose (g.S.Source.faults c.args.input.now) (g.S.Source.faults c.pull.new.self)) (g.K.Sink.faults c.serve_rest.new.out)) c.serve_rest.ensures.stopped
 
 pub returns-then-count-eq0-clause-no_further : goal.returns-then-count-eq0-clause-no_further
 returns-then-count-eq0-clause-no_further g c = ended_or_not _ _ _ _ c.loop-pulls.invariant.ends_same c.pull.ensures.told
@@ -81,7 +82,7 @@ pub returns-in_err-serve_piece-clause-stopped : goal.returns-in_err-serve_piece-
 returns-in_err-serve_piece-clause-stopped g c =
     let stop : c.from_residual.result ≡ Err c.in_err-serve_piece.field-0.0 = search rules in
     let given : g.S.Source.left c.loop-pulls.input ≡ with_front c.front_of-read.result.now (g.S.Source.left c.pull.new.self) = c.in-Ok.ensures.given ∙ ap (λ (bytes : List ℕ). with_front bytes (g.S.Source.left c.pull.new.self)) (sym c.front_of-read.ensures.front) in
-    rw stop (piece_stops c.args.json c.args.program.now _ c.args.clerk.now.desk c.requires.first _ _ _ _ _ _ _ _ _ _ _ _ _ _ c.loop-pulls.invariant c.front_of-read.result.now (g.S.Source.left c.pull.new.self) given (g.P.Finder.refusals c.serve_piece.new.finder) _ _ _ c.in_err-serve_piece.field-0.0 c.in_err-serve_piece.ensures.stopped)
+    rw stop (piece_stops c.args.json c.args.program.now _ c.args.clerk.now.desk c.requires.first _ _ _ _ _ _ _ _ _ _ _ _ _ _ c.loop-pulls.invariant c.front_of-read.result.now (g.S.Source.left c.pull.new.self) given (g.P.Finder.refusals c.serve_piece.new.finder) (g.K.Sink.taken c.serve_piece.new.out) (Rose (g.S.Source.faults c.args.input.now) (g.S.Source.faults c.pull.new.self)) (g.K.Sink.faults c.serve_piece.new.out) c.in_err-serve_piece.field-0.0 c.in_err-serve_piece.ensures.stopped)
 
 pub returns-in_err-serve_piece-clause-no_further : goal.returns-in_err-serve_piece-clause-no_further
 returns-in_err-serve_piece-clause-no_further g c = ended_or_not _ _ _ _ c.loop-pulls.invariant.ends_same c.pull.ensures.told
@@ -101,13 +102,13 @@ loop-pulls-preserved g c =
     let given : g.S.Source.left c.loop-pulls.input ≡ with_front c.front_of-read.result.now (g.S.Source.left c.pull.new.self) = c.in-Ok.ensures.given ∙ ap (λ (bytes : List ℕ). with_front bytes (g.S.Source.left c.pull.new.self)) (sym c.front_of-read.ensures.front) in
     let long : 0 < length c.front_of-read.result.now = omega (arith, c.front_of-read.ensures.long, some) in
     served_more c.args.json c.args.program.now _ c.args.clerk.now.desk c.requires.first _ _ _ _ _ _ _ _ _ _ _ _ _ _ c.loop-pulls.invariant c.front_of-read.result.now (g.S.Source.left c.pull.new.self) given (g.P.Finder.refusals c.serve_piece.new.finder) (standing c.serve_piece.new.clerk) c.serve_piece.new.sections _
-    (c.loop-pulls.pulls + 1) _ _ (g.S.Source.ends c.pull.new.self) (some_came _ _ _ c.in-Ok.count c.in-Ok.ensures.told some) long c.in_ok-serve_piece.ensures.served refl c.pull.ensures.counted c.serve_piece.ensures.counted
+    (c.loop-pulls.pulls + 1) _ _ (g.S.Source.ends c.pull.new.self) (some_came _ _ c.in-Ok.count _ c.in-Ok.ensures.told some) long c.in_ok-serve_piece.ensures.served refl c.pull.ensures.counted c.serve_piece.ensures.counted
 
 -- so often
 pub returns-clause-stopped : goal.returns-clause-stopped
 returns-clause-stopped g c =
     let so = c.loop-pulls.invariant in
-    (so.read, so.left_is, served_whole c.args.json c.args.program.now _ c.args.clerk.now.desk c.requires.first _ _ _ _ _ _ _ _ _ _ _ _ _ _ so, omega (arith, so.long, c.loop-pulls-test.false))
+    (so.read, so.left_is, (served_whole c.args.json c.args.program.now _ c.args.clerk.now.desk c.requires.first _ _ _ _ _ _ _ _ _ _ _ _ _ _ so, omega (arith, so.long, c.loop-pulls-test.false)))
 
 pub returns-clause-no_further : goal.returns-clause-no_further
 returns-clause-no_further g c = inl c.loop-pulls.invariant.ends_same

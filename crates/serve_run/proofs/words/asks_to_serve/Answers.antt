@@ -8,5 +8,5 @@ returns-in_default c = serve_none c.args.words.now (search rules)
 
 pub returns : goal.returns
 returns c =
-    let is : c.args.words.now ≡ c.in-Some.name.now ∷ c.in-Some.field-0-1.now = search rules in
-    c.is_serve.ensures ∙ ap (λ t. bytes_eq t (codes "serve")) c.as_str.ensures.value ∙ serve_some c.args.words.now c.in-Some.field-0-1.now c.in-Some.name.now is
+    let is : c.args.words.now ≡ c.in-Some.name.now ∷ c.in-Some._others.now = search rules in
+    c.is_serve.ensures ∙ ap (λ t. bytes_eq t (codes "serve")) c.as_str.ensures.value ∙ serve_some c.args.words.now c.in-Some._others.now c.in-Some.name.now is

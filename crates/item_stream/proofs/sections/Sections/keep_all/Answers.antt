@@ -11,4 +11,4 @@ returns-clause-goes c =
     let new : Stage = record { line = c.keep.new.line.items; held = seen_held c.self.inside.held } in
     let rest = drop (length c.args.piece.now) c.args.piece.now in
     subst (λ (s : Stage). GoesTo s c.args.piece.now [] new rest) c.self.view_is
-    (goes_within old new c.args.piece.now rest (omega (arith, c.self.invariant)) c.requires.no_end c.in_ok-keep.ensures.kept refl (drop_all (length c.args.piece.now) c.args.piece.now (omega arith)))
+    (goes_within old new c.args.piece.now rest (omega (arith, c.self.invariant, c.self.inside.line.ok.0)) c.requires.no_end c.in_ok-keep.ensures.kept refl (drop_all (length c.args.piece.now) c.args.piece.now (omega arith)))

@@ -9,5 +9,5 @@ returns-clause-goes c =
     let old : Stage = record { line = c.self.inside.line.items; held = seen_held c.self.inside.held } in
     let at = c.in-Some.at in
     subst (λ (s : Stage). GoesTo s c.args.piece.now (listed (seen_option c.in_ok-section.section) []) c.end_line.new.self (drop (at + 1) c.args.piece.now)) c.self.view_is
-    (goes_behind old c.end_line.new.self c.args.piece.now (take at c.args.piece.now) (drop (at + 1) c.args.piece.now) c.keep.new.line.items (seen_option c.in_ok-section.section) (omega (arith, c.self.invariant)) c.in-Some.ensures.first c.in-Some.ensures.parts
+    (goes_behind old c.end_line.new.self c.args.piece.now (take at c.args.piece.now) (drop (at + 1) c.args.piece.now) c.keep.new.line.items (seen_option c.in_ok-section.section) (omega (arith, c.self.invariant, c.self.inside.line.ok.0)) c.in-Some.ensures.first c.in-Some.ensures.parts
     (search rules) (search rules) (search rules))

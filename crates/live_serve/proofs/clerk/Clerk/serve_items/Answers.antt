@@ -1,8 +1,10 @@
-use Rattle.std.proofs.Common.{◌≡◌, Err, sym, subst, arith, rules}
+use Rattle.std.proofs.Common.{◌≡◌, [], ◌∷◌, Err, sym, subst, arith, rules}
 use Rattle.decision.specs.Programs.{Suits}
 use Rattle.outside.proofs.CallerLemmas.{rose_later}
 use Rattle.outside.specs.Faults.{Rose}
 use Rattle.regex_gate.proofs.CallerLemmas.{used_then}
+use Rattle.script_read.specs.Said.{seen}
+use Rattle.live_serve.specs.Sayings.{said}
 use Rattle.live_serve.specs.Standings.{standing}
 use Rattle.live_serve.proofs.ItemLemmas.{named_at}
 use Rattle.live_serve.proofs.ServeLemmas.{done_all, done_halts, done_next, done_none, halts_since, pushed_used}
@@ -23,9 +25,10 @@ serve_item-requires-clause-has_name g c = λ lifetimes outlive. named_at c.as_sl
 pub returns-in_err-serve_item-clause-stopped : goal.returns-in_err-serve_item-clause-stopped
 returns-in_err-serve_item-clause-stopped g c =
     let stop : c.from_residual.result ≡ Err c.in_err-serve_item.field-0.0 = search rules in
-    rw (stop, ← c.as_slice-items.ensures) (done_halts c.args.program.now _ _ _ c.as_slice-items.result.now _ c.loop-item.item-index c.item-item.result _ (g.P.Finder.refusals c.serve_item.new.finder) _ (standing c.serve_item.new.self) _ _ _ (g.K.Sink.faults c.serve_item.new.out) c.loop-item.invariant c.loop-item-test.true c.item-item.is
-    (Rose (g.K.Sink.faults c.args.out.now) (g.K.Sink.faults c.serve_item.new.out)) c.in_err-serve_item.field-0.0
-    (halts_since c.args.program.now _ _ _ _ _ c.in_err-serve_item.field-0.0 _ (λ rose. rose_later _ _ _ c.loop-item.invariant.counted rose) c.in_err-serve_item.ensures.stopped))
+    rw stop (done_halts c.args.program.now _ (standing c.args.self.now) (g.K.Sink.taken c.args.out.now) c.as_slice-items.result.now _ c.loop-item.item-index c.item-item.result (g.P.Finder.refusals c.loop-item.finder) (g.P.Finder.refusals c.serve_item.new.finder) (standing c.loop-item.self) (standing c.serve_item.new.self) (g.K.Sink.taken c.loop-item.out) (g.K.Sink.taken c.serve_item.new.out) _ (g.K.Sink.faults c.serve_item.new.out)
+    c.loop-item.invariant c.loop-item-test.true c.item-item.is c.args.script.now c.as_slice-items.ensures (Rose (g.K.Sink.faults c.args.out.now) (g.K.Sink.faults c.serve_item.new.out)) c.in_err-serve_item.field-0.0
+    (halts_since c.args.program.now (standing c.loop-item.self) (g.K.Sink.taken c.loop-item.out) (g.K.Sink.taken c.serve_item.new.out) (Rose (g.K.Sink.faults c.loop-item.out) (g.K.Sink.faults c.serve_item.new.out)) (Rose (g.K.Sink.faults c.args.out.now) (g.K.Sink.faults c.serve_item.new.out)) c.in_err-serve_item.field-0.0 (said (seen c.item-item.result ∷ []))
+    (λ rose. rose_later (g.K.Sink.faults c.args.out.now) (g.K.Sink.faults c.loop-item.out) (g.K.Sink.faults c.serve_item.new.out) c.loop-item.invariant.counted rose) c.in_err-serve_item.ensures.stopped))
 
 pub returns-in_err-serve_item-clause-counted : goal.returns-in_err-serve_item-clause-counted
 returns-in_err-serve_item-clause-counted g c = omega (arith, c.loop-item.invariant.counted, c.serve_item.ensures.counted)
