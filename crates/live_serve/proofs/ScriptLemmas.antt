@@ -7,8 +7,8 @@ use Rattle.std.proofs.lemmas.List.{map_push}
 use Rattle.std.proofs.lemmas.Str.{IsUtf8-append, IsUtf8-from_ascii, IsUtf8-nil}
 use Rattle.item_stream.proofs.CallerLemmas.{AllShort, AreTextLines, kept_short, kind_read, lines_are_text, long_is_told, sections_are, sections_on}
 use Rattle.item_stream.specs.Lines.{kept, kind_of, kind_of_text}
+use Rattle.item_stream.specs.Sections as sections
 use Rattle.item_stream.specs.Sections.{Held, Section, ended_at, goes_on, joined, listed, next_held, nothing, section_of, sections_of, with_line}
-use Rattle.item_stream.specs.declared.kind.Kind.{Kind}
 use Rattle.script_read.specs.Blocks.{Part, block, part_item, parts, parts_inside, single}
 use Rattle.script_read.specs.Lines.{begins_block, ends_block, script_lines}
 use Rattle.script_read.specs.Reads.{Reader}
@@ -47,13 +47,13 @@ kind_is raw good = ap kind_of (kept_short raw (omega (arith, good.short))) ∙ s
 next_by : (raw : List ℕ) → IsGood raw → (held : Held) → next_held held (kept raw) ≡ (if is_passed (without_cr raw) then held else if goes_on held (kind_of_text (without_cr raw)) then with_line held raw else nothing)
 unfolding next_held
 next_by raw good held =
-    ap (λ (k : Kind). if k.passed then held else if goes_on held k then with_line held (kept raw) else nothing) (kind_is raw good)
+    ap (λ k. sections.held_by k held (kept raw)) (kind_is raw good)
     ∙ ap (λ (l : List ℕ). if is_passed (without_cr raw) then held else if goes_on held (kind_of_text (without_cr raw)) then with_line held l else nothing) (kept_short raw (omega (arith, good.short)))
 
 ended_by : (raw : List ℕ) → IsGood raw → (held : Held) → ended_at held (kept raw) ≡ (if is_passed (without_cr raw) then None else if goes_on held (kind_of_text (without_cr raw)) then None else section_of (with_line held raw))
 unfolding ended_at
 ended_by raw good held =
-    ap (λ (k : Kind). if k.passed then None else if goes_on held k then None else section_of (with_line held (kept raw))) (kind_is raw good)
+    ap (λ k. sections.ended_by k held (kept raw)) (kind_is raw good)
     ∙ ap (λ (l : List ℕ). if is_passed (without_cr raw) then None else if goes_on held (kind_of_text (without_cr raw)) then None else section_of (with_line held l)) (kept_short raw (omega (arith, good.short)))
 
 -- ---- what a line adds is too long, or the lines with it
