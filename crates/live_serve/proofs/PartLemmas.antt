@@ -10,7 +10,6 @@ use Rattle.script_read.specs.Items.{FieldReader, RequestReader, line_item}
 use Rattle.script_read.specs.Lines.{ends_block}
 use Rattle.script_read.specs.Results.{followed, mapped}
 use Rattle.script_read.specs.Said.{Said, edits}
-use Rattle.script_read.specs.declared.block.Block.{Block}
 use Rattle.script_read.specs.declared.fault.LineCause.{LineCause}
 use Rattle.script_read.specs.declared.fault.LineCause.TheVariants as cause
 use Rattle.script_read.specs.declared.fault.ScriptFault.{ScriptFault}
@@ -57,23 +56,24 @@ rules_same fields table (l ∷ lines) (o ∷ others) found same e =
 
 -- ---- a block
 
-ended_by : (one other : ℕ) (kind : Block) (read more : Result Found ScriptFault) (call : Call) → ((x : Found) → read ≡ Ok x → more ≡ Ok x) → followed read (λ (found : Found). at_line one (ok_or (call_of kind found) cause.Unpaired)) ≡ Ok call
-    → followed more (λ (found : Found). at_line other (ok_or (call_of kind found) cause.Unpaired)) ≡ Ok call
-ended_by one other kind (Err why) more call same e = absurd cc
-ended_by one other kind (Ok x) more call same e =
-    ap (λ (r : Result Found ScriptFault). followed r (λ (found : Found). at_line other (ok_or (call_of kind found) cause.Unpaired))) (same x refl) ∙ at_any one other (ok_or (call_of kind x) cause.Unpaired) call e
+ended_by : (one other : ℕ) (calls : Found → Option Call) (read more : Result Found ScriptFault) (call : Call) → ((x : Found) → read ≡ Ok x → more ≡ Ok x) → followed read (λ (found : Found). at_line one (ok_or (calls found) cause.Unpaired)) ≡ Ok call
+    → followed more (λ (found : Found). at_line other (ok_or (calls found) cause.Unpaired)) ≡ Ok call
+ended_by one other calls (Err why) more call same e = absurd cc
+ended_by one other calls (Ok x) more call same e =
+    ap (λ (r : Result Found ScriptFault). followed r (λ (found : Found). at_line other (ok_or (calls found) cause.Unpaired))) (same x refl) ∙ at_any one other (ok_or (calls x) cause.Unpaired) call e
 
-call_by : (fields : FieldReader) (one other : ℕ) (read : Result Block LineCause) (lines others : List Line) (end last : ℕ) (first second : ℕ) (call : Call) → texts_of lines ≡ texts_of others
-    → followed (at_line one read) (ended_block fields first lines (Some end)) ≡ Ok call → followed (at_line other read) (ended_block fields second others (Some last)) ≡ Ok call
-call_by fields one other (Err why) lines others end last first second call same e = absurd cc
-call_by fields one other (Ok kind) lines others end last first second call same e =
-    ended_by (given_number end) (given_number last) kind (rules_of fields (table_of_block kind) lines) (rules_of fields (table_of_block kind) others) call (λ x is. rules_same fields (table_of_block kind) lines others x same is) e
+-- what is read with another number in front is the same, where it is no fault
+then_by : {Kind : Type 0} (one other : ℕ) (read : Result Kind LineCause) (first second : Kind → Result Call ScriptFault) (call : Call) → ((kind : Kind) → first kind ≡ Ok call → second kind ≡ Ok call)
+    → followed (at_line one read) first ≡ Ok call → followed (at_line other read) second ≡ Ok call
+then_by one other (Err why) first second call same e = absurd cc
+then_by one other (Ok kind) first second call same e = same kind e
 
 call_same : (fields : FieldReader) (begin first : Line) (lines others : List Line) (end last : ℕ) (call : Call) → begin.text ≡ first.text → texts_of lines ≡ texts_of others → block_call fields begin lines (Some end) ≡ Ok call → block_call fields first others (Some last) ≡ Ok call
 unfolding block_call
 call_same fields begin first lines others end last call text same e =
     ap (λ (t : List ℕ). followed (at_line (given_number first.number) (block_of fields t)) (ended_block fields first.number others (Some last))) (sym text)
-    ∙ call_by fields (given_number begin.number) (given_number first.number) (block_of fields begin.text) lines others end last begin.number first.number call same e
+    ∙ then_by (given_number begin.number) (given_number first.number) (block_of fields begin.text) (ended_block fields begin.number lines (Some end)) (ended_block fields first.number others (Some last)) call
+    (λ kind is. ended_by (given_number end) (given_number last) (call_of kind) (rules_of fields (table_of_block kind) lines) (rules_of fields (table_of_block kind) others) call (λ x found. rules_same fields (table_of_block kind) lines others x same found) is) e
 
 -- what is made of a call that is read
 edit_by : (read more : Result Call ScriptFault) (it : Said) → ((call : Call) → read ≡ Ok call → more ≡ Ok call) → mapped (λ (call : Call). edits call) read ≡ Ok it → mapped (λ (call : Call). edits call) more ≡ Ok it
@@ -86,13 +86,15 @@ block_same fields request begin first lines others end last it text same e =
     edit_by (block_call fields begin lines (Some end)) (block_call fields first others (Some last)) it (λ call is. call_same fields begin first lines others end last call text same is) e
 
 -- a block that does not end says nothing
-open_by : (fields : FieldReader) (n : ℕ) (begin : ℕ) (lines : List Line) (read : Result Block LineCause) (it : Said) → mapped (λ (call : Call). edits call) (followed (at_line n read) (ended_block fields begin lines None)) ≡ Ok it → ⊥
-open_by fields n begin lines (Ok kind) it e = absurd cc
-open_by fields n begin lines (Err why) it e = absurd cc
+open_by : {Kind : Type 0} (n : ℕ) (read : Result Kind LineCause) (next : Kind → Result Call ScriptFault) (why : ScriptFault) (it : Said) → ((kind : Kind) → next kind ≡ Err why) → mapped (λ (call : Call). edits call) (followed (at_line n read) next) ≡ Ok it → ⊥
+open_by n (Ok kind) next why it opened e =
+    let none : mapped (λ (call : Call). edits call) (Err why) ≡ Ok it = ap (mapped (λ (call : Call). edits call)) (sym (opened kind)) ∙ e in
+    absurd cc
+open_by n (Err cause) next why it opened e = absurd cc
 
 pub open_says_nothing : (fields : FieldReader) (request : RequestReader) (begin : Line) (lines : List Line) (it : Said) → part_item fields request (block begin lines None) ≡ Ok it → ⊥
 unfolding block_call
-open_says_nothing fields request begin lines it e = open_by fields (given_number begin.number) begin.number lines (block_of fields begin.text) it e
+open_says_nothing fields request begin lines it e = open_by (given_number begin.number) (block_of fields begin.text) (ended_block fields begin.number lines None) _ it (λ kind. refl) e
 
 -- ---- lines up to the end of a block
 
