@@ -43,10 +43,10 @@ returns-in_default-read_job-clause-used g c = used_none (g.P.Finder.refusals c.a
 -- a job
 pub returns-clause-done : goal.returns-clause-done
 returns-clause-done g c =
-    let asked : job_asked (texts c.args.words.now) ≡ Some c.in-Some-job.job = asked_by (texts c.args.words.now) c.in_ok-session.session c.in_ok-session.ensures c.in-Some.session c.in-Some.is c.deref.result.now c.deref.ensures.value (Some c.in-Some-job.job) c.in-Some-job.ensures.asked in
-    on_ok_weaker c.serve_job.result (has_served (texts c.args.words.now) (g.F.Shelf.files c.args.shelf.now) c.in-Some-job.job asked _ _) c.serve_job.ensures.served
+    let asked : job_asked (texts c.args.words.now) ≡ Some c.in-Some-read_job.job = asked_by (texts c.args.words.now) c.in_ok-session.session c.in_ok-session.ensures c.in-Some.session c.in-Some.is c.deref.result.now c.deref.ensures.value (Some c.in-Some-read_job.job) c.in-Some-read_job.ensures.asked in
+    on_ok_weaker c.serve_job.result (has_served (texts c.args.words.now) (g.F.Shelf.files c.args.shelf.now) c.in-Some-read_job.job asked _ _) c.serve_job.ensures.served
 
 pub returns-clause-stopped : goal.returns-clause-stopped
 returns-clause-stopped g c =
-    let asked : job_asked (texts c.args.words.now) ≡ Some c.in-Some-job.job = asked_by (texts c.args.words.now) c.in_ok-session.session c.in_ok-session.ensures c.in-Some.session c.in-Some.is c.deref.result.now c.deref.ensures.value (Some c.in-Some-job.job) c.in-Some-job.ensures.asked in
-    IfErr-weaker c.serve_job.result _ _ (stops_serving (texts c.args.words.now) (g.F.Shelf.files c.args.shelf.now) c.in-Some-job.job asked _ _) c.serve_job.ensures.stopped
+    let asked : job_asked (texts c.args.words.now) ≡ Some c.in-Some-read_job.job = asked_by (texts c.args.words.now) c.in_ok-session.session c.in_ok-session.ensures c.in-Some.session c.in-Some.is c.deref.result.now c.deref.ensures.value (Some c.in-Some-read_job.job) c.in-Some-read_job.ensures.asked in
+    IfErr-weaker c.serve_job.result _ _ (stops_serving (texts c.args.words.now) (g.F.Shelf.files c.args.shelf.now) c.in-Some-read_job.job asked _ _) c.serve_job.ensures.stopped
