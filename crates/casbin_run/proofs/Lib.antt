@@ -1,6 +1,5 @@
 pub mod JobLemmas
 pub mod FinderLemmas
-pub mod LoadLemmas
 pub mod WorkLemmas
 pub mod EarlyLemmas
 pub mod CachedWork

@@ -17,7 +17,6 @@ ghost use Rattle.casbin_run.specs.Worlds.{fetched, pulled, world};
 ghost use Rattle.loaded_work.specs.Sinks.{taken};
 
 use crate::demo::{read_demo, run_demo};
-use crate::files::load;
 use crate::input::{read_items, read_shipped, read_text};
 use crate::job::{Task, read_job, sharing};
 use crate::shared::share_items;
@@ -29,6 +28,7 @@ use loaded_work::{
 };
 use perm_base::{Shelf, Sink, Source};
 use regex_gate::Finder;
+use run_files::load_files;
 use run_status::{Status, Stop, tell_stop};
 use std::alloc::Global;
 use std::sync::Wait;
@@ -205,7 +205,7 @@ fn answer<
     let Some(job) = read_job(alloc, words)? else {
         return Err(Stop::Words);
     };
-    let loaded = load(alloc, shelf, &job)?;
+    let loaded = load_files(alloc, shelf, &job.files, &job.options)?;
     do_any(
         rt, alloc, job.task, loaded, input, out, err, finders, gate, places,
     )

@@ -24,12 +24,12 @@ returns-in_default-clause-comes g c = nothing_done _ _ _ _ Words refl (words_end
 pub returns-in_err-loaded-clause-comes : goal.returns-in_err-loaded-clause-comes
 returns-in_err-loaded-clause-comes g c =
     let stop : c.from_residual.result ≡ Err c.in_err-loaded.field-0.0 = search rules in
-    rw stop (load_done (given (texts c.args.words.now) (g.F.Shelf.files c.args.shelf.now) (g.S.Source.left c.args.input.now)) _ _ _ c.in-Some.job (sym c.in_ok-job.ensures.asked ∙ c.in-Some.is) refl refl c.in_err-loaded.field-0.0 c.in_err-loaded.ensures.stopped c.load.ensures.counted refl)
+    rw stop (load_done (given (texts c.args.words.now) (g.F.Shelf.files c.args.shelf.now) (g.S.Source.left c.args.input.now)) _ _ _ c.in-Some.job (sym c.in_ok-job.ensures.asked ∙ c.in-Some.is) refl refl c.in_err-loaded.field-0.0 c.in_err-loaded.ensures.stopped c.load_files.ensures.counted refl)
 
 pub returns-clause-comes : goal.returns-clause-comes
 returns-clause-comes g c =
     let before = world (fetched (g.F.Shelf.calls c.args.shelf.now) (g.F.Shelf.faults c.args.shelf.now)) (pulled (g.S.Source.left c.args.input.now) (g.S.Source.ends c.args.input.now) (g.S.Source.faults c.args.input.now)) (taken (g.K.Sink.taken c.args.out.now) (g.K.Sink.faults c.args.out.now)) (map g.P.Finder.refusals c.args.finders.now.items) in
-    let now = world (fetched (g.F.Shelf.calls c.load.new.shelf) (g.F.Shelf.faults c.load.new.shelf)) (pulled (g.S.Source.left c.do_any.new.input) (g.S.Source.ends c.do_any.new.input) (g.S.Source.faults c.do_any.new.input)) (taken (g.K.Sink.taken c.do_any.new.out) (g.K.Sink.faults c.do_any.new.out)) (map g.P.Finder.refusals c.do_any.new.finders.items) in
+    let now = world (fetched (g.F.Shelf.calls c.load_files.new.shelf) (g.F.Shelf.faults c.load_files.new.shelf)) (pulled (g.S.Source.left c.do_any.new.input) (g.S.Source.ends c.do_any.new.input) (g.S.Source.faults c.do_any.new.input)) (taken (g.K.Sink.taken c.do_any.new.out) (g.K.Sink.faults c.do_any.new.out)) (map g.P.Finder.refusals c.do_any.new.finders.items) in
     let given_here = given (texts c.args.words.now) (g.F.Shelf.files c.args.shelf.now) (g.S.Source.left c.args.input.now) in
     let asked = sym c.in_ok-job.ensures.asked ∙ c.in-Some.is in
     record {
