@@ -12,11 +12,11 @@ use Rattle.regex_gate.specs.Refusals.{IsUsed, Refusals}
 use Rattle.run_status.specs.Hits.{hits_line}
 use Rattle.run_status.specs.Told.{IsTold}
 use Rattle.script_read.specs.Said.{Said}
-use Rattle.loaded_work.specs.Helps.Caching.{CachedAnswered, PrintedCached}
+use Rattle.cached_work.specs.Helps.Caching.{CachedAnswered, PrintedCached}
 use Rattle.loaded_work.specs.Helps.Working.{IsOpened, PrintedSome}
 use Rattle.loaded_work.specs.Sinks.{Taken}
 use Rattle.loaded_work.specs.declared.loaded.Loaded.{Loaded}
-use Rattle.loaded_work.proofs.WorkLemmas.{over_equal}
+use Rattle.loaded_work.proofs.CallerLemmas.{over_equal}
 
 -- memory ran out before any answer was pushed
 pub cached_memory : (IsSaid : List Said → Type 0) (model : ModelParts) (shapes : Shapes) (policy : table.Policy) (capacity : ℕ) (before : Refusals) (out err : Taken) → IsUsed before before → CachedAnswered IsSaid model shapes policy capacity before before out out err err (Err NoMemory)

@@ -1,8 +1,8 @@
 use Rattle.std.proofs.lemmas.Result.{err_from_is_err_and}
 use Rattle.regex_gate.proofs.CallerLemmas.{used_none}
 use Rattle.script_read.specs.Script.{IsRequests}
-use Rattle.loaded_work.proofs.CachedWork.{cached_memory, cached_over}
-use Rattle.loaded_work.proofs.cached.enforce_cached.Goals as goal
+use Rattle.cached_work.proofs.CachedWork.{cached_memory, cached_over}
+use Rattle.cached_work.proofs.cached.enforce_cached.Goals as goal
 
 pub returns-in_err-opened : goal.returns-in_err-opened
 returns-in_err-opened g c =

@@ -1,8 +1,8 @@
 use Rattle.std.proofs.Common.{arith, refl, rules}
 use Rattle.std.proofs.lemmas.Result.{err_from_is_err_and}
-use Rattle.loaded_work.proofs.CachedLemmas.{cached_all, cached_more, cached_moved, cached_none, fresh_good, hits_few}
-use Rattle.loaded_work.proofs.PrintLemmas.{printed_memory, printed_used, printed_write, stopped_used}
-use Rattle.loaded_work.proofs.cached.print_cached.Goals as goal
+use Rattle.cached_work.proofs.CachedLemmas.{cached_all, cached_more, cached_moved, cached_none, fresh_good, hits_few}
+use Rattle.loaded_work.proofs.CallerLemmas.{printed_memory, printed_used, printed_write, stopped_used}
+use Rattle.cached_work.proofs.cached.print_cached.Goals as goal
 
 pub loop-line-init : goal.loop-line-init
 loop-line-init g c = record {

@@ -15,7 +15,7 @@ use Rattle.run_status.specs.Hits.{hits_line}
 use Rattle.run_status.specs.declared.stop.Stop.{Stop}
 use Rattle.script_read.specs.Said.{Reading, Said, asks}
 use Rattle.version_log.specs.Log.{versions}
-use Rattle.loaded_work.specs.Caching.{Counts, Turns, hits_of, opened}
+use Rattle.cached_work.specs.Caching.{Counts, Turns, hits_of, opened}
 use Rattle.loaded_work.specs.Helps.Working.{AnswerStops, AnswersLine, PrintedAll}
 use Rattle.loaded_work.specs.Sinks.{Taken}
 

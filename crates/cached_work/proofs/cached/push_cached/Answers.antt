@@ -1,7 +1,7 @@
 use Rattle.std.proofs.lemmas.Result.{IfOk-weaker}
 use Rattle.live_round.proofs.CallerLemmas.{none_asked, on_err_of}
 use Rattle.script_read.specs.Said.{reading}
-use Rattle.loaded_work.proofs.cached.push_cached.Goals as goal
+use Rattle.cached_work.proofs.cached.push_cached.Goals as goal
 
 pub returns-in_err-asked-clause-stopped : goal.returns-in_err-asked-clause-stopped
 returns-in_err-asked-clause-stopped g c =

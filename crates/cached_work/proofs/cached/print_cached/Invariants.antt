@@ -3,10 +3,10 @@ use Rattle.std.specs.Prelude.{string_bytes}
 use Rattle.std.specs.Str.{IsUtf8}
 use Rattle.script_read.specs.Lines.{requests_of}
 use Rattle.script_read.specs.Reads.{Reader}
-use Rattle.loaded_work.specs.Helps.Caching.{IsGoodCache}
-use Rattle.loaded_work.proofs.CachedLemmas.{IsCached}
-use Rattle.loaded_work.proofs.PrintLemmas.{run_over, seen_between}
-use Rattle.loaded_work.proofs.cached.print_cached.Given as goal
+use Rattle.cached_work.specs.Helps.Caching.{IsGoodCache}
+use Rattle.cached_work.proofs.CachedLemmas.{IsCached}
+use Rattle.loaded_work.proofs.CallerLemmas.{run_over, seen_between}
+use Rattle.cached_work.proofs.cached.print_cached.Given as goal
 
 abbrev pub invariant-loop-line : goal.invariant-loop-line
 invariant-loop-line g l = record {

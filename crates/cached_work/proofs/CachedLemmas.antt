@@ -19,11 +19,11 @@ use Rattle.script_read.specs.Script.{IsRequests}
 use Rattle.script_read.specs.Lines.{requests_of}
 use Rattle.session_meaning.specs.Plain.{most_number}
 use Rattle.version_log.specs.Log.{versions}
-use Rattle.loaded_work.specs.Caching.{Counts, IsFound, Turns, hits_of, opened}
-use Rattle.loaded_work.specs.Helps.Caching.{AnswersCached, IsGoodCache, PrintedCached}
+use Rattle.cached_work.specs.Caching.{Counts, IsFound, Turns, hits_of, opened}
+use Rattle.cached_work.specs.Helps.Caching.{AnswersCached, IsGoodCache, PrintedCached}
 use Rattle.loaded_work.specs.Helps.Gathering.{Moves}
-use Rattle.loaded_work.proofs.AskLemmas.{OneWay, asked, asked_more, one_reading}
-use Rattle.loaded_work.proofs.PrintLemmas.{IsPrinted, Run, Seen, printed_all, printed_more, printed_moved, printed_none, seen_first, seen_later, seen_pushed}
+use Rattle.loaded_work.proofs.CallerLemmas.{OneWay, asked, asked_more, one_reading}
+use Rattle.loaded_work.proofs.CallerLemmas.{IsPrinted, Run, Seen, printed_all, printed_more, printed_moved, printed_none, seen_first, seen_later, seen_pushed}
 
 -- one item more
 pub counts_more : (before mid after : Cached) (items : List Said) (lines : List Line) (hits more : ℕ) (item : Said) (line : Line) → Counts before items lines hits mid → Turns item line.answer mid after more → Counts before (items ++ item ∷ []) (lines ++ line ∷ []) (hits + more) after

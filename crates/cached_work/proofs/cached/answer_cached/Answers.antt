@@ -1,9 +1,9 @@
 use Rattle.std.proofs.lemmas.Result.{err_from_is_err_and}
 use Rattle.regex_gate.proofs.CallerLemmas.{used_none}
 use Rattle.script_read.specs.Script.{IsRequests}
-use Rattle.loaded_work.proofs.CachedLemmas.{fresh_cache}
-use Rattle.loaded_work.proofs.CachedWork.{cached_memory, cached_ok, cached_stopped}
-use Rattle.loaded_work.proofs.cached.answer_cached.Goals as goal
+use Rattle.cached_work.proofs.CachedLemmas.{fresh_cache}
+use Rattle.cached_work.proofs.CachedWork.{cached_memory, cached_ok, cached_stopped}
+use Rattle.cached_work.proofs.cached.answer_cached.Goals as goal
 
 pub returns-in_err-cache : goal.returns-in_err-cache
 returns-in_err-cache g c =

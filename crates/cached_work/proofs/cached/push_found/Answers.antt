@@ -3,8 +3,8 @@ use Rattle.answer_lines.specs.declared.answer.Answer.TheVariants as answer
 use Rattle.live_round.proofs.CallerLemmas.{answers_arity, answers_decided, decided_printable}
 use Rattle.perm_value.specs.Seen.{datum}
 use Rattle.version_log.specs.Log.{versions}
-use Rattle.loaded_work.proofs.CachedLemmas.{found_turn}
-use Rattle.loaded_work.proofs.cached.push_found.Goals as goal
+use Rattle.cached_work.proofs.CachedLemmas.{found_turn}
+use Rattle.cached_work.proofs.cached.push_found.Goals as goal
 
 pub returns-in-Err-clause-told : goal.returns-in-Err-clause-told
 returns-in-Err-clause-told g c =
