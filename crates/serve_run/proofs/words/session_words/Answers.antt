@@ -1,5 +1,5 @@
 use Rattle.std.proofs.Common.{◌≡◌, ◌∷◌, Some, true, false, refl, sym, ap, ◌∙◌, rules}
-use Rattle.std.specs.Prelude.{bytes_eq, codes, string_bytes}
+use Rattle.std.specs.Prelude.{bytes_eq, codes}
 use Rattle.command_words.specs.Items.{texts}
 use Rattle.serve_run.specs.Words.{has_workers}
 use Rattle.serve_run.proofs.WordLemmas.{session_by, session_none}
