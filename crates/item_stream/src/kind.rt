@@ -4,6 +4,7 @@ ghost use Rattle.script_read.specs.Helps.Ends.{is_no_blank};
 ghost use Rattle.script_read.specs.Lines.{begins_block, ends_block, word_of};
 ghost use Rattle.item_stream.specs.Lines.{begins_packet, ends_packet, kind_of, kind_of_text};
 
+use crate::packet::is_packet;
 use text_parts::{before_blanks, is_blank, is_passed, without_cr};
 
 /// What a line is to the lines before and behind it.
@@ -68,8 +69,7 @@ fn ends_either(line: &str) -> bool
 fn begins_packet(line: &str) -> bool
     ensures { result ≡ begins_packet line.now }
 {
-    let word = word_of(line);
-    word == "edit"
+    is_packet(line.as_bytes())
 }
 
 // Whether the line ends a packet.
