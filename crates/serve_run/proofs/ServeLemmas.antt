@@ -4,7 +4,9 @@ use Rattle.std.specs.Prelude.{Option, Some, None, length}
 use Rattle.item_stream.specs.Sections.{sections_of}
 use Rattle.live_round.proofs.CallerLemmas.{alone_before}
 use Rattle.live_round.specs.Desks.{StandsBehind}
-use Rattle.live_serve.specs.Streams.{OfRead, ServeStops, Service, TookTexts, service}
+use Rattle.live_serve.specs.Places.{Place, follows, is_followers, state_at}
+use Rattle.live_serve.specs.Streams.{IsFirst, OfRead, ServeStops, Service, TookTexts, service}
+use Rattle.log_ship.specs.Followers.{Following}
 use Rattle.model_conf.specs.ModelText.{ModelParts}
 use Rattle.outside.specs.Faults.{Rose}
 use Rattle.outside.specs.Files.{Files}
@@ -49,19 +51,27 @@ desk_before desk state none same no_pending keeps_all floor =
       floor = floor ∙ sym (ap (λ (s : State). s.log.start) same);
     }
 
-abbrev made : Bool → ModelParts → Shapes → Policy → Service
-made json model shapes opening = record { json = json; model = model; shapes = shapes; opening = opening }
+abbrev made : Bool → Bool → ModelParts → Shapes → Policy → Service
+made json follow model shapes opening = record { json = json; follow = follow; model = model; shapes = shapes; opening = opening }
 
--- it serves what was opened
-pub same_desk : (job : Job) (opened : Opened) (desk : Work) → desk.state ≡ opened.state → service job.json opened.program desk ≡ opened_service job opened
-same_desk job opened desk same = ap (λ (s : State). made job.json opened.program s.shapes (tables s)) same
+-- a place with the state that was opened serves over it
+pub same_place : (job : Job) (opened : Opened) (place : Place) → is_followers place ≡ job.follow → state_at place ≡ opened.state → service job.json opened.program place ≡ opened_service job opened
+same_place job opened place kind same = ap (λ (s : State). made job.json (is_followers place) opened.program s.shapes (tables s)) same ∙ ap (λ (f : Bool). made job.json f opened.program opened.state.shapes (tables opened.state)) kind
 
-module _ (job : Job) (opened : Opened) (desk : Work) (same : desk.state ≡ opened.state) (before now : Moment) (told : Announces job opened.rules before now) where
-  pub stream_served : IsServed (service job.json opened.program desk) before now → ServedOpened job opened before now
-  stream_served served = record { told = told; served = subst (λ (on : Service). IsServed on before now) (same_desk job opened desk same) served }
+-- a follower of a state of version 0, at which nothing waits, is at its first
+pub follower_first : (follower : Following) (state : State) → versions state.log ≡ 0 → follower.state ≡ state → follower.waiting ≡ [] → IsFirst (follows follower)
+follower_first follower state none same empty = record { shapes_are = refl; policy_is = refl; first = ap (λ (s : State). versions s.log) same ∙ none; none_waits = empty }
 
-  pub stream_stops : (stop : Stop) → IsCutOff (service job.json opened.program desk) before now stop → StopsOpened job opened before now stop
-  stream_stops stop stops = inr (told, subst (λ (on : Service). IsCutOff on before now stop) (same_desk job opened desk same) stops)
+module _ (job : Job) (opened : Opened) (place : Place) (kind : is_followers place ≡ job.follow) (same : state_at place ≡ opened.state) (before now : Moment) (told : Announces job opened.rules before now) where
+  pub stream_served : (follow : Bool) → follow ≡ is_followers place → OfRead before.left now.left (λ read. TookTexts (service job.json opened.program place) before.refused now.refused (sections_of follow read) before.out now.out) → ServedOpened job opened before now
+  stream_served follow follow-is so = record {
+    told = told;
+    served = subst (λ (on : Service). IsServed on before now) (same_place job opened place kind same)
+        (subst (λ (f : Bool). OfRead before.left now.left (λ read. TookTexts (service job.json opened.program place) before.refused now.refused (sections_of f read) before.out now.out)) follow-is so);
+  }
+
+  pub stream_stops : (stop : Stop) → IsCutOff (service job.json opened.program place) before now stop → StopsOpened job opened before now stop
+  stream_stops stop stops = inr (told, subst (λ (on : Service). IsCutOff on before now stop) (same_place job opened place kind same) stops)
 
 -- ---- a job
 
@@ -71,7 +81,7 @@ shelved calls faults at = record at { calls = calls; shelf_faults = faults }
 
 module _ (files : Option Files) (job : Job) (opened : Opened) (is : IsOpened files job.files job.options opened) (calls calls_now : Option (List FetchCall)) (faults faults_now : ℕ) (fetched : Adds calls calls_now (both_fetches job.files false)) where
   same_service : opened_service job opened ≡ service_on job opened.program (tables opened.state)
-  same_service = ap (λ (s : Shapes). made job.json opened.program s (tables opened.state)) is.shapes_are
+  same_service = ap (λ (s : Shapes). made job.json job.follow opened.program s (tables opened.state)) is.shapes_are
 
   module _ (before now : Moment) where
     is_open : IsOpen files job opened.program (tables opened.state) (shelved calls faults before) (shelved calls_now faults_now now)

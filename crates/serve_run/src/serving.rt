@@ -1,4 +1,4 @@
-ghost use Rattle.std.specs.Prelude.{◌≡◌, ◌≤◌, ◌<◌, [], IfErr, IfSome, OnOk};
+ghost use Rattle.std.specs.Prelude.{◌≡◌, ◌≤◌, ◌<◌, [], IfErr, IfSome, None, OnOk, false, true};
 ghost use Rattle.command_words.specs.Items.{texts};
 ghost use Rattle.decision.specs.Programs.{Suits};
 ghost use Rattle.outside.specs.Ends.{IsEndedOnce};
@@ -12,8 +12,9 @@ ghost use Rattle.serve_run.specs.Helps.Serving.{ServedJob, ServedOpened, StopsJo
 
 use crate::opened::{Opened, open_files};
 use crate::telling::tell_serving;
-use crate::words::{Job, read_job, session_words};
-use live_serve::serve_stream;
+use crate::words::{Job, asks_to_follow, read_job, session_words};
+use live_serve::{DeskClerk, FollowerClerk, serve_stream};
+use log_ship::Follower;
 use perm_base::{Shelf, Sink, Source};
 use policy_desk::open_desk;
 use regex_gate::Finder;
@@ -23,8 +24,9 @@ use std::alloc::Global;
 /// Serves a stream, where the words ask for it, and tells on `err` why it stopped where it did. The files come from the shelf, each
 /// once; then `err` takes the line that tells what is served, and then the input is read.
 ///
-/// `serve MODEL POLICY [--limit L] [--match LIST] [--domain-match LIST] [--json]` answers each item of the input as soon as its last
-/// line is read, before it reads on: as a session does, and what is no item by why it is none. Nothing that comes in ends it but the
+/// `serve [--follow] MODEL POLICY [--limit L] [--match LIST] [--domain-match LIST] [--json]` answers each item of the input as soon as its last
+/// line is read, before it reads on: as a session does, and what is no item by why it is none. With `--follow` it takes packets in place of
+/// calls. Nothing that comes in ends it but the
 /// end of the input, behind which it is done. It holds no more of the input than the item that is not ended. Exactly where another
 /// cause is said to come, want of memory may come instead.
 pub fn serve_casbin<F: Shelf, S: Source, K: Sink, E: Sink, P: Finder>(
@@ -93,7 +95,8 @@ fn serve_words<F: Shelf, S: Source, K: Sink, E: Sink, P: Finder>(
     let Some(session) = session else {
         return Err(Stop::Words);
     };
-    let Some(job) = read_job(&session) else {
+    let follow = asks_to_follow(words);
+    let Some(job) = read_job(&session, follow) else {
         return Err(Stop::Words);
     };
     serve_job(alloc, &job, shelf, input, out, err, finder)
@@ -160,7 +163,96 @@ fn serve_opened<S: Source, K: Sink, E: Sink, P: Finder>(
     ensures out_counted { K.faults out.old ≤ K.faults out.new }
     ensures used { IsUsed (P.refusals finder.old) (P.refusals finder.new) }
 {
+    if job.follow {
+        return serve_follower(alloc, opened, job, input, out, err, finder);
+    }
+    serve_desk(alloc, opened, job, input, out, err, finder)
+}
+
+// Serves a stream at a desk.
+fn serve_desk<S: Source, K: Sink, E: Sink, P: Finder>(
+    alloc: Global,
+    opened: Opened,
+    job: &Job<'_>,
+    input: &mut S,
+    out: &mut K,
+    err: &mut E,
+    finder: &mut P,
+) -> Result<(), Stop>
+    requires desk { job.now.follow ≡ false }
+    requires suits { Suits opened.program opened.state.shapes }
+    requires opening { versions opened.state.log ≡ 0 }
+    ensures served { OnOk result (ServedOpened job.now opened
+        (moment None 0 (S.left input.old) (S.faults input.old)
+        (K.taken out.old) (K.faults out.old) (E.taken err.old) (E.faults err.old) (P.refusals finder.old))
+        (moment None 0 (S.left input.new) (S.faults input.new)
+        (K.taken out.new) (K.faults out.new) (E.taken err.new) (E.faults err.new) (P.refusals finder.new))) }
+    ensures stopped { IfErr result (StopsOpened job.now opened
+        (moment None 0 (S.left input.old) (S.faults input.old)
+        (K.taken out.old) (K.faults out.old) (E.taken err.old) (E.faults err.old) (P.refusals finder.old))
+        (moment None 0 (S.left input.new) (S.faults input.new)
+        (K.taken out.new) (K.faults out.new) (E.taken err.new) (E.faults err.new) (P.refusals finder.new))) }
+    ensures read_to_end { OnOk result (IfSome (S.left input.new) (λ rest. rest ≡ [])) }
+    ensures no_further { IsEndedOnce (S.ends input.old) (S.ends input.new) }
+    ensures input_counted { S.faults input.old ≤ S.faults input.new }
+    ensures out_counted { K.faults out.old ≤ K.faults out.new }
+    ensures used { IsUsed (P.refusals finder.old) (P.refusals finder.new) }
+{
     let desk = open_desk(alloc, opened.state)?;
     tell_serving(err, job.files.model, opened.rules);
-    serve_stream(alloc, desk, &opened.program, job.json, input, out, finder)
+    let mut clerk = DeskClerk::new(alloc, desk, &opened.program);
+    serve_stream(
+        alloc,
+        &mut clerk,
+        false,
+        &opened.program,
+        job.json,
+        input,
+        out,
+        finder,
+    )
+}
+
+// Serves a follower's stream.
+fn serve_follower<S: Source, K: Sink, E: Sink, P: Finder>(
+    alloc: Global,
+    opened: Opened,
+    job: &Job<'_>,
+    input: &mut S,
+    out: &mut K,
+    err: &mut E,
+    finder: &mut P,
+) -> Result<(), Stop>
+    requires follower { job.now.follow ≡ true }
+    requires suits { Suits opened.program opened.state.shapes }
+    requires opening { versions opened.state.log ≡ 0 }
+    ensures served { OnOk result (ServedOpened job.now opened
+        (moment None 0 (S.left input.old) (S.faults input.old)
+        (K.taken out.old) (K.faults out.old) (E.taken err.old) (E.faults err.old) (P.refusals finder.old))
+        (moment None 0 (S.left input.new) (S.faults input.new)
+        (K.taken out.new) (K.faults out.new) (E.taken err.new) (E.faults err.new) (P.refusals finder.new))) }
+    ensures stopped { IfErr result (StopsOpened job.now opened
+        (moment None 0 (S.left input.old) (S.faults input.old)
+        (K.taken out.old) (K.faults out.old) (E.taken err.old) (E.faults err.old) (P.refusals finder.old))
+        (moment None 0 (S.left input.new) (S.faults input.new)
+        (K.taken out.new) (K.faults out.new) (E.taken err.new) (E.faults err.new) (P.refusals finder.new))) }
+    ensures read_to_end { OnOk result (IfSome (S.left input.new) (λ rest. rest ≡ [])) }
+    ensures no_further { IsEndedOnce (S.ends input.old) (S.ends input.new) }
+    ensures input_counted { S.faults input.old ≤ S.faults input.new }
+    ensures out_counted { K.faults out.old ≤ K.faults out.new }
+    ensures used { IsUsed (P.refusals finder.old) (P.refusals finder.new) }
+{
+    let follower = Follower::open(alloc, opened.state);
+    tell_serving(err, job.files.model, opened.rules);
+    let mut clerk = FollowerClerk::new(alloc, follower, &opened.program);
+    serve_stream(
+        alloc,
+        &mut clerk,
+        true,
+        &opened.program,
+        job.json,
+        input,
+        out,
+        finder,
+    )
 }

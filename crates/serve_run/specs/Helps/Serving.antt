@@ -19,7 +19,7 @@ use Rattle.serve_run.specs.declared.words.Job.{Job}
 
 -- over what was opened
 abbrev pub opened_service : Job → Opened → Service
-opened_service job opened = record { json = job.json; model = opened.program; shapes = opened.state.shapes; opening = tables opened.state }
+opened_service job opened = record { json = job.json; follow = job.follow; model = opened.program; shapes = opened.state.shapes; opening = tables opened.state }
 
 -- `err` took the line that tells so many rules
 abbrev pub Announces : Job → ℕ → Moment → Moment → Type 0

@@ -4,4 +4,4 @@ use Rattle.serve_run.proofs.WordLemmas.{job_limits}
 use Rattle.serve_run.proofs.words.read_job.Goals as goal
 
 pub returns-clause-limit : goal.returns-clause-limit
-returns-clause-limit c = job_limits (texts c.args.session.now) c.job_of.result (search rules)
+returns-clause-limit c = job_limits c.args.follow (texts c.args.session.now) c.job_of.result (search rules)
