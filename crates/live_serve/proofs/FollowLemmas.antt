@@ -7,7 +7,7 @@ use Rattle.answer_lines.specs.declared.answer.Answer.{Answer}
 use Rattle.loaded_work.specs.Following.{IsKnown, taken_text}
 use Rattle.log_ship.specs.Followers.{Following, Held}
 use Rattle.log_ship.specs.Taking as packets
-use Rattle.log_ship.specs.Taking.{Reading, Reads, Takes, after_answer, edit_read}
+use Rattle.log_ship.specs.Taking.{TextReading, Reads, Takes, after_answer, edit_read}
 use Rattle.log_ship.specs.declared.packet.Packet.{Packet}
 use Rattle.log_ship.specs.declared.taken.Taken.TheVariants.{Repeated, Waiting, Applied}
 use Rattle.model_conf.specs.ModelText.{ModelParts}
@@ -34,13 +34,13 @@ pub asked_step : (model : ModelParts) (before : Following) (old now : Refusals) 
 asked_step model before old now number it reply text is asks text-is = by_kind model before number it is.asked.refused text false asks (record { reply = reply; replied = is.replied; unasked = is.asked.unasked; text_is = text-is })
 
 -- a packet leaves the shapes
-shapes_after : (result : packets.Answer) (held : Held) (before : Following) → (after_answer result held before).state.shapes ≡ before.state.shapes
+shapes_after : (result : packets.TakeAnswer) (held : Held) (before : Following) → (after_answer result held before).state.shapes ≡ before.state.shapes
 shapes_after (Ok Repeated) held before = refl
 shapes_after (Ok Waiting) held before = refl
 shapes_after (Ok (Applied version)) held before = refl
 shapes_after (Err refused) held before = refl
 
-pub taken_step : (model : ModelParts) (before now : Following) (number : ℕ) (sent : Packet) (result : packets.Answer) (text : List ℕ) → Takes before sent result now → IsKnown result → (reading : Reading) × Reads sent.text reading → text ≡ numbered number (taken_text result) → IsStep model (follows before) (follows now) number (packet sent) [] text
+pub taken_step : (model : ModelParts) (before now : Following) (number : ℕ) (sent : Packet) (result : packets.TakeAnswer) (text : List ℕ) → Takes before sent result now → IsKnown result → (reading : TextReading) × Reads sent.text reading → text ≡ numbered number (taken_text result) → IsStep model (follows before) (follows now) number (packet sent) [] text
 taken_step model before now number sent result text takes known (reading, reads) text-is = (refl, record {
   result = result;
   takes = takes;

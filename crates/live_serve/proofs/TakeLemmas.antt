@@ -5,7 +5,7 @@ use Rattle.answer_lines.specs.LineText.{numbered}
 use Rattle.loaded_work.specs.Following.{IsKnown, taken_text}
 use Rattle.log_ship.specs.Followers.{Following}
 use Rattle.log_ship.specs.Taking as packets
-use Rattle.log_ship.specs.Taking.{Reading, Reads, Takes}
+use Rattle.log_ship.specs.Taking.{TextReading, Reads, Takes}
 use Rattle.log_ship.specs.declared.packet.Packet.{Packet}
 use Rattle.model_conf.specs.ModelText.{ModelParts}
 use Rattle.outside.specs.Told.{with_back}
@@ -20,7 +20,7 @@ use Rattle.live_serve.specs.Serving.{Halts, Pushed}
 use Rattle.live_serve.proofs.FollowLemmas.{taken_step}
 use Rattle.live_serve.proofs.ServeLemmas.{step_halts, step_pushed, took_none}
 
-module _ (old : Standing) (before now : Following) (place-is : old.place ≡ follows before) (sent : Packet) (result : packets.Answer) (takes : Takes before sent result now) (reads : (reading : Reading) × Reads sent.text reading) where
+module _ (old : Standing) (before now : Following) (place-is : old.place ≡ follows before) (sent : Packet) (result : packets.TakeAnswer) (takes : Takes before sent result now) (reads : (reading : TextReading) × Reads sent.text reading) where
   abbrev line : List ℕ
   line = numbered (next_number old.number) (taken_text result)
 

@@ -55,7 +55,7 @@ pub record IsReplied (model : ModelParts) (state : State) (number : ℕ) (it : S
 
 -- the text that answers a packet, behind which the follower is this
 pub record IsTaken (before : Following) (number : ℕ) (sent : Packet) (text : List ℕ) (now : Following) : Type 0 where
-  pub result : packets.Answer
+  pub result : packets.TakeAnswer
   pub takes : Takes before sent result now
   pub known : IsKnown result
   pub shapes_are : now.state.shapes ≡ before.state.shapes

@@ -1,5 +1,7 @@
 -- Where clerks stand.
 use Rattle.live_serve.specs.Places.{Standing, at_desk, follows}
+use Rattle.live_serve.specs.declared.answering.Clerk.{Clerk}
+use Rattle.live_serve.specs.declared.answering.Clerk.TheVariants.{Desk, Follower}
 use Rattle.live_serve.specs.declared.clerk.DeskClerk.{DeskClerk}
 use Rattle.live_serve.specs.declared.follow.FollowerClerk.{FollowerClerk}
 
@@ -8,3 +10,7 @@ desk_standing clerk = record { place = at_desk clerk.desk; number = clerk.pen.nu
 
 abbrev pub follower_standing : FollowerClerk → Standing
 follower_standing clerk = record { place = follows clerk.follower; number = clerk.pen.number }
+
+abbrev pub standing : Clerk → Standing
+standing (Desk clerk) = desk_standing clerk
+standing (Follower clerk) = follower_standing clerk

@@ -3,24 +3,46 @@ ghost use Rattle.decision.specs.Programs.{Suits};
 ghost use Rattle.item_stream.specs.Seen as cut;
 ghost use Rattle.outside.specs.Faults.{Rose};
 ghost use Rattle.regex_gate.specs.Refusals.{IsUsed};
-ghost use Rattle.live_serve.specs.Places.{Standing, StandsSomewhere, is_followers, state_at};
+ghost use Rattle.live_serve.specs.Places.{StandsSomewhere, at_desk, follows, is_followers, state_at};
 ghost use Rattle.live_serve.specs.Serving.{OfSection, Pushed, SectionStops};
+ghost use Rattle.live_serve.specs.Standings.{standing};
 ghost use Rattle.live_serve.specs.Helps.Ending.{LeavesEnded, TakesEnded};
 
+use crate::clerk::DeskClerk;
+use crate::follow::FollowerClerk;
 use decision::Program;
 use item_stream::Section;
+use log_ship::Follower;
 use perm_base::Sink;
+use policy_desk::Desk;
 use regex_gate::Finder;
 use run_status::Stop;
 use std::alloc::Global;
 
 /// Who answers the sections of a stream, each line with its number.
-pub trait Clerk {
-    /// Where the clerk stands: at a desk or with a follower, behind a line with this number.
-    ghost standing: { Self → Standing };
+#[derive(Drop)]
+pub enum Clerk {
+    Desk(DeskClerk),
+    Follower(FollowerClerk),
+}
+
+impl Clerk {
+    /// A clerk at a desk who has answered nothing yet. It takes no memory.
+    pub fn over_desk(alloc: Global, desk: Desk, program: &Program) -> Clerk
+        ensures { standing result ≡ record { place = at_desk desk; number = 0 } }
+    {
+        Clerk::Desk(DeskClerk::new(alloc, desk, program))
+    }
+
+    /// A clerk with a follower who has answered nothing yet. It takes no memory.
+    pub fn over_follower(alloc: Global, follower: Follower, program: &Program) -> Clerk
+        ensures { standing result ≡ record { place = follows follower; number = 0 } }
+    {
+        Clerk::Follower(FollowerClerk::new(alloc, follower, program))
+    }
 
     /// Does what a section says, and pushes its answer. Behind that the sink took the answer and nothing else.
-    fn serve_section<K: Sink, P: Finder>(
+    pub fn serve_section<K: Sink, P: Finder>(
         &mut self,
         alloc: Global,
         program: &Program,
@@ -38,12 +60,20 @@ pub trait Clerk {
             (standing self.old) (cut.seen section) (K.taken out.old) (K.taken out.new)
             (Rose (K.faults out.old) (K.faults out.new))) }
         ensures counted { K.faults out.old ≤ K.faults out.new }
-        ensures used { IsUsed (P.refusals finder.old) (P.refusals finder.new) };
+        ensures used { IsUsed (P.refusals finder.old) (P.refusals finder.new) }
+    {
+        match self {
+            Clerk::Desk(clerk) => clerk.serve_at_desk(alloc, program, json, section, out, finder),
+            Clerk::Follower(clerk) => {
+                clerk.serve_followed(alloc, program, json, section, out, finder)
+            }
+        }
+    }
 }
 
 /// Does what a section says, where one has ended.
-pub(crate) fn serve_ended<C: Clerk, K: Sink, P: Finder>(
-    clerk: &mut C,
+pub(crate) fn serve_ended<K: Sink, P: Finder>(
+    clerk: &mut Clerk,
     alloc: Global,
     program: &Program,
     json: bool,
@@ -51,13 +81,13 @@ pub(crate) fn serve_ended<C: Clerk, K: Sink, P: Finder>(
     out: &mut K,
     finder: &mut P,
 ) -> Result<(), Stop>
-    requires suits { Suits program.now (state_at (C.standing clerk.old).place).shapes }
-    requires stands { StandsSomewhere (C.standing clerk.old).place }
-    ensures served { OnOk result (TakesEnded json (is_followers (C.standing clerk.old).place) program.now
-        (P.refusals finder.old) (P.refusals finder.new) (C.standing clerk.old) (C.standing clerk.new)
+    requires suits { Suits program.now (state_at (standing clerk.old).place).shapes }
+    requires stands { StandsSomewhere (standing clerk.old).place }
+    ensures served { OnOk result (TakesEnded json (is_followers (standing clerk.old).place) program.now
+        (P.refusals finder.old) (P.refusals finder.new) (standing clerk.old) (standing clerk.new)
         (cut.seen_option section) (K.taken out.old) (K.taken out.new)) }
-    ensures stopped { IfErr result (LeavesEnded json (is_followers (C.standing clerk.old).place) program.now
-        (C.standing clerk.old) (cut.seen_option section) (K.taken out.old) (K.taken out.new)
+    ensures stopped { IfErr result (LeavesEnded json (is_followers (standing clerk.old).place) program.now
+        (standing clerk.old) (cut.seen_option section) (K.taken out.old) (K.taken out.new)
         (Rose (K.faults out.old) (K.faults out.new))) }
     ensures counted { K.faults out.old ≤ K.faults out.new }
     ensures used { IsUsed (P.refusals finder.old) (P.refusals finder.new) }

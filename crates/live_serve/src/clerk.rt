@@ -5,12 +5,11 @@ ghost use Rattle.outside.specs.Faults.{Rose};
 ghost use Rattle.regex_gate.specs.Refusals.{IsUsed};
 ghost use Rattle.script_read.specs.Named.{is_named};
 ghost use Rattle.script_read.specs.Said.{seen};
-ghost use Rattle.live_serve.specs.Places.{StandsSomewhere, at_desk, is_followers, state_at};
+ghost use Rattle.live_serve.specs.Places.{StandsSomewhere, at_desk, state_at};
 ghost use Rattle.live_serve.specs.Sayings.{said};
 ghost use Rattle.live_serve.specs.Serving.{Halts, OfSection, Pushed, SectionStops};
 ghost use Rattle.live_serve.specs.Standings.{desk_standing};
 
-use crate::answering::Clerk;
 use crate::cause::cause_text;
 use crate::pen::Pen;
 use crate::script::script_of;
@@ -33,25 +32,6 @@ pub struct DeskClerk {
     pen: Pen,
 }
 
-impl Clerk for DeskClerk {
-    ghost standing = { desk_standing };
-
-    fn serve_section<K: Sink, P: Finder>(
-        &mut self,
-        alloc: Global,
-        program: &Program,
-        json: bool,
-        section: Section,
-        out: &mut K,
-        finder: &mut P,
-    ) -> Result<(), Stop> {
-        match section {
-            Section::TooLong => self.pen.refuse("refused: script ", "too long", out),
-            Section::Lines(lines) => self.serve_lines(alloc, program, json, &lines, out, finder),
-        }
-    }
-}
-
 impl DeskClerk {
     /// A clerk who has answered nothing yet. It takes no memory.
     pub fn new(alloc: Global, desk: Desk, program: &Program) -> DeskClerk
@@ -61,6 +41,33 @@ impl DeskClerk {
             desk,
             scratch: Scratch::for_program(alloc, program),
             pen: Pen::new(alloc),
+        }
+    }
+
+    /// Does what a section says, and pushes its answer. Behind that the sink took the answer and nothing else.
+    pub(crate) fn serve_at_desk<K: Sink, P: Finder>(
+        &mut self,
+        alloc: Global,
+        program: &Program,
+        json: bool,
+        section: Section,
+        out: &mut K,
+        finder: &mut P,
+    ) -> Result<(), Stop>
+        requires suits { Suits program.now (state_at (desk_standing self.old).place).shapes }
+        requires stands { StandsSomewhere (desk_standing self.old).place }
+        ensures served { OnOk result (OfSection json false (cut.seen section)
+            (Pushed program.now (P.refusals finder.old) (P.refusals finder.new)
+            (desk_standing self.old) (desk_standing self.new) (K.taken out.old) (K.taken out.new))) }
+        ensures stopped { IfErr result (SectionStops json false program.now
+            (desk_standing self.old) (cut.seen section) (K.taken out.old) (K.taken out.new)
+            (Rose (K.faults out.old) (K.faults out.new))) }
+        ensures counted { K.faults out.old ≤ K.faults out.new }
+        ensures used { IsUsed (P.refusals finder.old) (P.refusals finder.new) }
+    {
+        match section {
+            Section::TooLong => self.pen.refuse("refused: script ", "too long", out),
+            Section::Lines(lines) => self.serve_lines(alloc, program, json, &lines, out, finder),
         }
     }
 

@@ -7,12 +7,11 @@ ghost use Rattle.outside.specs.Faults.{Rose};
 ghost use Rattle.regex_gate.specs.Refusals.{IsUsed, Refusals};
 ghost use Rattle.script_read.specs.Named.{is_named};
 ghost use Rattle.script_read.specs.Said.{seen};
-ghost use Rattle.live_serve.specs.Places.{StandsSomewhere, follows, is_followers, state_at};
+ghost use Rattle.live_serve.specs.Places.{StandsSomewhere, follows, state_at};
 ghost use Rattle.live_serve.specs.Sayings.{packet, said, sent};
 ghost use Rattle.live_serve.specs.Serving.{Halts, OfSection, Pushed, SectionStops};
 ghost use Rattle.live_serve.specs.Standings.{follower_standing};
 
-use crate::answering::Clerk;
 use crate::cause::cause_text;
 use crate::pen::Pen;
 use crate::query::answer_query;
@@ -34,25 +33,6 @@ pub struct FollowerClerk {
     pen: Pen,
 }
 
-impl Clerk for FollowerClerk {
-    ghost standing = { follower_standing };
-
-    fn serve_section<K: Sink, P: Finder>(
-        &mut self,
-        alloc: Global,
-        program: &Program,
-        json: bool,
-        section: Section,
-        out: &mut K,
-        finder: &mut P,
-    ) -> Result<(), Stop> {
-        match section {
-            Section::TooLong => self.pen.refuse("refused: script ", "too long", out),
-            Section::Lines(lines) => self.serve_text(alloc, program, json, &lines, out, finder),
-        }
-    }
-}
-
 impl FollowerClerk {
     /// A clerk who has answered nothing yet. It takes no memory.
     pub fn new(alloc: Global, follower: Follower, program: &Program) -> FollowerClerk
@@ -62,6 +42,33 @@ impl FollowerClerk {
             follower,
             scratch: Scratch::for_program(alloc, program),
             pen: Pen::new(alloc),
+        }
+    }
+
+    /// Does what a section says, and pushes its answer. Behind that the sink took the answer and nothing else.
+    pub(crate) fn serve_followed<K: Sink, P: Finder>(
+        &mut self,
+        alloc: Global,
+        program: &Program,
+        json: bool,
+        section: Section,
+        out: &mut K,
+        finder: &mut P,
+    ) -> Result<(), Stop>
+        requires suits { Suits program.now (state_at (follower_standing self.old).place).shapes }
+        requires stands { StandsSomewhere (follower_standing self.old).place }
+        ensures served { OnOk result (OfSection json true (cut.seen section)
+            (Pushed program.now (P.refusals finder.old) (P.refusals finder.new)
+            (follower_standing self.old) (follower_standing self.new) (K.taken out.old) (K.taken out.new))) }
+        ensures stopped { IfErr result (SectionStops json true program.now
+            (follower_standing self.old) (cut.seen section) (K.taken out.old) (K.taken out.new)
+            (Rose (K.faults out.old) (K.faults out.new))) }
+        ensures counted { K.faults out.old ≤ K.faults out.new }
+        ensures used { IsUsed (P.refusals finder.old) (P.refusals finder.new) }
+    {
+        match section {
+            Section::TooLong => self.pen.refuse("refused: script ", "too long", out),
+            Section::Lines(lines) => self.serve_text(alloc, program, json, &lines, out, finder),
         }
     }
 

@@ -3,6 +3,7 @@ ghost use Rattle.decision.specs.Programs.{Suits};
 ghost use Rattle.outside.specs.Faults.{Rose};
 ghost use Rattle.regex_gate.specs.Refusals.{IsUsed};
 ghost use Rattle.live_serve.specs.Places.{StandsSomewhere, is_followers, state_at};
+ghost use Rattle.live_serve.specs.Standings.{standing};
 ghost use Rattle.live_serve.specs.Streams.{LeavesPiece, TakesPiece};
 
 use crate::answering::{Clerk, serve_ended};
@@ -15,9 +16,9 @@ use std::alloc::Global;
 
 /// Takes a piece of a stream: each section that ends in it is answered, and its answer is pushed before the next is looked at.
 /// Behind it the sink took the answers of these sections and nothing else.
-pub fn serve_piece<C: Clerk, K: Sink, P: Finder>(
+pub fn serve_piece<K: Sink, P: Finder>(
     alloc: Global,
-    clerk: &mut C,
+    clerk: &mut Clerk,
     sections: &mut Sections,
     program: &Program,
     json: bool,
@@ -25,13 +26,13 @@ pub fn serve_piece<C: Clerk, K: Sink, P: Finder>(
     out: &mut K,
     finder: &mut P,
 ) -> Result<(), Stop>
-    requires suits { Suits program.now (state_at (C.standing clerk.old).place).shapes }
-    requires stands { StandsSomewhere (C.standing clerk.old).place }
-    ensures served { OnOk result (TakesPiece json (is_followers (C.standing clerk.old).place) program.now
-        (P.refusals finder.old) (P.refusals finder.new) (C.standing clerk.old) (C.standing clerk.new)
+    requires suits { Suits program.now (state_at (standing clerk.old).place).shapes }
+    requires stands { StandsSomewhere (standing clerk.old).place }
+    ensures served { OnOk result (TakesPiece json (is_followers (standing clerk.old).place) program.now
+        (P.refusals finder.old) (P.refusals finder.new) (standing clerk.old) (standing clerk.new)
         sections.old sections.new piece.now [] (K.taken out.old) (K.taken out.new)) }
-    ensures stopped { IfErr result (LeavesPiece json (is_followers (C.standing clerk.old).place) program.now
-        (C.standing clerk.old) sections.old piece.now
+    ensures stopped { IfErr result (LeavesPiece json (is_followers (standing clerk.old).place) program.now
+        (standing clerk.old) sections.old piece.now
         (K.taken out.old) (K.taken out.new) (Rose (K.faults out.old) (K.faults out.new))) }
     ensures counted { K.faults out.old ≤ K.faults out.new }
     ensures used { IsUsed (P.refusals finder.old) (P.refusals finder.new) }

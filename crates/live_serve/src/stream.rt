@@ -5,6 +5,7 @@ ghost use Rattle.outside.specs.Ends.{IsEndedOnce};
 ghost use Rattle.outside.specs.Faults.{Rose};
 ghost use Rattle.regex_gate.specs.Refusals.{IsUsed};
 ghost use Rattle.live_serve.specs.Places.{StandsSomewhere, is_followers, state_at};
+ghost use Rattle.live_serve.specs.Standings.{standing};
 ghost use Rattle.live_serve.specs.Streams.{IsFirst, OfRead, ServeStops, TookTexts, service};
 ghost use Rattle.live_serve.specs.Helps.Ending.{LeavesEnded, TakesEnded, at_first};
 
@@ -26,9 +27,9 @@ const MOST_PULLS: u64 = 18_446_744_073_709_551_615;
 /// Serves a stream by a clerk who has answered nothing yet: each section is answered as soon as its last line is read, and its answer is pushed before the next
 /// bytes are pulled. Nothing that comes in ends that but the end of the stream. What is kept does not grow with what was read,
 /// but by what its edits make of the policy and its log. The stream is pulled in pieces, of which there are at most 2^64 - 1.
-pub fn serve_stream<C: Clerk, S: Source, K: Sink, P: Finder>(
+pub fn serve_stream<S: Source, K: Sink, P: Finder>(
     alloc: Global,
-    clerk: &mut C,
+    clerk: &mut Clerk,
     follow: bool,
     program: &Program,
     json: bool,
@@ -36,21 +37,21 @@ pub fn serve_stream<C: Clerk, S: Source, K: Sink, P: Finder>(
     out: &mut K,
     finder: &mut P,
 ) -> Result<(), Stop>
-    requires suits { Suits program.now (state_at (C.standing clerk.old).place).shapes }
-    requires first { IsFirst (C.standing clerk.old).place }
-    requires no_line { C.standing clerk.old ≡ at_first (C.standing clerk.old).place }
-    requires follows { follow ≡ is_followers (C.standing clerk.old).place }
+    requires suits { Suits program.now (state_at (standing clerk.old).place).shapes }
+    requires first { IsFirst (standing clerk.old).place }
+    requires no_line { standing clerk.old ≡ at_first (standing clerk.old).place }
+    requires follows { follow ≡ is_followers (standing clerk.old).place }
 
     // The stream was read to its end, and `out` took the texts of all its sections.
     ensures served { OnOk result (OfRead (S.left input.old) (S.left input.new) (λ read.
-        TookTexts (service json program.now (C.standing clerk.old).place)
+        TookTexts (service json program.now (standing clerk.old).place)
         (P.refusals finder.old) (P.refusals finder.new)
         (sections_of follow read) (K.taken out.old) (K.taken out.new))) }
     ensures read_to_end { OnOk result (IfSome (S.left input.new) (λ rest. rest ≡ [])) }
 
     // It was not, for this cause, and `out` took the texts of the first sections.
     ensures stopped { IfErr result (λ stop. OfRead (S.left input.old) (S.left input.new)
-        (ServeStops (service json program.now (C.standing clerk.old).place)
+        (ServeStops (service json program.now (standing clerk.old).place)
         (P.refusals finder.old) (P.refusals finder.new) (K.taken out.old) (K.taken out.new)
         (Rose (S.faults input.old) (S.faults input.new))
         (Rose (K.faults out.old) (K.faults out.new)) stop)) }
@@ -73,9 +74,9 @@ pub fn serve_stream<C: Clerk, S: Source, K: Sink, P: Finder>(
 }
 
 // The same by a clerk who has answered nothing yet.
-fn serve_pieces<C: Clerk, S: Source, K: Sink, P: Finder>(
+fn serve_pieces<S: Source, K: Sink, P: Finder>(
     alloc: Global,
-    clerk: &mut C,
+    clerk: &mut Clerk,
     sections: &mut Sections,
     program: &Program,
     json: bool,
@@ -83,17 +84,17 @@ fn serve_pieces<C: Clerk, S: Source, K: Sink, P: Finder>(
     out: &mut K,
     finder: &mut P,
 ) -> Result<(), Stop>
-    requires suits { Suits program.now (state_at (C.standing clerk.old).place).shapes }
-    requires first { IsFirst (C.standing clerk.old).place }
-    requires no_line { C.standing clerk.old ≡ at_first (C.standing clerk.old).place }
-    requires no_byte { sections.old ≡ first_stage (is_followers (C.standing clerk.old).place) }
+    requires suits { Suits program.now (state_at (standing clerk.old).place).shapes }
+    requires first { IsFirst (standing clerk.old).place }
+    requires no_line { standing clerk.old ≡ at_first (standing clerk.old).place }
+    requires no_byte { sections.old ≡ first_stage (is_followers (standing clerk.old).place) }
     ensures served { OnOk result (OfRead (S.left input.old) (S.left input.new) (λ read.
-        TookTexts (service json program.now (C.standing clerk.old).place)
+        TookTexts (service json program.now (standing clerk.old).place)
         (P.refusals finder.old) (P.refusals finder.new)
-        (sections_of (is_followers (C.standing clerk.old).place) read) (K.taken out.old) (K.taken out.new))) }
+        (sections_of (is_followers (standing clerk.old).place) read) (K.taken out.old) (K.taken out.new))) }
     ensures read_to_end { OnOk result (IfSome (S.left input.new) (λ rest. rest ≡ [])) }
     ensures stopped { IfErr result (λ stop. OfRead (S.left input.old) (S.left input.new)
-        (ServeStops (service json program.now (C.standing clerk.old).place)
+        (ServeStops (service json program.now (standing clerk.old).place)
         (P.refusals finder.old) (P.refusals finder.new) (K.taken out.old) (K.taken out.new)
         (Rose (S.faults input.old) (S.faults input.new))
         (Rose (K.faults out.old) (K.faults out.new)) stop)) }
@@ -119,22 +120,22 @@ fn serve_pieces<C: Clerk, S: Source, K: Sink, P: Finder>(
 }
 
 // Answers the section that is left where a stream ends.
-fn serve_rest<C: Clerk, K: Sink, P: Finder>(
+fn serve_rest<K: Sink, P: Finder>(
     alloc: Global,
-    clerk: &mut C,
+    clerk: &mut Clerk,
     sections: &mut Sections,
     program: &Program,
     json: bool,
     out: &mut K,
     finder: &mut P,
 ) -> Result<(), Stop>
-    requires suits { Suits program.now (state_at (C.standing clerk.old).place).shapes }
-    requires stands { StandsSomewhere (C.standing clerk.old).place }
-    ensures served { OnOk result (TakesEnded json (is_followers (C.standing clerk.old).place) program.now
-        (P.refusals finder.old) (P.refusals finder.new) (C.standing clerk.old) (C.standing clerk.new)
+    requires suits { Suits program.now (state_at (standing clerk.old).place).shapes }
+    requires stands { StandsSomewhere (standing clerk.old).place }
+    ensures served { OnOk result (TakesEnded json (is_followers (standing clerk.old).place) program.now
+        (P.refusals finder.old) (P.refusals finder.new) (standing clerk.old) (standing clerk.new)
         (left_at sections.old) (K.taken out.old) (K.taken out.new)) }
-    ensures stopped { IfErr result (LeavesEnded json (is_followers (C.standing clerk.old).place) program.now
-        (C.standing clerk.old) (left_at sections.old)
+    ensures stopped { IfErr result (LeavesEnded json (is_followers (standing clerk.old).place) program.now
+        (standing clerk.old) (left_at sections.old)
         (K.taken out.old) (K.taken out.new) (Rose (K.faults out.old) (K.faults out.new))) }
     ensures counted { K.faults out.old ≤ K.faults out.new }
     ensures used { IsUsed (P.refusals finder.old) (P.refusals finder.new) }

@@ -10,7 +10,7 @@ use Rattle.live_serve.specs.Standings.{desk_standing}
 use Rattle.live_serve.proofs.PieceLemmas.{section_pushed, section_stops}
 use Rattle.live_serve.proofs.ServeLemmas.{step_halts, step_pushed}
 use Rattle.live_serve.proofs.DeskLemmas.{long_step}
-use Rattle.live_serve.proofs.clerk.DeskClerkClerk.serve_section.Goals as goal
+use Rattle.live_serve.proofs.clerk.DeskClerk.serve_at_desk.Goals as goal
 
 pub returns-in-TooLong-clause-served : goal.returns-in-TooLong-clause-served
 returns-in-TooLong-clause-served g c =
