@@ -13,7 +13,7 @@ ghost use Rattle.serve_run.specs.Helps.Serving.{ServedJob, ServedOpened, StopsJo
 use crate::opened::{Opened, open_files};
 use crate::telling::tell_serving;
 use crate::words::{Job, asks_to_follow, read_job, session_words};
-use live_serve::{DeskClerk, FollowerClerk, serve_stream};
+use live_serve::{Clerk, serve_stream};
 use log_ship::Follower;
 use perm_base::{Shelf, Sink, Source};
 use policy_desk::open_desk;
@@ -96,7 +96,7 @@ fn serve_words<F: Shelf, S: Source, K: Sink, E: Sink, P: Finder>(
         return Err(Stop::Words);
     };
     let follow = asks_to_follow(words);
-    let Some(job) = read_job(&session, follow) else {
+    let Some(job) = read_job(alloc, &session, follow)? else {
         return Err(Stop::Words);
     };
     serve_job(alloc, &job, shelf, input, out, err, finder)
@@ -199,8 +199,8 @@ fn serve_desk<S: Source, K: Sink, E: Sink, P: Finder>(
     ensures used { IsUsed (P.refusals finder.old) (P.refusals finder.new) }
 {
     let desk = open_desk(alloc, opened.state)?;
-    tell_serving(err, job.files.model, opened.rules);
-    let mut clerk = DeskClerk::new(alloc, desk, &opened.program);
+    tell_serving(err, &job.files, opened.rules);
+    let mut clerk = Clerk::over_desk(alloc, desk, &opened.program);
     serve_stream(
         alloc,
         &mut clerk,
@@ -243,8 +243,8 @@ fn serve_follower<S: Source, K: Sink, E: Sink, P: Finder>(
     ensures used { IsUsed (P.refusals finder.old) (P.refusals finder.new) }
 {
     let follower = Follower::open(alloc, opened.state);
-    tell_serving(err, job.files.model, opened.rules);
-    let mut clerk = FollowerClerk::new(alloc, follower, &opened.program);
+    tell_serving(err, &job.files, opened.rules);
+    let mut clerk = Clerk::over_follower(alloc, follower, &opened.program);
     serve_stream(
         alloc,
         &mut clerk,

@@ -4,7 +4,7 @@ use Rattle.std.proofs.lemmas.Result.{IfErr-weaker, err_from_is_err_and, on_ok_we
 use Rattle.decision.specs.Programs.{Suits}
 use Rattle.live_serve.specs.Helps.Ending.{at_first}
 use Rattle.live_serve.specs.Places.{Place, Standing, is_followers, state_at, at_desk}
-use Rattle.live_serve.specs.Standings.{desk_standing}
+use Rattle.live_serve.specs.Standings.{standing}
 use Rattle.live_serve.specs.Streams.{IsFirst}
 use Rattle.policy_state.specs.States.{State}
 use Rattle.regex_gate.proofs.CallerLemmas.{used_none}
@@ -26,30 +26,30 @@ returns-in_err-desk-clause-used g c = used_none (g.P.Finder.refusals c.args.find
 -- where the clerk stands
 pub serve_stream-requires-clause-suits : goal.serve_stream-requires-clause-suits
 serve_stream-requires-clause-suits g c = λ lifetimes outlive.
-    let place : (desk_standing c.new-clerk.result).place ≡ at_desk c.in_ok-desk.desk = ap (λ (s : Standing). s.place) c.new-clerk.ensures in
+    let place : (standing c.over_desk-clerk.result).place ≡ at_desk c.in_ok-desk.desk = ap (λ (s : Standing). s.place) c.over_desk-clerk.ensures in
     subst (λ (p : Place). Suits c.args.opened.program (state_at p).shapes) (sym place) (subst (Suits c.args.opened.program) (sym (ap (λ (s : State). s.shapes) c.in_ok-desk.ensures.state)) c.requires.suits)
 
 pub serve_stream-requires-clause-first : goal.serve_stream-requires-clause-first
 serve_stream-requires-clause-first g c = λ lifetimes outlive.
-    let place : (desk_standing c.new-clerk.result).place ≡ at_desk c.in_ok-desk.desk = ap (λ (s : Standing). s.place) c.new-clerk.ensures in
+    let place : (standing c.over_desk-clerk.result).place ≡ at_desk c.in_ok-desk.desk = ap (λ (s : Standing). s.place) c.over_desk-clerk.ensures in
     subst IsFirst (sym place) (desk_before c.in_ok-desk.desk c.args.opened.state c.requires.opening c.in_ok-desk.ensures.state c.in_ok-desk.ensures.pending c.in_ok-desk.ensures.kept c.in_ok-desk.ensures.floor)
 
 pub serve_stream-requires-clause-no_line : goal.serve_stream-requires-clause-no_line
-serve_stream-requires-clause-no_line g c = λ lifetimes outlive. c.new-clerk.ensures ∙ ap at_first (sym (ap (λ (s : Standing). s.place) c.new-clerk.ensures))
+serve_stream-requires-clause-no_line g c = λ lifetimes outlive. c.over_desk-clerk.ensures ∙ ap at_first (sym (ap (λ (s : Standing). s.place) c.over_desk-clerk.ensures))
 
 pub serve_stream-requires-clause-follows : goal.serve_stream-requires-clause-follows
-serve_stream-requires-clause-follows g c = λ lifetimes outlive. refl
+serve_stream-requires-clause-follows g c = λ lifetimes outlive. sym (ap (λ (s : Standing). is_followers s.place) c.over_desk-clerk.ensures)
 
 pub returns-clause-served : goal.returns-clause-served
 returns-clause-served g c =
     let after = c.serve_stream.new in
     let before = moment None 0 (g.S.Source.left c.args.input.now) (g.S.Source.faults c.args.input.now) (g.K.Sink.taken c.args.out.now) (g.K.Sink.faults c.args.out.now) (g.E.Sink.taken c.args.err.now) (g.E.Sink.faults c.args.err.now) (g.P.Finder.refusals c.args.finder.now) in
     let now = moment None 0 (g.S.Source.left after.input) (g.S.Source.faults after.input) (g.K.Sink.taken after.out) (g.K.Sink.faults after.out) (g.E.Sink.taken c.tell_serving.new.err) (g.E.Sink.faults c.tell_serving.new.err) (g.P.Finder.refusals after.finder) in
-    on_ok_weaker c.serve_stream.result (stream_served c.args.job.now c.args.opened (desk_standing c.new-clerk.result).place (sym c.requires.desk) (ap state_at (ap (λ (s : Standing). s.place) c.new-clerk.ensures) ∙ c.in_ok-desk.ensures.state) before now c.tell_serving.ensures false refl) c.serve_stream.ensures.served
+    on_ok_weaker c.serve_stream.result (stream_served c.args.job.now c.args.opened (standing c.over_desk-clerk.result).place (ap (λ (s : Standing). is_followers s.place) c.over_desk-clerk.ensures ∙ sym c.requires.desk) (ap state_at (ap (λ (s : Standing). s.place) c.over_desk-clerk.ensures) ∙ c.in_ok-desk.ensures.state) before now c.tell_serving.ensures false (sym (ap (λ (s : Standing). is_followers s.place) c.over_desk-clerk.ensures))) c.serve_stream.ensures.served
 
 pub returns-clause-stopped : goal.returns-clause-stopped
 returns-clause-stopped g c =
     let after = c.serve_stream.new in
     let before = moment None 0 (g.S.Source.left c.args.input.now) (g.S.Source.faults c.args.input.now) (g.K.Sink.taken c.args.out.now) (g.K.Sink.faults c.args.out.now) (g.E.Sink.taken c.args.err.now) (g.E.Sink.faults c.args.err.now) (g.P.Finder.refusals c.args.finder.now) in
     let now = moment None 0 (g.S.Source.left after.input) (g.S.Source.faults after.input) (g.K.Sink.taken after.out) (g.K.Sink.faults after.out) (g.E.Sink.taken c.tell_serving.new.err) (g.E.Sink.faults c.tell_serving.new.err) (g.P.Finder.refusals after.finder) in
-    IfErr-weaker c.serve_stream.result _ _ (stream_stops c.args.job.now c.args.opened (desk_standing c.new-clerk.result).place (sym c.requires.desk) (ap state_at (ap (λ (s : Standing). s.place) c.new-clerk.ensures) ∙ c.in_ok-desk.ensures.state) before now c.tell_serving.ensures) c.serve_stream.ensures.stopped
+    IfErr-weaker c.serve_stream.result _ _ (stream_stops c.args.job.now c.args.opened (standing c.over_desk-clerk.result).place (ap (λ (s : Standing). is_followers s.place) c.over_desk-clerk.ensures ∙ sym c.requires.desk) (ap state_at (ap (λ (s : Standing). s.place) c.over_desk-clerk.ensures) ∙ c.in_ok-desk.ensures.state) before now c.tell_serving.ensures) c.serve_stream.ensures.stopped

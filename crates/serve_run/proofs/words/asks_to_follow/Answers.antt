@@ -3,7 +3,7 @@ use Rattle.serve_run.proofs.WordLemmas.{follow_none, follow_some}
 use Rattle.serve_run.proofs.words.asks_to_follow.Goals as goal
 
 pub returns-in_default : goal.returns-in_default
-returns-in_default c = (follow_none c.args.words.now (search rules)).0
+returns-in_default c = (follow_none c.args.words.now c.in_default.ensures.cases).0
 
 pub returns : goal.returns
 returns c =

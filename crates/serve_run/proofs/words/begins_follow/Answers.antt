@@ -4,7 +4,7 @@ use Rattle.serve_run.proofs.WordLemmas.{begins_some, follow_none}
 use Rattle.serve_run.proofs.words.begins_follow.Goals as goal
 
 pub returns-in_default : goal.returns-in_default
-returns-in_default c = (follow_none c.args.words.now (search rules)).1
+returns-in_default c = (follow_none c.args.words.now c.in_default.ensures.cases).1
 
 pub returns : goal.returns
 returns c =

@@ -5,7 +5,7 @@ use Rattle.serve_run.proofs.WordLemmas.{behind_some, follow_none}
 use Rattle.serve_run.proofs.words.behind_follow.Goals as goal
 
 pub returns-in_default : goal.returns-in_default
-returns-in_default c = (follow_none c.args.words.now (search rules)).2
+returns-in_default c = (follow_none c.args.words.now c.in_default.ensures.cases).2
 
 pub returns-then-is_follow : goal.returns-then-is_follow
 returns-then-is_follow c =
