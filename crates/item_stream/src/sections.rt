@@ -97,8 +97,11 @@ impl Sections {
         ensures ended { IfOk result (λ section.
             seen_option section ≡ ended_at self.old.follow self.old.held self.old.line) }
         ensures stage { IfOk result (λ _. self.new
-            ≡ record { follow = self.old.follow; line = [];
-            held = next_held self.old.follow self.old.held self.old.line }) }
+            ≡ record {
+              follow = self.old.follow;
+              line = [];
+              held = next_held self.old.follow self.old.held self.old.line;
+            }) }
     {
         let line = mem::replace(&mut self.line, Vec::new(alloc));
         let held = mem::replace(&mut self.held, Held::Nothing);

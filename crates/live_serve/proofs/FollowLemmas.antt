@@ -41,13 +41,16 @@ shapes_after (Ok (Applied version)) held before = refl
 shapes_after (Err refused) held before = refl
 
 pub taken_step : (model : ModelParts) (before now : Following) (number : ℕ) (sent : Packet) (result : packets.TakeAnswer) (text : List ℕ) → Takes before sent result now → IsKnown result → (reading : TextReading) × Reads sent.text reading → text ≡ numbered number (taken_text result) → IsStep model (follows before) (follows now) number (packet sent) [] text
-taken_step model before now number sent result text takes known (reading, reads) text-is = (refl, record {
-  result = result;
-  takes = takes;
-  known = known;
-  shapes_are = (takes.after reading reads).state.shapes ∙ shapes_after result (record { number = sent.number; edit = edit_read reading }) before;
-  text_is = text-is;
-})
+taken_step model before now number sent result text takes known (reading, reads) text-is = (
+  refl,
+  record {
+    result = result;
+    takes = takes;
+    known = known;
+    shapes_are = (takes.after reading reads).state.shapes ∙ shapes_after result (record { number = sent.number; edit = edit_read reading }) before;
+    text_is = text-is;
+  },
+)
 
 -- what is no script, no packet, or too long
 pub fault_step : (model : ModelParts) (before : Following) (number : ℕ) (first : ScriptFault) (text : List ℕ) → text ≡ refused_text number (cause_text first) → IsStep model (follows before) (follows before) number (fault first) [] text

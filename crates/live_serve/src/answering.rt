@@ -41,6 +41,16 @@ impl Clerk {
         Clerk::Follower(FollowerClerk::new(alloc, follower, program))
     }
 
+    /// Whether its stream is a follower's, in which packets are sections too.
+    pub(crate) fn takes_packets(&self) -> bool
+        ensures { result ≡ is_followers (standing self.now).place }
+    {
+        match self {
+            Clerk::Desk(_) => false,
+            Clerk::Follower(_) => true,
+        }
+    }
+
     /// Does what a section says, and pushes its answer. Behind that the sink took the answer and nothing else.
     pub fn serve_section<K: Sink, P: Finder>(
         &mut self,

@@ -132,7 +132,11 @@ fn query_users(
 }
 
 // The edit of a number.
-fn query_history(alloc: Global, state: &PolicyState, number: u32) -> Result<Option<Answer>, NoMemory>
+fn query_history(
+    alloc: Global,
+    state: &PolicyState,
+    number: u32,
+) -> Result<Option<Answer>, NoMemory>
     ensures { IfOk result (IsQueried state.now (recalls number)) }
 {
     let version = state.version();

@@ -30,7 +30,6 @@ const MOST_PULLS: u64 = 18_446_744_073_709_551_615;
 pub fn serve_stream<S: Source, K: Sink, P: Finder>(
     alloc: Global,
     clerk: &mut Clerk,
-    follow: bool,
     program: &Program,
     json: bool,
     input: &mut S,
@@ -40,13 +39,12 @@ pub fn serve_stream<S: Source, K: Sink, P: Finder>(
     requires suits { Suits program.now (state_at (standing clerk.old).place).shapes }
     requires first { IsFirst (standing clerk.old).place }
     requires no_line { standing clerk.old ≡ at_first (standing clerk.old).place }
-    requires follows { follow ≡ is_followers (standing clerk.old).place }
 
     // The stream was read to its end, and `out` took the texts of all its sections.
     ensures served { OnOk result (OfRead (S.left input.old) (S.left input.new) (λ read.
         TookTexts (service json program.now (standing clerk.old).place)
         (P.refusals finder.old) (P.refusals finder.new)
-        (sections_of follow read) (K.taken out.old) (K.taken out.new))) }
+        (sections_of (is_followers (standing clerk.old).place) read) (K.taken out.old) (K.taken out.new))) }
     ensures read_to_end { OnOk result (IfSome (S.left input.new) (λ rest. rest ≡ [])) }
 
     // It was not, for this cause, and `out` took the texts of the first sections.
@@ -60,7 +58,7 @@ pub fn serve_stream<S: Source, K: Sink, P: Finder>(
     ensures out_counted { K.faults out.old ≤ K.faults out.new }
     ensures used { IsUsed (P.refusals finder.old) (P.refusals finder.new) }
 {
-    let mut sections = Sections::new(alloc, follow);
+    let mut sections = Sections::new(alloc, clerk.takes_packets());
     serve_pieces(
         alloc,
         clerk,

@@ -1,6 +1,7 @@
-ghost use Rattle.std.specs.Prelude.{◌≡◌, ◌≤◌, ◌<◌, [], IfErr, IfSome, None, OnOk, false, true};
+ghost use Rattle.std.specs.Prelude.{◌≡◌, ◌≤◌, ◌<◌, [], IfErr, IfOk, IfSome, None, OnOk};
 ghost use Rattle.command_words.specs.Items.{texts};
 ghost use Rattle.decision.specs.Programs.{Suits};
+ghost use Rattle.live_serve.specs.Standings.{standing};
 ghost use Rattle.outside.specs.Ends.{IsEndedOnce};
 ghost use Rattle.regex_gate.specs.Refusals.{IsUsed};
 ghost use Rattle.run_files.specs.Files.{limit_in};
@@ -8,15 +9,17 @@ ghost use Rattle.run_status.specs.declared.status.Status.TheVariants as status;
 ghost use Rattle.version_log.specs.Log.{versions};
 ghost use Rattle.serve_run.specs.Moments.{moment};
 ghost use Rattle.serve_run.specs.Services.{EndsServing, HasServed, StopsServing};
-ghost use Rattle.serve_run.specs.Helps.Serving.{ServedJob, ServedOpened, StopsJob, StopsOpened};
+ghost use Rattle.serve_run.specs.Helps.Serving.{IsReady, ServedJob, ServedOpened, StopsJob, StopsOpened};
 
 use crate::opened::{Opened, open_files};
 use crate::telling::tell_serving;
 use crate::words::{Job, asks_to_follow, read_job, session_words};
+use decision::Program;
 use live_serve::{Clerk, serve_stream};
 use log_ship::Follower;
-use perm_base::{Shelf, Sink, Source};
+use perm_base::{NoMemory, Shelf, Sink, Source};
 use policy_desk::open_desk;
+use policy_state::PolicyState;
 use regex_gate::Finder;
 use run_status::{Status, Stop, tell_stop};
 use std::alloc::Global;
@@ -163,96 +166,33 @@ fn serve_opened<S: Source, K: Sink, E: Sink, P: Finder>(
     ensures out_counted { K.faults out.old ≤ K.faults out.new }
     ensures used { IsUsed (P.refusals finder.old) (P.refusals finder.new) }
 {
-    if job.follow {
-        return serve_follower(alloc, opened, job, input, out, err, finder);
+    let mut clerk = clerk_for(alloc, opened.state, &opened.program, job.follow)?;
+    tell_serving(err, &job.files, opened.rules);
+    serve_stream(
+        alloc,
+        &mut clerk,
+        &opened.program,
+        job.json,
+        input,
+        out,
+        finder,
+    )
+}
+
+// Who answers over a policy of version 0: a clerk with a follower, or one at a desk.
+fn clerk_for(
+    alloc: Global,
+    state: PolicyState,
+    program: &Program,
+    follow: bool,
+) -> Result<Clerk, NoMemory>
+    requires { versions state.log ≡ 0 }
+    ensures { IfOk result (λ clerk. IsReady state follow (standing clerk)) }
+{
+    if follow {
+        let follower = Follower::open(alloc, state);
+        return Ok(Clerk::over_follower(alloc, follower, program));
     }
-    serve_desk(alloc, opened, job, input, out, err, finder)
-}
-
-// Serves a stream at a desk.
-fn serve_desk<S: Source, K: Sink, E: Sink, P: Finder>(
-    alloc: Global,
-    opened: Opened,
-    job: &Job<'_>,
-    input: &mut S,
-    out: &mut K,
-    err: &mut E,
-    finder: &mut P,
-) -> Result<(), Stop>
-    requires desk { job.now.follow ≡ false }
-    requires suits { Suits opened.program opened.state.shapes }
-    requires opening { versions opened.state.log ≡ 0 }
-    ensures served { OnOk result (ServedOpened job.now opened
-        (moment None 0 (S.left input.old) (S.faults input.old)
-        (K.taken out.old) (K.faults out.old) (E.taken err.old) (E.faults err.old) (P.refusals finder.old))
-        (moment None 0 (S.left input.new) (S.faults input.new)
-        (K.taken out.new) (K.faults out.new) (E.taken err.new) (E.faults err.new) (P.refusals finder.new))) }
-    ensures stopped { IfErr result (StopsOpened job.now opened
-        (moment None 0 (S.left input.old) (S.faults input.old)
-        (K.taken out.old) (K.faults out.old) (E.taken err.old) (E.faults err.old) (P.refusals finder.old))
-        (moment None 0 (S.left input.new) (S.faults input.new)
-        (K.taken out.new) (K.faults out.new) (E.taken err.new) (E.faults err.new) (P.refusals finder.new))) }
-    ensures read_to_end { OnOk result (IfSome (S.left input.new) (λ rest. rest ≡ [])) }
-    ensures no_further { IsEndedOnce (S.ends input.old) (S.ends input.new) }
-    ensures input_counted { S.faults input.old ≤ S.faults input.new }
-    ensures out_counted { K.faults out.old ≤ K.faults out.new }
-    ensures used { IsUsed (P.refusals finder.old) (P.refusals finder.new) }
-{
-    let desk = open_desk(alloc, opened.state)?;
-    tell_serving(err, &job.files, opened.rules);
-    let mut clerk = Clerk::over_desk(alloc, desk, &opened.program);
-    serve_stream(
-        alloc,
-        &mut clerk,
-        false,
-        &opened.program,
-        job.json,
-        input,
-        out,
-        finder,
-    )
-}
-
-// Serves a follower's stream.
-fn serve_follower<S: Source, K: Sink, E: Sink, P: Finder>(
-    alloc: Global,
-    opened: Opened,
-    job: &Job<'_>,
-    input: &mut S,
-    out: &mut K,
-    err: &mut E,
-    finder: &mut P,
-) -> Result<(), Stop>
-    requires follower { job.now.follow ≡ true }
-    requires suits { Suits opened.program opened.state.shapes }
-    requires opening { versions opened.state.log ≡ 0 }
-    ensures served { OnOk result (ServedOpened job.now opened
-        (moment None 0 (S.left input.old) (S.faults input.old)
-        (K.taken out.old) (K.faults out.old) (E.taken err.old) (E.faults err.old) (P.refusals finder.old))
-        (moment None 0 (S.left input.new) (S.faults input.new)
-        (K.taken out.new) (K.faults out.new) (E.taken err.new) (E.faults err.new) (P.refusals finder.new))) }
-    ensures stopped { IfErr result (StopsOpened job.now opened
-        (moment None 0 (S.left input.old) (S.faults input.old)
-        (K.taken out.old) (K.faults out.old) (E.taken err.old) (E.faults err.old) (P.refusals finder.old))
-        (moment None 0 (S.left input.new) (S.faults input.new)
-        (K.taken out.new) (K.faults out.new) (E.taken err.new) (E.faults err.new) (P.refusals finder.new))) }
-    ensures read_to_end { OnOk result (IfSome (S.left input.new) (λ rest. rest ≡ [])) }
-    ensures no_further { IsEndedOnce (S.ends input.old) (S.ends input.new) }
-    ensures input_counted { S.faults input.old ≤ S.faults input.new }
-    ensures out_counted { K.faults out.old ≤ K.faults out.new }
-    ensures used { IsUsed (P.refusals finder.old) (P.refusals finder.new) }
-{
-    let follower = Follower::open(alloc, opened.state);
-    tell_serving(err, &job.files, opened.rules);
-    let mut clerk = Clerk::over_follower(alloc, follower, &opened.program);
-    serve_stream(
-        alloc,
-        &mut clerk,
-        true,
-        &opened.program,
-        job.json,
-        input,
-        out,
-        finder,
-    )
+    let desk = open_desk(alloc, state)?;
+    Ok(Clerk::over_desk(alloc, desk, program))
 }

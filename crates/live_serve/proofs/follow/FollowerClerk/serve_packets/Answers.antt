@@ -27,11 +27,17 @@ returns-in-Some-clause-stopped g c =
 pub returns-in-None-clause-served : goal.returns-in-None-clause-served
 returns-in-None-clause-served g c =
     let bad = rw c.in-None.is at c.in_ok-read.ensures in
-    on_ok_weaker c.refuse.result (λ took json model. (no_packet ∷ [], says_packets json c.args.lines.now (no_packet ∷ []) c.requires.sent (inr (record { first = bad.0; bad = bad.1; are = refl })),
-    step_pushed model (follower_standing c.args.self.now) (follows c.args.self.now.follower) no_packet [] (numbered (next_number c.args.self.now.pen.number) (codes "refused: " ++ codes "packet")) (no_packet_step model c.args.self.now.follower (next_number c.args.self.now.pen.number) (numbered (next_number c.args.self.now.pen.number) (codes "refused: " ++ codes "packet")) refl) (g.P.Finder.refusals c.args.finder.now) (g.P.Finder.refusals c.args.finder.now) c.refuse.new.self.number (g.K.Sink.taken c.args.out.now) (g.K.Sink.taken c.refuse.new.out) refl c.refuse.ensures.next took)) c.refuse.ensures.told
+    on_ok_weaker c.refuse.result (λ took json model. (
+      no_packet ∷ [],
+      says_packets json c.args.lines.now (no_packet ∷ []) c.requires.sent (inr (record { first = bad.0; bad = bad.1; are = refl })),
+      step_pushed model (follower_standing c.args.self.now) (follows c.args.self.now.follower) no_packet [] (numbered (next_number c.args.self.now.pen.number) (codes "refused: " ++ codes "packet")) (no_packet_step model c.args.self.now.follower (next_number c.args.self.now.pen.number) (numbered (next_number c.args.self.now.pen.number) (codes "refused: " ++ codes "packet")) refl) (g.P.Finder.refusals c.args.finder.now) (g.P.Finder.refusals c.args.finder.now) c.refuse.new.self.number (g.K.Sink.taken c.args.out.now) (g.K.Sink.taken c.refuse.new.out) refl c.refuse.ensures.next took,
+    )) c.refuse.ensures.told
 
 pub returns-in-None-clause-stopped : goal.returns-in-None-clause-stopped
 returns-in-None-clause-stopped g c =
     let bad = rw c.in-None.is at c.in_ok-read.ensures in
-    IfErr-weaker c.refuse.result _ _ (λ stop stops json model. inl (no_packet ∷ [], says_packets json c.args.lines.now (no_packet ∷ []) c.requires.sent (inr (record { first = bad.0; bad = bad.1; are = refl })),
-    step_halts model (follower_standing c.args.self.now) (follows c.args.self.now.follower) no_packet [] (numbered (next_number c.args.self.now.pen.number) (codes "refused: " ++ codes "packet")) (no_packet_step model c.args.self.now.follower (next_number c.args.self.now.pen.number) (numbered (next_number c.args.self.now.pen.number) (codes "refused: " ++ codes "packet")) refl) (g.K.Sink.taken c.args.out.now) (g.K.Sink.taken c.refuse.new.out) (Rose (g.K.Sink.faults c.args.out.now) (g.K.Sink.faults c.refuse.new.out)) stop stops)) c.refuse.ensures.stopped
+    IfErr-weaker c.refuse.result _ _ (λ stop stops json model. inl (
+      no_packet ∷ [],
+      says_packets json c.args.lines.now (no_packet ∷ []) c.requires.sent (inr (record { first = bad.0; bad = bad.1; are = refl })),
+      step_halts model (follower_standing c.args.self.now) (follows c.args.self.now.follower) no_packet [] (numbered (next_number c.args.self.now.pen.number) (codes "refused: " ++ codes "packet")) (no_packet_step model c.args.self.now.follower (next_number c.args.self.now.pen.number) (numbered (next_number c.args.self.now.pen.number) (codes "refused: " ++ codes "packet")) refl) (g.K.Sink.taken c.args.out.now) (g.K.Sink.taken c.refuse.new.out) (Rose (g.K.Sink.faults c.args.out.now) (g.K.Sink.faults c.refuse.new.out)) stop stops,
+    )) c.refuse.ensures.stopped
