@@ -25,20 +25,24 @@ pub returns-in_err-answer-clause-used : goal.returns-in_err-answer-clause-used
 returns-in_err-answer-clause-used g c = asked_used c.args.program.now _ _ (seen c.args.item.now) c.in_err-answer.ensures.refused
 
 pub tell-requires : goal.tell-requires
-tell-requires g c = record { printable = (rw c.in-Some.is at c.in_ok-answer.ensures.asked).printable }
+tell-requires g c =
+    let asked = rw c.in-Some.is at c.in_ok-answer.ensures.asked in
+    record { printable = asked.printable }
 
 pub returns-in-Some-clause-served : goal.returns-in-Some-clause-served
 returns-in-Some-clause-served g c =
-    let asked : IsAsked c.args.program.now c.args.self.now.follower.state (g.P.Finder.refusals c.args.finder.now) (g.P.Finder.refusals c.answer_query.new.finder) (seen c.args.item.now) c.in-Some.answer = subst (λ (s : State). IsAsked c.args.program.now s (g.P.Finder.refusals c.args.finder.now) (g.P.Finder.refusals c.answer_query.new.finder) (seen c.args.item.now) c.in-Some.answer) c.state.ensures (rw c.in-Some.is at c.in_ok-answer.ensures.asked) in
+    let asked : IsAsked c.args.program.now c.args.self.now.follower.state (g.P.Finder.refusals c.args.finder.now) (g.P.Finder.refusals c.answer_query.new.finder) (seen c.args.item.now) c.in-Some.answer = subst (λ (s : State). IsAsked c.args.program.now s (g.P.Finder.refusals c.args.finder.now) (g.P.Finder.refusals c.answer_query.new.finder) (seen c.args.item.now) c.in-Some.answer) c.state-state.ensures (rw c.in-Some.is at c.in_ok-answer.ensures.asked) in
     on_ok_weaker c.tell.result (λ took. step_pushed c.args.program.now (follower_standing c.args.self.now) (follows c.args.self.now.follower) (item (seen c.args.item.now)) asked.asked.refused (numbered (next_number c.args.self.now.pen.number) (answer_text c.in-Some.answer)) (asked_step c.args.program.now c.args.self.now.follower (g.P.Finder.refusals c.args.finder.now) (g.P.Finder.refusals c.answer_query.new.finder) (next_number c.args.self.now.pen.number) (seen c.args.item.now) c.in-Some.answer (numbered (next_number c.args.self.now.pen.number) (answer_text c.in-Some.answer)) asked (rw c.in-Some.is at c.in_ok-answer.ensures.unasked) refl) (g.P.Finder.refusals c.args.finder.now) (g.P.Finder.refusals c.answer_query.new.finder) c.tell.new.self.number (g.K.Sink.taken c.args.out.now) (g.K.Sink.taken c.tell.new.out) asked.asked.logged c.tell.ensures.next took) c.tell.ensures.told
 
 pub returns-in-Some-clause-stopped : goal.returns-in-Some-clause-stopped
 returns-in-Some-clause-stopped g c =
-    let asked : IsAsked c.args.program.now c.args.self.now.follower.state (g.P.Finder.refusals c.args.finder.now) (g.P.Finder.refusals c.answer_query.new.finder) (seen c.args.item.now) c.in-Some.answer = subst (λ (s : State). IsAsked c.args.program.now s (g.P.Finder.refusals c.args.finder.now) (g.P.Finder.refusals c.answer_query.new.finder) (seen c.args.item.now) c.in-Some.answer) c.state.ensures (rw c.in-Some.is at c.in_ok-answer.ensures.asked) in
+    let asked : IsAsked c.args.program.now c.args.self.now.follower.state (g.P.Finder.refusals c.args.finder.now) (g.P.Finder.refusals c.answer_query.new.finder) (seen c.args.item.now) c.in-Some.answer = subst (λ (s : State). IsAsked c.args.program.now s (g.P.Finder.refusals c.args.finder.now) (g.P.Finder.refusals c.answer_query.new.finder) (seen c.args.item.now) c.in-Some.answer) c.state-state.ensures (rw c.in-Some.is at c.in_ok-answer.ensures.asked) in
     IfErr-weaker c.tell.result _ _ (λ stop stops. step_halts c.args.program.now (follower_standing c.args.self.now) (follows c.args.self.now.follower) (item (seen c.args.item.now)) asked.asked.refused (numbered (next_number c.args.self.now.pen.number) (answer_text c.in-Some.answer)) (asked_step c.args.program.now c.args.self.now.follower (g.P.Finder.refusals c.args.finder.now) (g.P.Finder.refusals c.answer_query.new.finder) (next_number c.args.self.now.pen.number) (seen c.args.item.now) c.in-Some.answer (numbered (next_number c.args.self.now.pen.number) (answer_text c.in-Some.answer)) asked (rw c.in-Some.is at c.in_ok-answer.ensures.unasked) refl) (g.K.Sink.taken c.args.out.now) (g.K.Sink.taken c.tell.new.out) (Rose (g.K.Sink.faults c.args.out.now) (g.K.Sink.faults c.tell.new.out)) stop stops) c.tell.ensures.stopped
 
 pub returns-in-Some-clause-used : goal.returns-in-Some-clause-used
-returns-in-Some-clause-used g c = asked_used c.args.program.now _ _ (seen c.args.item.now) (rw c.in-Some.is at c.in_ok-answer.ensures.asked).asked
+returns-in-Some-clause-used g c =
+    let asked = rw c.in-Some.is at c.in_ok-answer.ensures.asked in
+    asked_used c.args.program.now _ _ (seen c.args.item.now) asked.asked
 
 pub returns-in-None-clause-served : goal.returns-in-None-clause-served
 returns-in-None-clause-served g c =
