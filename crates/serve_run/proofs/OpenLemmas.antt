@@ -1,5 +1,5 @@
 -- What files that were loaded are opened to.
-use Rattle.std.proofs.Common.{◌≡◌, length, sym, ap, subst, ◌∙◌}
+use Rattle.std.proofs.Common.{length, sym, ap, subst, ◌∙◌}
 use Rattle.std.specs.Prelude.{Option}
 use Rattle.command_words.specs.FileNames.{FileNames}
 use Rattle.command_words.specs.declared.command.Options.{Options}

@@ -1,14 +1,13 @@
 -- A stream that is served over what the files of a job were opened to.
-use Rattle.std.proofs.Common.{◌≡◌, ◌⊎◌, ℕ, Bool, true, false, List, [], inl, inr, refl, sym, ap, subst, ◌∙◌}
-use Rattle.std.specs.Prelude.{Option, Some, None, length}
-use Rattle.item_stream.specs.Sections.{sections_of}
+use Rattle.std.proofs.Common.{◌≡◌, ℕ, Bool, true, false, List, [], inl, inr, refl, sym, ap, subst, ◌∙◌}
+use Rattle.std.specs.Prelude.{Option, Some, None}
 use Rattle.live_round.proofs.CallerLemmas.{alone_before}
 use Rattle.live_round.specs.Desks.{StandsBehind}
 use Rattle.live_serve.specs.Places.{Place, Standing, at_desk, follows, is_followers, state_at}
-use Rattle.live_serve.specs.Streams.{IsFirst, OfRead, ServeStops, Service, TookTexts, service}
+use Rattle.item_stream.specs.Sections.{sections_of}
+use Rattle.live_serve.specs.Streams.{IsFirst, OfRead, Service, TookTexts, service}
 use Rattle.log_ship.specs.Followers.{Following}
 use Rattle.model_conf.specs.ModelText.{ModelParts}
-use Rattle.outside.specs.Faults.{Rose}
 use Rattle.outside.specs.Files.{Files}
 use Rattle.outside.specs.Log.{Adds}
 use Rattle.outside.specs.declared.fetch_log.FetchCall.{FetchCall}
@@ -18,7 +17,7 @@ use Rattle.policy_state.specs.States.{State, tables}
 use Rattle.policy_table.specs.Tables.{Policy}
 use Rattle.policy_table.specs.declared.change.Change.{Change}
 use Rattle.serve_run.specs.Helps.Opened.{IsOpened}
-use Rattle.run_files.specs.Loads.{LoadStops, both_fetches}
+use Rattle.run_files.specs.Loads.{both_fetches}
 use Rattle.serve_run.specs.declared.opened.Opened.{Opened}
 use Rattle.run_status.proofs.CallerLemmas.{is_never_done}
 use Rattle.run_status.specs.Messages.{line_of}
@@ -27,15 +26,14 @@ use Rattle.run_status.specs.Told.{IsTold}
 use Rattle.run_status.specs.declared.status.Status.{Status}
 use Rattle.run_status.specs.declared.status.Status.TheVariants as statuses
 use Rattle.run_status.specs.declared.stop.Stop.{Stop}
-use Rattle.run_status.specs.declared.stop.Stop.TheVariants.{NoMemory}
 use Rattle.session_meaning.specs.Desks.{IsBehind}
 use Rattle.version_log.specs.Log.{versions}
 use Rattle.serve_run.specs.Announced.{serving_line}
 use Rattle.serve_run.specs.Helps.Serving as helps
 use Rattle.serve_run.specs.Helps.Serving.{Announces, IsReady, ServedJob, ServedOpened, StopsJob, StopsOpened, opened_service}
-use Rattle.serve_run.specs.Moments.{AskedErr, AskedShelf, Moment}
+use Rattle.serve_run.specs.Moments.{AskedErr, Moment}
 use Rattle.serve_run.specs.Services as services
-use Rattle.serve_run.specs.Services.{EndsServing, HasServed, HasStopped, IsAnnounced, IsCutOff, IsOpen, IsServed, StopsServing, service_on}
+use Rattle.serve_run.specs.Services.{EndsServing, HasServed, IsAnnounced, IsCutOff, IsOpen, IsServed, StopsServing, service_on}
 use Rattle.serve_run.specs.Words.{job_asked}
 use Rattle.serve_run.specs.declared.words.Job.{Job}
 

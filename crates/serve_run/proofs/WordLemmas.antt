@@ -33,16 +33,18 @@ texts_all first made others n past before = before ∙ ap (λ (l : List (String 
 
 -- ---- the first word
 
-pub serve_none : (words : List (String Global)) → words ≡ [] → false ≡ is_to_serve (texts words)
-serve_none words none = ap (λ (w : List (String Global)). is_to_serve (texts w)) (sym none)
+pub serve_none : (words : List (String Global)) → length words ≡ 0 → false ≡ is_to_serve (texts words)
+serve_none [] none = refl
+serve_none (word ∷ words) none = absurd (omega (arith, none))
 
 pub serve_some : (words others : List (String Global)) (name : String Global) → words ≡ name ∷ others → bytes_eq (string_bytes name) (codes "serve") ≡ is_to_serve (texts words)
 serve_some words others name is = ap (λ (w : List (String Global)). is_to_serve (texts w)) (sym is)
 
 -- ---- the words of a session
 
-pub session_none : (words : List (String Global)) → words ≡ [] → None ≡ session_of (texts words)
-session_none words none = ap (λ (w : List (String Global)). session_of (texts w)) (sym none)
+pub session_none : (words : List (String Global)) → length words ≡ 0 → None ≡ session_of (texts words)
+session_none [] none = refl
+session_none (word ∷ words) none = absurd (omega (arith, none))
 
 -- by the tests of the first word and of the others
 pub session_by : (words behind others : List (String Global)) (name : String Global) (serve workers : Bool) → words ≡ name ∷ behind → texts others ≡ behind_follow (texts behind) → bytes_eq (string_bytes name) (codes "serve") ≡ serve → has_workers (texts others) ≡ workers
@@ -60,8 +62,9 @@ session_no words behind name is other =
 
 -- ---- `--follow`
 
-pub follow_none : (words : List (String Global)) → words ≡ [] → (false ≡ is_to_follow (texts words)) × (false ≡ begins_follow (texts words)) × (texts words ≡ behind_follow (texts words))
-follow_none words none = subst (λ (w : List (String Global)). (false ≡ is_to_follow (texts w)) × (false ≡ begins_follow (texts w)) × (texts w ≡ behind_follow (texts w))) (sym none) (refl, refl, refl)
+pub follow_none : (words : List (String Global)) → length words ≡ 0 → (false ≡ is_to_follow (texts words)) × (false ≡ begins_follow (texts words)) × (texts words ≡ behind_follow (texts words))
+follow_none [] none = (refl, refl, refl)
+follow_none (word ∷ words) none = absurd (omega (arith, none))
 
 pub follow_some : (words others : List (String Global)) (name : String Global) → words ≡ name ∷ others → begins_follow (texts others) ≡ is_to_follow (texts words)
 follow_some words others name is = ap (λ (w : List (String Global)). is_to_follow (texts w)) (sym is)

@@ -1,4 +1,4 @@
-ghost use Rattle.std.specs.Prelude.{◌≡◌, ◌++◌, decimal};
+ghost use Rattle.std.specs.Prelude.{◌++◌, decimal};
 ghost use Rattle.outside.specs.Pushes.{PushesAll};
 ghost use Rattle.run_status.specs.Told.{IsTold};
 ghost use Rattle.serve_run.specs.Announced.{serving_line};

@@ -1,4 +1,3 @@
-use Rattle.std.proofs.Common.{refl}
 use Rattle.serve_run.specs.Helps.Reading.{all_texts}
 use Rattle.serve_run.proofs.WordLemmas.{texts_all, texts_more}
 use Rattle.serve_run.proofs.words.words_behind.Goals as goal
