@@ -237,19 +237,19 @@ impl FollowerClerk {
     fn take_packet<K: Sink>(
         &mut self,
         alloc: Global,
-        packet: &Packet,
+        sent: &Packet,
         out: &mut K,
     ) -> Result<(), Stop>
         ensures served { OnOk result ((model : ModelParts) (refusals : Refusals)
             → Pushed model refusals refusals
-            (follower_standing self.old) (follower_standing self.new) (K.taken out.old) (K.taken out.new) (packet packet.now ∷ [])) }
+            (follower_standing self.old) (follower_standing self.new) (K.taken out.old) (K.taken out.new) (packet sent.now ∷ [])) }
         ensures stopped { IfErr result (λ stop. (model : ModelParts)
             → Halts model (follower_standing self.old) (K.taken out.old) (K.taken out.new)
-            (Rose (K.faults out.old) (K.faults out.new)) stop (packet packet.now ∷ [])) }
+            (Rose (K.faults out.old) (K.faults out.new)) stop (packet sent.now ∷ [])) }
         ensures counted { K.faults out.old ≤ K.faults out.new }
     {
         texts_read_in_one_way();
-        let taken = self.follower.take(alloc, packet);
+        let taken = self.follower.take(alloc, sent);
         self.pen.tell_taken(taken, out)
     }
 }

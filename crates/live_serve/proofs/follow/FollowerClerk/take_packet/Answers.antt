@@ -9,8 +9,8 @@ use Rattle.live_serve.proofs.follow.FollowerClerk.take_packet.Goals as goal
 
 pub returns-clause-served : goal.returns-clause-served
 returns-clause-served g c =
-    packet_pushed (follower_standing c.args.self.now) c.args.self.now.follower c.take-taken.new.self refl c.args.packet.now c.take-taken.result c.take-taken.ensures.taken (c.texts_read_in_one_way.ensures.some c.args.packet.now.text) c.tell_taken.new.self.number (g.K.Sink.taken c.args.out.now) (g.K.Sink.taken c.tell_taken.new.out) c.tell_taken.ensures.next c.tell_taken.result c.tell_taken.ensures.known c.tell_taken.ensures.told
+    packet_pushed (follower_standing c.args.self.now) c.args.self.now.follower c.take-taken.new.self refl c.args.sent.now c.take-taken.result c.take-taken.ensures.taken (c.texts_read_in_one_way.ensures.some c.args.sent.now.text) c.tell_taken.new.self.number (g.K.Sink.taken c.args.out.now) (g.K.Sink.taken c.tell_taken.new.out) c.tell_taken.ensures.next c.tell_taken.result c.tell_taken.ensures.known c.tell_taken.ensures.told
 
 pub returns-clause-stopped : goal.returns-clause-stopped
 returns-clause-stopped g c =
-    packet_halts (follower_standing c.args.self.now) c.args.self.now.follower c.take-taken.new.self refl c.args.packet.now c.take-taken.result c.take-taken.ensures.taken (c.texts_read_in_one_way.ensures.some c.args.packet.now.text) (g.K.Sink.taken c.args.out.now) (g.K.Sink.taken c.tell_taken.new.out) (Rose (g.K.Sink.faults c.args.out.now) (g.K.Sink.faults c.tell_taken.new.out)) c.tell_taken.result c.tell_taken.ensures.known c.tell_taken.ensures.stopped
+    packet_halts (follower_standing c.args.self.now) c.args.self.now.follower c.take-taken.new.self refl c.args.sent.now c.take-taken.result c.take-taken.ensures.taken (c.texts_read_in_one_way.ensures.some c.args.sent.now.text) (g.K.Sink.taken c.args.out.now) (g.K.Sink.taken c.tell_taken.new.out) (Rose (g.K.Sink.faults c.args.out.now) (g.K.Sink.faults c.tell_taken.new.out)) c.tell_taken.result c.tell_taken.ensures.known c.tell_taken.ensures.stopped
