@@ -148,12 +148,12 @@ same_users state relation name bytes domain copied same-name same-domain reply i
 
 -- for a query no finder is asked
 pub queried : (model : ModelParts) (state : State) (refusals : Refusals) (it : Said) → is_leaders it ≡ false → (result : Option Answer) → IsQueried state it result → MatchOption result (is_leaders it ≡ true) (IsAsked model state refusals refusals it)
-queried model state refusals it asks None is = absurd is
-queried model state refusals it asks (Some reply) is = record { asked = record { refused = []; logged = refl; unasked = λ none. refl }; replied = is.replied model; printable = is.printable }
+queried model state refusals it open_to None is = absurd is
+queried model state refusals it open_to (Some reply) is = record { asked = record { refused = []; logged = refl; unasked = λ none. refl }; replied = is.replied model; printable = is.printable }
 
 pub queried_unasked : (refusals : Refusals) (state : State) (it : Said) → is_leaders it ≡ false → (result : Option Answer) → IsQueried state it result → MatchOption result (refusals ≡ refusals) (λ _. is_leaders it ≡ false)
-queried_unasked refusals state it asks None is = absurd is
-queried_unasked refusals state it asks (Some reply) is = asks
+queried_unasked refusals state it open_to None is = absurd is
+queried_unasked refusals state it open_to (Some reply) is = open_to
 
 pub not_refused : (model : ModelParts) (refusals : Refusals) (it : Said) → Refuses model refusals refusals it
 not_refused model refusals it = record { refused = []; logged = refl; unasked = λ none. refl }

@@ -94,7 +94,7 @@ impl FollowerClerk {
         ensures used { IsUsed (P.refusals finder.old) (P.refusals finder.new) }
     {
         if is_packet(lines) {
-            return self.serve_packets(alloc, lines, out, finder);
+            return self.serve_packets(alloc, lines, out);
         }
         self.serve_lines(alloc, program, json, lines, out, finder)
     }
@@ -186,23 +186,21 @@ impl FollowerClerk {
     }
 
     // Takes the packets of lines, and pushes what became of each.
-    fn serve_packets<K: Sink, P: Finder>(
+    fn serve_packets<K: Sink>(
         &mut self,
         alloc: Global,
         lines: &[u8],
         out: &mut K,
-        finder: &mut P,
     ) -> Result<(), Stop>
         requires sent { begins_packet lines.now ≡ true }
-        ensures served { OnOk result ((json : Bool) (model : ModelParts) → OfSection json true (Some lines.now)
-            (Pushed model (P.refusals finder.old) (P.refusals finder.new)
+        ensures served { OnOk result ((json : Bool) (model : ModelParts) (refusals : Refusals)
+            → OfSection json true (Some lines.now) (Pushed model refusals refusals
             (follower_standing self.old) (follower_standing self.new) (K.taken out.old) (K.taken out.new))) }
         ensures stopped { IfErr result (λ stop. (json : Bool) (model : ModelParts)
             → SectionStops json true model (follower_standing self.old)
             (Some lines.now) (K.taken out.old) (K.taken out.new)
             (Rose (K.faults out.old) (K.faults out.new)) stop) }
         ensures counted { K.faults out.old ≤ K.faults out.new }
-        ensures unasked { P.refusals finder.new ≡ P.refusals finder.old }
     {
         let read = packets_of(alloc, lines)?;
         match read {

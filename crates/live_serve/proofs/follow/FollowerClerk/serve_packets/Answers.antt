@@ -18,7 +18,7 @@ returns-in_err-read-clause-stopped g c =
 
 pub returns-in-Some-clause-served : goal.returns-in-Some-clause-served
 returns-in-Some-clause-served g c =
-    on_ok_weaker c.take_packets.result (λ pushed json model. (sent c.in-Some.packets, says_packets json c.args.lines.now (sent c.in-Some.packets) c.requires.sent (inl (record { packets = c.in-Some.packets; are_packets = rw c.in-Some.is at c.in_ok-read.ensures; are = refl })), pushed model (g.P.Finder.refusals c.args.finder.now))) c.take_packets.ensures.served
+    on_ok_weaker c.take_packets.result (λ pushed json model refusals. (sent c.in-Some.packets, says_packets json c.args.lines.now (sent c.in-Some.packets) c.requires.sent (inl (record { packets = c.in-Some.packets; are_packets = rw c.in-Some.is at c.in_ok-read.ensures; are = refl })), pushed model refusals)) c.take_packets.ensures.served
 
 pub returns-in-Some-clause-stopped : goal.returns-in-Some-clause-stopped
 returns-in-Some-clause-stopped g c =
@@ -27,10 +27,10 @@ returns-in-Some-clause-stopped g c =
 pub returns-in-None-clause-served : goal.returns-in-None-clause-served
 returns-in-None-clause-served g c =
     let bad = rw c.in-None.is at c.in_ok-read.ensures in
-    on_ok_weaker c.refuse.result (λ took json model. (
+    on_ok_weaker c.refuse.result (λ took json model refusals. (
       no_packet ∷ [],
       says_packets json c.args.lines.now (no_packet ∷ []) c.requires.sent (inr (record { first = bad.0; bad = bad.1; are = refl })),
-      step_pushed model (follower_standing c.args.self.now) (follows c.args.self.now.follower) no_packet [] (numbered (next_number c.args.self.now.pen.number) (codes "refused: " ++ codes "packet")) (no_packet_step model c.args.self.now.follower (next_number c.args.self.now.pen.number) (numbered (next_number c.args.self.now.pen.number) (codes "refused: " ++ codes "packet")) refl) (g.P.Finder.refusals c.args.finder.now) (g.P.Finder.refusals c.args.finder.now) c.refuse.new.self.number (g.K.Sink.taken c.args.out.now) (g.K.Sink.taken c.refuse.new.out) refl c.refuse.ensures.next took,
+      step_pushed model (follower_standing c.args.self.now) (follows c.args.self.now.follower) no_packet [] (numbered (next_number c.args.self.now.pen.number) (codes "refused: " ++ codes "packet")) (no_packet_step model c.args.self.now.follower (next_number c.args.self.now.pen.number) (numbered (next_number c.args.self.now.pen.number) (codes "refused: " ++ codes "packet")) refl) refusals refusals c.refuse.new.self.number (g.K.Sink.taken c.args.out.now) (g.K.Sink.taken c.refuse.new.out) refl c.refuse.ensures.next took,
     )) c.refuse.ensures.told
 
 pub returns-in-None-clause-stopped : goal.returns-in-None-clause-stopped

@@ -1,4 +1,4 @@
-use Rattle.std.proofs.Common.{take}
+use Rattle.std.proofs.Common.{◌≤◌, take}
 use Rattle.model_conf.specs.ModelText.{ModelParts}
 use Rattle.regex_gate.specs.Refusals.{Refusals}
 use Rattle.live_serve.specs.Sayings.{sent}
@@ -7,4 +7,4 @@ use Rattle.live_serve.proofs.ServeLemmas.{AreDone}
 use Rattle.live_serve.proofs.follow.FollowerClerk.take_packets.Given as goal
 
 abbrev pub invariant-loop-packet : goal.invariant-loop-packet
-invariant-loop-packet g l = (model : ModelParts) (refusals : Refusals) → AreDone model refusals refusals (follower_standing l.initial.self) (follower_standing l.self) (g.K.Sink.taken l.initial.out) (g.K.Sink.taken l.out) (sent (take l.packet-index l.sent)) (g.K.Sink.faults l.initial.out) (g.K.Sink.faults l.out)
+invariant-loop-packet g l = (g.K.Sink.faults l.initial.out ≤ g.K.Sink.faults l.out) × ((model : ModelParts) (refusals : Refusals) → AreDone model refusals refusals (follower_standing l.initial.self) (follower_standing l.self) (g.K.Sink.taken l.initial.out) (g.K.Sink.taken l.out) (sent (take l.packet-index l.sent)) (g.K.Sink.faults l.initial.out) (g.K.Sink.faults l.out))
