@@ -25,7 +25,7 @@ def field(text):
 
 class Client:
     def __init__(self, program, model, policy, *options):
-        words = [program, "serve", model, policy, *options]
+        words = [program, "serve", *options, model, policy]
         self.process = subprocess.Popen(words, stdin=subprocess.PIPE, stdout=subprocess.PIPE)
 
     def __enter__(self):

@@ -7,17 +7,17 @@ use Rattle.text_parts.specs.Lines.{without_cr}
 use Rattle.item_stream.specs.Lines.{kind_of, kind_of_text, other_kind}
 use Rattle.item_stream.specs.declared.kind.Kind.{Kind}
 
-abbrev by_test : Bool → List ℕ → Kind
-by_test test line = if test then kind_of_text (without_cr line) else other_kind
+abbrev by_test : Bool → Bool → List ℕ → Kind
+by_test follow test line = if test then kind_of_text follow (without_cr line) else other_kind
 
-pub kind_read : (line text : List ℕ) → IsUtf8 line → text ≡ line → kind_of_text (without_cr text) ≡ kind_of line
+pub kind_read : (follow : Bool) (line text : List ℕ) → IsUtf8 line → text ≡ line → kind_of_text follow (without_cr text) ≡ kind_of follow line
 unfolding kind_of
-kind_read line text utf8 same = ap (λ (t : List ℕ). kind_of_text (without_cr t)) same ∙ ap (λ (test : Bool). by_test test line) (sym (is_utf8-from_IsUtf8 line utf8))
+kind_read follow line text utf8 same = ap (λ (t : List ℕ). kind_of_text follow (without_cr t)) same ∙ ap (λ (test : Bool). by_test follow test line) (sym (is_utf8-from_IsUtf8 line utf8))
 
-pub kind_unread : (line : List ℕ) → ¬ (IsUtf8 line) → other_kind ≡ kind_of line
+pub kind_unread : (follow : Bool) (line : List ℕ) → ¬ (IsUtf8 line) → other_kind ≡ kind_of follow line
 unfolding kind_of
-kind_unread line none = by (is_utf8 line) refl
+kind_unread follow line none = by (is_utf8 line) refl
   where
-    by : (test : Bool) → is_utf8 line ≡ test → other_kind ≡ by_test test line
+    by : (test : Bool) → is_utf8 line ≡ test → other_kind ≡ by_test follow test line
     by true e = absurd (none (IsUtf8-from_is_utf8 line e))
     by false e = refl

@@ -19,7 +19,7 @@ use Rattle.item_stream.specs.declared.kind.Kind.{Kind}
 -- the sections of lines, behind what is held, where the stream ends
 abbrev pub sections_on : Held → List (List ℕ) → List Section
 sections_on held [] = listed (section_of held) []
-sections_on held (line ∷ lines) = listed (ended_at held (kept line)) (sections_on (next_held held (kept line)) lines)
+sections_on held (line ∷ lines) = listed (ended_at false held (kept line)) (sections_on (next_held false held (kept line)) lines)
 
 -- ---- no LF
 
@@ -40,12 +40,12 @@ two_by false true held next section = refl
 two_by false false held next None = refl
 two_by false false held next (Some section) = refl
 
-rest_two : (held : Held) (line : List ℕ) → 0 < length line → listed (rest_of held line) [] ≡ listed (ended_at held line) (listed (section_of (next_held held line)) [])
+rest_two : (held : Held) (line : List ℕ) → 0 < length line → listed (rest_of false held line) [] ≡ listed (ended_at false held line) (listed (section_of (next_held false held line)) [])
 unfolding rest_of ended_at next_held
 rest_two held [] long = absurd (omega (arith, long))
-rest_two held (byte ∷ bytes) long = let kind = kind_of (byte ∷ bytes) in two_by kind.passed (goes_on held kind) held (with_line held (byte ∷ bytes)) (section_of (with_line held (byte ∷ bytes)))
+rest_two held (byte ∷ bytes) long = let kind = kind_of false (byte ∷ bytes) in two_by kind.passed (goes_on held kind) held (with_line held (byte ∷ bytes)) (section_of (with_line held (byte ∷ bytes)))
 
-rest_none : (held : Held) → listed (rest_of held []) [] ≡ listed (section_of held) []
+rest_none : (held : Held) → listed (rest_of false held []) [] ≡ listed (section_of held) []
 unfolding rest_of
 rest_none held = refl
 
@@ -60,32 +60,32 @@ kept_long : (line : List ℕ) → 0 < length line → 0 < length (kept line)
 unfolding kept
 kept_long line long = omega (arith, long, length-take 65537 line)
 
-end_on : (held : Held) (front : List ℕ) → has_byte 10 front ≡ false → rest_left held (kept front) ≡ sections_on held (lines_of front)
-end_on held [] none = ap (λ (l : List ℕ). listed (rest_of held l) []) kept_none ∙ rest_none held ∙ ap (sections_on held) (sym lines_none)
+end_on : (held : Held) (front : List ℕ) → has_byte 10 front ≡ false → rest_left false held (kept front) ≡ sections_on held (lines_of front)
+end_on held [] none = ap (λ (l : List ℕ). listed (rest_of false held l) []) kept_none ∙ rest_none held ∙ ap (sections_on held) (sym lines_none)
 end_on held (byte ∷ front) none =
     rest_two held (kept (byte ∷ front)) (kept_long (byte ∷ front) (omega arith)) ∙ ap (sections_on held) (sym (lines_of-last (byte ∷ front) (omega arith) none))
 
 -- ---- byte by byte
 
 abbrev LineByLine : Held → List ℕ → List ℕ → Type 0
-LineByLine held front bytes = sections_by rest_left held (kept front) bytes ≡ sections_on held (lines_of (front ++ bytes))
+LineByLine held front bytes = sections_by false (rest_left false) held (kept front) bytes ≡ sections_on held (lines_of (front ++ bytes))
 
-line_by : (held : Held) (front : List ℕ) (byte : ℕ) (bytes : List ℕ) (test : Bool) → eqb byte 10 ≡ test → has_byte 10 front ≡ false → LineByLine (next_held held (kept front)) [] bytes → (has_byte 10 (front ++ byte ∷ []) ≡ false → LineByLine held (front ++ byte ∷ []) bytes)
-    → by_byte test rest_left held (kept front) byte bytes ≡ sections_on held (lines_of (front ++ byte ∷ bytes))
+line_by : (held : Held) (front : List ℕ) (byte : ℕ) (bytes : List ℕ) (test : Bool) → eqb byte 10 ≡ test → has_byte 10 front ≡ false → LineByLine (next_held false held (kept front)) [] bytes → (has_byte 10 (front ++ byte ∷ []) ≡ false → LineByLine held (front ++ byte ∷ []) bytes)
+    → by_byte false test (rest_left false) held (kept front) byte bytes ≡ sections_on held (lines_of (front ++ byte ∷ bytes))
 line_by held front byte bytes true is none ended on =
-    ap (listed (ended_at held (kept front))) (ap (λ (l : List ℕ). sections_by rest_left (next_held held (kept front)) l bytes) (sym kept_none) ∙ ended)
+    ap (listed (ended_at false held (kept front))) (ap (λ (l : List ℕ). sections_by false (rest_left false) (next_held false held (kept front)) l bytes) (sym kept_none) ∙ ended)
     ∙ ap (sections_on held) (sym (lines_of-cut front bytes none)) ∙ ap (λ (b : ℕ). sections_on held (lines_of (front ++ b ∷ bytes))) (sym (eqb-true byte 10 is))
 line_by held front byte bytes false is none ended on =
-    ap (λ (l : List ℕ). sections_by rest_left held l bytes) (kept_on front (byte ∷ [])) ∙ on (no_end-more front byte none is) ∙ ap (λ (t : List ℕ). sections_on held (lines_of t)) (pushed front byte bytes)
+    ap (λ (l : List ℕ). sections_by false (rest_left false) held l bytes) (kept_on front (byte ∷ [])) ∙ on (no_end-more front byte none is) ∙ ap (λ (t : List ℕ). sections_on held (lines_of t)) (pushed front byte bytes)
 
 line_by_line : (held : Held) (front bytes : List ℕ) → has_byte 10 front ≡ false → LineByLine held front bytes
-line_by_line held front [] none = at_end rest_left held (kept front) ∙ end_on held front none ∙ ap (λ (t : List ℕ). sections_on held (lines_of t)) (sym (append-nil front))
+line_by_line held front [] none = at_end false (rest_left false) held (kept front) ∙ end_on held front none ∙ ap (λ (t : List ℕ). sections_on held (lines_of t)) (sym (append-nil front))
 line_by_line held front (byte ∷ bytes) none =
-    by_first rest_left held (kept front) byte bytes ∙ line_by held front byte bytes (eqb byte 10) refl none (line_by_line (next_held held (kept front)) [] bytes refl) (line_by_line held (front ++ byte ∷ []) bytes)
+    by_first false (rest_left false) held (kept front) byte bytes ∙ line_by held front byte bytes (eqb byte 10) refl none (line_by_line (next_held false held (kept front)) [] bytes refl) (line_by_line held (front ++ byte ∷ []) bytes)
 
 -- the sections of a stream are those of its lines
-pub sections_are : (bytes : List ℕ) → sections_of bytes ≡ sections_on nothing (lines_of bytes)
-sections_are bytes = ap (λ (l : List ℕ). sections_by rest_left nothing l bytes) (sym kept_none) ∙ line_by_line nothing [] bytes refl
+pub sections_are : (bytes : List ℕ) → sections_of false bytes ≡ sections_on nothing (lines_of bytes)
+sections_are bytes = ap (λ (l : List ℕ). sections_by false (rest_left false) nothing l bytes) (sym kept_none) ∙ line_by_line nothing [] bytes refl
 
 -- ---- what is too long stays so
 
@@ -98,9 +98,9 @@ long_by true on lines later all = later all
 long_by false true lines later all = later all
 long_by false false lines later all = let no : false ≡ true = all.0 in absurd cc
 
-long_at : (front : List ℕ) (lines : List (List ℕ)) → (AllShort (sections_on (Some None) lines) → ⊥) → AllShort (listed (ended_at (Some None) front) (sections_on (next_held (Some None) front) lines)) → ⊥
+long_at : (front : List ℕ) (lines : List (List ℕ)) → (AllShort (sections_on (Some None) lines) → ⊥) → AllShort (listed (ended_at false (Some None) front) (sections_on (next_held false (Some None) front) lines)) → ⊥
 unfolding ended_at next_held
-long_at front lines later all = let kind = kind_of front in long_by kind.passed (goes_on (Some None) kind) lines later all
+long_at front lines later all = let kind = kind_of false front in long_by kind.passed (goes_on (Some None) kind) lines later all
 
 pub long_is_told : (lines : List (List ℕ)) → AllShort (sections_on (Some None) lines) → ⊥
 long_is_told [] all = let no : false ≡ true = all.0 in absurd cc

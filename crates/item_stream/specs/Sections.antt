@@ -48,61 +48,65 @@ held_by kind held line = if kind.passed then held else if goes_on held kind then
 abbrev pub ended_by : Kind → Held → List ℕ → Option Section
 ended_by kind held line = if kind.passed then None else if goes_on held kind then None else section_of (with_line held line)
 
-unfoldable pub next_held : Held → List ℕ → Held
-next_held held line = held_by (kind_of line) held line
+unfoldable pub next_held : Bool → Held → List ℕ → Held
+next_held follow held line = held_by (kind_of follow line) held line
 
-unfoldable pub ended_at : Held → List ℕ → Option Section
-ended_at held line = ended_by (kind_of line) held line
+unfoldable pub ended_at : Bool → Held → List ℕ → Option Section
+ended_at follow held line = ended_by (kind_of follow line) held line
 
 -- a section in front of others, if there is one
 abbrev pub listed : Option Section → List Section → List Section
 listed None sections = sections
 listed (Some section) sections = section ∷ sections
 
--- ---- the sections of bytes, behind what is held and what is kept of a line that is not ended
+-- ---- the sections of bytes, behind what is held and what is kept of a line that is not ended; `follow` says that the stream is a
+-- follower's
 
 -- by what is told where the bytes end
-unfoldable pub sections_by : (Held → List ℕ → List Section) → Held → List ℕ → List ℕ → List Section
-sections_by end held line [] = end held line
-sections_by end held line (byte ∷ bytes) =
-    if byte == 10 then listed (ended_at held line) (sections_by end (next_held held line) [] bytes)
-    else sections_by end held (kept (line ++ byte ∷ [])) bytes
+unfoldable pub sections_by : Bool → (Held → List ℕ → List Section) → Held → List ℕ → List ℕ → List Section
+sections_by follow end held line [] = end held line
+sections_by follow end held line (byte ∷ bytes) =
+    if byte == 10 then listed (ended_at follow held line) (sections_by follow end (next_held follow held line) [] bytes)
+    else sections_by follow end held (kept (line ++ byte ∷ [])) bytes
 
 -- where a stream ends: the line that lacks its LF ends there, and then what is held
-unfoldable pub rest_of : Held → List ℕ → Option Section
-rest_of held [] = section_of held
-rest_of held (byte ∷ bytes) = option_or (ended_at held (byte ∷ bytes)) (section_of (next_held held (byte ∷ bytes)))
+unfoldable pub rest_of : Bool → Held → List ℕ → Option Section
+rest_of follow held [] = section_of held
+rest_of follow held (byte ∷ bytes) = option_or (ended_at follow held (byte ∷ bytes)) (section_of (next_held follow held (byte ∷ bytes)))
 
 -- nothing where the last line of a section has not ended
 abbrev pub none_left : Held → List ℕ → List Section
 none_left held line = []
 
-abbrev pub rest_left : Held → List ℕ → List Section
-rest_left held line = listed (rest_of held line) []
+abbrev pub rest_left : Bool → Held → List ℕ → List Section
+rest_left follow held line = listed (rest_of follow held line) []
 
 -- the sections whose last lines have ended
-abbrev pub whole_sections : List ℕ → List Section
-whole_sections bytes = sections_by none_left nothing [] bytes
+abbrev pub whole_sections : Bool → List ℕ → List Section
+whole_sections follow bytes = sections_by follow none_left nothing [] bytes
 
 -- all sections of a stream that ends behind these bytes
-abbrev pub sections_of : List ℕ → List Section
-sections_of bytes = sections_by rest_left nothing [] bytes
+abbrev pub sections_of : Bool → List ℕ → List Section
+sections_of follow bytes = sections_by follow (rest_left follow) nothing [] bytes
 
 -- ---- a reader of sections
 
 -- what it has of the stream: what is kept of the line that is not ended, and what is held
 pub record Stage : Type 0 where
+  pub follow : Bool
   pub line : List ℕ
   pub held : Held
 
 -- before the first byte
-abbrev pub first_stage : Stage
-first_stage = record { line = []; held = nothing }
+abbrev pub first_stage : Bool → Stage
+first_stage follow = record { follow = follow; line = []; held = nothing }
 
--- whatever ends the stream, and whatever comes: its sections from one stage on are these, and then those from the other on
-abbrev pub GoesTo : Stage → List ℕ → List Section → Stage → List ℕ → Type 0
-GoesTo old bytes sections new rest = (end : Held → List ℕ → List Section) (more : List ℕ) → sections_by end (old.held) (old.line) (bytes ++ more) ≡ sections ++ sections_by end (new.held) (new.line) (rest ++ more)
+-- whatever ends the stream, and whatever comes: its sections from one stage on are these, and then those from the other on, which is
+-- of the same stream
+pub record GoesTo (old : Stage) (bytes : List ℕ) (sections : List Section) (new : Stage) (rest : List ℕ) : Type 0 where
+  pub same : new.follow ≡ old.follow
+  pub goes : (end : Held → List ℕ → List Section) (more : List ℕ) → sections_by old.follow end old.held old.line (bytes ++ more) ≡ sections ++ sections_by old.follow end new.held new.line (rest ++ more)
 
 -- the stream behind a stage, where it ends
 abbrev pub left_at : Stage → Option Section
-left_at stage = rest_of (stage.held) (stage.line)
+left_at stage = rest_of stage.follow stage.held stage.line

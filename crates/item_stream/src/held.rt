@@ -29,12 +29,14 @@ pub(crate) fn take_end(
     alloc: Global,
     held: Held,
     line: &[u8],
+    follow: bool,
 ) -> Result<(Held, Option<Section>), NoMemory>
-    ensures held { IfOk result (λ next. seen_held next.0 ≡ next_held (seen_held held) line.now) }
+    ensures held { IfOk result (λ next.
+        seen_held next.0 ≡ next_held follow (seen_held held) line.now) }
     ensures ended { IfOk result (λ next.
-        seen_option next.1 ≡ ended_at (seen_held held) line.now) }
+        seen_option next.1 ≡ ended_at follow (seen_held held) line.now) }
 {
-    let kind = kind_of(line);
+    let kind = kind_of(line, follow);
     if kind.passed {
         return Ok((held, None));
     }

@@ -6,9 +6,11 @@ mod held;
 mod keeping;
 mod kind;
 mod laws;
+mod packet;
 mod section;
 mod sections;
 
 pub use laws::front_is_cut_first;
+pub use packet::is_packet;
 pub use section::Section;
 pub use sections::Sections;

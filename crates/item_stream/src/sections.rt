@@ -15,6 +15,7 @@ use std::mem;
 /// that is not ended its lines, at most 16 MiB, or that it is too long.
 #[derive(Drop)]
 pub struct Sections {
+    pub(crate) follow: bool,
     pub(crate) line: Vec<u8>,
     pub(crate) held: Held,
 }
@@ -26,17 +27,18 @@ impl Model for Sections {
 
     ghost Value = { Stage };
 
-    ghost view = { λ s. record { line = s.line.items; held = seen_held s.held } };
+    ghost view = { λ s. record { follow = s.follow; line = s.line.items; held = seen_held s.held } };
 
     ghost invariant = { λ s. vec_len s.line ≤ 65537 };
 }
 
 impl Sections {
-    /// The reader of a stream before its first byte. It takes no memory.
-    pub fn new(alloc: Global) -> Sections
-        ensures { result ≡ first_stage }
+    /// The reader of a stream before its first byte, of a follower's where packets are sections too. It takes no memory.
+    pub fn new(alloc: Global, follow: bool) -> Sections
+        ensures { result ≡ first_stage follow }
     {
         Sections {
+            follow,
             line: Vec::new(alloc),
             held: Held::Nothing,
         }
@@ -93,13 +95,17 @@ impl Sections {
     // Ends the line: the section that ends with it.
     fn end_line(&mut self, alloc: Global) -> Result<Option<Section>, NoMemory>
         ensures ended { IfOk result (λ section.
-            seen_option section ≡ ended_at self.old.held self.old.line) }
+            seen_option section ≡ ended_at self.old.follow self.old.held self.old.line) }
         ensures stage { IfOk result (λ _. self.new
-            ≡ record { line = []; held = next_held self.old.held self.old.line }) }
+            ≡ record {
+              follow = self.old.follow;
+              line = [];
+              held = next_held self.old.follow self.old.held self.old.line;
+            }) }
     {
         let line = mem::replace(&mut self.line, Vec::new(alloc));
         let held = mem::replace(&mut self.held, Held::Nothing);
-        let (held, section) = take_end(alloc, held, &line)?;
+        let (held, section) = take_end(alloc, held, &line, self.follow)?;
         self.held = held;
         Ok(section)
     }

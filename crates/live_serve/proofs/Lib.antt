@@ -2,9 +2,14 @@ pub mod TextLemmas
 pub mod NumberLemmas
 pub mod SayLemmas
 pub mod ItemLemmas
+pub mod PlaceLemmas
 pub mod ServeLemmas
 pub mod PieceLemmas
 pub mod StreamLemmas
+pub mod DeskLemmas
+pub mod FollowLemmas
+pub mod TakeLemmas
+pub mod QueryLemmas
 pub mod LawLemmas
 pub mod PartLemmas
 pub mod ScriptLemmas

@@ -5,15 +5,16 @@ use Rattle.std.proofs.lemmas.List.{map-append, map_push, take-append-drop, take_
 use Rattle.item_stream.specs.Sections.{Section, listed}
 use Rattle.script_read.specs.Said.{Said, seen}
 use Rattle.script_read.specs.declared.item.Item.{Item}
-use Rattle.live_serve.specs.Sayings.{AllSay, Saying, Says, item, said}
+use Rattle.log_ship.specs.declared.packet.Packet.{Packet}
+use Rattle.live_serve.specs.Sayings.{AllSay, Saying, Says, item, packet, said, sent}
 
-pub say_then : (json : Bool) (sections more : List Section) (sayings others : List Saying) → AllSay json sections sayings → AllSay json more others → AllSay json (sections ++ more) (sayings ++ others)
-say_then json [] more sayings others none rest = subst (λ (s : List Saying). AllSay json more (s ++ others)) (sym none) rest
-say_then json (section ∷ sections) more sayings others (first, left, parts, says, all) rest =
-    (first, left ++ others, ap (λ (s : List Saying). s ++ others) parts ∙ append_assoc first left others, says, say_then json sections more left others all rest)
+pub say_then : (json follow : Bool) (sections more : List Section) (sayings others : List Saying) → AllSay json follow sections sayings → AllSay json follow more others → AllSay json follow (sections ++ more) (sayings ++ others)
+say_then json follow [] more sayings others none rest = subst (λ (s : List Saying). AllSay json follow more (s ++ others)) (sym none) rest
+say_then json follow (section ∷ sections) more sayings others (first, left, parts, says, all) rest =
+    (first, left ++ others, ap (λ (s : List Saying). s ++ others) parts ∙ append_assoc first left others, says, say_then json follow sections more left others all rest)
 
-pub say_one : (json : Bool) (section : Section) (sayings : List Saying) → Says json section sayings → AllSay json (section ∷ []) sayings
-say_one json section sayings says = (sayings, [], sym (append-nil sayings), says, refl)
+pub say_one : (json follow : Bool) (section : Section) (sayings : List Saying) → Says json follow section sayings → AllSay json follow (section ∷ []) sayings
+say_one json follow section sayings says = (sayings, [], sym (append-nil sayings), says, refl)
 
 -- ---- the items of a script, up to a place
 
@@ -25,3 +26,12 @@ said_more items n it within is =
 pub said_parts : (items : List Item) (n : ℕ) → said (map seen (take n items)) ++ said (map seen (drop n items)) ≡ said (map seen items)
 said_parts items n =
     sym (map-append item (map seen (take n items)) (map seen (drop n items))) ∙ ap said (sym (map-append seen (take n items) (drop n items))) ∙ ap (λ (l : List Item). said (map seen l)) (take-append-drop n items)
+
+-- ---- packets, up to a place
+
+pub sent_more : (packets : List Packet) (n : ℕ) (it : Packet) → n < length packets → it ≡ get_or packets n it → sent (take (n + 1) packets) ≡ sent (take n packets) ++ packet it ∷ []
+sent_more packets n it within is =
+    ap sent (take_more packets n it within ∙ ap (λ (p : Packet). take n packets ++ p ∷ []) (sym is)) ∙ map_push packet (take n packets) it
+
+pub sent_parts : (packets : List Packet) (n : ℕ) → sent (take n packets) ++ sent (drop n packets) ≡ sent packets
+sent_parts packets n = sym (map-append packet (take n packets) (drop n packets)) ∙ ap sent (take-append-drop n packets)

@@ -38,23 +38,23 @@ record IsGood (raw : List ℕ) : Type 0 where
   no_end : has_byte 10 raw ≡ false
   short : length raw ≤ 65536
 
-kind_is : (raw : List ℕ) → IsGood raw → kind_of (kept raw) ≡ kind_of_text (without_cr raw)
-kind_is raw good = ap kind_of (kept_short raw (omega (arith, good.short))) ∙ sym (kind_read raw raw good.utf8 refl)
+kind_is : (raw : List ℕ) → IsGood raw → kind_of false (kept raw) ≡ kind_of_text false (without_cr raw)
+kind_is raw good = ap (kind_of false) (kept_short raw (omega (arith, good.short))) ∙ sym (kind_read false raw raw good.utf8 refl)
 
 -- ---- one line more
 
 -- what is held and what ends there, by the tests of a line
-next_by : (raw : List ℕ) → IsGood raw → (held : Held) → next_held held (kept raw) ≡ (if is_passed (without_cr raw) then held else if goes_on held (kind_of_text (without_cr raw)) then with_line held raw else nothing)
+next_by : (raw : List ℕ) → IsGood raw → (held : Held) → next_held false held (kept raw) ≡ (if is_passed (without_cr raw) then held else if goes_on held (kind_of_text false (without_cr raw)) then with_line held raw else nothing)
 unfolding next_held
 next_by raw good held =
     ap (λ k. sections.held_by k held (kept raw)) (kind_is raw good)
-    ∙ ap (λ (l : List ℕ). if is_passed (without_cr raw) then held else if goes_on held (kind_of_text (without_cr raw)) then with_line held l else nothing) (kept_short raw (omega (arith, good.short)))
+    ∙ ap (λ (l : List ℕ). if is_passed (without_cr raw) then held else if goes_on held (kind_of_text false (without_cr raw)) then with_line held l else nothing) (kept_short raw (omega (arith, good.short)))
 
-ended_by : (raw : List ℕ) → IsGood raw → (held : Held) → ended_at held (kept raw) ≡ (if is_passed (without_cr raw) then None else if goes_on held (kind_of_text (without_cr raw)) then None else section_of (with_line held raw))
+ended_by : (raw : List ℕ) → IsGood raw → (held : Held) → ended_at false held (kept raw) ≡ (if is_passed (without_cr raw) then None else if goes_on held (kind_of_text false (without_cr raw)) then None else section_of (with_line held raw))
 unfolding ended_at
 ended_by raw good held =
     ap (λ k. sections.ended_by k held (kept raw)) (kind_is raw good)
-    ∙ ap (λ (l : List ℕ). if is_passed (without_cr raw) then None else if goes_on held (kind_of_text (without_cr raw)) then None else section_of (with_line held l)) (kept_short raw (omega (arith, good.short)))
+    ∙ ap (λ (l : List ℕ). if is_passed (without_cr raw) then None else if goes_on held (kind_of_text false (without_cr raw)) then None else section_of (with_line held l)) (kept_short raw (omega (arith, good.short)))
 
 -- ---- what a line adds is too long, or the lines with it
 
@@ -100,15 +100,15 @@ module _ (json : Bool) (reader : Reader json) where
     says = subst (λ (p : List Part). SayItems reader p (it ∷ [])) (sym (ap parts (script_lined (with_ends lines) ∙ ap (lined 1) (lines_again lines good)) ∙ are)) (says, tt);
   }
 
-  says_it : (text : List ℕ) (it : Said) → IsScript json text (it ∷ []) → Says json (Some text) (item it ∷ [])
+  says_it : (text : List ℕ) (it : Said) → IsScript json text (it ∷ []) → Says json false (Some text) (item it ∷ [])
   says_it text it script = inl (record { items = it ∷ []; script = script; are = refl })
 
   -- a line by itself
-  line_says : (n : ℕ) (raw : List ℕ) (it : Said) → IsGood raw → is_passed (without_cr raw) ≡ false → begins_block (without_cr raw) ≡ false → part_item reader.fields reader.request (single (line n (without_cr raw))) ≡ Ok it → Says json (Some (raw ++ 10 ∷ [])) (item it ∷ [])
+  line_says : (n : ℕ) (raw : List ℕ) (it : Said) → IsGood raw → is_passed (without_cr raw) ≡ false → begins_block (without_cr raw) ≡ false → part_item reader.fields reader.request (single (line n (without_cr raw))) ≡ Ok it → Says json false (Some (raw ++ 10 ∷ [])) (item it ∷ [])
   line_says n raw it good full plain says =
       let alone : parts (lined 1 (raw ∷ [])) ≡ single (line 1 (without_cr raw)) ∷ []
       = ap (λ (p : Bool). parts (if not p then line 1 (without_cr raw) ∷ [] else [])) full ∙ ap (λ (b : Bool). if b then parts_inside (line 1 (without_cr raw)) [] [] else single (line 1 (without_cr raw)) ∷ []) plain in
-      subst (λ (t : List ℕ). Says json (Some t) (item it ∷ [])) (append-nil (raw ++ 10 ∷ []))
+      subst (λ (t : List ℕ). Says json false (Some t) (item it ∷ [])) (append-nil (raw ++ 10 ∷ []))
       (says_it (with_ends (raw ∷ [])) it (one_script (raw ∷ []) (single (line 1 (without_cr raw))) it (good, tt) alone (single_same reader.fields reader.request n 1 (without_cr raw) it says)))
 
   -- ---- a block
@@ -148,7 +148,7 @@ module _ (json : Bool) (reader : Reader json) where
   all_more P (raw ∷ lines) last all is = (all.0, all_more P lines last all.1 is)
 
   block_says : (begin : Line) (inside : List Line) (first : List ℕ) (lines : List (List ℕ)) (n : ℕ) (last : List ℕ) (it : Said) → IsInner begin inside first lines → IsGood last → is_passed (without_cr last) ≡ false → ends_block (without_cr last) ≡ true
-      → part_item reader.fields reader.request (block begin inside (Some n)) ≡ Ok it → Says json (Some (with_ends (first ∷ lines) ++ (last ++ 10 ∷ []))) (item it ∷ [])
+      → part_item reader.fields reader.request (block begin inside (Some n)) ≡ Ok it → Says json false (Some (with_ends (first ∷ lines) ++ (last ++ 10 ∷ []))) (item it ∷ [])
   block_says begin inside first lines n last it inner good full ends says =
       let rest = lined_all 2 lines last inner.full full in
       let end : Line = line rest.0 (without_cr last) in
@@ -157,7 +157,7 @@ module _ (json : Bool) (reader : Reader json) where
       ∙ ap (λ (b : Bool). if b then parts_inside (line 1 (without_cr first)) [] (lined 2 (lines ++ last ∷ [])) else single (line 1 (without_cr first)) ∷ parts (lined 2 (lines ++ last ∷ []))) inner.begins
       ∙ ap (λ (l : List Line). parts_inside (line 1 (without_cr first)) [] l) rest.1 ∙ block_parts (line 1 (without_cr first)) end [] (numbered 2 (map without_cr lines)) (none_end 2 lines inner.on) ends in
       let same : texts_of inside ≡ texts_of (numbered 2 (map without_cr lines)) = inner.texts_are ∙ sym (texts_again 2 lines) in
-      subst (λ (t : List ℕ). Says json (Some t) (item it ∷ [])) (ends_more (first ∷ lines) last)
+      subst (λ (t : List ℕ). Says json false (Some t) (item it ∷ [])) (ends_more (first ∷ lines) last)
       (says_it (with_ends (first ∷ (lines ++ last ∷ []))) it (one_script (first ∷ (lines ++ last ∷ [])) (block (line 1 (without_cr first)) (numbered 2 (map without_cr lines)) (Some rest.0)) it (good_more (first ∷ lines) last inner.good good) whole
       (block_same reader.fields reader.request begin (line 1 (without_cr first)) inside (numbered 2 (map without_cr lines)) n rest.0 it inner.first_is same says)))
 
@@ -177,21 +177,21 @@ module _ (json : Bool) (reader : Reader json) where
 
   -- what is said from here on, outside a block and inside one
   abbrev Outside : List (List ℕ) → Type 0
-  Outside raws = (n : ℕ) (items : List Said) → SayItems reader (parts (lined n raws)) items → AllShort (sections_on nothing raws) → AllSay json (sections_on nothing raws) (said items)
+  Outside raws = (n : ℕ) (items : List Said) → SayItems reader (parts (lined n raws)) items → AllShort (sections_on nothing raws) → AllSay json false (sections_on nothing raws) (said items)
 
   abbrev Inside : List (List ℕ) → Type 0
   Inside raws = (n : ℕ) (begin : Line) (inside : List Line) (first : List ℕ) (lines : List (List ℕ)) (count : ℕ) (text : List ℕ) (items : List Said) → IsInner begin inside first lines → text ≡ with_ends (first ∷ lines) → SayItems reader (parts_inside begin inside (lined n raws)) items
-      → AllShort (sections_on (Some (Some (count, text))) raws) → AllSay json (sections_on (Some (Some (count, text))) raws) (said items)
+      → AllShort (sections_on (Some (Some (count, text))) raws) → AllSay json false (sections_on (Some (Some (count, text))) raws) (said items)
 
   -- a section that says an item, and more
-  say_first : (section : Section) (sections : List Section) (it : Said) (items : List Said) → Says json section (item it ∷ []) → AllSay json sections (said items) → AllSay json (section ∷ sections) (said (it ∷ items))
+  say_first : (section : Section) (sections : List Section) (it : Said) (items : List Said) → Says json false section (item it ∷ []) → AllSay json false sections (said items) → AllSay json false (section ∷ sections) (said (it ∷ items))
   say_first section sections it items says rest = (item it ∷ [], said items, refl, says, rest)
 
   -- a line outside a block, by its tests
   outside_by : (raw : List ℕ) (raws : List (List ℕ)) → IsGood raw → Outside raws → Inside raws → (n : ℕ) (items : List Said) (passed begins : Bool) → is_passed (without_cr raw) ≡ passed → begins_block (without_cr raw) ≡ begins
       → SayItems reader (parts (if not passed then line n (without_cr raw) ∷ lined (n + 1) raws else lined (n + 1) raws)) items
       → AllShort (listed (if passed then None else if begins then None else section_of (joined 0 [] raw)) (sections_on (if passed then nothing else if begins then joined 0 [] raw else nothing) raws))
-      → AllSay json (listed (if passed then None else if begins then None else section_of (joined 0 [] raw)) (sections_on (if passed then nothing else if begins then joined 0 [] raw else nothing) raws)) (said items)
+      → AllSay json false (listed (if passed then None else if begins then None else section_of (joined 0 [] raw)) (sections_on (if passed then nothing else if begins then joined 0 [] raw else nothing) raws)) (said items)
   outside_by raw raws good out inside n items true begins is-passed is-begin says short = out (n + 1) items says short
   outside_by raw raws good out inside n items false true is-passed is-begin says short = begun (joined 0 [] raw) (adds 0 [] raw) short
     where
@@ -201,20 +201,20 @@ module _ (json : Bool) (reader : Reader json) where
       says_inside : SayItems reader (parts_inside (line n (without_cr raw)) [] (lined (n + 1) raws)) items
       says_inside = subst (λ (b : Bool). SayItems reader (if b then parts_inside (line n (without_cr raw)) [] (lined (n + 1) raws) else single (line n (without_cr raw)) ∷ parts (lined (n + 1) raws)) items) is-begin says
 
-      begun : (held : Held) → Adds 0 [] raw held → AllShort (sections_on held raws) → AllSay json (sections_on held raws) (said items)
+      begun : (held : Held) → Adds 0 [] raw held → AllShort (sections_on held raws) → AllSay json false (sections_on held raws) (said items)
       begun held (long is) short = absurd (long_is_told raws (subst (λ (h : Held). AllShort (sections_on h raws)) is short))
       begun held (more is) short =
-          subst (λ (h : Held). AllSay json (sections_on h raws) (said items)) (sym is)
+          subst (λ (h : Held). AllSay json false (sections_on h raws) (said items)) (sym is)
           (inside (n + 1) (line n (without_cr raw)) [] raw [] 1 (raw ++ 10 ∷ []) items inner (sym (append-nil (raw ++ 10 ∷ []))) says_inside (subst (λ (h : Held). AllShort (sections_on h raws)) is short))
   outside_by raw raws good out inside n items false false is-passed is-begin says short =
       alone items (subst (λ (b : Bool). SayItems reader (if b then parts_inside (line n (without_cr raw)) [] (lined (n + 1) raws) else single (line n (without_cr raw)) ∷ parts (lined (n + 1) raws)) items) is-begin says) (joined 0 [] raw) (adds 0 [] raw) short
     where
-      alone : (items : List Said) → SayItems reader (single (line n (without_cr raw)) ∷ parts (lined (n + 1) raws)) items → (held : Held) → Adds 0 [] raw held → AllShort (listed (section_of held) (sections_on nothing raws)) → AllSay json (listed (section_of held) (sections_on nothing raws)) (said items)
+      alone : (items : List Said) → SayItems reader (single (line n (without_cr raw)) ∷ parts (lined (n + 1) raws)) items → (held : Held) → Adds 0 [] raw held → AllShort (listed (section_of held) (sections_on nothing raws)) → AllSay json false (listed (section_of held) (sections_on nothing raws)) (said items)
       alone [] says held add short = absurd says
       alone (it ∷ items) says held (long is) short = let no : AllShort (None ∷ sections_on nothing raws) = subst (λ (h : Held). AllShort (listed (section_of h) (sections_on nothing raws))) is short in let clash : false ≡ true = no.0 in absurd cc
       alone (it ∷ items) says held (more is) short =
           let all = subst (λ (h : Held). AllShort (listed (section_of h) (sections_on nothing raws))) is short in
-          subst (λ (h : Held). AllSay json (listed (section_of h) (sections_on nothing raws)) (said (it ∷ items))) (sym is)
+          subst (λ (h : Held). AllSay json false (listed (section_of h) (sections_on nothing raws)) (said (it ∷ items))) (sym is)
           (say_first (Some (raw ++ 10 ∷ [])) (sections_on nothing raws) it items (line_says n raw it good is-passed is-begin says.0) (out (n + 1) items says.1 all.1))
 
   -- a line inside a block, by its tests
@@ -222,7 +222,7 @@ module _ (json : Bool) (reader : Reader json) where
       → ends_block (without_cr raw) ≡ ends → IsInner begin inner first lines → text ≡ with_ends (first ∷ lines)
       → SayItems reader (parts_inside begin inner (if not passed then line n (without_cr raw) ∷ lined (n + 1) raws else lined (n + 1) raws)) items
       → AllShort (listed (if passed then None else if not ends then None else section_of (joined count text raw)) (sections_on (if passed then Some (Some (count, text)) else if not ends then joined count text raw else nothing) raws))
-      → AllSay json (listed (if passed then None else if not ends then None else section_of (joined count text raw)) (sections_on (if passed then Some (Some (count, text)) else if not ends then joined count text raw else nothing) raws)) (said items)
+      → AllSay json false (listed (if passed then None else if not ends then None else section_of (joined count text raw)) (sections_on (if passed then Some (Some (count, text)) else if not ends then joined count text raw else nothing) raws)) (said items)
   inside_by raw raws good out inside n begin inner first lines count text items true ends is-passed is-end is text-is says short = inside (n + 1) begin inner first lines count text items is text-is says short
   inside_by raw raws good out inside n begin inner first lines count text items false false is-passed is-end is text-is says short = on (joined count text raw) (adds count text raw) short
     where
@@ -232,34 +232,34 @@ module _ (json : Bool) (reader : Reader json) where
       longer : text ++ (raw ++ 10 ∷ []) ≡ with_ends (first ∷ (lines ++ raw ∷ []))
       longer = ap (λ (t : List ℕ). t ++ (raw ++ 10 ∷ [])) text-is ∙ sym (ends_more (first ∷ lines) raw)
 
-      on : (held : Held) → Adds count text raw held → AllShort (sections_on held raws) → AllSay json (sections_on held raws) (said items)
+      on : (held : Held) → Adds count text raw held → AllShort (sections_on held raws) → AllSay json false (sections_on held raws) (said items)
       on held (long it) short = absurd (long_is_told raws (subst (λ (h : Held). AllShort (sections_on h raws)) it short))
       on held (more it) short =
-          subst (λ (h : Held). AllSay json (sections_on h raws) (said items)) (sym it)
+          subst (λ (h : Held). AllSay json false (sections_on h raws) (said items)) (sym it)
           (inside (n + 1) begin (inner ++ line n (without_cr raw) ∷ []) first (lines ++ raw ∷ []) (count + 1) (text ++ (raw ++ 10 ∷ [])) items (inner_more begin inner first lines n raw is good is-passed is-end) longer says_on (subst (λ (h : Held). AllShort (sections_on h raws)) it short))
   inside_by raw raws good out inside n begin inner first lines count text items false true is-passed is-end is text-is says short =
       closed items (subst (λ (b : Bool). SayItems reader (if b then block begin inner (Some n) ∷ parts (lined (n + 1) raws) else parts_inside begin (inner ++ line n (without_cr raw) ∷ []) (lined (n + 1) raws)) items) is-end says) (joined count text raw) (adds count text raw) short
     where
-      closed : (items : List Said) → SayItems reader (block begin inner (Some n) ∷ parts (lined (n + 1) raws)) items → (held : Held) → Adds count text raw held → AllShort (listed (section_of held) (sections_on nothing raws)) → AllSay json (listed (section_of held) (sections_on nothing raws)) (said items)
+      closed : (items : List Said) → SayItems reader (block begin inner (Some n) ∷ parts (lined (n + 1) raws)) items → (held : Held) → Adds count text raw held → AllShort (listed (section_of held) (sections_on nothing raws)) → AllSay json false (listed (section_of held) (sections_on nothing raws)) (said items)
       closed [] says held add short = absurd says
       closed (it ∷ items) says held (long told) short = let no : AllShort (None ∷ sections_on nothing raws) = subst (λ (h : Held). AllShort (listed (section_of h) (sections_on nothing raws))) told short in let clash : false ≡ true = no.0 in absurd cc
       closed (it ∷ items) says held (more told) short =
           let all = subst (λ (h : Held). AllShort (listed (section_of h) (sections_on nothing raws))) told short in
-          let here : Says json (Some (text ++ (raw ++ 10 ∷ []))) (item it ∷ []) = subst (λ (t : List ℕ). Says json (Some (t ++ (raw ++ 10 ∷ []))) (item it ∷ [])) (sym text-is) (block_says begin inner first lines n raw it is good is-passed is-end says.0) in
-          subst (λ (h : Held). AllSay json (listed (section_of h) (sections_on nothing raws)) (said (it ∷ items))) (sym told) (say_first (Some (text ++ (raw ++ 10 ∷ []))) (sections_on nothing raws) it items here (out (n + 1) items says.1 all.1))
+          let here : Says json false (Some (text ++ (raw ++ 10 ∷ []))) (item it ∷ []) = subst (λ (t : List ℕ). Says json false (Some (t ++ (raw ++ 10 ∷ []))) (item it ∷ [])) (sym text-is) (block_says begin inner first lines n raw it is good is-passed is-end says.0) in
+          subst (λ (h : Held). AllSay json false (listed (section_of h) (sections_on nothing raws)) (said (it ∷ items))) (sym told) (say_first (Some (text ++ (raw ++ 10 ∷ []))) (sections_on nothing raws) it items here (out (n + 1) items says.1 all.1))
 
   -- by the equations of the line
   outside_line : (raw : List ℕ) (raws : List (List ℕ)) → IsGood raw → Outside raws → Inside raws → Outside (raw ∷ raws)
   outside_line raw raws good out inside n items says short =
-      let goes = ap (λ (e : Option Section). listed e (sections_on (next_held nothing (kept raw)) raws)) (ended_by raw good nothing) ∙ ap (λ (h : Held). listed (if is_passed (without_cr raw) then None else if begins_block (without_cr raw) then None else section_of (joined 0 [] raw)) (sections_on h raws)) (next_by raw good nothing) in
-      subst (λ (s : List Section). AllSay json s (said items)) (sym goes)
+      let goes = ap (λ (e : Option Section). listed e (sections_on (next_held false nothing (kept raw)) raws)) (ended_by raw good nothing) ∙ ap (λ (h : Held). listed (if is_passed (without_cr raw) then None else if begins_block (without_cr raw) then None else section_of (joined 0 [] raw)) (sections_on h raws)) (next_by raw good nothing) in
+      subst (λ (s : List Section). AllSay json false s (said items)) (sym goes)
       (outside_by raw raws good out inside n items (is_passed (without_cr raw)) (begins_block (without_cr raw)) refl refl says (subst AllShort goes short))
 
   inside_line : (raw : List ℕ) (raws : List (List ℕ)) → IsGood raw → Outside raws → Inside raws → Inside (raw ∷ raws)
   inside_line raw raws good out inside n begin inner first lines count text items is text-is says short =
-      let goes = ap (λ (e : Option Section). listed e (sections_on (next_held (Some (Some (count, text))) (kept raw)) raws)) (ended_by raw good (Some (Some (count, text))))
+      let goes = ap (λ (e : Option Section). listed e (sections_on (next_held false (Some (Some (count, text))) (kept raw)) raws)) (ended_by raw good (Some (Some (count, text))))
       ∙ ap (λ (h : Held). listed (if is_passed (without_cr raw) then None else if not (ends_block (without_cr raw)) then None else section_of (joined count text raw)) (sections_on h raws)) (next_by raw good (Some (Some (count, text)))) in
-      subst (λ (s : List Section). AllSay json s (said items)) (sym goes)
+      subst (λ (s : List Section). AllSay json false s (said items)) (sym goes)
       (inside_by raw raws good out inside n begin inner first lines count text items (is_passed (without_cr raw)) (ends_block (without_cr raw)) refl refl is text-is says (subst AllShort goes short))
 
   outside_none : Outside []
@@ -282,9 +282,9 @@ good_lines : (raws : List (List ℕ)) → AreTextLines raws → AllByRecursion (
 good_lines [] text short = tt
 good_lines (raw ∷ raws) text short = (record { utf8 = text.0.0; no_end = text.0.1; short = short.0 }, good_lines raws text.1 short.1)
 
-pub script_says : (json : Bool) (bytes : List ℕ) (items : List Said) → IsScript json bytes items → AllByRecursion (λ (raw : List ℕ). length raw ≤ 65536) (lines_of bytes) → AllShort (sections_of bytes) → AllSay json (sections_of bytes) (said items)
+pub script_says : (json : Bool) (bytes : List ℕ) (items : List Said) → IsScript json bytes items → AllByRecursion (λ (raw : List ℕ). length raw ≤ 65536) (lines_of bytes) → AllShort (sections_of false bytes) → AllSay json false (sections_of false bytes) (said items)
 script_says json bytes items script lines sections =
     let good = good_lines (lines_of bytes) (lines_are_text bytes script.utf8) lines in
     let out = (both json script.reader (lines_of bytes) good).0 in
-    subst (λ (s : List Section). AllSay json s (said items)) (sym (sections_are bytes))
+    subst (λ (s : List Section). AllSay json false s (said items)) (sym (sections_are bytes))
     (out 1 items (subst (λ (l : List Line). SayItems script.reader (parts l) items) (script_lined bytes) script.says) (subst AllShort (sections_are bytes) sections))

@@ -1,3 +1,4 @@
 -- What only private functions and proofs say.
 pub mod Telling
 pub mod Ending
+pub mod Asking

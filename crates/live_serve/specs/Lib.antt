@@ -1,5 +1,7 @@
 pub mod Sayings
 pub mod Lines
+pub mod Followed
+pub mod Places
 pub mod Serving
 pub mod Streams
 pub mod Standings

@@ -11,7 +11,7 @@ use Rattle.script_read.specs.Said.{Said}
 use Rattle.script_read.specs.declared.fault.ScriptFault.{ScriptFault}
 use Rattle.script_read.specs.declared.fault.ScriptFault.TheVariants as script
 use Rattle.session_meaning.specs.Replies.{IsReply, is_decided}
-use Rattle.live_serve.specs.Sayings.{Saying, item, fault, too_long}
+use Rattle.live_serve.specs.Sayings.{Saying, item, fault, packet, no_packet, too_long}
 
 -- the number behind this one: they count from 1, and stand still at 2^64 - 1
 abbrev pub next_number : ℕ → ℕ
@@ -58,6 +58,8 @@ module _ (model : ModelParts) (shapes : Shapes) (opening : Policy) where
   IsText done number (item it) refused text = IsItemText done number it refused text
   IsText done number (fault first) refused text = (refused ≡ []) × (text ≡ refused_text number (cause_text first))
   IsText done number too_long refused text = (refused ≡ []) × (text ≡ refused_text number (codes "too long"))
+  IsText done number (packet sent) refused text = ⊥
+  IsText done number no_packet refused text = ⊥
 
   -- the texts of sayings behind these items and a line with this number, one each in their order, and what was refused for each
   abbrev pub AreTexts : List Said → ℕ → List Saying → List (List (List ℕ)) → List (List ℕ) → Type 0

@@ -1,4 +1,4 @@
-ghost use Rattle.std.specs.Prelude.{◌≡◌, ◌<◌, ◌≤◌, ℕ, All, Bool, List, [], is_some, length, map, true};
+ghost use Rattle.std.specs.Prelude.{◌≡◌, ◌<◌, ◌≤◌, ℕ, All, Bool, List, [], false, is_some, length, map, true};
 ghost use Rattle.answer_lines.specs.LineText.{line_text};
 ghost use Rattle.answer_lines.specs.declared.answer.Line.{Line};
 ghost use Rattle.item_stream.specs.Sections.{sections_of};
@@ -28,6 +28,6 @@ pub fn script_is_a_stream_of_its_items()
     ensures { (json : Bool) (bytes : List ℕ) (items : List Said)
         → IsScript json bytes items
         → All (λ line. length line ≤ 65536) (lines_of bytes)
-        → All (λ section. is_some section ≡ true) (sections_of bytes)
-        → AllSay json (sections_of bytes) (said items) }
+        → All (λ section. is_some section ≡ true) (sections_of false bytes)
+        → AllSay json false (sections_of false bytes) (said items) }
 {}

@@ -2,11 +2,11 @@ ghost use Rattle.std.specs.Prelude.{◌≡◌, ◌≤◌, ◌+◌, [], IfErr, On
 ghost use Rattle.decision.specs.Programs.{Suits};
 ghost use Rattle.outside.specs.Faults.{Rose};
 ghost use Rattle.regex_gate.specs.Refusals.{IsUsed};
-ghost use Rattle.live_serve.specs.Serving.{StandsSomewhere};
+ghost use Rattle.live_serve.specs.Places.{StandsSomewhere, is_followers, state_at};
 ghost use Rattle.live_serve.specs.Standings.{standing};
 ghost use Rattle.live_serve.specs.Streams.{LeavesPiece, TakesPiece};
 
-use crate::clerk::Clerk;
+use crate::answering::{Clerk, serve_ended};
 use decision::Program;
 use item_stream::Sections;
 use perm_base::Sink;
@@ -26,12 +26,13 @@ pub fn serve_piece<K: Sink, P: Finder>(
     out: &mut K,
     finder: &mut P,
 ) -> Result<(), Stop>
-    requires suits { Suits program.now (standing clerk.old).desk.state.shapes }
-    requires stands { StandsSomewhere (standing clerk.old).desk }
-    ensures served { OnOk result (TakesPiece json program.now
+    requires suits { Suits program.now (state_at (standing clerk.old).place).shapes }
+    requires stands { StandsSomewhere (standing clerk.old).place }
+    ensures served { OnOk result (TakesPiece json (is_followers (standing clerk.old).place) program.now
         (P.refusals finder.old) (P.refusals finder.new) (standing clerk.old) (standing clerk.new)
         sections.old sections.new piece.now [] (K.taken out.old) (K.taken out.new)) }
-    ensures stopped { IfErr result (LeavesPiece json program.now (standing clerk.old) sections.old piece.now
+    ensures stopped { IfErr result (LeavesPiece json (is_followers (standing clerk.old).place) program.now
+        (standing clerk.old) sections.old piece.now
         (K.taken out.old) (K.taken out.new) (Rose (K.faults out.old) (K.faults out.new))) }
     ensures counted { K.faults out.old ≤ K.faults out.new }
     ensures used { IsUsed (P.refusals finder.old) (P.refusals finder.new) }
@@ -40,7 +41,7 @@ pub fn serve_piece<K: Sink, P: Finder>(
     while at < piece.len() {
         let (used, section) = sections.take_line(alloc, rest_of(piece, at))?;
         at += used;
-        clerk.serve_ended(alloc, program, json, section, out, finder)?;
+        serve_ended(clerk, alloc, program, json, section, out, finder)?;
     }
     Ok(())
 }

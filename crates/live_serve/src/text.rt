@@ -1,7 +1,6 @@
 ghost use Rattle.std.specs.Prelude.{◌≡◌, ◌++◌, ◌<◌, OnOk, codes, decimal, drop, length, slice_index, true};
 ghost use Rattle.answer_lines.specs.LineText.{Appends, answer_text, numbered};
 ghost use Rattle.answer_lines.specs.Told.{is_printable};
-ghost use Rattle.live_serve.specs.Lines.{refused_text};
 
 use answer_lines::{Line, push_line};
 use itoa::Buffer;
@@ -27,18 +26,23 @@ pub(crate) fn push_told(
     Ok(())
 }
 
-/// Appends the line of a section that is no script.
-pub(crate) fn push_refused(text: &mut String, number: u64, cause: &str) -> Result<(), NoMemory>
-    ensures { OnOk result (Appends text.old text.new (refused_text number cause.now)) }
+/// Appends the line of what is refused.
+pub(crate) fn push_refused(
+    text: &mut String,
+    number: u64,
+    front: &str,
+    cause: &str,
+) -> Result<(), NoMemory>
+    ensures { OnOk result (Appends text.old text.new (numbered number (front.now ++ cause.now))) }
 {
     push_number(text, number)?;
-    push_words(text, "refused: script ", cause)?;
+    push_words(text, front, cause)?;
     text.push_str("\n")?;
     Ok(())
 }
 
 // Appends a number, and the blank behind it.
-fn push_number(text: &mut String, number: u64) -> Result<(), NoMemory>
+pub(crate) fn push_number(text: &mut String, number: u64) -> Result<(), NoMemory>
     ensures { OnOk result (Appends text.old text.new (decimal number ++ codes " ")) }
 {
     let mut digits = Buffer::new();

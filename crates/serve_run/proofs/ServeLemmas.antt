@@ -1,9 +1,12 @@
 -- A stream that is served over what the files of a job were opened to.
-use Rattle.std.proofs.Common.{◌≡◌, ℕ, Bool, false, List, [], inl, inr, sym, ap, subst, ◌∙◌}
+use Rattle.std.proofs.Common.{◌≡◌, ℕ, Bool, true, false, List, [], inl, inr, refl, sym, ap, subst, ◌∙◌}
 use Rattle.std.specs.Prelude.{Option, Some, None}
 use Rattle.live_round.proofs.CallerLemmas.{alone_before}
 use Rattle.live_round.specs.Desks.{StandsBehind}
-use Rattle.live_serve.specs.Streams.{Service, service}
+use Rattle.live_serve.specs.Places.{Place, Standing, at_desk, follows, is_followers, state_at}
+use Rattle.item_stream.specs.Sections.{sections_of}
+use Rattle.live_serve.specs.Streams.{IsFirst, OfRead, Service, TookTexts, service}
+use Rattle.log_ship.specs.Followers.{Following}
 use Rattle.model_conf.specs.ModelText.{ModelParts}
 use Rattle.outside.specs.Files.{Files}
 use Rattle.outside.specs.Log.{Adds}
@@ -27,7 +30,7 @@ use Rattle.session_meaning.specs.Desks.{IsBehind}
 use Rattle.version_log.specs.Log.{versions}
 use Rattle.serve_run.specs.Announced.{serving_line}
 use Rattle.serve_run.specs.Helps.Serving as helps
-use Rattle.serve_run.specs.Helps.Serving.{Announces, ServedJob, ServedOpened, StopsJob, StopsOpened, opened_service}
+use Rattle.serve_run.specs.Helps.Serving.{Announces, IsReady, ServedJob, ServedOpened, StopsJob, StopsOpened, opened_service}
 use Rattle.serve_run.specs.Moments.{AskedErr, Moment}
 use Rattle.serve_run.specs.Services as services
 use Rattle.serve_run.specs.Services.{EndsServing, HasServed, IsAnnounced, IsCutOff, IsOpen, IsServed, StopsServing, service_on}
@@ -37,7 +40,7 @@ use Rattle.serve_run.specs.declared.words.Job.{Job}
 -- ---- a desk
 
 -- a desk over a policy of version 0 stands before all items
-pub desk_before : (desk : Work) (state : State) → versions state.log ≡ 0 → desk.state ≡ state → desk.pending ≡ [] → desk.kept ≡ None → desk.floor ≡ state.log.start → StandsBehind (tables desk.state) [] desk
+desk_before : (desk : Work) (state : State) → versions state.log ≡ 0 → desk.state ≡ state → desk.pending ≡ [] → desk.kept ≡ None → desk.floor ≡ state.log.start → StandsBehind (tables desk.state) [] desk
 desk_before desk state none same no_pending keeps_all floor =
     let there = alone_before desk.state (ap (λ (s : State). versions s.log) same ∙ none) in
     record {
@@ -46,19 +49,31 @@ desk_before desk state none same no_pending keeps_all floor =
       floor = floor ∙ sym (ap (λ (s : State). s.log.start) same);
     }
 
-abbrev made : Bool → ModelParts → Shapes → Policy → Service
-made json model shapes opening = record { json = json; model = model; shapes = shapes; opening = opening }
+abbrev made : Bool → Bool → ModelParts → Shapes → Policy → Service
+made json follow model shapes opening = record { json = json; follow = follow; model = model; shapes = shapes; opening = opening }
 
--- it serves what was opened
-pub same_desk : (job : Job) (opened : Opened) (desk : Work) → desk.state ≡ opened.state → service job.json opened.program desk ≡ opened_service job opened
-same_desk job opened desk same = ap (λ (s : State). made job.json opened.program s.shapes (tables s)) same
+-- a place with the state that was opened serves over it
+same_place : (job : Job) (opened : Opened) (place : Place) → is_followers place ≡ job.follow → state_at place ≡ opened.state → service job.json opened.program place ≡ opened_service job opened
+same_place job opened place kind same = ap (λ (s : State). made job.json (is_followers place) opened.program s.shapes (tables s)) same ∙ ap (λ (f : Bool). made job.json f opened.program opened.state.shapes (tables opened.state)) kind
 
-module _ (job : Job) (opened : Opened) (desk : Work) (same : desk.state ≡ opened.state) (before now : Moment) (told : Announces job opened.rules before now) where
-  pub stream_served : IsServed (service job.json opened.program desk) before now → ServedOpened job opened before now
-  stream_served served = record { told = told; served = subst (λ (on : Service). IsServed on before now) (same_desk job opened desk same) served }
+-- a follower of a state of version 0, at which nothing waits, is at its first
+follower_first : (follower : Following) (state : State) → versions state.log ≡ 0 → follower.state ≡ state → follower.waiting ≡ [] → IsFirst (follows follower)
+follower_first follower state none same empty = record { shapes_are = refl; policy_is = refl; first = ap (λ (s : State). versions s.log) same ∙ none; none_waits = empty }
 
-  pub stream_stops : (stop : Stop) → IsCutOff (service job.json opened.program desk) before now stop → StopsOpened job opened before now stop
-  stream_stops stop stops = inr (told, subst (λ (on : Service). IsCutOff on before now stop) (same_desk job opened desk same) stops)
+-- ---- a clerk
+
+pub desk_ready : (at : Standing) (desk : Work) (state : State) → at ≡ record { place = at_desk desk; number = 0 } → versions state.log ≡ 0 → desk.state ≡ state → desk.pending ≡ [] → desk.kept ≡ None → desk.floor ≡ state.log.start → IsReady state false at
+desk_ready at desk state is none same no_pending keeps_all floor = subst (IsReady state false) (sym is) (record { kind = refl; state_is = same; first = desk_before desk state none same no_pending keeps_all floor; no_line = refl })
+
+pub follower_ready : (at : Standing) (follower : Following) (state : State) → at ≡ record { place = follows follower; number = 0 } → versions state.log ≡ 0 → follower.state ≡ state → follower.waiting ≡ [] → IsReady state true at
+follower_ready at follower state is none same empty = subst (IsReady state true) (sym is) (record { kind = refl; state_is = same; first = follower_first follower state none same empty; no_line = refl })
+
+module _ (job : Job) (opened : Opened) (place : Place) (kind : is_followers place ≡ job.follow) (same : state_at place ≡ opened.state) (before now : Moment) (told : Announces job opened.rules before now) where
+  pub stream_served : OfRead before.left now.left (λ read. TookTexts (service job.json opened.program place) before.refused now.refused (sections_of (is_followers place) read) before.out now.out) → ServedOpened job opened before now
+  stream_served so = record { told = told; served = subst (λ (on : Service). IsServed on before now) (same_place job opened place kind same) so }
+
+  pub stream_stops : (stop : Stop) → IsCutOff (service job.json opened.program place) before now stop → StopsOpened job opened before now stop
+  stream_stops stop stops = inr (told, subst (λ (on : Service). IsCutOff on before now stop) (same_place job opened place kind same) stops)
 
 -- ---- a job
 
@@ -68,7 +83,7 @@ shelved calls faults at = record at { calls = calls; shelf_faults = faults }
 
 module _ (files : Option Files) (job : Job) (opened : Opened) (is : IsOpened files job.files job.options opened) (calls calls_now : Option (List FetchCall)) (faults faults_now : ℕ) (fetched : Adds calls calls_now (both_fetches job.files false)) where
   same_service : opened_service job opened ≡ service_on job opened.program (tables opened.state)
-  same_service = ap (λ (s : Shapes). made job.json opened.program s (tables opened.state)) is.shapes_are
+  same_service = ap (λ (s : Shapes). made job.json job.follow opened.program s (tables opened.state)) is.shapes_are
 
   module _ (before now : Moment) where
     is_open : IsOpen files job opened.program (tables opened.state) (shelved calls faults before) (shelved calls_now faults_now now)

@@ -24,7 +24,7 @@ use Rattle.serve_run.specs.declared.words.Job.{Job}
 
 -- over what a stream is served
 abbrev pub service_on : Job → ModelParts → Policy → Service
-service_on job model policy = record { json = job.json; model = model; shapes = shapes_with job.options model; opening = policy }
+service_on job model policy = record { json = job.json; follow = job.follow; model = model; shapes = shapes_with job.options model; opening = policy }
 
 -- the job's files are this model and this policy, each of which was fetched once
 pub record IsOpen (files : Option Files) (job : Job) (model : ModelParts) (policy : Policy) (before now : Moment) : Type 0 where
@@ -37,7 +37,7 @@ IsAnnounced job policy before now = IsTold before.err now.err before.err_faults 
 
 -- the input was read to its end, and `out` took the texts of all its sections
 abbrev pub IsServed : Service → Moment → Moment → Type 0
-IsServed on before now = OfRead before.left now.left (λ read. TookTexts on before.refused now.refused (sections_of read) before.out now.out)
+IsServed on before now = OfRead before.left now.left (λ read. TookTexts on before.refused now.refused (sections_of on.follow read) before.out now.out)
 
 -- it was not, for this stop
 abbrev pub IsCutOff : Service → Moment → Moment → Stop → Type 0

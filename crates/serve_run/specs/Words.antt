@@ -1,4 +1,4 @@
--- What the words ask for: `serve`, and behind it what may stand behind `session`, but no number of workers.
+-- What the words ask for: `serve`, for a follower's stream `--follow` next, and behind that what may stand behind `session`, but no number of workers.
 use Rattle.std.specs.Prelude.{ℕ, ◌||◌, nat_eq, not, Bool, false, List, [], ◌∷◌, Option, Some, None, codes, bytes_eq, if◌then◌else◌}
 use Rattle.std.specs.List.{starts_with}
 use Rattle.std.specs.Option.{option_and_then}
@@ -22,16 +22,30 @@ abbrev pub has_workers : List (List ℕ) → Bool
 has_workers [] = false
 has_workers (word ∷ words) = if is_dashes word then false else is_workers word || has_workers words
 
+-- the first of these is `--follow`; the words behind it, or all
+abbrev pub begins_follow : List (List ℕ) → Bool
+begins_follow [] = false
+begins_follow (word ∷ words) = bytes_eq word (codes "--follow")
+
+abbrev pub behind_follow : List (List ℕ) → List (List ℕ)
+behind_follow [] = []
+behind_follow (word ∷ words) = if bytes_eq word (codes "--follow") then words else word ∷ words
+
+-- the stream is a follower's
+abbrev pub is_to_follow : List (List ℕ) → Bool
+is_to_follow [] = false
+is_to_follow (name ∷ words) = begins_follow words
+
 -- the words of a session on the same files
 abbrev pub session_of : List (List ℕ) → Option (List (List ℕ))
 session_of [] = None
-session_of (name ∷ words) = if not (bytes_eq name (codes "serve")) then None else if has_workers words then None else Some (codes "session" ∷ words)
+session_of (name ∷ words) = if not (bytes_eq name (codes "serve")) then None else if has_workers (behind_follow words) then None else Some (codes "session" ∷ behind_follow words)
 
 -- what a session is done on
-abbrev pub job_of : Command → Option Job
-job_of (command.Session files options json workers) = Some (record { files = files; options = Some options; json = json })
-job_of _ = None
+abbrev pub job_of : Bool → Command → Option Job
+job_of follow (command.Session files options json workers) = Some (record { files = files; options = Some options; json = json; follow = follow })
+job_of follow _ = None
 
 -- what the words ask for
 abbrev pub job_asked : List (List ℕ) → Option Job
-job_asked words = option_and_then (λ (session : List (List ℕ)). option_and_then job_of (command_of session)) (session_of words)
+job_asked words = option_and_then (λ (session : List (List ℕ)). option_and_then (job_of (is_to_follow words)) (command_of session)) (session_of words)

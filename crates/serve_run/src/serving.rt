@@ -1,6 +1,7 @@
-ghost use Rattle.std.specs.Prelude.{◌≡◌, ◌≤◌, ◌<◌, [], IfErr, IfSome, OnOk};
+ghost use Rattle.std.specs.Prelude.{◌≡◌, ◌≤◌, ◌<◌, [], IfErr, IfOk, IfSome, None, OnOk};
 ghost use Rattle.command_words.specs.Items.{texts};
 ghost use Rattle.decision.specs.Programs.{Suits};
+ghost use Rattle.live_serve.specs.Standings.{standing};
 ghost use Rattle.outside.specs.Ends.{IsEndedOnce};
 ghost use Rattle.regex_gate.specs.Refusals.{IsUsed};
 ghost use Rattle.run_files.specs.Files.{limit_in};
@@ -8,14 +9,17 @@ ghost use Rattle.run_status.specs.declared.status.Status.TheVariants as status;
 ghost use Rattle.version_log.specs.Log.{versions};
 ghost use Rattle.serve_run.specs.Moments.{moment};
 ghost use Rattle.serve_run.specs.Services.{EndsServing, HasServed, StopsServing};
-ghost use Rattle.serve_run.specs.Helps.Serving.{ServedJob, ServedOpened, StopsJob, StopsOpened};
+ghost use Rattle.serve_run.specs.Helps.Serving.{IsReady, ServedJob, ServedOpened, StopsJob, StopsOpened};
 
 use crate::opened::{Opened, open_files};
 use crate::telling::tell_serving;
-use crate::words::{Job, read_job, session_words};
-use live_serve::serve_stream;
-use perm_base::{Shelf, Sink, Source};
+use crate::words::{Job, asks_to_follow, read_job, session_words};
+use decision::Program;
+use live_serve::{Clerk, serve_stream};
+use log_ship::Follower;
+use perm_base::{NoMemory, Shelf, Sink, Source};
 use policy_desk::open_desk;
+use policy_state::PolicyState;
 use regex_gate::Finder;
 use run_status::{Status, Stop, tell_stop};
 use std::alloc::Global;
@@ -23,8 +27,9 @@ use std::alloc::Global;
 /// Serves a stream, where the words ask for it, and tells on `err` why it stopped where it did. The files come from the shelf, each
 /// once; then `err` takes the line that tells what is served, and then the input is read.
 ///
-/// `serve MODEL POLICY [--limit L] [--match LIST] [--domain-match LIST] [--json]` answers each item of the input as soon as its last
-/// line is read, before it reads on: as a session does, and what is no item by why it is none. Nothing that comes in ends it but the
+/// `serve [--follow] MODEL POLICY [--limit L] [--match LIST] [--domain-match LIST] [--json]` answers each item of the input as soon as its last
+/// line is read, before it reads on: as a session does, and what is no item by why it is none. With `--follow` it takes packets in place of
+/// calls. Nothing that comes in ends it but the
 /// end of the input, behind which it is done. It holds no more of the input than the item that is not ended. Exactly where another
 /// cause is said to come, want of memory may come instead.
 pub fn serve_casbin<F: Shelf, S: Source, K: Sink, E: Sink, P: Finder>(
@@ -93,7 +98,8 @@ fn serve_words<F: Shelf, S: Source, K: Sink, E: Sink, P: Finder>(
     let Some(session) = session else {
         return Err(Stop::Words);
     };
-    let Some(job) = read_job(alloc, &session)? else {
+    let follow = asks_to_follow(words);
+    let Some(job) = read_job(alloc, &session, follow)? else {
         return Err(Stop::Words);
     };
     serve_job(alloc, &job, shelf, input, out, err, finder)
@@ -160,7 +166,33 @@ fn serve_opened<S: Source, K: Sink, E: Sink, P: Finder>(
     ensures out_counted { K.faults out.old ≤ K.faults out.new }
     ensures used { IsUsed (P.refusals finder.old) (P.refusals finder.new) }
 {
-    let desk = open_desk(alloc, opened.state)?;
+    let mut clerk = clerk_for(alloc, opened.state, &opened.program, job.follow)?;
     tell_serving(err, &job.files, opened.rules);
-    serve_stream(alloc, desk, &opened.program, job.json, input, out, finder)
+    serve_stream(
+        alloc,
+        &mut clerk,
+        &opened.program,
+        job.json,
+        input,
+        out,
+        finder,
+    )
+}
+
+// Who answers over a policy of version 0: a clerk with a follower, or one at a desk.
+fn clerk_for(
+    alloc: Global,
+    state: PolicyState,
+    program: &Program,
+    follow: bool,
+) -> Result<Clerk, NoMemory>
+    requires { versions state.log ≡ 0 }
+    ensures { IfOk result (λ clerk. IsReady state follow (standing clerk)) }
+{
+    if follow {
+        let follower = Follower::open(alloc, state);
+        return Ok(Clerk::over_follower(alloc, follower, program));
+    }
+    let desk = open_desk(alloc, state)?;
+    Ok(Clerk::over_desk(alloc, desk, program))
 }

@@ -4,19 +4,20 @@ ghost use Rattle.command_words.specs.Items.{is_dashes, texts};
 ghost use Rattle.std.specs.List.{starts_with};
 ghost use Rattle.std.specs.Option.{option_and_then};
 ghost use Rattle.run_files.specs.Files.{limit_in};
-ghost use Rattle.serve_run.specs.Words.{has_workers, is_to_serve, is_workers, job_of, session_of};
+ghost use Rattle.serve_run.specs.Words.{begins_follow, behind_follow, has_workers, is_to_follow, is_to_serve, is_workers, job_of, session_of};
 ghost use Rattle.serve_run.specs.Helps.Reading.{all_texts};
 
 use command_words::{Command, Files, Options, read_words};
 use perm_base::NoMemory;
 use std::alloc::Global;
 
-/// What is done: the files, what is said of roles, and whether requests are JSON.
+/// What is done: the files, what is said of roles, whether requests are JSON, and whether the stream is a follower's.
 #[derive(Drop)]
 pub(crate) struct Job<'a> {
     pub files: Files<'a>,
     pub options: Option<Options>,
     pub json: bool,
+    pub follow: bool,
 }
 
 /// Whether the words ask for a stream that is served, in order or not: the first is `serve`.
@@ -44,17 +45,57 @@ pub(crate) fn session_words(
     ensures { IfOk result (λ session.
         option_map all_texts session ≡ session_of (texts words.now)) }
 {
-    let Some((name, others)) = words.split_first() else {
+    let Some((name, behind)) = words.split_first() else {
         return Ok(None);
     };
     if !is_serve(name.as_str()) {
         return Ok(None);
     }
+    let others = behind_follow(behind);
     if has_workers(others) {
         return Ok(None);
     }
     let session = words_behind(alloc, "session", others)?;
     Ok(Some(session))
+}
+
+/// Whether the stream is a follower's.
+pub(crate) fn asks_to_follow(words: &[String]) -> bool
+    ensures { result ≡ is_to_follow (texts words.now) }
+{
+    let Some((_name, others)) = words.split_first() else {
+        return false;
+    };
+    begins_follow(others)
+}
+
+// Whether the first word is `--follow`.
+fn begins_follow(words: &[String]) -> bool
+    ensures { result ≡ begins_follow (texts words.now) }
+{
+    let Some((word, _others)) = words.split_first() else {
+        return false;
+    };
+    is_follow(word.as_str())
+}
+
+// The words behind `--follow`, or all.
+fn behind_follow(words: &[String]) -> &[String]
+    ensures { texts result.now ≡ behind_follow (texts words.now) }
+{
+    let Some((word, others)) = words.split_first() else {
+        return words;
+    };
+    if is_follow(word.as_str()) {
+        return others;
+    }
+    words
+}
+
+fn is_follow(word: &str) -> bool
+    ensures { result ≡ bytes_eq word.now (codes "--follow") }
+{
+    word == "--follow"
 }
 
 // A word, and others behind it.
@@ -120,21 +161,25 @@ fn tells_workers(word: &[u8]) -> bool
 }
 
 /// What the words of a session ask for.
-pub(crate) fn read_job(alloc: Global, session: &[String]) -> Result<Option<Job<'_>>, NoMemory>
+pub(crate) fn read_job(
+    alloc: Global,
+    session: &[String],
+    follow: bool,
+) -> Result<Option<Job<'_>>, NoMemory>
     ensures asked { IfOk result (λ found.
-        found ≡ option_and_then job_of (command_of (texts session.now))) }
+        found ≡ option_and_then (job_of follow) (command_of (texts session.now))) }
     ensures limit { IfOk result (λ found. IfSome found (λ job.
         (0 < limit_in job.options) × (limit_in job.options ≤ 250))) }
 {
     let Some(command) = read_words(alloc, session)? else {
         return Ok(None);
     };
-    Ok(job_of(command))
+    Ok(job_of(command, follow))
 }
 
 // What a session is done on.
-fn job_of(command: Command<'_>) -> Option<Job<'_>>
-    ensures { result ≡ job_of command.entry }
+fn job_of(command: Command<'_>, follow: bool) -> Option<Job<'_>>
+    ensures { result ≡ job_of follow command.entry }
 {
     match command {
         Command::Session {
@@ -146,6 +191,7 @@ fn job_of(command: Command<'_>) -> Option<Job<'_>>
             files,
             options: Some(options),
             json,
+            follow,
         }),
         Command::Enforce { .. }
         | Command::Explain { .. }

@@ -1,11 +1,13 @@
 -- What serving a stream over a job, and over what its files were opened to, comes to.
-use Rattle.std.specs.Prelude.{◌≡◌, ◌⊎◌, ℕ, Option}
-use Rattle.live_serve.specs.Streams.{Service}
+use Rattle.std.specs.Prelude.{◌≡◌, ◌⊎◌, ℕ, Bool, false, List, length, Option}
+use Rattle.live_serve.specs.Helps.Ending.{at_first}
+use Rattle.live_serve.specs.Places.{Standing, is_followers, state_at}
+use Rattle.live_serve.specs.Streams.{IsFirst, Service}
 use Rattle.model_conf.specs.ModelText.{ModelParts}
 use Rattle.outside.specs.Faults.{Rose}
 use Rattle.outside.specs.Files.{Files}
 use Rattle.outside.specs.Log.{Adds}
-use Rattle.policy_state.specs.States.{tables}
+use Rattle.policy_state.specs.States.{State, tables}
 use Rattle.policy_table.specs.Tables.{Policy}
 use Rattle.run_files.specs.Loads.{LoadStops}
 use Rattle.serve_run.specs.declared.opened.Opened.{Opened}
@@ -19,7 +21,7 @@ use Rattle.serve_run.specs.declared.words.Job.{Job}
 
 -- over what was opened
 abbrev pub opened_service : Job → Opened → Service
-opened_service job opened = record { json = job.json; model = opened.program; shapes = opened.state.shapes; opening = tables opened.state }
+opened_service job opened = record { json = job.json; follow = job.follow; model = opened.program; shapes = opened.state.shapes; opening = tables opened.state }
 
 -- `err` took the line that tells so many rules
 abbrev pub Announces : Job → ℕ → Moment → Moment → Type 0
@@ -32,6 +34,13 @@ pub record ServedOpened (job : Job) (opened : Opened) (before now : Moment) : Ty
 -- memory ran out before anything was told, or the stream was cut off
 abbrev pub StopsOpened : Job → Opened → Moment → Moment → Stop → Type 0
 StopsOpened job opened before now stop = ((stop ≡ NoMemory) × (now ≡ before)) ⊎ (Announces job opened.rules before now × IsCutOff (opened_service job opened) before now stop)
+
+-- a clerk who answers over this policy stands at its first item, behind no line
+pub record IsReady (state : State) (follow : Bool) (at : Standing) : Type 0 where
+  pub kind : is_followers at.place ≡ follow
+  pub state_is : state_at at.place ≡ state
+  pub first : IsFirst at.place
+  pub no_line : at ≡ at_first at.place
 
 -- a job was served to its end
 pub record ServedJob (files : Option Files) (job : Job) (before now : Moment) : Type 0 where

@@ -6,6 +6,7 @@ use Rattle.item_stream.specs.Seen.{seen_option}
 use Rattle.regex_gate.proofs.CallerLemmas.{used_then}
 use Rattle.live_serve.specs.Standings.{standing}
 use Rattle.live_serve.proofs.PieceLemmas.{goes_same, amid_all, amid_halts, amid_next, amid_none, amid_stops, amid_used}
+use Rattle.live_serve.proofs.ServeLemmas.{pushed_shapes}
 use Rattle.live_serve.proofs.piece.serve_piece.Goals as goal
 
 pub loop-at-init : goal.loop-at-init
@@ -26,7 +27,7 @@ pub returns-in_err-used-clause-used : goal.returns-in_err-used-clause-used
 returns-in_err-used-clause-used g c = amid_used c.args.json c.args.program.now _ _ _ c.args.piece.now _ _ _ _ _ c.loop-at.at _ _ c.loop-at.invariant
 
 pub serve_ended-requires-clause-suits : goal.serve_ended-requires-clause-suits
-serve_ended-requires-clause-suits g c = λ lifetimes outlive. subst (Suits c.args.program.now) (sym c.loop-at.invariant.takes.pushed.serves.shapes_are) c.requires.suits
+serve_ended-requires-clause-suits g c = λ lifetimes outlive. subst (Suits c.args.program.now) (sym (pushed_shapes c.args.program.now _ _ _ (standing c.loop-at.clerk) _ _ _ c.loop-at.invariant.takes.pushed)) c.requires.suits
 
 pub serve_ended-requires-clause-stands : goal.serve_ended-requires-clause-stands
 serve_ended-requires-clause-stands g c = λ lifetimes outlive. c.loop-at.invariant.somewhere
@@ -46,7 +47,7 @@ returns-in_err-serve_ended-clause-used g c = used_then _ _ _ (amid_used c.args.j
 pub loop-at-preserved : goal.loop-at-preserved
 loop-at-preserved g c =
     let goes = goes_same c.loop-at.sections c.take_line.new.self c.rest_of.result.now (drop c.loop-at.at c.args.piece.now) (listed (seen_option c.in_ok-used.section) []) c.in_ok-used.used c.rest_of.ensures.rest c.in_ok-used.ensures.goes in
-    amid_next c.args.json c.args.program.now _ _ _ c.args.piece.now _ _ _ _ _ c.loop-at.at _ _ c.loop-at.invariant c.take_line.new.self c.in_ok-used.used (c.loop-at.at + c.in_ok-used.used) (seen_option c.in_ok-used.section) goes refl _ (standing c.serve_ended.new.self) _ _
+    amid_next c.args.json c.args.program.now _ _ _ c.args.piece.now _ _ _ _ _ c.loop-at.at _ _ c.loop-at.invariant c.take_line.new.self c.in_ok-used.used (c.loop-at.at + c.in_ok-used.used) (seen_option c.in_ok-used.section) goes refl _ (standing c.serve_ended.new.clerk) _ _
     c.in_ok-serve_ended.ensures.served c.serve_ended.ensures.counted
 
 pub returns-clause-served : goal.returns-clause-served

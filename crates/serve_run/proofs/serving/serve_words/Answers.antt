@@ -4,7 +4,7 @@ use Rattle.std.proofs.lemmas.Result.{IfErr-weaker, err_from_is_err_and, on_ok_we
 use Rattle.command_words.specs.Items.{texts}
 use Rattle.regex_gate.proofs.CallerLemmas.{used_none}
 use Rattle.serve_run.specs.Services.{at_words, before_files}
-use Rattle.serve_run.specs.Words.{job_asked}
+use Rattle.serve_run.specs.Words.{is_to_follow, job_asked}
 use Rattle.serve_run.proofs.ServeLemmas.{has_served, stops_serving}
 use Rattle.serve_run.proofs.WordLemmas.{asked_by, asked_none}
 use Rattle.serve_run.proofs.serving.serve_words.Goals as goal
@@ -23,7 +23,7 @@ returns-in_err-session-clause-used g c = used_none (g.P.Finder.refusals c.args.f
 
 -- they are none
 pub returns-in_default-clause-stopped : goal.returns-in_default-clause-stopped
-returns-in_default-clause-stopped g c = at_words (asked_none (texts c.args.words.now) c.in_ok-session.session c.in_ok-session.ensures c.in_default.is) refl refl
+returns-in_default-clause-stopped g c = at_words (asked_none (texts c.args.words.now) c.in_ok-session.session c.in_ok-session.ensures (is_to_follow (texts c.args.words.now)) refl c.in_default.is) refl refl
 
 pub returns-in_default-clause-no_further : goal.returns-in_default-clause-no_further
 returns-in_default-clause-no_further g c = inl refl
@@ -33,7 +33,7 @@ returns-in_default-clause-used g c = used_none (g.P.Finder.refusals c.args.finde
 
 -- they are none behind it, or memory runs out for them
 pub returns-in_default-2-clause-stopped : goal.returns-in_default-2-clause-stopped
-returns-in_default-2-clause-stopped g c = at_words (asked_by (texts c.args.words.now) c.in_ok-session.session c.in_ok-session.ensures c.in-Some.session c.in-Some.is c.deref.result.now c.deref.ensures.value None (sym c.in_default-2.is ∙ c.in_ok-job.ensures.asked)) refl refl
+returns-in_default-2-clause-stopped g c = at_words (asked_by (texts c.args.words.now) c.in_ok-session.session c.in_ok-session.ensures c.asks_to_follow-follow.result c.asks_to_follow-follow.ensures c.in-Some.session c.in-Some.is c.deref.result.now c.deref.ensures.value None (sym c.in_default-2.is ∙ c.in_ok-job.ensures.asked)) refl refl
 
 pub returns-in_default-2-clause-no_further : goal.returns-in_default-2-clause-no_further
 returns-in_default-2-clause-no_further g c = inl refl
@@ -55,10 +55,10 @@ returns-in_err-job-clause-used g c = used_none (g.P.Finder.refusals c.args.finde
 -- a job
 pub returns-clause-done : goal.returns-clause-done
 returns-clause-done g c =
-    let asked : job_asked (texts c.args.words.now) ≡ Some c.in-Some-2.job = asked_by (texts c.args.words.now) c.in_ok-session.session c.in_ok-session.ensures c.in-Some.session c.in-Some.is c.deref.result.now c.deref.ensures.value (Some c.in-Some-2.job) (sym c.in-Some-2.is ∙ c.in_ok-job.ensures.asked) in
+    let asked : job_asked (texts c.args.words.now) ≡ Some c.in-Some-2.job = asked_by (texts c.args.words.now) c.in_ok-session.session c.in_ok-session.ensures c.asks_to_follow-follow.result c.asks_to_follow-follow.ensures c.in-Some.session c.in-Some.is c.deref.result.now c.deref.ensures.value (Some c.in-Some-2.job) (sym c.in-Some-2.is ∙ c.in_ok-job.ensures.asked) in
     on_ok_weaker c.serve_job.result (has_served (texts c.args.words.now) (g.F.Shelf.files c.args.shelf.now) c.in-Some-2.job asked _ _) c.serve_job.ensures.served
 
 pub returns-clause-stopped : goal.returns-clause-stopped
 returns-clause-stopped g c =
-    let asked : job_asked (texts c.args.words.now) ≡ Some c.in-Some-2.job = asked_by (texts c.args.words.now) c.in_ok-session.session c.in_ok-session.ensures c.in-Some.session c.in-Some.is c.deref.result.now c.deref.ensures.value (Some c.in-Some-2.job) (sym c.in-Some-2.is ∙ c.in_ok-job.ensures.asked) in
+    let asked : job_asked (texts c.args.words.now) ≡ Some c.in-Some-2.job = asked_by (texts c.args.words.now) c.in_ok-session.session c.in_ok-session.ensures c.asks_to_follow-follow.result c.asks_to_follow-follow.ensures c.in-Some.session c.in-Some.is c.deref.result.now c.deref.ensures.value (Some c.in-Some-2.job) (sym c.in-Some-2.is ∙ c.in_ok-job.ensures.asked) in
     IfErr-weaker c.serve_job.result _ _ (stops_serving (texts c.args.words.now) (g.F.Shelf.files c.args.shelf.now) c.in-Some-2.job asked _ _) c.serve_job.ensures.stopped
