@@ -14,4 +14,5 @@ pub mod Answered
 pub mod Shown
 pub mod Causes
 pub mod Ends
+pub mod Linting
 pub mod Helps

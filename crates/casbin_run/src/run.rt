@@ -46,7 +46,7 @@ use std::alloc::Global;
 /// - `follow MODEL POLICY` takes the packets of the input one after the other, and writes what became of each, and the policy.
 ///
 /// `check`, `format`, `implicit` and `report` read no input. `command_words` says which options there are. A session is run on one thread: `--workers` with
-/// another number than 0, and `demo`, are no command here. Of the finders the first is asked. Exactly where a cause is said to
+/// another number than 0, `lint` and `demo` are no command here. Of the finders the first is asked. Exactly where a cause is said to
 /// come, want of memory may come instead.
 pub fn run_casbin<F: Shelf, S: Source, K: Sink, E: Sink, P: Finder>(
     alloc: Global,

@@ -5,7 +5,7 @@ ghost use Rattle.run_status.specs.Statuses.{code_of};
 use crate::file_shelf::FileShelf;
 use crate::read_source::ReadSource;
 use crate::write_sink::WriteSink;
-use casbin_run::run_casbin;
+use casbin_run::{asks_for_lint, run_casbin, run_lint};
 use outside::NoMemory;
 use regex_keep::KeepingFinder;
 use run_status::{Status, Stop, tell_stop};
@@ -24,6 +24,11 @@ pub fn run_program(rt: &HostRuntime) -> Status {
         Ok(words) => words,
         Err(stop) => return tell_stop(&mut err, stop),
     };
+    if asks_for_lint(&words) {
+        let mut shelf = FileShelf::new(alloc, rt);
+        let mut out = WriteSink::new(rt.stdout());
+        return run_lint(alloc, &words, &mut shelf, &mut out, &mut err);
+    }
     let Ok(mut finders) = finders(alloc) else {
         return tell_stop(&mut err, Stop::NoMemory);
     };

@@ -1,0 +1,23 @@
+use Rattle.std.proofs.Common.{◌≡◌, ◌≤◌, [], ◌∷◌, Err, Ok, rules}
+use Rattle.std.proofs.lemmas.Result.{err_from_is_err_and}
+use Rattle.outside.specs.Faults.{Rose}
+use Rattle.outside.specs.Log.{Adds, call}
+use Rattle.file_lint.specs.ModelErrors.{LintsModel}
+use Rattle.run_status.specs.declared.part.Part.TheVariants.{Model}
+use Rattle.casbin_run.specs.Given.{FileIs}
+use Rattle.casbin_run.specs.Helps.Linting.{PolicyFileStops}
+use Rattle.casbin_run.proofs.LintLemmas.{model_held, model_unfetched, policy_unlinted}
+use Rattle.casbin_run.proofs.linting.lint_files.Goals as goal
+
+pub returns-in_err-bytes-clause-stopped : goal.returns-in_err-bytes-clause-stopped
+returns-in_err-bytes-clause-stopped g c =
+    let stop : c.from_residual.result ≡ Err c.in_err-bytes.field-0.0 = search rules in
+    rw stop (model_unfetched (g.F.Shelf.files c.args.shelf.now) c.args.job.now (λ failed. Adds (g.F.Shelf.calls c.args.shelf.now) (g.F.Shelf.calls c.fetch.new.shelf) (call c.args.job.now.files.model failed ∷ [])) (Rose (g.F.Shelf.faults c.args.shelf.now) (g.F.Shelf.faults c.fetch.new.shelf)) c.in_err-bytes.field-0.0 c.in_err-bytes.ensures.stopped)
+
+pub returns-in_err-policy-clause-stopped : goal.returns-in_err-policy-clause-stopped
+returns-in_err-policy-clause-stopped g c =
+    let stop : c.from_residual-in_err-policy.result ≡ Err c.in_err-policy.field-0.0 = search rules in
+    let held : FileIs (g.F.Shelf.files c.args.shelf.now) c.args.job.now.files.model Model (λ bytes. LintsModel bytes (Ok c.in-Ok.model) c.in_ok-lint_model.findings.items) = search rules in
+    let stops : PolicyFileStops (g.F.Shelf.files c.fetch.new.shelf) c.args.job.now c.in-Ok.model (Rose (g.F.Shelf.faults c.fetch.new.shelf) (g.F.Shelf.faults c.lint_policy_file.new.shelf)) c.in_err-policy.field-0.0 = search rules in
+    rw stop (policy_unlinted (g.F.Shelf.files c.args.shelf.now) (g.F.Shelf.files c.fetch.new.shelf) c.args.job.now c.in-Ok.model (g.F.Shelf.faults c.args.shelf.now) (g.F.Shelf.faults c.fetch.new.shelf) (g.F.Shelf.faults c.lint_policy_file.new.shelf) c.in_err-policy.field-0.0
+    (search rules) (search rules) (model_held (g.F.Shelf.files c.args.shelf.now) c.args.job.now.files.model c.in-Ok.model c.in_ok-lint_model.findings.items held) stops)

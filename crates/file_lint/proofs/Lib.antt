@@ -1,0 +1,9 @@
+pub mod OrderLemmas
+pub mod PlaceLemmas
+pub mod MendLemmas
+pub mod NearLemmas
+pub mod RoundLemmas
+pub mod ColumnLemmas
+pub mod RowLemmas
+pub mod KeptLemmas
+pub mod WarningLemmas

@@ -1,0 +1,111 @@
+-- The findings of a policy's lines, from one line to the next, and of one field after the other.
+use Rattle.std.proofs.Common.{◌≡◌, ◌≢◌, ℕ, ◌+◌, ◌<◌, ◌≤◌, Bool, true, false, List, [], ◌∷◌, ◌++◌, Option, Some, None, inl, inr, ◌⊎◌, append_assoc, append-nil, length, map, refl, sym, ap, subst, ◌∙◌, arith}
+use Rattle.std.specs.Prelude.{IsUtf8, flat_map}
+use Rattle.std.specs.List.{AllZip}
+use Rattle.std.proofs.lemmas.Grind.{flat_map-append}
+use Rattle.ip_match.specs.Blocks.{IsBlock}
+use Rattle.model_conf.specs.ModelText.{ModelParts}
+use Rattle.perm_base.specs.declared.shapes.Shapes.{Shapes}
+use Rattle.policy_csv.specs.Faults.{IsFaultInLine, IsTextFault}
+use Rattle.policy_csv.specs.Faults.IsPolicyFault.{in_line, not_utf8}
+use Rattle.policy_csv.specs.Lines.{policy_lines}
+use Rattle.policy_csv.specs.Policy.{SaysRule, with_entry}
+use Rattle.policy_csv.specs.declared.entry.Entry.{Entry}
+use Rattle.policy_csv.specs.declared.fault.PolicyFault.{PolicyFault}
+use Rattle.policy_csv.specs.declared.fault.PolicyFault.TheVariants.{NotUtf8, Quote, UnknownTable, Columns, FieldTooLong, Full, NoMemory}
+use Rattle.policy_table.specs.Tables.{Fields, Policy, without_rules}
+use Rattle.text_parts.specs.Full.{given_number}
+use Rattle.text_parts.specs.Numbered.{Line}
+use Rattle.file_lint.specs.Findings.{Finding}
+use Rattle.file_lint.specs.Nodes.{Looked}
+use Rattle.file_lint.specs.PolicyErrors.{FindsBy, HasFirst, LintsLines, told_in}
+use Rattle.file_lint.specs.PolicyErrors.LintsLines.{at_fault, no_line, rule, told}
+use Rattle.file_lint.specs.PolicyWords.{policy_error}
+use Rattle.file_lint.specs.RowWarnings.{LookedFinds, RowFinds, Surprises}
+use Rattle.file_lint.specs.Helps.Rows.{AreFound, FindsMore, LineFinds}
+
+zip_append : {X Y : Type 0} (R : X → Y → Type 0) (xs front : List X) (ys back : List Y) → AllZip R xs ys → AllZip R front back → AllZip R (xs ++ front) (ys ++ back)
+zip_append R [] front [] back one other = other
+zip_append R [] front (y ∷ ys) back one other = absurd one
+zip_append R (x ∷ xs) front [] back one other = absurd one
+zip_append R (x ∷ xs) front (y ∷ ys) back one other = (one.0, zip_append R xs front ys back one.1 other)
+
+-- no column yet
+pub found_none : (model : ModelParts) (line : Line) (rule : Fields) (before : List Finding) → FindsMore (AreFound model line rule []) before before
+found_none model line rule before = ([], ([], tt, refl), sym (append-nil before))
+
+-- one column more
+pub found_more : (model : ModelParts) (line : Line) (rule : Fields) (looked : List Looked) (look : Looked) (before mid after : List Finding) → FindsMore (AreFound model line rule looked) before mid
+    → FindsMore (LookedFinds model line rule look) mid after → FindsMore (AreFound model line rule (looked ++ look ∷ [])) before after
+found_more model line rule looked look before mid after (found, (pieces, each, is), grown) (piece, finds, more) =
+    (found ++ piece, (pieces ++ piece ∷ [], zip_append (LookedFinds model line rule) looked (look ∷ []) pieces (piece ∷ []) each (finds, tt), together), wider)
+  where
+    together : found ++ piece ≡ flat_map (λ (p : List Finding). p) (pieces ++ piece ∷ [])
+    together = ap (λ (l : List Finding). l ++ piece) is ∙ ap (λ (l : List Finding). flat_map (λ (p : List Finding). p) pieces ++ l) (sym (append-nil piece)) ∙ sym (flat_map-append (λ (p : List Finding). p) pieces (piece ∷ []))
+
+    wider : after ≡ before ++ (found ++ piece)
+    wider = more ∙ ap (λ (l : List Finding). l ++ piece) grown ∙ append_assoc before found piece
+
+-- a field that surprises, and one that does not
+pub no_surprise : (good bad : Type 0) (found : Finding) (before : List Finding) → good → FindsMore (Surprises good bad found) before before
+no_surprise good bad found before is = ([], inl (is, refl), sym (append-nil before))
+
+pub surprise : (good bad : Type 0) (found : Finding) (before after : List Finding) → bad → after ≡ before ++ found ∷ [] → FindsMore (Surprises good bad found) before after
+surprise good bad found before after is grown = (found ∷ [], inr (is, refl), grown)
+
+-- what lines behind these say of any end
+abbrev pub LinesGo : ModelParts → Shapes → Option PolicyFault → Policy → List Line → List Finding → (Whole : List Finding → Type 0) → Type 0
+LinesGo model shapes first before lines found Whole = (others : List Finding) → LintsLines model shapes first before lines others → Whole (found ++ others)
+
+-- no more lines
+pub lines_end : (model : ModelParts) (shapes : Shapes) (first : Option PolicyFault) (before : Policy) (lines : List Line) (found : List Finding) (Whole : List Finding → Type 0) → lines ≡ []
+    → LinesGo model shapes first before lines found Whole → Whole found
+lines_end model shapes first before lines found Whole none goes =
+    subst Whole (append-nil found) (goes [] (subst (λ (l : List Line). LintsLines model shapes first before l []) (sym none) no_line))
+
+-- the line of the told fault
+pub line_told : (model : ModelParts) (shapes : Shapes) (first : Option PolicyFault) (before : Policy) (next : Line) (lines whole : List Line) (found now : List Finding) (why : PolicyFault) (Whole : List Finding → Type 0)
+    → whole ≡ next ∷ lines → told_in first (given_number next.number) ≡ Some why → now ≡ found ++ policy_error model why next ∷ []
+    → LinesGo model shapes first before whole found Whole → LinesGo model shapes first before lines now Whole
+line_told model shapes first before next lines whole found now why Whole cut is grown goes = λ others rest.
+    let all = subst (λ (l : List Line). LintsLines model shapes first before l (policy_error model why next ∷ others)) (sym cut) (told why is rest) in
+    subst (λ (l : List Finding). Whole (l ++ others)) (sym grown) (subst Whole (sym (append_assoc found (policy_error model why next ∷ []) others)) (goes (policy_error model why next ∷ others) all))
+
+-- a line by itself
+pub line_judged : (model : ModelParts) (shapes : Shapes) (first : Option PolicyFault) (before after : Policy) (next : Line) (lines whole : List Line) (found now : List Finding) (Whole : List Finding → Type 0)
+    → whole ≡ next ∷ lines → told_in first (given_number next.number) ≡ None → LineFinds model shapes next before after found now
+    → LinesGo model shapes first before whole found Whole → LinesGo model shapes first after lines now Whole
+line_judged model shapes first before after next lines whole found now Whole cut none (inl (entry, says, kept, (piece, finds, grown))) goes = λ others rest.
+    let behind = subst (λ (p : Policy). LintsLines model shapes first p lines others) kept rest in
+    let all = subst (λ (l : List Line). LintsLines model shapes first before l (piece ++ others)) (sym cut) (rule entry none says finds behind) in
+    subst (λ (l : List Finding). Whole (l ++ others)) (sym grown) (subst Whole (sym (append_assoc found piece others)) (goes (piece ++ others) all))
+line_judged model shapes first before after next lines whole found now Whole cut none (inr (why, no_want, is, kept, grown)) goes = λ others rest.
+    let behind = subst (λ (p : Policy). LintsLines model shapes first p lines others) kept rest in
+    let all = subst (λ (l : List Line). LintsLines model shapes first before l (policy_error model why next ∷ others)) (sym cut) (at_fault why none no_want is behind) in
+    subst (λ (l : List Finding). Whole (l ++ others)) (sym grown) (subst Whole (sym (append_assoc found (policy_error model why next ∷ []) others)) (goes (policy_error model why next ∷ others) all))
+
+-- the first fault of a text that is not UTF-8, and of one that is
+pub first_of_bytes : (shapes : Shapes) (bytes : List ℕ) (first : Option PolicyFault) → HasFirst shapes bytes first → ¬ (IsUtf8 bytes) → first ≡ Some NotUtf8
+first_of_bytes shapes bytes None (policy, is) no = absurd (no is.utf8)
+first_of_bytes shapes bytes (Some why) (not_utf8 bad same) no = ap (λ (f : PolicyFault). Some f) same
+first_of_bytes shapes bytes (Some why) (in_line utf8 is) no = absurd (no utf8)
+
+never_in_line : (shapes : Shapes) (bytes : List ℕ) → ¬ (IsFaultInLine shapes bytes NotUtf8)
+never_in_line shapes bytes is = is.bad
+
+pub first_of_lines : (shapes : Shapes) (bytes : List ℕ) (first : Option PolicyFault) → HasFirst shapes bytes first → IsUtf8 bytes → ¬ (first ≡ Some NotUtf8)
+first_of_lines shapes bytes None is utf8 = λ same. absurd cc
+first_of_lines shapes bytes (Some why) (not_utf8 bad same) utf8 = λ is. absurd (bad utf8)
+first_of_lines shapes bytes (Some why) (in_line also is) utf8 = λ same. let own : why ≡ NotUtf8 = cc in never_in_line shapes bytes (subst (IsFaultInLine shapes bytes) own is)
+
+-- the findings of lines are those of the text
+pub finds_lines : (model : ModelParts) (shapes : Shapes) (bytes : List ℕ) (first : Option PolicyFault) (found : List Finding) → ¬ (first ≡ Some NotUtf8) → LintsLines model shapes first (without_rules false) (policy_lines bytes) found
+    → FindsBy model shapes bytes first found
+finds_lines model shapes bytes None found no is = is
+finds_lines model shapes bytes (Some NotUtf8) found no is = absurd (no refl)
+finds_lines model shapes bytes (Some (Quote number column)) found no is = is
+finds_lines model shapes bytes (Some (UnknownTable number)) found no is = is
+finds_lines model shapes bytes (Some (Columns number)) found no is = is
+finds_lines model shapes bytes (Some (FieldTooLong number)) found no is = is
+finds_lines model shapes bytes (Some (Full number what)) found no is = is
+finds_lines model shapes bytes (Some NoMemory) found no is = is

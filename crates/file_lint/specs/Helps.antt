@@ -1,0 +1,5 @@
+-- What only private functions and proofs say.
+pub mod Steps
+pub mod Rounds
+pub mod Trees
+pub mod Rows

@@ -1,0 +1,50 @@
+-- What the steps over a policy's lines give; only private functions cite this.
+use Rattle.std.specs.Prelude.{◌≡◌, ◌≢◌, ℕ, ◌+◌, ◌<◌, ◌^◌, ◌⊎◌, List, [], ◌∷◌, ◌++◌, All, codes, flat_map, length}
+use Rattle.std.specs.List.{AllZip}
+use Rattle.model_conf.specs.ModelText.{ModelParts}
+use Rattle.perm_base.specs.declared.shapes.Shapes.{Shapes}
+use Rattle.perm_base.specs.declared.shapes.TableId.{TableId}
+use Rattle.policy_csv.specs.Faults.{IsTextFault}
+use Rattle.policy_csv.specs.Policy.{SaysRule, with_entry}
+use Rattle.policy_csv.specs.declared.entry.Entry.{Entry}
+use Rattle.policy_csv.specs.declared.fault.PolicyFault.{PolicyFault}
+use Rattle.policy_csv.specs.declared.fault.PolicyFault.TheVariants.{NoMemory}
+use Rattle.policy_table.specs.Tables.{Fields, Policy, rows}
+use Rattle.text_parts.specs.Full.{given_number}
+use Rattle.text_parts.specs.Numbered.{Line}
+use Rattle.file_lint.specs.Findings.{Finding}
+use Rattle.file_lint.specs.ModelWords.{quoted}
+use Rattle.file_lint.specs.Nodes.{Looked}
+use Rattle.file_lint.specs.PolicyWords.{policy_error}
+use Rattle.file_lint.specs.RowWarnings.{LookedFinds, RowFinds}
+use Rattle.file_lint.specs.declared.nodes.Held.{Held}
+use Rattle.file_lint.specs.declared.nodes.Held.TheVariants.{Block, KeyPattern, RuleText}
+
+-- findings were put behind others, of which this holds
+abbrev pub FindsMore : (List Finding → Type 0) → List Finding → List Finding → Type 0
+FindsMore Finds before after = (found : List Finding) × Finds found × (after ≡ before ++ found)
+
+-- each of the columns is one of the rule's
+abbrev pub AreWithin : List Looked → Fields → Type 0
+AreWithin looked rule = All (λ (look : Looked). look.at < length rule) looked
+
+-- what the fields of these columns surprise by, one after the other
+abbrev pub AreFound : ModelParts → Line → Fields → List Looked → List Finding → Type 0
+AreFound model line rule looked found =
+    (pieces : List (List Finding)) × AllZip (LookedFinds model line rule) looked pieces × (found ≡ flat_map (λ (piece : List Finding). piece) pieces)
+
+-- each table has room for one more rule
+abbrev pub AreFewer : Policy → Type 0
+AreFewer policy = (table : TableId) → length (rows policy table) + 1 < 2 ^ 32
+
+-- a line by itself: the warnings of its rule, which is kept, or its own fault
+abbrev pub LineFinds : ModelParts → Shapes → Line → Policy → Policy → List Finding → List Finding → Type 0
+LineFinds model shapes line before after findings now =
+    ((entry : Entry) × SaysRule shapes line.text entry × (after ≡ with_entry entry before) × FindsMore (RowFinds model shapes before line entry) findings now)
+    ⊎ ((why : PolicyFault) × (why ≢ NoMemory) × IsTextFault shapes (given_number line.number) line.text why × (after ≡ before) × (now ≡ findings ++ policy_error model why line ∷ []))
+
+-- what a field that surprises is told by
+abbrev pub held_words : Held → List ℕ → List ℕ
+held_words Block text = quoted text ++ codes " is no address and no block: ipMatch fails with it"
+held_words KeyPattern text = codes "`{` is no sign of keyMatch2: write `:name`, or ask keyMatch3"
+held_words RuleText text = quoted text ++ codes " says no rule: eval fails with it"

@@ -1,0 +1,64 @@
+-- The warnings of a model: what loads and then surprises, by the nodes of its matcher and by its columns.
+use Rattle.std.specs.Prelude.{ℕ, ◌-◌, ◌==◌, ◌&&◌, ◌||◌, Bool, true, false, not, List, [], ◌∷◌, ◌++◌, codes, flat_map, if◌then◌else◌}
+use Rattle.std.specs.List.{list_any}
+use Rattle.std.specs.Str.{bytes_eq}
+use Rattle.matcher_read.specs.Expression.{Expression, text, binary, call, function, Expressions, one_more}
+use Rattle.matcher_read.specs.declared.tree.Function.TheVariants.{RegexMatch}
+use Rattle.matcher_read.specs.declared.tree.Operator.TheVariants.{Plus}
+use Rattle.model_conf.specs.ModelText.{ModelParts}
+use Rattle.model_conf.specs.Shapes.{is_ranked}
+use Rattle.perm_base.specs.FieldLine.{begins_with}
+use Rattle.file_lint.specs.Findings.{Finding, finding}
+use Rattle.file_lint.specs.Nodes.{nodes_of}
+use Rattle.file_lint.specs.Places.{Place, place_of_value}
+use Rattle.file_lint.specs.declared.finding.Level.TheVariants.{Warning}
+
+-- the node is a text
+abbrev pub is_text : Expression → Bool
+is_text (text at bytes) = true
+is_text _ = false
+
+-- `w`, `d`, `b`, or one of them in upper case
+abbrev pub is_class : ℕ → Bool
+is_class byte = byte == 119 || byte == 100 || byte == 98 || byte == 87 || byte == 68 || byte == 66
+
+-- one of them stands behind a `\` in the text
+unfoldable pub has_class : List ℕ → Bool
+has_class [] = false
+has_class (byte ∷ bytes) = (byte == 92 && begins_with is_class bytes) || has_class bytes
+
+-- the pattern of a search holds a class
+abbrev pub has_class_at : Expressions → Bool
+has_class_at (one_more first (one_more (text at bytes) others)) = has_class bytes
+has_class_at _ = false
+
+abbrev pub warning_at : Place → List ℕ → Finding
+warning_at at words = finding at.line at.column Warning words
+
+abbrev pub plus_words : List ℕ
+plus_words = codes "`+` adds whole numbers: of a text it fails, and does not join"
+
+abbrev pub class_words : List ℕ
+class_words = codes "`\\w`, `\\d` and `\\b` are those of Unicode here, and those of ASCII in Casbin for Go"
+
+abbrev pub priority_words : List ℕ
+priority_words = codes "the column priority ranks no rules: it does where it is the first, and the effect is `priority(p.eft) || deny`"
+
+-- the warnings of a node, at its place in the matcher
+abbrev pub node_warnings : List ℕ → Expression → List Finding
+node_warnings bytes (binary at Plus left right) =
+    if is_text left || is_text right then warning_at (place_of_value (codes "m") (at - 1) bytes) plus_words ∷ [] else []
+node_warnings bytes (call at (function RegexMatch) es) =
+    if has_class_at es then warning_at (place_of_value (codes "m") (at - 1) bytes) class_words ∷ [] else []
+node_warnings bytes _ = []
+
+-- a column of p is named `priority`, and p is not ranked
+abbrev pub is_unranked : ModelParts → Bool
+is_unranked model = list_any (bytes_eq (codes "priority")) model.policy && not (is_ranked model.effect model.policy)
+
+abbrev pub column_warnings : List ℕ → ModelParts → List Finding
+column_warnings bytes model = if is_unranked model then warning_at (place_of_value (codes "p") 0 bytes) priority_words ∷ [] else []
+
+-- all of them
+unfoldable pub model_warnings : List ℕ → ModelParts → List Finding
+model_warnings bytes model = column_warnings bytes model ++ flat_map (node_warnings bytes) (nodes_of model.matcher)

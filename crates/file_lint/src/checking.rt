@@ -1,0 +1,109 @@
+ghost use Rattle.std.specs.Prelude.{◌≡◌, ◌++◌, IsSome, OnOk, length, map};
+ghost use Rattle.perm_base.specs.Shapes.{AreValid};
+ghost use Rattle.policy_csv.specs.Policy.{SaysRule, with_entry};
+ghost use Rattle.policy_table.specs.Tables.{place};
+ghost use Rattle.file_lint.specs.Nodes.{looked_in};
+ghost use Rattle.file_lint.specs.RowWarnings.{RowFinds};
+ghost use Rattle.file_lint.specs.Helps.Rows.{AreFewer, FindsMore, LineFinds};
+ghost use Rattle.file_lint.specs.Helps.Trees.{looked_seen};
+
+use crate::finding::Finding;
+use crate::nodes::Looked;
+use crate::order::in_order;
+use crate::policy_words::policy_error;
+use crate::row::{Row, push_own_warnings, repeat_warnings};
+use crate::rows::push_looked;
+use model_conf::Model;
+use outside::NoMemory;
+use perm_base::{Shapes, TableId};
+use policy_csv::{Entry, PolicyFault, read_entry};
+use policy_table::Tables;
+use std::alloc::Global;
+use text_parts::given_number;
+
+/// What the rules of a policy are judged by.
+#[derive(Clone, Copy)]
+pub(crate) struct Judge<'a> {
+    pub(crate) model: &'a Model,
+    pub(crate) shapes: &'a Shapes,
+    pub(crate) looked: &'a [Looked],
+}
+
+impl<'a> Judge<'a> {
+    /// Pushes the warnings of a line's rule, and keeps the rule, or pushes the line's own fault.
+    pub(crate) fn push_line(
+        &self,
+        alloc: Global,
+        row: Row<'_>,
+        seen: &mut Tables,
+        findings: &mut Vec<Finding>,
+    ) -> Result<(), NoMemory>
+        requires valid { AreValid self.now.shapes.now }
+        requires columns { self.now.shapes.now.columns ≡ length self.now.model.now.policy }
+        requires looked { map looked_seen self.now.looked.now ≡ looked_in self.now.model.now }
+        requires few { AreFewer seen.old.policy }
+        ensures { OnOk result (LineFinds self.now.model.now self.now.shapes.now row.entry
+            seen.old.policy seen.new.policy findings.old.items findings.new.items) }
+    {
+        match read_entry(alloc, self.shapes, given_number(row.number), row.text) {
+            Ok(entry) => {
+                self.push_rule(alloc, row, &entry, seen, findings)?;
+                keep(seen, entry)
+            }
+            Err(PolicyFault::NoMemory) => Err(NoMemory),
+            Err(why) => {
+                findings.push(policy_error(alloc, self.model, why, row.number, row.text)?)?;
+                Ok(())
+            }
+        }
+    }
+
+    // Pushes the warnings of a rule, in the order of their columns.
+    fn push_rule(
+        &self,
+        alloc: Global,
+        row: Row<'_>,
+        entry: &Entry,
+        seen: &Tables,
+        findings: &mut Vec<Finding>,
+    ) -> Result<(), NoMemory>
+        requires valid { AreValid self.now.shapes.now }
+        requires columns { self.now.shapes.now.columns ≡ length self.now.model.now.policy }
+        requires looked { map looked_seen self.now.looked.now ≡ looked_in self.now.model.now }
+        requires says { SaysRule self.now.shapes.now row.text entry.now }
+        ensures { OnOk result (FindsMore
+            (RowFinds self.now.model.now self.now.shapes.now seen.now.policy row.entry entry.now)
+            findings.old.items findings.new.items) }
+    {
+        let mut found = repeat_warnings(alloc, seen, row, entry)?;
+        push_own_warnings(alloc, self.shapes, row, entry, &mut found)?;
+        match entry.table {
+            TableId::P => {
+                push_looked(alloc, self.model, self.looked, row, &entry.rule, &mut found)?;
+            }
+            TableId::G(_) => {}
+        }
+        push_all(findings, in_order(alloc, found)?)
+    }
+}
+
+// Keeps a rule, unless it stands.
+fn keep(seen: &mut Tables, entry: Entry) -> Result<(), NoMemory>
+    requires few { AreFewer seen.old.policy }
+    requires table { IsSome (place entry.table) }
+    ensures { OnOk result (seen.new.policy ≡ with_entry entry seen.old.policy) }
+{
+    let Entry { table, rule } = entry;
+    let _new = seen.insert(table, rule)?;
+    Ok(())
+}
+
+// Pushes findings behind others.
+fn push_all(findings: &mut Vec<Finding>, more: Vec<Finding>) -> Result<(), NoMemory>
+    ensures { OnOk result (findings.new.items ≡ findings.old.items ++ more.items) }
+{
+    for found in more {
+        findings.push(found)?;
+    }
+    Ok(())
+}

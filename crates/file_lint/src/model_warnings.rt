@@ -1,0 +1,163 @@
+ghost use Rattle.std.specs.Prelude.{◌≡◌, ◌++◌, ℕ, IfOk, IsUtf8, List, OnOk, map, option_map};
+ghost use Rattle.perm_base.specs.FieldLine.{begins_with};
+ghost use Rattle.matcher_read.specs.Expression.{expression, expressions_of};
+ghost use Rattle.file_lint.specs.ModelWarnings.{column_warnings, has_class, has_class_at, is_class, is_text, is_unranked, model_warnings, node_warnings, warning_at};
+ghost use Rattle.file_lint.specs.Helps.Rounds.{warnings_by};
+
+use crate::finding::{Finding, Level};
+use crate::nodes::nodes_of;
+use crate::places::Spot;
+use crate::values::place_of_value;
+use matcher_read::{Function, Operator, Tree};
+use model_conf::Model;
+use outside::{NoMemory, Text};
+use std::alloc::Global;
+
+const PLUS_WORDS: &str = "`+` adds whole numbers: of a text it fails, and does not join";
+
+const CLASS_WORDS: &str =
+    "`\\w`, `\\d` and `\\b` are those of Unicode here, and those of ASCII in Casbin for Go";
+
+const PRIORITY_WORDS: &str =
+    "the column priority ranks no rules: it does where it is the first, and the effect is `priority(p.eft) || deny`";
+
+/// The warnings of a model, which these bytes say.
+pub(crate) fn model_warnings(
+    alloc: Global,
+    bytes: &[u8],
+    model: &Model,
+) -> Result<Vec<Finding>, NoMemory>
+    requires { IsUtf8 bytes.now }
+    ensures { IfOk result (λ found. found.items ≡ model_warnings bytes.now model.now) }
+{
+    let text = str::from_utf8(bytes).unwrap_or("");
+    let mut found = Vec::new(alloc);
+    push_column_warnings(alloc, text, model, &mut found)?;
+    let nodes = nodes_of(alloc, model.matcher())?;
+    for node in nodes {
+        push_node_warnings(alloc, text, node, &mut found)?;
+    }
+    Ok(found)
+}
+
+fn push_column_warnings(
+    alloc: Global,
+    text: &str,
+    model: &Model,
+    found: &mut Vec<Finding>,
+) -> Result<(), NoMemory>
+    ensures { OnOk result (found.new.items
+        ≡ found.old.items ++ column_warnings text.now model.now) }
+{
+    if !is_unranked(model) {
+        return Ok(());
+    }
+    let at = place_of_value(text, "p", 0);
+    found.push(warning_at(alloc, &at, PRIORITY_WORDS)?)?;
+    Ok(())
+}
+
+// A column of p is named `priority`, and p is not ranked.
+fn is_unranked(model: &Model) -> bool
+    ensures { result ≡ is_unranked model.now }
+{
+    model.policy_columns().place_of(b"priority").is_some() && !model.is_ranked()
+}
+
+// Pushes the warnings of a node.
+fn push_node_warnings(
+    alloc: Global,
+    text: &str,
+    node: &Tree,
+    found: &mut Vec<Finding>,
+) -> Result<(), NoMemory>
+    ensures { OnOk result (found.new.items
+        ≡ found.old.items ++ node_warnings text.now (expression node.now)) }
+{
+    let Some((at, words)) = words_of(node) else {
+        return Ok(());
+    };
+    let place = place_of_value(text, "m", at.saturating_sub(1));
+    found.push(warning_at(alloc, &place, words)?)?;
+    Ok(())
+}
+
+// Where a node surprises, and how.
+fn words_of(node: &Tree) -> Option<(u32, &'static str)>
+    ensures { (bytes : List ℕ) → node_warnings bytes (expression node.now)
+        ≡ warnings_by bytes (option_map (λ w. (w.0, w.1.now)) result) }
+{
+    match node {
+        Tree::Binary {
+            at,
+            operator: Operator::Plus,
+            left,
+            right,
+        } if is_text(left) || is_text(right) => Some((*at, PLUS_WORDS)),
+        Tree::Call {
+            at,
+            function: Function::RegexMatch,
+            arguments,
+        } if has_class_at(arguments) => Some((*at, CLASS_WORDS)),
+        _ => None,
+    }
+}
+
+fn is_text(tree: &Tree) -> bool
+    ensures { result ≡ is_text (expression tree.now) }
+{
+    match tree {
+        Tree::Text { .. } => true,
+        _ => false,
+    }
+}
+
+// The pattern of a search holds a class.
+fn has_class_at(arguments: &[Tree]) -> bool
+    ensures { result ≡ has_class_at (expressions_of (map expression arguments.now)) }
+{
+    match arguments {
+        [_, Tree::Text { text, .. }, ..] => has_class(text.bytes()),
+        _ => false,
+    }
+}
+
+fn has_class(text: &[u8]) -> bool
+    ensures { result ≡ has_class text.now }
+{
+    let mut rest = text;
+    while let [sign, behind @ ..] = rest {
+        if *sign == b'\\' && begins_with_class(behind) {
+            return true;
+        }
+        rest = behind;
+    }
+    false
+}
+
+fn begins_with_class(text: &[u8]) -> bool
+    ensures { result ≡ begins_with is_class text.now }
+{
+    match text {
+        [] => false,
+        [byte, ..] => is_class(*byte),
+    }
+}
+
+fn is_class(byte: u8) -> bool
+    ensures { result ≡ is_class byte }
+{
+    byte == b'w' || byte == b'd' || byte == b'b' || byte == b'W' || byte == b'D' || byte == b'B'
+}
+
+/// A warning with these words at a place.
+pub(crate) fn warning_at(alloc: Global, at: &Spot, words: &str) -> Result<Finding, NoMemory>
+    ensures { IfOk result (λ found. found ≡ warning_at at.now words.now) }
+{
+    Ok(Finding {
+        line: at.line,
+        column: at.column,
+        level: Level::Warning,
+        text: Text::from_str(alloc, words)?,
+    })
+}

@@ -1,0 +1,198 @@
+ghost use Rattle.std.specs.Prelude.{◌≡◌, ◌++◌, ◌<◌, IfOk, IfSome, OnOk, Some, flat_map, length};
+ghost use Rattle.perm_base.specs.Shapes.{AreValid};
+ghost use Rattle.policy_table.specs.Limits.{columns_of};
+ghost use Rattle.file_lint.specs.RowWarnings.{effect_warnings, is_effect, link_warnings, own_warnings, rank_warnings, repeat_warnings, subject_warnings, warning_in};
+
+use crate::columns::field_column;
+use crate::finding::{Finding, Level};
+use crate::mending::push_parts;
+use outside::{NoMemory, Text};
+use perm_base::{RoleShape, Rule, Shapes, TableId, is_pattern};
+use policy_csv::Entry;
+use policy_table::{Tables, rank};
+use std::alloc::Global;
+use std::marker::Model;
+
+/// A line of a policy, by its number.
+#[derive(Clone, Copy)]
+pub(crate) struct Row<'a> {
+    pub(crate) number: u64,
+    pub(crate) text: &'a str,
+}
+
+impl<'a> Model for Row<'a> {
+    ghost use Rattle.text_parts.specs.Numbered.{Line, line};
+
+    ghost Value = { Line };
+
+    ghost view = { λ r. line r.number r.text.now };
+}
+
+/// A warning at the field of a line that has so many fields before it, the table's name among them.
+pub(crate) fn warning_in(
+    alloc: Global,
+    row: Row<'_>,
+    before: u32,
+    words: &[&str],
+) -> Result<Finding, NoMemory>
+    ensures { IfOk result (λ found. found
+        ≡ warning_in row.entry before (flat_map (λ part. part.now) words.now)) }
+{
+    let mut text = String::new(alloc);
+    push_parts(&mut text, words)?;
+    Ok(Finding {
+        line: row.number,
+        column: field_column(row.text, before),
+        level: Level::Warning,
+        text: Text::from_string(text),
+    })
+}
+
+/// The warnings of a rule that stands already.
+pub(crate) fn repeat_warnings(
+    alloc: Global,
+    seen: &Tables,
+    row: Row<'_>,
+    entry: &Entry,
+) -> Result<Vec<Finding>, NoMemory>
+    ensures { IfOk result (λ found. found.items
+        ≡ repeat_warnings seen.now.policy row.entry entry.now) }
+{
+    let mut found = Vec::new(alloc);
+    if seen.has(entry.table, &entry.rule) {
+        let words = ["this rule stands above already: it counts once"];
+        found.push(warning_in(alloc, row, 0, &words)?)?;
+    }
+    Ok(found)
+}
+
+/// Pushes what a rule's own fields surprise by.
+pub(crate) fn push_own_warnings(
+    alloc: Global,
+    shapes: &Shapes,
+    row: Row<'_>,
+    entry: &Entry,
+    found: &mut Vec<Finding>,
+) -> Result<(), NoMemory>
+    requires columns { columns_of shapes.now entry.now.table ≡ Some (length entry.now.rule) }
+    requires valid { AreValid shapes.now }
+    ensures { OnOk result (found.new.items ≡ found.old.items
+        ++ own_warnings shapes.now row.entry entry.now entry.now.table) }
+{
+    match entry.table {
+        TableId::P => {
+            push_effect(alloc, row, &entry.rule, shapes.effect_column, found)?;
+            push_rank(alloc, row, &entry.rule, shapes.ranked, found)?;
+            push_subject(
+                alloc,
+                row,
+                &entry.rule,
+                shapes.subject_column,
+                shapes.roles.find(1),
+                found,
+            )
+        }
+        TableId::G(_) => push_link(alloc, row, &entry.rule, found),
+    }
+}
+
+fn push_effect(
+    alloc: Global,
+    row: Row<'_>,
+    rule: &Rule,
+    column: Option<u32>,
+    found: &mut Vec<Finding>,
+) -> Result<(), NoMemory>
+    requires { IfSome column (λ at. at < length rule.now) }
+    ensures { OnOk result (found.new.items
+        ≡ found.old.items ++ effect_warnings row.entry rule.now column) }
+{
+    let Some(at) = column else {
+        return Ok(());
+    };
+    let text = rule.text(at);
+    if is_effect(text) {
+        return Ok(());
+    }
+    let words = [
+        "\"",
+        text,
+        "\" is neither allow nor deny: the rule counts as not matched",
+    ];
+    found.push(warning_in(alloc, row, at + 1, &words)?)?;
+    Ok(())
+}
+
+fn is_effect(text: &str) -> bool
+    ensures { result ≡ is_effect text.now }
+{
+    text == "allow" || text == "deny"
+}
+
+fn push_rank(
+    alloc: Global,
+    row: Row<'_>,
+    rule: &Rule,
+    ranked: bool,
+    found: &mut Vec<Finding>,
+) -> Result<(), NoMemory>
+    requires { 0 < length rule.now }
+    ensures { OnOk result (found.new.items
+        ≡ found.old.items ++ rank_warnings row.entry rule.now ranked) }
+{
+    if !ranked || rank(rule).is_some() {
+        return Ok(());
+    }
+    let words = [
+        "\"",
+        rule.text(0),
+        "\" is no number: the rule ranks behind every number",
+    ];
+    found.push(warning_in(alloc, row, 1, &words)?)?;
+    Ok(())
+}
+
+fn push_subject(
+    alloc: Global,
+    row: Row<'_>,
+    rule: &Rule,
+    at: u32,
+    relation: Option<RoleShape>,
+    found: &mut Vec<Finding>,
+) -> Result<(), NoMemory>
+    requires { at < length rule.now }
+    ensures { OnOk result (found.new.items
+        ≡ found.old.items ++ subject_warnings row.entry rule.now at relation) }
+{
+    let Some(shape) = relation else {
+        return Ok(());
+    };
+    let text = rule.text(at);
+    if !is_pattern(shape.names, text.as_bytes()) {
+        return Ok(());
+    }
+    let words = [
+        "\"",
+        text,
+        "\" is a pattern of g: a name that is asked is never a pattern, so this rule is for the name of these very bytes",
+    ];
+    found.push(warning_in(alloc, row, at + 1, &words)?)?;
+    Ok(())
+}
+
+fn push_link(
+    alloc: Global,
+    row: Row<'_>,
+    rule: &Rule,
+    found: &mut Vec<Finding>,
+) -> Result<(), NoMemory>
+    requires { 1 < length rule.now }
+    ensures { OnOk result (found.new.items ≡ found.old.items ++ link_warnings row.entry rule.now) }
+{
+    if rule.text(0) != rule.text(1) {
+        return Ok(());
+    }
+    let words = ["a link from \"", rule.text(0), "\" to itself"];
+    found.push(warning_in(alloc, row, 2, &words)?)?;
+    Ok(())
+}
