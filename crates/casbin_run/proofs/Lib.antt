@@ -4,7 +4,6 @@ pub mod AskLemmas
 pub mod PrintLemmas
 pub mod FinderLemmas
 pub mod LoadLemmas
-pub mod LintLemmas
 pub mod CachedLemmas
 pub mod ShipLemmas
 pub mod FollowLemmas

@@ -6,6 +6,5 @@ pub mod Caching
 pub mod Explaining
 pub mod Shipping
 pub mod Following
-pub mod Linting
 pub mod Gathering
 pub mod Running

@@ -14,5 +14,4 @@ pub mod Answered
 pub mod Shown
 pub mod Causes
 pub mod Ends
-pub mod Linting
 pub mod Helps

@@ -73,12 +73,8 @@ fn read_model_file<F: Shelf>(alloc: Global, shelf: &mut F, name: &str) -> Result
     Ok(read_model(alloc, &bytes)?)
 }
 
-/// The shapes of the model's policies, where it has the relations and domain columns that options name.
-pub(crate) fn policy_shapes(
-    alloc: Global,
-    model: &Model,
-    options: &Option<Options>,
-) -> Result<Shapes, Stop>
+// The shapes of the model's policies, where it has the relations and domain columns that options name.
+fn policy_shapes(alloc: Global, model: &Model, options: &Option<Options>) -> Result<Shapes, Stop>
     requires { (0 < limit_in options.now) × (limit_in options.now ≤ 250) }
     ensures found { IfOk result (λ shapes. shapes ≡ shapes_with options.now model.now) }
     ensures fits { IfOk result (λ _. absent_in options.now model.now ≡ None) }
@@ -121,13 +117,8 @@ fn read_policy_file<F: Shelf>(
     Ok(read_policy(alloc, &bytes, shapes)?)
 }
 
-/// Fetches the bytes of a part.
-pub(crate) fn fetch<F: Shelf>(
-    alloc: Global,
-    shelf: &mut F,
-    name: &str,
-    part: Part,
-) -> Result<Vec<u8>, Stop>
+// Fetches the bytes of a part.
+fn fetch<F: Shelf>(alloc: Global, shelf: &mut F, name: &str, part: Part) -> Result<Vec<u8>, Stop>
     ensures found { IfOk result (λ bytes. Holds (F.files shelf.old) name.now bytes.items) }
     ensures within { IfOk result (λ bytes. length bytes.items ≤ limit_of part) }
     ensures fetched { OnOk result (Adds (F.calls shelf.old) (F.calls shelf.new)

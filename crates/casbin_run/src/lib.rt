@@ -11,7 +11,6 @@ mod implied;
 mod input;
 mod job;
 mod law;
-mod linting;
 mod opening;
 mod report;
 mod run;
@@ -21,6 +20,5 @@ mod showing;
 mod taken_lines;
 
 pub use law::{input_is_read_last, one_end, runs_end_as_given, shown_files_are_read};
-pub use linting::{asks_for_lint, run_lint};
 pub use run::run_casbin;
 pub use run_status::Status;

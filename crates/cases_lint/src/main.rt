@@ -3,8 +3,8 @@
 #![tactic(auto)]
 
 use anyhow::{Context, Result};
-use casbin_run::run_lint;
 use case_list::{Case, Field, answer_cases};
+use lint_run::run_lint;
 use outside::{ListShelf, ListSink, Text};
 use std::alloc::Global;
 use std::io::Write;

@@ -29,6 +29,5 @@ pub use laws::{
 };
 pub use limit::{Limit, columns_of, has_short_fields};
 pub use prepared::{Prepared, Step};
-pub use rank::rank;
 pub use rows::Rows;
 pub use tables::{Tables, no_tables, ranked_tables};

@@ -1,18 +1,16 @@
-use Rattle.std.proofs.Common.{◌≡◌, ◌≤◌, [], ◌∷◌, Err, Ok, rules}
-use Rattle.std.proofs.lemmas.Result.{err_from_is_err_and}
+use Rattle.std.proofs.Common.{◌≡◌, Err, Ok, rules}
 use Rattle.outside.specs.Faults.{Rose}
-use Rattle.outside.specs.Log.{Adds, call}
 use Rattle.file_lint.specs.ModelErrors.{LintsModel}
 use Rattle.run_status.specs.declared.part.Part.TheVariants.{Model}
-use Rattle.casbin_run.specs.Given.{FileIs}
-use Rattle.casbin_run.specs.Helps.Linting.{PolicyFileStops}
-use Rattle.casbin_run.proofs.LintLemmas.{model_held, model_unfetched, policy_unlinted}
-use Rattle.casbin_run.proofs.linting.lint_files.Goals as goal
+use Rattle.lint_run.specs.Helps.{PolicyFileStops}
+use Rattle.lint_run.specs.Linting.{FileIs}
+use Rattle.lint_run.proofs.LintLemmas.{model_held, model_unfetched, policy_unlinted}
+use Rattle.lint_run.proofs.linting.lint_files.Goals as goal
 
 pub returns-in_err-bytes-clause-stopped : goal.returns-in_err-bytes-clause-stopped
 returns-in_err-bytes-clause-stopped g c =
     let stop : c.from_residual.result ≡ Err c.in_err-bytes.field-0.0 = search rules in
-    rw stop (model_unfetched (g.F.Shelf.files c.args.shelf.now) c.args.job.now (λ failed. Adds (g.F.Shelf.calls c.args.shelf.now) (g.F.Shelf.calls c.fetch.new.shelf) (call c.args.job.now.files.model failed ∷ [])) (Rose (g.F.Shelf.faults c.args.shelf.now) (g.F.Shelf.faults c.fetch.new.shelf)) c.in_err-bytes.field-0.0 c.in_err-bytes.ensures.stopped)
+    rw stop (model_unfetched (g.F.Shelf.files c.args.shelf.now) c.args.job.now (Rose (g.F.Shelf.faults c.args.shelf.now) (g.F.Shelf.faults c.fetch.new.shelf)) c.in_err-bytes.field-0.0 c.in_err-bytes.ensures.stopped)
 
 pub returns-in_err-policy-clause-stopped : goal.returns-in_err-policy-clause-stopped
 returns-in_err-policy-clause-stopped g c =

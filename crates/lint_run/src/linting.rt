@@ -1,30 +1,22 @@
-ghost use Rattle.std.specs.Prelude.{◌≡◌, ◌+◌, ◌<◌, ◌≤◌, IfErr, IfOk, IfSome, string_bytes};
+ghost use Rattle.std.specs.Prelude.{◌≡◌, ◌+◌, ◌<◌, ◌≤◌, IfErr, IfOk, string_bytes};
 ghost use Rattle.command_words.specs.Items.{texts};
-ghost use Rattle.outside.specs.Faults.{Rose};
 ghost use Rattle.file_lint.specs.Findings.{count_of};
-ghost use Rattle.casbin_run.specs.Jobs.{limit_in};
-ghost use Rattle.casbin_run.specs.Linting.{LintEnds, LintStops, ask_for_lint, lint_asked, lint_of, lint_text, policy_end};
-ghost use Rattle.casbin_run.specs.Helps.Linting.{AreLinted, FilesStop, HasLinted, IsPolicyLinted, PolicyFileStops};
-ghost use Rattle.casbin_run.specs.Worlds.{taken};
+ghost use Rattle.outside.specs.Faults.{Rose};
+ghost use Rattle.lint_run.specs.Ends.{LintEnds, LintStops};
+ghost use Rattle.lint_run.specs.Linting.{ask_for_lint, lint_text, policy_end};
+ghost use Rattle.lint_run.specs.Helps.{AreLinted, FilesStop, HasLinted, IsPolicyLinted, PolicyFileStops};
 
 use crate::files::{fetch, policy_shapes};
-use command_words::{Command, Files, Options, read_words};
+use crate::job::{LintJob, read_lint};
 use file_lint::{
     Finding, Level, ModelLint, PolicyLint, count_of, lint_model, lint_policy, push_counts,
     push_findings,
 };
 use model_conf::Model;
-use perm_base::{NoMemory, Shelf, Sink, push_all};
+use outside::{NoMemory, Shelf, Sink, push_all};
 use policy_csv::PolicyFault;
 use run_status::{Part, Status, Stop, tell_stop};
 use std::alloc::Global;
-
-/// What a lint is done on.
-#[derive(Drop)]
-pub(crate) struct LintJob<'a> {
-    pub files: Files<'a>,
-    pub options: Option<Options>,
-}
 
 // What was found in both files, and the status that tells it.
 #[derive(Drop)]
@@ -55,36 +47,13 @@ pub fn run_lint<F: Shelf, K: Sink, E: Sink>(
         (Rose (F.faults shelf.old) (F.faults shelf.new))
         (Rose (K.faults out.old) (K.faults out.new))
         (K.taken out.old) (K.taken out.new)
-        (taken (E.taken err.old) (E.faults err.old))
-        (taken (E.taken err.new) (E.faults err.new)) result }
+        (E.taken err.old) (E.taken err.new) (E.faults err.old) (E.faults err.new) result }
     ensures same_files { F.files shelf.new ≡ F.files shelf.old }
     ensures out_counted { K.faults out.old ≤ K.faults out.new }
 {
     match lint(alloc, words, shelf, out) {
         Ok(status) => status,
         Err(stop) => tell_stop(err, stop),
-    }
-}
-
-// What the words ask for, where they ask for a lint.
-fn read_lint(words: &[String]) -> Option<LintJob<'_>>
-    ensures asked { result ≡ lint_asked (texts words.now) }
-    ensures limit { IfSome result (λ job.
-        (0 < limit_in job.options) × (limit_in job.options ≤ 250)) }
-{
-    lint_of(read_words(words)?)
-}
-
-// What a lint is done on.
-fn lint_of(command: Command<'_>) -> Option<LintJob<'_>>
-    ensures { result ≡ lint_of command.entry }
-{
-    match command {
-        Command::Lint { files, options } => Some(LintJob {
-            files,
-            options: Some(options),
-        }),
-        _ => None,
     }
 }
 
@@ -114,7 +83,7 @@ fn lint<F: Shelf, K: Sink>(
 
 // Fetches the model and lints it, and where it is one the policy.
 fn lint_files<F: Shelf>(alloc: Global, shelf: &mut F, job: &LintJob<'_>) -> Result<Linted, Stop>
-    requires { (0 < limit_in job.now.options) × (limit_in job.now.options ≤ 250) }
+    requires { (0 < job.now.options.limit) × (job.now.options.limit ≤ 250) }
     ensures linted { IfOk result (AreLinted (F.files shelf.old) job.now) }
     ensures stopped { IfErr result (FilesStop (F.files shelf.old) job.now
         (Rose (F.faults shelf.old) (F.faults shelf.new))) }
@@ -146,7 +115,7 @@ fn lint_policy_file<F: Shelf>(
     job: &LintJob<'_>,
     model: &Model,
 ) -> Result<PolicyLint, Stop>
-    requires { (0 < limit_in job.now.options) × (limit_in job.now.options ≤ 250) }
+    requires { (0 < job.now.options.limit) × (job.now.options.limit ≤ 250) }
     ensures linted { IfOk result (λ lint. IsPolicyLinted (F.files shelf.old) job.now model.now
         lint.fault lint.findings.items) }
     ensures stopped { IfErr result (PolicyFileStops (F.files shelf.old) job.now model.now

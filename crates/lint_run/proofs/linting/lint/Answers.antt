@@ -1,9 +1,9 @@
-use Rattle.std.proofs.Common.{◌≡◌, Err, Some, refl, sym, rules}
+use Rattle.std.proofs.Common.{◌≡◌, Err, Some, refl, rules}
 use Rattle.command_words.specs.Items.{texts}
 use Rattle.outside.specs.Faults.{Rose}
-use Rattle.casbin_run.specs.Linting.{lint_asked}
-use Rattle.casbin_run.proofs.LintLemmas.{files_end}
-use Rattle.casbin_run.proofs.linting.lint.Goals as goal
+use Rattle.lint_run.specs.Linting.{lint_asked}
+use Rattle.lint_run.proofs.LintLemmas.{files_end}
+use Rattle.lint_run.proofs.linting.lint.Goals as goal
 
 pub returns-in_err-linted-clause-stopped : goal.returns-in_err-linted-clause-stopped
 returns-in_err-linted-clause-stopped g c =

@@ -1,21 +1,43 @@
 -- What the steps of a lint come to; only private functions cite this.
 use Rattle.std.specs.Prelude.{◌≡◌, ◌⊎◌, ℕ, ◌<◌, ⊤, List, Option, Some, None, length}
+use Rattle.command_words.specs.declared.command.Options.{Options}
 use Rattle.file_lint.specs.Findings.{Finding}
 use Rattle.file_lint.specs.PolicyErrors.{LintsPolicy}
 use Rattle.model_conf.specs.ModelText.{IsModel, ModelParts}
 use Rattle.outside.specs.Files.{Files, Lacks, OfFile}
 use Rattle.outside.specs.Told.{with_back}
+use Rattle.outside.specs.declared.shelf.Fetch.{Fetch}
+use Rattle.outside.specs.declared.shelf.Fetch.TheVariants as fetch
 use Rattle.policy_csv.specs.declared.fault.PolicyFault.{PolicyFault}
 use Rattle.run_status.specs.Parts.{limit_of}
+use Rattle.run_status.specs.declared.part.Part.{Part}
 use Rattle.run_status.specs.declared.part.Part.TheVariants.{Model, Policy}
 use Rattle.run_status.specs.declared.status.Status.{Status}
 use Rattle.run_status.specs.declared.stop.Stop.{Stop}
 use Rattle.run_status.specs.declared.stop.Stop.TheVariants.{NoRelation, CannotRead, TooLong, NoMemory}
-use Rattle.casbin_run.specs.Given.{FileIs}
-use Rattle.casbin_run.specs.Jobs.{absent_in, shapes_with}
-use Rattle.casbin_run.specs.Linting.{Lints, lint_asked, lint_text}
-use Rattle.casbin_run.specs.declared.linting.LintJob.{LintJob}
-use Rattle.casbin_run.specs.declared.linting.Linted.{Linted}
+use Rattle.lint_run.specs.Linting.{FileIs, Lints, absent_in, lint_asked, lint_text, shapes_with}
+use Rattle.lint_run.specs.declared.job.LintJob.{LintJob}
+use Rattle.lint_run.specs.declared.linting.Linted.{Linted}
+
+-- the stop that comes of a file that was not fetched
+abbrev pub fetch_stop : Part → Fetch → Stop
+fetch_stop part fetch.Absent = CannotRead part
+fetch_stop part fetch.Failed = CannotRead part
+fetch_stop part fetch.TooLong = TooLong part
+fetch_stop part fetch.NoMemory = NoMemory
+
+-- the file of a part was not fetched; `shelf` says that the shelf failed
+abbrev pub FetchStops : Option Files → List ℕ → Part → (shelf : Type 0) → Stop → Type 0
+FetchStops files name part shelf (CannotRead p) = (p ≡ part) × (Lacks files name ⊎ shelf)
+FetchStops files name part shelf (TooLong p) = (p ≡ part) × OfFile files name (λ bytes. limit_of part < length bytes)
+FetchStops files name part shelf NoMemory = ⊤
+FetchStops files name part shelf _ = ⊥
+
+-- the options do not fit the model
+abbrev pub ShapesStop : Options → ModelParts → Stop → Type 0
+ShapesStop options model (NoRelation relation) = absent_in options model ≡ Some relation
+ShapesStop options model NoMemory = ⊤
+ShapesStop options model _ = ⊥
 
 -- the findings of both files are told by this text and this status
 abbrev pub AreLinted : Option Files → LintJob → Linted → Type 0
@@ -34,7 +56,7 @@ PolicyFileStops files job model shelf (TooLong Policy) = (absent_in job.options 
 PolicyFileStops files job model shelf NoMemory = ⊤
 PolicyFileStops files job model shelf _ = ⊥
 
--- the model's file is a model
+-- the model's file is a model, of which the fact holds
 abbrev pub OfModel : Option Files → LintJob → (ModelParts → Type 0) → Type 0
 OfModel files job fact = (model : ModelParts) × FileIs files job.files.model Model (λ bytes. IsModel bytes model) × fact model
 

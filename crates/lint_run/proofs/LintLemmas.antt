@@ -1,5 +1,5 @@
--- Why a lint stops, and what it comes to.
-use Rattle.std.proofs.Common.{◌≡◌, ℕ, ◌<◌, ◌≤◌, Bool, true, false, List, Option, Some, None, Ok, inl, inr, ⊎_elim, ◌⊎◌, length, refl, sym, ap, subst, arith}
+-- What the words of a lint ask for, and why a lint stops.
+use Rattle.std.proofs.Common.{◌≡◌, ℕ, ◌<◌, ◌≤◌, List, Option, Some, None, Ok, inl, inr, ⊎_elim, length, refl, sym, ap, subst}
 use Rattle.std.specs.Prelude.{IfSome}
 use Rattle.std.proofs.lemmas.Option.{option_and_then_some}
 use Rattle.command_words.specs.Commands.{command_of}
@@ -18,17 +18,15 @@ use Rattle.perm_base.specs.declared.shapes.Shapes.{Shapes}
 use Rattle.run_status.specs.declared.part.Part.TheVariants.{Model, Policy, Input, Report}
 use Rattle.run_status.specs.declared.stop.Stop.{Stop}
 use Rattle.run_status.specs.declared.stop.Stop.TheVariants.{NoRelation, CannotRead, TooLong, NoMemory}
-use Rattle.casbin_run.specs.Given.{FileIs}
-use Rattle.casbin_run.specs.Helps.Linting.{FilesStop, OfModel, PolicyFileStops}
-use Rattle.casbin_run.specs.Helps.Loading.{FetchStops, ShapesStop}
-use Rattle.casbin_run.specs.Jobs.{absent_in, limit_in, shapes_with}
-use Rattle.casbin_run.specs.Linting.{LintStops, lint_asked, lint_of}
-use Rattle.casbin_run.specs.declared.linting.LintJob.{LintJob}
+use Rattle.lint_run.specs.Ends.{LintStops}
+use Rattle.lint_run.specs.Helps.{FetchStops, FilesStop, PolicyFileStops, ShapesStop}
+use Rattle.lint_run.specs.Linting.{FileIs, absent_in, lint_asked, lint_of, shapes_with}
+use Rattle.lint_run.specs.declared.job.LintJob.{LintJob}
 
 -- a limit is one to 250
 abbrev LintHas : Option LintJob → Type 0
 LintHas None = Unit {0}
-LintHas (Some job) = (0 < limit_in job.options) × (limit_in job.options ≤ 250)
+LintHas (Some job) = (0 < job.options.limit) × (job.options.limit ≤ 250)
 
 lint_has : (asked : Command) → HasRanges asked → LintHas (lint_of asked)
 lint_has (command.Enforce files options json cache) has = tt
@@ -43,25 +41,25 @@ lint_has (command.Follow files options) has = tt
 lint_has (command.Lint files options) has = has
 lint_has (command.Demo count workers) has = tt
 
-pub lint_limit : (words : List (List ℕ)) (job : LintJob) → lint_asked words ≡ Some job → LintHas (Some job)
+lint_limit : (words : List (List ℕ)) (job : LintJob) → lint_asked words ≡ Some job → LintHas (Some job)
 lint_limit words job asked = option_and_then_some lint_of (command_of words) job asked (λ found told made. subst LintHas made (lint_has found (command_of-ranges words found told)))
 
-pub lint_limits : (words : List (List ℕ)) (result : Option LintJob) → result ≡ lint_asked words → IfSome result (λ job. (0 < limit_in job.options) × (limit_in job.options ≤ 250))
+pub lint_limits : (words : List (List ℕ)) (result : Option LintJob) → result ≡ lint_asked words → IfSome result (λ job. (0 < job.options.limit) × (job.options.limit ≤ 250))
 lint_limits words None asked = tt
 lint_limits words (Some job) asked = lint_limit words job (sym asked)
 
 -- the model's file was not fetched
-pub model_unfetched : (files : Option Files) (job : LintJob) (told : Bool → Type 0) (shelf : Type 0) (stop : Stop) → FetchStops files job.files.model Model told shelf stop → FilesStop files job shelf stop
-model_unfetched files job told shelf (CannotRead Model) (same, lost) = ⊎_elim (λ lacks. inl lacks.0) (λ rose. inr rose.0) lost
-model_unfetched files job told shelf (CannotRead Policy) (same, lost) = absurd cc
-model_unfetched files job told shelf (CannotRead Input) (same, lost) = absurd cc
-model_unfetched files job told shelf (CannotRead Report) (same, lost) = absurd cc
-model_unfetched files job told shelf (TooLong Model) (same, wide, is) = wide
-model_unfetched files job told shelf (TooLong Policy) (same, wide, is) = absurd cc
-model_unfetched files job told shelf (TooLong Input) (same, wide, is) = absurd cc
-model_unfetched files job told shelf (TooLong Report) (same, wide, is) = absurd cc
-model_unfetched files job told shelf NoMemory stops = tt
-model_unfetched files job told shelf _ stops = absurd stops
+pub model_unfetched : (files : Option Files) (job : LintJob) (shelf : Type 0) (stop : Stop) → FetchStops files job.files.model Model shelf stop → FilesStop files job shelf stop
+model_unfetched files job shelf (CannotRead Model) (same, lost) = lost
+model_unfetched files job shelf (CannotRead Policy) (same, lost) = absurd cc
+model_unfetched files job shelf (CannotRead Input) (same, lost) = absurd cc
+model_unfetched files job shelf (CannotRead Report) (same, lost) = absurd cc
+model_unfetched files job shelf (TooLong Model) (same, wide) = wide
+model_unfetched files job shelf (TooLong Policy) (same, wide) = absurd cc
+model_unfetched files job shelf (TooLong Input) (same, wide) = absurd cc
+model_unfetched files job shelf (TooLong Report) (same, wide) = absurd cc
+model_unfetched files job shelf NoMemory stops = tt
+model_unfetched files job shelf _ stops = absurd stops
 
 -- the options do not fit the model
 pub options_unfit : (files : Option Files) (job : LintJob) (model : ModelParts) (shelf : Type 0) (stop : Stop) → ShapesStop job.options model stop → PolicyFileStops files job model shelf stop
@@ -70,18 +68,18 @@ options_unfit files job model shelf NoMemory stops = tt
 options_unfit files job model shelf _ stops = absurd stops
 
 -- the policy's file was not fetched
-pub policy_unfetched : (files : Option Files) (job : LintJob) (model : ModelParts) (told : Bool → Type 0) (shelf : Type 0) (stop : Stop) → absent_in job.options model ≡ None
-    → FetchStops files job.files.policy Policy told shelf stop → PolicyFileStops files job model shelf stop
-policy_unfetched files job model told shelf (CannotRead Policy) fits (same, lost) = (fits, ⊎_elim (λ lacks. inl lacks.0) (λ rose. inr rose.0) lost)
-policy_unfetched files job model told shelf (CannotRead Model) fits (same, lost) = absurd cc
-policy_unfetched files job model told shelf (CannotRead Input) fits (same, lost) = absurd cc
-policy_unfetched files job model told shelf (CannotRead Report) fits (same, lost) = absurd cc
-policy_unfetched files job model told shelf (TooLong Policy) fits (same, wide, is) = (fits, wide)
-policy_unfetched files job model told shelf (TooLong Model) fits (same, wide, is) = absurd cc
-policy_unfetched files job model told shelf (TooLong Input) fits (same, wide, is) = absurd cc
-policy_unfetched files job model told shelf (TooLong Report) fits (same, wide, is) = absurd cc
-policy_unfetched files job model told shelf NoMemory fits stops = tt
-policy_unfetched files job model told shelf _ fits stops = absurd stops
+pub policy_unfetched : (files : Option Files) (job : LintJob) (model : ModelParts) (shelf : Type 0) (stop : Stop) → absent_in job.options model ≡ None
+    → FetchStops files job.files.policy Policy shelf stop → PolicyFileStops files job model shelf stop
+policy_unfetched files job model shelf (CannotRead Policy) fits (same, lost) = (fits, lost)
+policy_unfetched files job model shelf (CannotRead Model) fits (same, lost) = absurd cc
+policy_unfetched files job model shelf (CannotRead Input) fits (same, lost) = absurd cc
+policy_unfetched files job model shelf (CannotRead Report) fits (same, lost) = absurd cc
+policy_unfetched files job model shelf (TooLong Policy) fits (same, wide) = (fits, wide)
+policy_unfetched files job model shelf (TooLong Model) fits (same, wide) = absurd cc
+policy_unfetched files job model shelf (TooLong Input) fits (same, wide) = absurd cc
+policy_unfetched files job model shelf (TooLong Report) fits (same, wide) = absurd cc
+policy_unfetched files job model shelf NoMemory fits stops = tt
+policy_unfetched files job model shelf _ fits stops = absurd stops
 
 -- a file that holds the findings of a model holds the model
 pub model_held : (files : Option Files) (name : List ℕ) (model : ModelParts) (found : List Finding) → FileIs files name Model (λ bytes. LintsModel bytes (Ok model) found) → FileIs files name Model (λ bytes. IsModel bytes model)
@@ -95,7 +93,9 @@ policy_unlinted files mid job model before faults now stop same earlier is stops
     by : (stop : Stop) → PolicyFileStops files job model (Rose faults now) stop → FilesStop files job (Rose before now) stop
     by (NoRelation relation) stops = (model, is, stops)
     by (CannotRead Policy) stops = (model, is, (stops.0, ⊎_elim inl (λ rose. inr (rose_later before faults now earlier rose)) stops.1))
+    by (CannotRead _) stops = absurd stops
     by (TooLong Policy) stops = (model, is, stops)
+    by (TooLong _) stops = absurd stops
     by NoMemory stops = tt
     by _ stops = absurd stops
 
@@ -103,14 +103,16 @@ policy_unlinted files mid job model before faults now stop same earlier is stops
 pub files_end : (words : List (List ℕ)) (files : Option Files) (job : LintJob) (shelf out : Type 0) (before now : Option (List ℕ)) (stop : Stop) → lint_asked words ≡ Some job → now ≡ before → FilesStop files job shelf stop
     → LintStops words files shelf out before now stop
 files_end words files job shelf out before now (CannotRead Model) asked same stops = ((job, asked, stops), same)
-files_end words files job shelf out before now (TooLong Model) asked same stops = ((job, asked, stops), same)
-files_end words files job shelf out before now (NoRelation relation) asked same (model, is, absent) = ((job, asked, (model, is, absent)), same)
 files_end words files job shelf out before now (CannotRead Policy) asked same (model, is, (fits, lost)) = ((job, asked, ((model, is, fits), lost)), same)
+files_end words files job shelf out before now (CannotRead _) asked same stops = absurd stops
+files_end words files job shelf out before now (TooLong Model) asked same stops = ((job, asked, stops), same)
 files_end words files job shelf out before now (TooLong Policy) asked same (model, is, (fits, wide)) = ((job, asked, ((model, is, fits), wide)), same)
+files_end words files job shelf out before now (TooLong _) asked same stops = absurd stops
+files_end words files job shelf out before now (NoRelation relation) asked same (model, is, absent) = ((job, asked, (model, is, absent)), same)
 files_end words files job shelf out before now NoMemory asked same stops = same
 files_end words files job shelf out before now _ asked same stops = absurd stops
 
 -- a model's shapes have as many columns as its policy
-pub columns_of_model : (options : Option Options) (model : ModelParts) (shapes : Shapes) → shapes ≡ shapes_with options model → shapes.columns ≡ length model.policy
+pub columns_of_model : (options : Options) (model : ModelParts) (shapes : Shapes) → shapes ≡ shapes_with options model → shapes.columns ≡ length model.policy
 unfolding shapes_of
 columns_of_model options model shapes is = ap (λ (s : Shapes). s.columns) is
