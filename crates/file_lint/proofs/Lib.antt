@@ -1,3 +1,4 @@
+pub mod NumberLemmas
 pub mod OrderLemmas
 pub mod PlaceLemmas
 pub mod MendLemmas

@@ -15,14 +15,14 @@ pub(crate) enum Within {
 }
 
 /// The column of a field, whose line has so many before it.
-pub(crate) fn field_column(line: &str, before: u32) -> u64
+pub(crate) fn field_column(line: &str, before: u64) -> u64
     ensures { result ≡ field_column before line.now }
 {
     field_front(line, before) as u64 + 1
 }
 
 // How many bytes stand in front of a field, blanks in front of it among them.
-fn field_front(line: &str, before: u32) -> usize
+fn field_front(line: &str, before: u64) -> usize
     ensures value { result ≡ field_front before state.Front line.now }
     ensures within { result ≤ length line.now }
 {
@@ -43,7 +43,7 @@ fn field_front(line: &str, before: u32) -> usize
 }
 
 // How many fields are left to pass.
-fn fields_left(left: u32, ends: bool) -> u32
+fn fields_left(left: u64, ends: bool) -> u64
     ensures { result ≡ fields_left left ends }
 {
     if ends { left.saturating_sub(1) } else { left }

@@ -16,6 +16,7 @@ mod model_words;
 mod names;
 mod near;
 mod nodes;
+mod numbers;
 mod order;
 mod places;
 mod policy;

@@ -1,15 +1,16 @@
 ghost use Rattle.std.specs.Prelude.{◌≡◌, ◌++◌, ◌<◌, IfOk, IfSome, OnOk, Some, flat_map, length};
 ghost use Rattle.perm_base.specs.Shapes.{AreValid};
 ghost use Rattle.policy_table.specs.Limits.{columns_of};
-ghost use Rattle.file_lint.specs.RowWarnings.{effect_warnings, is_effect, link_warnings, own_warnings, rank_warnings, repeat_warnings, subject_warnings, warning_in};
+ghost use Rattle.file_lint.specs.RowWarnings.{effect_warnings, field_of, is_effect, link_warnings, own_warnings, rank_warnings, repeat_warnings, subject_warnings, warning_in};
 
 use crate::columns::field_column;
 use crate::finding::{Finding, Level};
 use crate::mending::push_parts;
+use crate::numbers::integer_of;
 use outside::{NoMemory, Text};
 use perm_base::{RoleShape, Rule, Shapes, TableId, is_pattern};
 use policy_csv::Entry;
-use policy_table::{Tables, rank};
+use policy_table::Tables;
 use std::alloc::Global;
 use std::marker::Model;
 
@@ -32,7 +33,7 @@ impl<'a> Model for Row<'a> {
 pub(crate) fn warning_in(
     alloc: Global,
     row: Row<'_>,
-    before: u32,
+    before: u64,
     words: &[&str],
 ) -> Result<Finding, NoMemory>
     ensures { IfOk result (λ found. found
@@ -96,6 +97,14 @@ pub(crate) fn push_own_warnings(
     }
 }
 
+/// The field of a rule at a place.
+pub(crate) fn field(rule: &Rule, at: u32) -> &str
+    requires { at < length rule.now }
+    ensures { result.now ≡ field_of rule.now at }
+{
+    rule.text(at)
+}
+
 fn push_effect(
     alloc: Global,
     row: Row<'_>,
@@ -110,7 +119,7 @@ fn push_effect(
     let Some(at) = column else {
         return Ok(());
     };
-    let text = rule.text(at);
+    let text = field(rule, at);
     if is_effect(text) {
         return Ok(());
     }
@@ -119,7 +128,7 @@ fn push_effect(
         text,
         "\" is neither allow nor deny: the rule counts as not matched",
     ];
-    found.push(warning_in(alloc, row, at + 1, &words)?)?;
+    found.push(warning_in(alloc, row, u64::from(at) + 1, &words)?)?;
     Ok(())
 }
 
@@ -140,12 +149,13 @@ fn push_rank(
     ensures { OnOk result (found.new.items
         ≡ found.old.items ++ rank_warnings row.entry rule.now ranked) }
 {
-    if !ranked || rank(rule).is_some() {
+    let text = field(rule, 0);
+    if !ranked || integer_of(text).is_some() {
         return Ok(());
     }
     let words = [
         "\"",
-        rule.text(0),
+        text,
         "\" is no number: the rule ranks behind every number",
     ];
     found.push(warning_in(alloc, row, 1, &words)?)?;
@@ -167,7 +177,7 @@ fn push_subject(
     let Some(shape) = relation else {
         return Ok(());
     };
-    let text = rule.text(at);
+    let text = field(rule, at);
     if !is_pattern(shape.names, text.as_bytes()) {
         return Ok(());
     }
@@ -176,7 +186,7 @@ fn push_subject(
         text,
         "\" is a pattern of g: a name that is asked is never a pattern, so this rule is for the name of these very bytes",
     ];
-    found.push(warning_in(alloc, row, at + 1, &words)?)?;
+    found.push(warning_in(alloc, row, u64::from(at) + 1, &words)?)?;
     Ok(())
 }
 
@@ -189,10 +199,11 @@ fn push_link(
     requires { 1 < length rule.now }
     ensures { OnOk result (found.new.items ≡ found.old.items ++ link_warnings row.entry rule.now) }
 {
-    if rule.text(0) != rule.text(1) {
+    let name = field(rule, 0);
+    if name != field(rule, 1) {
         return Ok(());
     }
-    let words = ["a link from \"", rule.text(0), "\" to itself"];
+    let words = ["a link from \"", name, "\" to itself"];
     found.push(warning_in(alloc, row, 2, &words)?)?;
     Ok(())
 }

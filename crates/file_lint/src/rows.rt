@@ -9,7 +9,7 @@ ghost use Rattle.file_lint.specs.RowWarnings.{HeldFinds};
 
 use crate::finding::Finding;
 use crate::nodes::{Held, Looked};
-use crate::row::{Row, warning_in};
+use crate::row::{Row, field, warning_in};
 use ip_match::read_block;
 use model_conf::{Model, RuleTextFault, read_rule_text};
 use outside::NoMemory;
@@ -32,7 +32,7 @@ pub(crate) fn push_looked(
         found.old.items found.new.items) }
 {
     for look in looked {
-        push_held(alloc, model, *look, row, rule.text(look.at), found)?;
+        push_held(alloc, model, *look, row, field(rule, look.at), found)?;
     }
     Ok(())
 }
@@ -56,7 +56,7 @@ fn push_held(
     };
     if surprises {
         let words = held_words(look.held, text);
-        found.push(warning_in(alloc, row, look.at + 1, &words)?)?;
+        found.push(warning_in(alloc, row, u64::from(look.at) + 1, &words)?)?;
     }
     Ok(())
 }
