@@ -17,6 +17,7 @@ use Rattle.perm_base.specs.declared.shapes.TableId.TheVariants.{P, G}
 use Rattle.policy_csv.proofs.CallerLemmas.{place_known}
 use Rattle.policy_csv.specs.Policy.{with_entry}
 use Rattle.policy_csv.specs.declared.entry.Entry.{Entry}
+use Rattle.policy_csv.specs.declared.fault.PolicyFault.{PolicyFault}
 use Rattle.policy_table.specs.Changes.{changed, changed_rules, is_table}
 use Rattle.policy_table.specs.Limits.{columns_of, role_columns}
 use Rattle.policy_table.specs.Tables.{Fields, Policy, is_ranked, place, rows, stands}
@@ -25,7 +26,7 @@ use Rattle.policy_table.proofs.CallerLemmas.{one_longer, rows_other, rows_own, s
 use Rattle.text_parts.specs.Numbered.{Line}
 use Rattle.file_lint.specs.Findings.{Finding}
 use Rattle.file_lint.specs.Nodes.{Looked, held_by, looked_at, looked_both, looked_in, nodes_of, place_in, second_column}
-use Rattle.file_lint.specs.Helps.Rows.{AreWithin, LineFinds}
+use Rattle.file_lint.specs.Helps.Rows.{AreWithin, LineFinds, LineTells}
 use Rattle.file_lint.specs.declared.nodes.Held.{Held}
 use Rattle.file_lint.specs.declared.nodes.Held.TheVariants.{RuleText}
 
@@ -140,10 +141,16 @@ placed None is = absurd cc
 placed (Some at) is = (at, refl)
 
 -- a line makes no table longer by more than one rule
-pub few_after : (model : ModelParts) (shapes : Shapes) (line : Line) (before after : Policy) (findings now : List Finding) → AreRoles shapes.roles → LineFinds model shapes line before after findings now
+few_judged : (model : ModelParts) (shapes : Shapes) (line : Line) (before after : Policy) (findings now : List Finding) → AreRoles shapes.roles → LineFinds model shapes line before after findings now
     → (table : TableId) → length (rows after table) ≤ length (rows before table) + 1
-few_after model shapes line before after findings now roles (inl (entry, says, kept, more)) table =
+few_judged model shapes line before after findings now roles (inl (entry, says, kept, more)) table =
     let at = placed (place entry.table) (place_known shapes entry.table (length entry.rule) roles says.columns) in
     subst (λ (p : Policy). length (rows p table) ≤ length (rows before table) + 1) (sym kept) (few_kept entry before at.0 table at.1)
-few_after model shapes line before after findings now roles (inr (why, no_want, is, kept, grown)) table =
+few_judged model shapes line before after findings now roles (inr (why, no_want, is, kept, grown)) table =
     subst (λ (p : Policy). length (rows p table) ≤ length (rows before table) + 1) (sym kept) (omega arith)
+
+pub few_after : (model : ModelParts) (shapes : Shapes) (first : Option PolicyFault) (line : Line) (before after : Policy) (findings now : List Finding) → AreRoles shapes.roles
+    → LineTells model shapes first line before after findings now → (table : TableId) → length (rows after table) ≤ length (rows before table) + 1
+few_after model shapes first line before after findings now roles (inl (why, is, kept, grown)) table =
+    subst (λ (p : Policy). length (rows p table) ≤ length (rows before table) + 1) (sym kept) (omega arith)
+few_after model shapes first line before after findings now roles (inr (none, finds)) table = few_judged model shapes line before after findings now roles finds table

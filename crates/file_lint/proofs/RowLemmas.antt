@@ -22,7 +22,7 @@ use Rattle.file_lint.specs.PolicyErrors.{FindsBy, HasFirst, LintsLines, told_in}
 use Rattle.file_lint.specs.PolicyErrors.LintsLines.{at_fault, no_line, rule, told}
 use Rattle.file_lint.specs.PolicyWords.{policy_error}
 use Rattle.file_lint.specs.RowWarnings.{LookedFinds, RowFinds, Surprises}
-use Rattle.file_lint.specs.Helps.Rows.{AreFound, FindsMore, LineFinds}
+use Rattle.file_lint.specs.Helps.Rows.{AreFound, FindsMore, LineFinds, LineTells}
 
 zip_append : {X Y : Type 0} (R : X → Y → Type 0) (xs front : List X) (ys back : List Y) → AllZip R xs ys → AllZip R front back → AllZip R (xs ++ front) (ys ++ back)
 zip_append R [] front [] back one other = other
@@ -64,7 +64,7 @@ lines_end model shapes first before lines found Whole none goes =
     subst Whole (append-nil found) (goes [] (subst (λ (l : List Line). LintsLines model shapes first before l []) (sym none) no_line))
 
 -- the line of the told fault
-pub line_told : (model : ModelParts) (shapes : Shapes) (first : Option PolicyFault) (before : Policy) (next : Line) (lines whole : List Line) (found now : List Finding) (why : PolicyFault) (Whole : List Finding → Type 0)
+line_told : (model : ModelParts) (shapes : Shapes) (first : Option PolicyFault) (before : Policy) (next : Line) (lines whole : List Line) (found now : List Finding) (why : PolicyFault) (Whole : List Finding → Type 0)
     → whole ≡ next ∷ lines → told_in first (given_number next.number) ≡ Some why → now ≡ found ++ policy_error model why next ∷ []
     → LinesGo model shapes first before whole found Whole → LinesGo model shapes first before lines now Whole
 line_told model shapes first before next lines whole found now why Whole cut is grown goes = λ others rest.
@@ -72,7 +72,7 @@ line_told model shapes first before next lines whole found now why Whole cut is 
     subst (λ (l : List Finding). Whole (l ++ others)) (sym grown) (subst Whole (sym (append_assoc found (policy_error model why next ∷ []) others)) (goes (policy_error model why next ∷ others) all))
 
 -- a line by itself
-pub line_judged : (model : ModelParts) (shapes : Shapes) (first : Option PolicyFault) (before after : Policy) (next : Line) (lines whole : List Line) (found now : List Finding) (Whole : List Finding → Type 0)
+line_judged : (model : ModelParts) (shapes : Shapes) (first : Option PolicyFault) (before after : Policy) (next : Line) (lines whole : List Line) (found now : List Finding) (Whole : List Finding → Type 0)
     → whole ≡ next ∷ lines → told_in first (given_number next.number) ≡ None → LineFinds model shapes next before after found now
     → LinesGo model shapes first before whole found Whole → LinesGo model shapes first after lines now Whole
 line_judged model shapes first before after next lines whole found now Whole cut none (inl (entry, says, kept, (piece, finds, grown))) goes = λ others rest.
@@ -83,6 +83,15 @@ line_judged model shapes first before after next lines whole found now Whole cut
     let behind = subst (λ (p : Policy). LintsLines model shapes first p lines others) kept rest in
     let all = subst (λ (l : List Line). LintsLines model shapes first before l (policy_error model why next ∷ others)) (sym cut) (at_fault why none no_want is behind) in
     subst (λ (l : List Finding). Whole (l ++ others)) (sym grown) (subst Whole (sym (append_assoc found (policy_error model why next ∷ []) others)) (goes (policy_error model why next ∷ others) all))
+
+-- either
+pub line_goes : (model : ModelParts) (shapes : Shapes) (first : Option PolicyFault) (before after : Policy) (next : Line) (lines whole : List Line) (found now : List Finding) (Whole : List Finding → Type 0)
+    → whole ≡ next ∷ lines → LineTells model shapes first next before after found now
+    → LinesGo model shapes first before whole found Whole → LinesGo model shapes first after lines now Whole
+line_goes model shapes first before after next lines whole found now Whole cut (inl (why, is, kept, grown)) goes =
+    subst (λ (p : Policy). LinesGo model shapes first p lines now Whole) (sym kept) (line_told model shapes first before next lines whole found now why Whole cut is grown goes)
+line_goes model shapes first before after next lines whole found now Whole cut (inr (none, finds)) goes =
+    line_judged model shapes first before after next lines whole found now Whole cut none finds goes
 
 -- the first fault of a text that is not UTF-8, and of one that is
 pub first_of_bytes : (shapes : Shapes) (bytes : List ℕ) (first : Option PolicyFault) → HasFirst shapes bytes first → ¬ (IsUtf8 bytes) → first ≡ Some NotUtf8

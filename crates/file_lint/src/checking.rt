@@ -4,7 +4,8 @@ ghost use Rattle.policy_csv.specs.Policy.{SaysRule, with_entry};
 ghost use Rattle.policy_table.specs.Tables.{place};
 ghost use Rattle.file_lint.specs.Nodes.{looked_in};
 ghost use Rattle.file_lint.specs.RowWarnings.{RowFinds};
-ghost use Rattle.file_lint.specs.Helps.Rows.{AreFewer, FindsMore, LineFinds};
+ghost use Rattle.file_lint.specs.PolicyErrors.{line_of, told_in};
+ghost use Rattle.file_lint.specs.Helps.Rows.{AreFewer, FindsMore, LineFinds, LineTells};
 ghost use Rattle.file_lint.specs.Helps.Trees.{looked_seen};
 
 use crate::finding::Finding;
@@ -30,11 +31,12 @@ pub(crate) struct Judge<'a> {
 }
 
 impl<'a> Judge<'a> {
-    /// Pushes the warnings of a line's rule, and keeps the rule, or pushes the line's own fault.
-    pub(crate) fn push_line(
+    /// Pushes the findings of a line: the first fault of the text, where it is this line's, and else those that it has by itself.
+    pub(crate) fn push_findings(
         &self,
         alloc: Global,
-        row: Row<'_>,
+        first: Option<PolicyFault>,
+        row: &Row<'_>,
         seen: &mut Tables,
         findings: &mut Vec<Finding>,
     ) -> Result<(), NoMemory>
@@ -42,7 +44,29 @@ impl<'a> Judge<'a> {
         requires columns { self.now.shapes.now.columns ≡ length self.now.model.now.policy }
         requires looked { map looked_seen self.now.looked.now ≡ looked_in self.now.model.now }
         requires few { AreFewer seen.old.policy }
-        ensures { OnOk result (LineFinds self.now.model.now self.now.shapes.now row.entry
+        ensures { OnOk result (LineTells self.now.model.now self.now.shapes.now first row.now
+            seen.old.policy seen.new.policy findings.old.items findings.new.items) }
+    {
+        let Some(why) = told_in(first, given_number(row.number)) else {
+            return self.push_line(alloc, row, seen, findings);
+        };
+        findings.push(policy_error(alloc, self.model, why, row.number, row.text)?)?;
+        Ok(())
+    }
+
+    // Pushes the warnings of a line's rule, and keeps the rule, or pushes the line's own fault.
+    fn push_line(
+        &self,
+        alloc: Global,
+        row: &Row<'_>,
+        seen: &mut Tables,
+        findings: &mut Vec<Finding>,
+    ) -> Result<(), NoMemory>
+        requires valid { AreValid self.now.shapes.now }
+        requires columns { self.now.shapes.now.columns ≡ length self.now.model.now.policy }
+        requires looked { map looked_seen self.now.looked.now ≡ looked_in self.now.model.now }
+        requires few { AreFewer seen.old.policy }
+        ensures { OnOk result (LineFinds self.now.model.now self.now.shapes.now row.now
             seen.old.policy seen.new.policy findings.old.items findings.new.items) }
     {
         match read_entry(alloc, self.shapes, given_number(row.number), row.text) {
@@ -62,7 +86,7 @@ impl<'a> Judge<'a> {
     fn push_rule(
         &self,
         alloc: Global,
-        row: Row<'_>,
+        row: &Row<'_>,
         entry: &Entry,
         seen: &Tables,
         findings: &mut Vec<Finding>,
@@ -70,9 +94,9 @@ impl<'a> Judge<'a> {
         requires valid { AreValid self.now.shapes.now }
         requires columns { self.now.shapes.now.columns ≡ length self.now.model.now.policy }
         requires looked { map looked_seen self.now.looked.now ≡ looked_in self.now.model.now }
-        requires says { SaysRule self.now.shapes.now row.text entry.now }
+        requires says { SaysRule self.now.shapes.now row.now.text entry.now }
         ensures { OnOk result (FindsMore
-            (RowFinds self.now.model.now self.now.shapes.now seen.now.policy row.entry entry.now)
+            (RowFinds self.now.model.now self.now.shapes.now seen.now.policy row.now entry.now)
             findings.old.items findings.new.items) }
     {
         let mut found = repeat_warnings(alloc, seen, row, entry)?;
@@ -106,4 +130,26 @@ fn push_all(findings: &mut Vec<Finding>, more: Vec<Finding>) -> Result<(), NoMem
         findings.push(found)?;
     }
     Ok(())
+}
+
+// The first fault, where it is that of the line of this number.
+fn told_in(first: Option<PolicyFault>, number: u32) -> Option<PolicyFault>
+    ensures { result ≡ told_in first number }
+{
+    let first = first?;
+    let at = line_of(first)?;
+    if at == number { Some(first) } else { None }
+}
+
+fn line_of(fault: PolicyFault) -> Option<u32>
+    ensures { result ≡ line_of fault }
+{
+    match fault {
+        PolicyFault::NotUtf8 | PolicyFault::NoMemory => None,
+        PolicyFault::Quote { line, .. }
+        | PolicyFault::UnknownTable { line }
+        | PolicyFault::Columns { line }
+        | PolicyFault::FieldTooLong { line }
+        | PolicyFault::Full { line, .. } => Some(line),
+    }
 }

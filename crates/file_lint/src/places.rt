@@ -1,7 +1,7 @@
 use std::marker::Model;
 
 /// A place in a file: the line and the column, in bytes, each counted from 1.
-#[derive(Clone, Copy)]
+#[derive(Drop)]
 pub(crate) struct Spot {
     pub(crate) line: u64,
     pub(crate) column: u64,

@@ -4,7 +4,7 @@ ghost use Rattle.text_parts.specs.Numbered.{line};
 ghost use Rattle.policy_csv.specs.Lines.{policy_lines};
 ghost use Rattle.policy_table.specs.Tables.{without_rules};
 ghost use Rattle.file_lint.specs.PolicyWords.{policy_error};
-ghost use Rattle.file_lint.specs.PolicyErrors.{HasFirst, LintsLines, LintsPolicy, line_of, told_in};
+ghost use Rattle.file_lint.specs.PolicyErrors.{HasFirst, LintsLines, LintsPolicy};
 
 use crate::checking::Judge;
 use crate::finding::Finding;
@@ -17,7 +17,7 @@ use perm_base::Shapes;
 use policy_csv::{PolicyFault, read_policy};
 use policy_table::no_tables;
 use std::alloc::Global;
-use text_parts::{given_number, next_full_line};
+use text_parts::next_full_line;
 
 /// What is found in a policy's text.
 #[derive(Drop)]
@@ -105,40 +105,13 @@ fn lines_found(
     let mut number = 1;
     let mut rest = text;
     while let Some((at, line, after)) = next_full_line(rest, number) {
-        match told_in(first, given_number(at)) {
-            Some(why) => findings.push(policy_error(alloc, model, why, at, line)?)?,
-            None => {
-                let row = Row {
-                    number: at,
-                    text: line,
-                };
-                judge.push_line(alloc, row, &mut seen, &mut findings)?;
-            }
-        }
+        let row = Row {
+            number: at,
+            text: line,
+        };
+        judge.push_findings(alloc, first, &row, &mut seen, &mut findings)?;
         number = at + 1;
         rest = after;
     }
     Ok(findings)
-}
-
-// The first fault, where it is that of the line of this number.
-fn told_in(first: Option<PolicyFault>, number: u32) -> Option<PolicyFault>
-    ensures { result ≡ told_in first number }
-{
-    let first = first?;
-    let at = line_of(first)?;
-    if at == number { Some(first) } else { None }
-}
-
-fn line_of(fault: PolicyFault) -> Option<u32>
-    ensures { result ≡ line_of fault }
-{
-    match fault {
-        PolicyFault::NotUtf8 | PolicyFault::NoMemory => None,
-        PolicyFault::Quote { line, .. }
-        | PolicyFault::UnknownTable { line }
-        | PolicyFault::Columns { line }
-        | PolicyFault::FieldTooLong { line }
-        | PolicyFault::Full { line, .. } => Some(line),
-    }
 }

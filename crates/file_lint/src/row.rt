@@ -15,7 +15,7 @@ use std::alloc::Global;
 use std::marker::Model;
 
 /// A line of a policy, by its number.
-#[derive(Clone, Copy)]
+#[derive(Drop)]
 pub(crate) struct Row<'a> {
     pub(crate) number: u64,
     pub(crate) text: &'a str,
@@ -32,12 +32,12 @@ impl<'a> Model for Row<'a> {
 /// A warning at the field of a line that has so many fields before it, the table's name among them.
 pub(crate) fn warning_in(
     alloc: Global,
-    row: Row<'_>,
+    row: &Row<'_>,
     before: u64,
     words: &[&str],
 ) -> Result<Finding, NoMemory>
     ensures { IfOk result (λ found. found
-        ≡ warning_in row.entry before (flat_map (λ part. part.now) words.now)) }
+        ≡ warning_in row.now before (flat_map (λ part. part.now) words.now)) }
 {
     let mut text = String::new(alloc);
     push_parts(&mut text, words)?;
@@ -53,11 +53,11 @@ pub(crate) fn warning_in(
 pub(crate) fn repeat_warnings(
     alloc: Global,
     seen: &Tables,
-    row: Row<'_>,
+    row: &Row<'_>,
     entry: &Entry,
 ) -> Result<Vec<Finding>, NoMemory>
     ensures { IfOk result (λ found. found.items
-        ≡ repeat_warnings seen.now.policy row.entry entry.now) }
+        ≡ repeat_warnings seen.now.policy row.now entry.now) }
 {
     let mut found = Vec::new(alloc);
     if seen.has(entry.table, &entry.rule) {
@@ -71,14 +71,14 @@ pub(crate) fn repeat_warnings(
 pub(crate) fn push_own_warnings(
     alloc: Global,
     shapes: &Shapes,
-    row: Row<'_>,
+    row: &Row<'_>,
     entry: &Entry,
     found: &mut Vec<Finding>,
 ) -> Result<(), NoMemory>
     requires columns { columns_of shapes.now entry.now.table ≡ Some (length entry.now.rule) }
     requires valid { AreValid shapes.now }
     ensures { OnOk result (found.new.items ≡ found.old.items
-        ++ own_warnings shapes.now row.entry entry.now entry.now.table) }
+        ++ own_warnings shapes.now row.now entry.now entry.now.table) }
 {
     match entry.table {
         TableId::P => {
@@ -107,14 +107,14 @@ pub(crate) fn field(rule: &Rule, at: u32) -> &str
 
 fn push_effect(
     alloc: Global,
-    row: Row<'_>,
+    row: &Row<'_>,
     rule: &Rule,
     column: Option<u32>,
     found: &mut Vec<Finding>,
 ) -> Result<(), NoMemory>
     requires { IfSome column (λ at. at < length rule.now) }
     ensures { OnOk result (found.new.items
-        ≡ found.old.items ++ effect_warnings row.entry rule.now column) }
+        ≡ found.old.items ++ effect_warnings row.now rule.now column) }
 {
     let Some(at) = column else {
         return Ok(());
@@ -140,14 +140,14 @@ fn is_effect(text: &str) -> bool
 
 fn push_rank(
     alloc: Global,
-    row: Row<'_>,
+    row: &Row<'_>,
     rule: &Rule,
     ranked: bool,
     found: &mut Vec<Finding>,
 ) -> Result<(), NoMemory>
     requires { 0 < length rule.now }
     ensures { OnOk result (found.new.items
-        ≡ found.old.items ++ rank_warnings row.entry rule.now ranked) }
+        ≡ found.old.items ++ rank_warnings row.now rule.now ranked) }
 {
     let text = field(rule, 0);
     if !ranked || integer_of(text).is_some() {
@@ -164,7 +164,7 @@ fn push_rank(
 
 fn push_subject(
     alloc: Global,
-    row: Row<'_>,
+    row: &Row<'_>,
     rule: &Rule,
     at: u32,
     relation: Option<RoleShape>,
@@ -172,7 +172,7 @@ fn push_subject(
 ) -> Result<(), NoMemory>
     requires { at < length rule.now }
     ensures { OnOk result (found.new.items
-        ≡ found.old.items ++ subject_warnings row.entry rule.now at relation) }
+        ≡ found.old.items ++ subject_warnings row.now rule.now at relation) }
 {
     let Some(shape) = relation else {
         return Ok(());
@@ -192,12 +192,12 @@ fn push_subject(
 
 fn push_link(
     alloc: Global,
-    row: Row<'_>,
+    row: &Row<'_>,
     rule: &Rule,
     found: &mut Vec<Finding>,
 ) -> Result<(), NoMemory>
     requires { 1 < length rule.now }
-    ensures { OnOk result (found.new.items ≡ found.old.items ++ link_warnings row.entry rule.now) }
+    ensures { OnOk result (found.new.items ≡ found.old.items ++ link_warnings row.now rule.now) }
 {
     let name = field(rule, 0);
     if name != field(rule, 1) {

@@ -22,13 +22,13 @@ pub(crate) fn push_looked(
     alloc: Global,
     model: &Model,
     looked: &[Looked],
-    row: Row<'_>,
+    row: &Row<'_>,
     rule: &Rule,
     found: &mut Vec<Finding>,
 ) -> Result<(), NoMemory>
     requires { AreWithin (map looked_seen looked.now) rule.now }
     ensures { OnOk result (FindsMore
-        (AreFound model.now row.entry rule.now (map looked_seen looked.now))
+        (AreFound model.now row.now rule.now (map looked_seen looked.now))
         found.old.items found.new.items) }
 {
     for look in looked {
@@ -42,11 +42,11 @@ fn push_held(
     alloc: Global,
     model: &Model,
     look: Looked,
-    row: Row<'_>,
+    row: &Row<'_>,
     text: &str,
     found: &mut Vec<Finding>,
 ) -> Result<(), NoMemory>
-    ensures { OnOk result (FindsMore (HeldFinds model.now row.entry look.at text.now look.held)
+    ensures { OnOk result (FindsMore (HeldFinds model.now row.now look.at text.now look.held)
         found.old.items found.new.items) }
 {
     let surprises = match look.held {

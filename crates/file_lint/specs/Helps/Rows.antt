@@ -1,5 +1,5 @@
 -- What the steps over a policy's lines give; only private functions cite this.
-use Rattle.std.specs.Prelude.{◌≡◌, ◌≢◌, ℕ, ◌+◌, ◌<◌, ◌^◌, ◌⊎◌, List, [], ◌∷◌, ◌++◌, All, codes, flat_map, length}
+use Rattle.std.specs.Prelude.{◌≡◌, ◌≢◌, ℕ, ◌+◌, ◌<◌, ◌^◌, ◌⊎◌, List, [], ◌∷◌, ◌++◌, All, Option, Some, None, codes, flat_map, length}
 use Rattle.std.specs.List.{AllZip}
 use Rattle.model_conf.specs.ModelText.{ModelParts}
 use Rattle.perm_base.specs.declared.shapes.Shapes.{Shapes}
@@ -15,6 +15,7 @@ use Rattle.text_parts.specs.Numbered.{Line}
 use Rattle.file_lint.specs.Findings.{Finding}
 use Rattle.file_lint.specs.ModelWords.{quoted}
 use Rattle.file_lint.specs.Nodes.{Looked}
+use Rattle.file_lint.specs.PolicyErrors.{told_in}
 use Rattle.file_lint.specs.PolicyWords.{policy_error}
 use Rattle.file_lint.specs.RowWarnings.{LookedFinds, RowFinds}
 use Rattle.file_lint.specs.declared.nodes.Held.{Held}
@@ -42,6 +43,12 @@ abbrev pub LineFinds : ModelParts → Shapes → Line → Policy → Policy → 
 LineFinds model shapes line before after findings now =
     ((entry : Entry) × SaysRule shapes line.text entry × (after ≡ with_entry entry before) × FindsMore (RowFinds model shapes before line entry) findings now)
     ⊎ ((why : PolicyFault) × (why ≢ NoMemory) × IsTextFault shapes (given_number line.number) line.text why × (after ≡ before) × (now ≡ findings ++ policy_error model why line ∷ []))
+
+-- a line: the first fault of the text, where it is this line's, and else what it has by itself
+abbrev pub LineTells : ModelParts → Shapes → Option PolicyFault → Line → Policy → Policy → List Finding → List Finding → Type 0
+LineTells model shapes first line before after findings now =
+    ((why : PolicyFault) × (told_in first (given_number line.number) ≡ Some why) × (after ≡ before) × (now ≡ findings ++ policy_error model why line ∷ []))
+    ⊎ ((told_in first (given_number line.number) ≡ None) × LineFinds model shapes line before after findings now)
 
 -- what a field that surprises is told by
 abbrev pub held_words : Held → List ℕ → List ℕ
