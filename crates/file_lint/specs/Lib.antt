@@ -1,3 +1,4 @@
+pub mod Texts
 pub mod Findings
 pub mod Places
 pub mod Near

@@ -1,6 +1,7 @@
 -- A model's text with one fault taken away, so that the next is met: the line at fault is emptied, a key that is missing is written, a value that is none is replaced, a name that is not declared is declared.
 use Rattle.std.specs.Prelude.{ℕ, ◌-◌, ◌==◌, Bool, true, false, not, nat_lt, List, [], ◌∷◌, ◌++◌, codes, drop, length, take, Option, Some, None, if◌then◌else◌, unwrap_or}
 use Rattle.std.specs.List.{after_first, prefix_len}
+use Rattle.std.specs.Option.{option_and_then}
 use Rattle.text_parts.specs.Blanks.{behind_blanks}
 use Rattle.text_parts.specs.Lines.{with_ends}
 use Rattle.text_parts.specs.Names.{is_word}
@@ -11,11 +12,10 @@ use Rattle.model_conf.specs.declared.fault.ModelFault.{ModelFault}
 use Rattle.model_conf.specs.declared.fault.ModelFault.TheVariants as fault
 use Rattle.model_conf.specs.declared.key.Key.{Key}
 use Rattle.model_conf.specs.declared.key.Key.TheVariants as k
-use Rattle.perm_base.specs.FieldLine.{begins_with}
 use Rattle.perm_base.specs.TableNames.{name_of}
 use Rattle.perm_base.specs.declared.shapes.TableId.TheVariants.{G}
 use Rattle.file_lint.specs.Hints.{begins_so}
-use Rattle.file_lint.specs.ModelNames.{header_in, lower_of, order_mark}
+use Rattle.file_lint.specs.ModelNames.{header_in, key_and_rest, lower_of, order_mark}
 use Rattle.file_lint.specs.Near.{near_name, section_names}
 use Rattle.file_lint.specs.Places.{is_equals, is_open, file_lines, from_key, key_in, line_at, place_of_value, rest_at}
 use Rattle.file_lint.specs.declared.mending.Extent.{Extent}
@@ -30,7 +30,7 @@ pub record Mended : Type 0 where
 
 -- the first byte that is no blank is `[`
 abbrev pub begins_section : List ℕ → Bool
-begins_section text = begins_with (λ (byte : ℕ). byte == 91) (behind_blanks text)
+begins_section text = begins_so (codes "[") (behind_blanks text)
 
 -- behind the line that is replaced, whether the next one is emptied: none; those that continue it; those of its section
 abbrev pub is_emptied : Extent → Bool → List ℕ → Bool
@@ -116,12 +116,13 @@ with_column key column (first ∷ others) bytes = if_short false (with_line Alon
 abbrev pub word_front : List ℕ → List ℕ
 word_front text = take (prefix_len is_word text) text
 
+-- the column of a key is declared
+abbrev pub with_column_of : List ℕ → Key × List ℕ → Option Mended
+with_column_of bytes cut = with_column (key_text cut.0) (word_front cut.1) (from_key (key_text cut.0) false (file_lines bytes)) bytes
+
 -- the column of a name `r.column` or `p.column` at the front of a text is declared
 abbrev pub with_declared : List ℕ → List ℕ → Option Mended
-with_declared text bytes =
-    if begins_so (codes "r.") text then with_column (codes "r") (word_front (drop 2 text)) (from_key (codes "r") false (file_lines bytes)) bytes
-    else if begins_so (codes "p.") text then with_column (codes "p") (word_front (drop 2 text)) (from_key (codes "p") false (file_lines bytes)) bytes
-    else None
+with_declared text bytes = option_and_then (with_column_of bytes) (key_and_rest text)
 
 -- a relation of that name is declared, where none is
 abbrev pub with_relation : List ℕ → Option ℕ → List ℕ → Option Mended
@@ -135,9 +136,18 @@ relation_key number = unwrap_or (name_of (G number)) []
 abbrev pub matcher_at : ℕ → List ℕ → List ℕ
 matcher_at before bytes = rest_at (place_of_value (codes "m") before bytes) bytes
 
+-- a line without its byte-order mark, where it has one
+abbrev pub without_mark : List ℕ → Option (List ℕ)
+without_mark line = if begins_so order_mark line then Some (drop 3 line) else None
+
+-- a text with a line replaced by what is left of it, or without the line
+abbrev pub with_left : ℕ → List ℕ → Option (List ℕ) → List ℕ
+with_left number bytes None = with_line Continued number [] bytes
+with_left number bytes (Some left) = with_line Alone number left bytes
+
 -- a text without the byte-order mark of a line, or without the line where it has none
 abbrev pub without_line : ℕ → List ℕ → List ℕ → List ℕ
-without_line number line bytes = if begins_so order_mark line then with_line Alone number (drop 3 line) bytes else with_line Continued number [] bytes
+without_line number line bytes = with_left number bytes (without_mark line)
 
 -- a text with the section that was nearly named, or without the lines of the section
 abbrev pub with_section : ℕ → Option (List ℕ) → List ℕ → List ℕ

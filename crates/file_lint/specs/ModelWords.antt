@@ -17,9 +17,10 @@ use Rattle.text_parts.specs.Numbered.{Line}
 use Rattle.file_lint.specs.Findings.{Finding, finding}
 use Rattle.file_lint.specs.Hints.{begins_so, hint}
 use Rattle.file_lint.specs.Mended.{relation_key, word_front}
-use Rattle.file_lint.specs.ModelNames.{header_in, lower_of, order_mark}
+use Rattle.file_lint.specs.ModelNames.{header_in, key_and_rest, lower_of, order_mark, section_of}
 use Rattle.file_lint.specs.Near.{called_names, near_name, section_names}
 use Rattle.file_lint.specs.Places.{Place, place, file_lines, from_key, front_at, front_of, is_equals, key_in, line_at, place_of_value, rest_at}
+use Rattle.file_lint.specs.Texts.{quoted}
 use Rattle.file_lint.specs.declared.finding.Level.TheVariants.{Error}
 
 -- where a fault of a matcher stands in its text: so many bytes behind its front
@@ -50,9 +51,6 @@ place_of (fault.Matcher inner) bytes = place_of_value (codes "m") (matcher_offse
 place_of (fault.UnknownColumn at) bytes = place_of_value (codes "m") (at - 1) bytes
 place_of (fault.RoleUse at) bytes = place_of_value (codes "m") (at - 1) bytes
 place_of fault.NoMemory bytes = place 1 1
-
-abbrev pub quoted : List ℕ → List ℕ
-quoted text = codes "\"" ++ text ++ codes "\""
 
 abbrev pub mark_words : List ℕ
 mark_words = codes "begins with a byte-order mark: take its three bytes away"
@@ -88,6 +86,15 @@ case_words key None =
     if is_second key then codes "unknown key " ++ quoted key ++ codes ": a model has one r, one p, one e and one m"
     else codes "unknown key " ++ quoted key ++ codes ": r stands in [request_definition], p in [policy_definition], g to g8 in [role_definition], e in [policy_effect], m in [matchers]"
 
+abbrev pub repeated_words : List ℕ → List ℕ
+repeated_words key = quoted key ++ codes " stands here again: a model has each key once"
+
+abbrev pub columns_words : Key → List ℕ
+columns_words key = codes "the columns of " ++ key_text key ++ codes " are 1 to 32 different names of letters, digits and `_`, joined by commas"
+
+abbrev pub shape_words : ℕ → List ℕ
+shape_words number = relation_key number ++ codes " is `_, _`, or `_, _, _` with domains"
+
 abbrev pub missing_words : Key → List ℕ
 missing_words k.R = codes "r is missing: write `r = sub, obj, act` in [request_definition]"
 missing_words k.P = codes "p is missing: write `p = sub, obj, act` in [policy_definition]"
@@ -122,18 +129,10 @@ matcher_words (matcher.TooDeep at) before rest = codes "more than 64 levels encl
 matcher_words matcher.TooManyNodes before rest = codes "the matcher has more than 1024 parts"
 matcher_words matcher.NoMemory before rest = []
 
--- `r.column` or `p.column` in front of a text, or the name of a call
-abbrev pub name_front : List ℕ → List ℕ
-name_front rest =
-    if begins_so (codes "r.") rest then codes "r." ++ word_front (drop 2 rest)
-    else if begins_so (codes "p.") rest then codes "p." ++ word_front (drop 2 rest)
-    else word_front rest
-
--- a column that is not declared
-abbrev pub column_words : List ℕ → List ℕ
-column_words rest =
-    if begins_so (codes "r.") rest then quoted (name_front rest) ++ codes " is not declared in [request_definition]"
-    else quoted (name_front rest) ++ codes " is not declared in [policy_definition]"
+-- a column that is not declared, by the key before it and what stands behind its `.`; `eval` names its column itself
+abbrev pub column_words : Option (Key × List ℕ) → List ℕ
+column_words None = codes "the column that eval reads is not declared in [policy_definition]"
+column_words (Some cut) = codes "\"" ++ key_text cut.0 ++ codes "." ++ word_front cut.1 ++ codes "\" is not declared in [" ++ section_of cut.0 ++ codes "]"
 
 -- a role relation that is not declared, or asked with another number of names, by the lines from its key on
 abbrev pub role_words : List ℕ → List Line → List ℕ
@@ -149,13 +148,13 @@ fault_words fault.NotUtf8 bytes line before rest = codes "not UTF-8"
 fault_words (fault.Line number) bytes line before rest = line_words line
 fault_words (fault.UnknownSection number) bytes line before rest = section_words (header_in line)
 fault_words (fault.UnknownKey number) bytes line before rest = case_words (key_in line) (lower_of (key_in line))
-fault_words (fault.RepeatedKey number) bytes line before rest = quoted (key_in line) ++ codes " stands here again: a model has each key once"
+fault_words (fault.RepeatedKey number) bytes line before rest = repeated_words (key_in line)
 fault_words (fault.Missing key) bytes line before rest = missing_words key
-fault_words (fault.Columns key) bytes line before rest = codes "the columns of " ++ key_text key ++ codes " are 1 to 32 different names of letters, digits and `_`, joined by commas"
-fault_words (fault.RoleShape number) bytes line before rest = relation_key number ++ codes " is `_, _`, or `_, _, _` with domains"
+fault_words (fault.Columns key) bytes line before rest = columns_words key
+fault_words (fault.RoleShape number) bytes line before rest = shape_words number
 fault_words fault.UnknownEffect bytes line before rest = effect_words
 fault_words (fault.Matcher inner) bytes line before rest = matcher_words inner before rest
-fault_words (fault.UnknownColumn at) bytes line before rest = column_words rest
+fault_words (fault.UnknownColumn at) bytes line before rest = column_words (key_and_rest rest)
 fault_words (fault.RoleUse at) bytes line before rest = role_words (word_front rest) (from_key (word_front rest) false (file_lines bytes))
 fault_words fault.NoMemory bytes line before rest = []
 

@@ -20,7 +20,8 @@ use Rattle.file_lint.specs.Findings.{Finding, finding}
 use Rattle.file_lint.specs.Hints.{begins_so}
 use Rattle.file_lint.specs.Mended.{relation_key}
 use Rattle.file_lint.specs.ModelNames.{order_mark}
-use Rattle.file_lint.specs.ModelWords.{comment_words, mark_words, quoted}
+use Rattle.file_lint.specs.ModelWords.{comment_words, mark_words}
+use Rattle.file_lint.specs.Texts.{quoted}
 use Rattle.file_lint.specs.declared.columns.Within.TheVariants.{Front}
 use Rattle.file_lint.specs.declared.finding.Level.TheVariants.{Error}
 

@@ -20,8 +20,8 @@ use Rattle.text_parts.specs.Lines.{has_byte}
 use Rattle.text_parts.specs.Numbered.{Line}
 use Rattle.file_lint.specs.Columns.{field_column}
 use Rattle.file_lint.specs.Findings.{Finding, finding, in_order}
-use Rattle.file_lint.specs.ModelWords.{quoted}
 use Rattle.file_lint.specs.Nodes.{Looked, looked_in}
+use Rattle.file_lint.specs.Texts.{quoted}
 use Rattle.file_lint.specs.declared.finding.Level.TheVariants.{Warning}
 use Rattle.file_lint.specs.declared.nodes.Held.{Held}
 use Rattle.file_lint.specs.declared.nodes.Held.TheVariants.{Block, KeyPattern, RuleText}

@@ -24,6 +24,7 @@ mod policy_words;
 mod printing;
 mod row;
 mod rows;
+mod texts;
 mod values;
 
 pub use finding::{Finding, Level};

@@ -11,15 +11,14 @@ use text_parts::{before_blanks, is_blank, is_passed_in_model, next_text_line, tr
 pub(crate) fn is_open(text: &str) -> bool
     ensures { result ≡ is_open text.now }
 {
-    ends_in(before_blanks(text), b'\\')
+    ends_in(before_blanks(text).as_bytes(), b'\\')
 }
 
 /// A text ends in this byte.
-pub(crate) fn ends_in(text: &str, sign: u8) -> bool
+pub(crate) fn ends_in(text: &[u8], sign: u8) -> bool
     ensures { result ≡ ends_in sign text.now }
 {
-    let bytes = text.as_bytes();
-    !bytes.is_empty() && bytes[bytes.len() - 1] == sign
+    !text.is_empty() && text[text.len() - 1] == sign
 }
 
 /// How many bytes of a line that is continued stand before the `\`.

@@ -1,18 +1,20 @@
-ghost use Rattle.std.specs.Prelude.{◌≡◌, ◌-◌, ◌++◌, [], IfOk, OnOk, false, flat_map, option_map, string_bytes};
+ghost use Rattle.std.specs.Prelude.{◌≡◌, ◌-◌, ◌++◌, IfOk, OnOk, false, option_map, string_bytes};
 ghost use Rattle.std.specs.List.{prefix_len};
 ghost use Rattle.text_parts.specs.Names.{is_word};
 ghost use Rattle.text_parts.specs.Numbered.{line};
 ghost use Rattle.model_conf.specs.Faults.{key_text};
-ghost use Rattle.file_lint.specs.Mended.{if_short, is_emptied, is_guess, key_number, matcher_at, mended, piece, piece_within, reach_behind, relation_key, usual_lines, usual_value, with_declared, with_key, with_line, with_more, with_relation, with_section, with_value, without_line, word_front};
+ghost use Rattle.file_lint.specs.Mended.{if_short, is_emptied, is_guess, key_number, matcher_at, mended, piece, piece_within, reach_behind, relation_key, usual_lines, usual_value, with_column, with_declared, with_key, with_line, with_more, with_relation, with_section, with_value, without_line, without_mark, word_front};
 ghost use Rattle.file_lint.specs.ModelNames.{header_in, lower_of};
 ghost use Rattle.file_lint.specs.Near.{near_name, section_names};
 ghost use Rattle.file_lint.specs.Places.{file_lines, is_open, key_in, line_at};
 ghost use Rattle.file_lint.specs.declared.mending.Reach.TheVariants as reaches;
-ghost use Rattle.file_lint.specs.Helps.Steps.{key_and_rest, mended_seen};
+ghost use Rattle.file_lint.specs.Helps.Steps.{mended_seen};
 
+use crate::hints::begins_so;
 use crate::lines::{cut_at_equals, from_key, is_open, key_in, line_at};
-use crate::names::{header_in, lower_of};
+use crate::names::{header_in, key_and_rest, lower_of};
 use crate::near::near_section;
+use crate::texts::{joined, push};
 use crate::values::{place_of_value, rest_at};
 use model_conf::{Key, ModelFault};
 use outside::NoMemory;
@@ -48,6 +50,7 @@ pub(crate) struct Mended {
 }
 
 /// A model's text with this fault, which is its first, taken away, where that can be.
+#[tactic(auto, unfolding(crate::specs::Mended::mended))]
 pub(crate) fn mended(
     alloc: Global,
     text: &str,
@@ -58,22 +61,13 @@ pub(crate) fn mended(
     match fault {
         ModelFault::TooLong | ModelFault::NotUtf8 | ModelFault::Matcher(_) | ModelFault::NoMemory =>
             Ok(None),
-        ModelFault::Line { line } => if_short(false, without_line(alloc, text, u64::from(line))?),
-        ModelFault::UnknownSection { line } => {
-            if_short(false, with_section(alloc, text, u64::from(line))?)
-        }
-        ModelFault::UnknownKey { line } => {
-            if_short(false, with_key(alloc, text, u64::from(line))?)
-        }
+        ModelFault::Line { line } => without_line(alloc, text, u64::from(line)),
+        ModelFault::UnknownSection { line } => with_section(alloc, text, u64::from(line)),
+        ModelFault::UnknownKey { line } => with_key(alloc, text, u64::from(line)),
         ModelFault::RepeatedKey { line } => {
-            if_short(
-                false,
-                with_line(alloc, text, Extent::Continued, u64::from(line), &[])?,
-            )
+            with_short_line(alloc, text, Extent::Continued, u64::from(line), "")
         }
-        ModelFault::Missing { key } => {
-            if_short(is_guess(key), with_more(alloc, text, &[usual_lines(key)])?)
-        }
+        ModelFault::Missing { key } => with_missing(alloc, text, key),
         ModelFault::Columns { key } => {
             with_value(alloc, text, key_text(key), usual_value(key), true)
         }
@@ -97,42 +91,72 @@ fn if_short(guessed: bool, text: String) -> Result<Option<Mended>, NoMemory>
     Ok(Some(Mended { text, guessed }))
 }
 
-// A text without the byte-order mark of a line, or without the line where it has none.
-fn without_line(alloc: Global, text: &str, number: u64) -> Result<String, NoMemory>
-    ensures { IfOk result (λ made. string_bytes made
-        ≡ without_line number (line_at number (file_lines text.now)) text.now) }
+// A text with a line replaced, unless it gets too long.
+fn with_short_line(
+    alloc: Global,
+    text: &str,
+    extent: Extent,
+    at: u64,
+    by: &str,
+) -> Result<Option<Mended>, NoMemory>
+    ensures { IfOk result (λ made. option_map mended_seen made
+        ≡ if_short false (with_line extent at by.now text.now)) }
 {
-    match line_at(text, number).strip_prefix('\u{feff}') {
-        Some(rest) => with_line(alloc, text, Extent::Alone, number, &[rest]),
-        None => with_line(alloc, text, Extent::Continued, number, &[]),
-    }
+    let made = with_line(alloc, text, extent, at, by)?;
+    if_short(false, made)
+}
+
+// A text without the byte-order mark of a line, or without the line where it has none.
+fn without_line(alloc: Global, text: &str, number: u64) -> Result<Option<Mended>, NoMemory>
+    ensures { IfOk result (λ made. option_map mended_seen made ≡ if_short false
+        (without_line number (line_at number (file_lines text.now)) text.now)) }
+{
+    let Some(left) = without_mark(line_at(text, number)) else {
+        return with_short_line(alloc, text, Extent::Continued, number, "");
+    };
+    with_short_line(alloc, text, Extent::Alone, number, left)
+}
+
+// A line without its byte-order mark, where it has one.
+fn without_mark(line: &str) -> Option<&str>
+    ensures { option_map (λ rest. rest.now) result ≡ without_mark line.now }
+{
+    line.strip_prefix('\u{feff}')
 }
 
 // A text with the section that a line nearly names, or without the lines of the section.
-fn with_section(alloc: Global, text: &str, number: u64) -> Result<String, NoMemory>
-    ensures { IfOk result (λ made. string_bytes made ≡ with_section number
-        (near_name (header_in (line_at number (file_lines text.now))) section_names) text.now) }
+fn with_section(alloc: Global, text: &str, number: u64) -> Result<Option<Mended>, NoMemory>
+    ensures { IfOk result (λ made. option_map mended_seen made ≡ if_short false (with_section number
+        (near_name (header_in (line_at number (file_lines text.now))) section_names) text.now)) }
 {
-    match near_section(header_in(line_at(text, number))) {
-        Some(name) => with_line(alloc, text, Extent::Alone, number, &["[", name, "]"]),
-        None => with_line(alloc, text, Extent::Section, number, &[]),
-    }
+    let Some(name) = near_section(header_in(line_at(text, number))) else {
+        return with_short_line(alloc, text, Extent::Section, number, "");
+    };
+    let by = joined(alloc, "[", name, "]")?;
+    with_short_line(alloc, text, Extent::Alone, number, by.as_str())
 }
 
 // A text with the key of a line in lower case, or without the line.
-fn with_key(alloc: Global, text: &str, number: u64) -> Result<String, NoMemory>
-    ensures { IfOk result (λ made. string_bytes made ≡ with_key number
+fn with_key(alloc: Global, text: &str, number: u64) -> Result<Option<Mended>, NoMemory>
+    ensures { IfOk result (λ made. option_map mended_seen made ≡ if_short false (with_key number
         (lower_of (key_in (line_at number (file_lines text.now))))
-        (line_at number (file_lines text.now)) text.now) }
+        (line_at number (file_lines text.now)) text.now)) }
 {
     let line = line_at(text, number);
-    match lower_of(key_in(line)) {
-        Some(key) => {
-            let by = [key, " =", cut_at_equals(line).1];
-            with_line(alloc, text, Extent::Alone, number, &by)
-        }
-        None => with_line(alloc, text, Extent::Continued, number, &[]),
-    }
+    let Some(key) = lower_of(key_in(line)) else {
+        return with_short_line(alloc, text, Extent::Continued, number, "");
+    };
+    let by = joined(alloc, key, " =", cut_at_equals(line).1)?;
+    with_short_line(alloc, text, Extent::Alone, number, by.as_str())
+}
+
+// A text with a key that is missing, and its section.
+fn with_missing(alloc: Global, text: &str, key: Key) -> Result<Option<Mended>, NoMemory>
+    ensures { IfOk result (λ made. option_map mended_seen made
+        ≡ if_short (is_guess key) (with_more (usual_lines key) text.now)) }
+{
+    let made = with_more(alloc, text, usual_lines(key))?;
+    if_short(is_guess(key), made)
 }
 
 // A text with another value of a key.
@@ -149,11 +173,9 @@ fn with_value(
     let Some((number, _, _)) = from_key(text, key) else {
         return Ok(None);
     };
-    let by = [key, " = ", value];
-    if_short(
-        guessed,
-        with_line(alloc, text, Extent::Continued, number, &by)?,
-    )
+    let by = joined(alloc, key, " = ", value)?;
+    let made = with_line(alloc, text, Extent::Continued, number, by.as_str())?;
+    if_short(guessed, made)
 }
 
 // A text in which the column of `r.column` or `p.column` at the front of a text is declared.
@@ -163,22 +185,25 @@ fn with_declared(alloc: Global, text: &str, name: &[u8]) -> Result<Option<Mended
     let Some((key, rest)) = key_and_rest(name) else {
         return Ok(None);
     };
+    with_column_of(alloc, text, key_text(key), word_front(rest))
+}
+
+// A text in which a column stands in front of those of a key.
+fn with_column_of(
+    alloc: Global,
+    text: &str,
+    key: &str,
+    column: &str,
+) -> Result<Option<Mended>, NoMemory>
+    ensures { IfOk result (λ made. option_map mended_seen made ≡ with_column key.now column.now
+        (from_key key.now false (file_lines text.now)) text.now) }
+{
     let Some((number, line, _)) = from_key(text, key) else {
         return Ok(None);
     };
-    let by = [key, " = ", word_front(rest), ",", cut_at_equals(line).1];
-    if_short(false, with_line(alloc, text, Extent::Alone, number, &by)?)
-}
-
-// The first byte of a text, and what stands behind the `.` that follows it.
-fn key_and_rest(name: &[u8]) -> Option<(&'static str, &[u8])>
-    ensures { option_map (λ cut. (cut.0.now, cut.1.now)) result ≡ key_and_rest name.now }
-{
-    match name {
-        [b'r', b'.', rest @ ..] => Some(("r", rest)),
-        [b'p', b'.', rest @ ..] => Some(("p", rest)),
-        _ => None,
-    }
+    let front = joined(alloc, key, " = ", column)?;
+    let by = joined(alloc, front.as_str(), ",", cut_at_equals(line).1)?;
+    with_short_line(alloc, text, Extent::Alone, number, by.as_str())
 }
 
 // A text in which a relation of a name is declared, where none is.
@@ -189,8 +214,9 @@ fn with_relation(alloc: Global, text: &str, name: &str) -> Result<Option<Mended>
     let None = from_key(text, name) else {
         return Ok(None);
     };
-    let more = ["[role_definition]\n", name, " = _, _\n"];
-    if_short(true, with_more(alloc, text, &more)?)
+    let more = joined(alloc, "[role_definition]\n", name, " = _, _\n")?;
+    let made = with_more(alloc, text, more.as_str())?;
+    if_short(true, made)
 }
 
 // What stands at a byte of the matcher, counted from 1, and behind it in its line.
@@ -202,26 +228,21 @@ fn matcher_at(text: &str, at: u32) -> &[u8]
 }
 
 // A text with lines behind it, which continue none of its own.
-fn with_more(alloc: Global, text: &str, more: &[&str]) -> Result<String, NoMemory>
-    ensures { IfOk result (λ made.
-        string_bytes made ≡ with_more (flat_map (λ part. part.now) more.now) text.now) }
+fn with_more(alloc: Global, text: &str, more: &str) -> Result<String, NoMemory>
+    ensures { IfOk result (λ made. string_bytes made ≡ with_more more.now text.now) }
 {
-    let mut made = String::from_str(alloc, text)?;
-    made.push_str("\n\n")?;
-    push_parts(&mut made, more)?;
-    Ok(made)
+    joined(alloc, text, "\n\n", more)
 }
 
-// A text with a line replaced by parts, and those emptied that belong to it.
+// A text with a line replaced, and those emptied that belong to it.
 fn with_line(
     alloc: Global,
     text: &str,
     extent: Extent,
     at: u64,
-    by: &[&str],
+    by: &str,
 ) -> Result<String, NoMemory>
-    ensures { IfOk result (λ made. string_bytes made
-        ≡ with_line extent at (flat_map (λ part. part.now) by.now) text.now) }
+    ensures { IfOk result (λ made. string_bytes made ≡ with_line extent at by.now text.now) }
 {
     let mut made = String::new(alloc);
     let mut reach = Reach::Ahead;
@@ -276,48 +297,37 @@ fn is_emptied(extent: Extent, continued: bool, text: &str) -> bool
     match extent {
         Extent::Alone => false,
         Extent::Continued => continued,
-        Extent::Section => !behind_blanks(text).starts_with('['),
+        Extent::Section => !begins_so(behind_blanks(text).as_bytes(), b"["),
     }
 }
 
 // Appends what stands in place of a line.
 fn push_piece(
     made: &mut String,
-    by: &[&str],
+    by: &str,
     before: Reach,
     behind: Reach,
     text: &str,
 ) -> Result<(), NoMemory>
     ensures { OnOk result (string_bytes made.new ≡ string_bytes made.old
-        ++ piece (flat_map (λ part. part.now) by.now) before behind text.now) }
+        ++ piece by.now before behind text.now) }
 {
     match behind {
         Reach::Within { .. } => push_within(made, by, before, text),
-        Reach::Ahead | Reach::Past => Ok(made.push_str(text)?),
+        Reach::Ahead | Reach::Past => push(made, text),
     }
 }
 
 // Appends what stands in place of a line that is within what is replaced.
-fn push_within(made: &mut String, by: &[&str], before: Reach, text: &str) -> Result<(), NoMemory>
+fn push_within(made: &mut String, by: &str, before: Reach, text: &str) -> Result<(), NoMemory>
     ensures { OnOk result (string_bytes made.new ≡ string_bytes made.old
-        ++ piece_within (flat_map (λ part. part.now) by.now) before text.now) }
+        ++ piece_within by.now before text.now) }
 {
     match before {
-        Reach::Ahead => push_parts(made, by),
+        Reach::Ahead => push(made, by),
         Reach::Within { .. } => Ok(()),
-        Reach::Past => Ok(made.push_str(text)?),
+        Reach::Past => push(made, text),
     }
-}
-
-/// Appends texts, one behind the other.
-pub(crate) fn push_parts(made: &mut String, parts: &[&str]) -> Result<(), NoMemory>
-    ensures { OnOk result (string_bytes made.new
-        ≡ string_bytes made.old ++ flat_map (λ part. part.now) parts.now) }
-{
-    for part in parts {
-        made.push_str(part)?;
-    }
-    Ok(())
 }
 
 /// The letters, digits and `_` in front of a text.

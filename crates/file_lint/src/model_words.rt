@@ -1,17 +1,17 @@
 ghost use Rattle.std.specs.Prelude.{◌≡◌, ◌++◌, IfOk, OnOk, false, string_bytes};
 ghost use Rattle.matcher_read.specs.Calls.{function_of};
-ghost use Rattle.file_lint.specs.ModelNames.{lower_of};
-ghost use Rattle.file_lint.specs.ModelWords.{arguments_words, case_words, column_words, effect_words, error_at, error_of, fault_words, function_words, is_second, line_words, matcher_offset, matcher_words, missing_words, place_of, role_words, section_words};
+ghost use Rattle.file_lint.specs.ModelNames.{key_and_rest, lower_of};
+ghost use Rattle.file_lint.specs.ModelWords.{arguments_words, case_words, column_words, columns_words, effect_words, error_at, error_of, fault_words, function_words, is_second, line_words, matcher_offset, matcher_words, missing_words, place_of, repeated_words, role_words, section_words, shape_words};
 ghost use Rattle.file_lint.specs.Places.{file_lines, from_key, front_at, line_at, rest_at};
 
 use crate::finding::{Finding, Level};
-use crate::hints::hint;
+use crate::hints::{begins_so, hint};
 use crate::lines::{cut_at_equals, from_key, key_in, line_at};
-use crate::mending::{key_text, push_parts, relation_key, word_front};
-use crate::names::{has_order_mark, header_in, lower_of};
+use crate::mending::{key_text, relation_key, word_front};
+use crate::names::{has_order_mark, header_in, key_and_rest, lower_of, section_of};
 use crate::near::{near_function, near_section};
 use crate::places::Spot;
-use crate::printing::push_number;
+use crate::texts::{push, push_number, push_quoted};
 use crate::values::{front_at, front_of, place_of_value, rest_at};
 use matcher_read::{Function, MatcherFault};
 use model_conf::{Key, ModelFault};
@@ -20,6 +20,7 @@ use std::alloc::Global;
 use text_parts::{behind_blanks, has_byte, trimmed};
 
 /// The finding of a fault of a text.
+#[tactic(auto, unfolding(crate::specs::ModelWords::error_of))]
 pub(crate) fn error_of(alloc: Global, text: &str, why: ModelFault) -> Result<Finding, NoMemory>
     ensures { IfOk result (λ found. found ≡ error_of why text.now) }
 {
@@ -93,42 +94,16 @@ fn push_words(words: &mut String, text: &str, why: ModelFault, at: &Spot) -> Res
         ModelFault::Line { .. } => push_line_words(words, line),
         ModelFault::UnknownSection { .. } => push_section_words(words, header_in(line)),
         ModelFault::UnknownKey { .. } => push_case_words(words, key_in(line)),
-        ModelFault::RepeatedKey { .. } => push_parts(
-            words,
-            &[
-                "\"",
-                key_in(line),
-                "\" stands here again: a model has each key once",
-            ],
-        ),
+        ModelFault::RepeatedKey { .. } => push_repeated_words(words, key_in(line)),
         ModelFault::Missing { key } => push(words, missing_words(key)),
-        ModelFault::Columns { key } => push_parts(
-            words,
-            &[
-                "the columns of ",
-                key_text(key),
-                " are 1 to 32 different names of letters, digits and `_`, joined by commas",
-            ],
-        ),
-        ModelFault::RoleShape { relation } => push_parts(
-            words,
-            &[
-                relation_key(relation),
-                " is `_, _`, or `_, _, _` with domains",
-            ],
-        ),
+        ModelFault::Columns { key } => push_columns_words(words, key),
+        ModelFault::RoleShape { relation } => push_shape_words(words, relation),
         ModelFault::UnknownEffect => push_effect_words(words),
         ModelFault::Matcher(inner) => push_matcher_words(words, inner, front_at(text, at), rest),
         ModelFault::UnknownColumn { .. } => push_column_words(words, rest),
         ModelFault::RoleUse { .. } => push_role_words(words, text, word_front(rest)),
         ModelFault::NoMemory => Ok(()),
     }
-}
-
-fn push(words: &mut String, text: &str) -> Result<(), NoMemory>
-    ensures { OnOk result (string_bytes words.new ≡ string_bytes words.old ++ text.now) }
-{
-    Ok(words.push_str(text)?)
 }
 
 // Appends the words of a line that is neither a header nor a key line, or of a key before any section.
@@ -142,43 +117,42 @@ fn push_line_words(words: &mut String, line: &str) -> Result<(), NoMemory>
             "begins with a byte-order mark: take its three bytes away",
         );
     }
-    if behind_blanks(line).starts_with("//") {
+    if begins_so(behind_blanks(line).as_bytes(), b"//") {
         return push(words, "a comment begins with `#`");
     }
     if has_byte(line, b'=') {
-        return push_parts(words, &["\"", key_in(line), "\" stands before any section"]);
+        push_quoted(words, key_in(line))?;
+        return push(words, " stands before any section");
     }
-    push_parts(
-        words,
-        &[
-            "\"",
-            trimmed(line),
-            "\" is neither `[section]` nor `key = value`",
-        ],
-    )
+    push_quoted(words, trimmed(line))?;
+    push(words, " is neither `[section]` nor `key = value`")
 }
 
 fn push_section_words(words: &mut String, name: &str) -> Result<(), NoMemory>
     ensures { OnOk result (string_bytes words.new
         ≡ string_bytes words.old ++ section_words name.now) }
 {
-    push_parts(words, &["unknown section \"", name, "\""])?;
-    match near_section(name) {
-        Some(near) => push_parts(words, &[": did you mean ", near]),
-        None => push(
+    push(words, "unknown section ")?;
+    push_quoted(words, name)?;
+    let Some(near) = near_section(name) else {
+        return push(
             words,
             ": the sections are request_definition, policy_definition, role_definition, policy_effect, matchers",
-        ),
-    }
+        );
+    };
+    push(words, ": did you mean ")?;
+    push(words, near)
 }
 
 fn push_case_words(words: &mut String, key: &str) -> Result<(), NoMemory>
     ensures { OnOk result (string_bytes words.new
         ≡ string_bytes words.old ++ case_words key.now (lower_of key.now)) }
 {
-    push_parts(words, &["unknown key \"", key, "\""])?;
+    push(words, "unknown key ")?;
+    push_quoted(words, key)?;
     if let Some(lower) = lower_of(key) {
-        return push_parts(words, &[": keys are in lower case, write ", lower]);
+        push(words, ": keys are in lower case, write ")?;
+        return push(words, lower);
     }
     if is_second(key) {
         return push(words, ": a model has one r, one p, one e and one m");
@@ -199,6 +173,14 @@ fn is_second(key: &str) -> bool
     }
 }
 
+fn push_repeated_words(words: &mut String, key: &str) -> Result<(), NoMemory>
+    ensures { OnOk result (string_bytes words.new
+        ≡ string_bytes words.old ++ repeated_words key.now) }
+{
+    push_quoted(words, key)?;
+    push(words, " stands here again: a model has each key once")
+}
+
 fn missing_words(key: Key) -> &'static str
     ensures { result.now ≡ missing_words key }
 {
@@ -210,6 +192,26 @@ fn missing_words(key: Key) -> &'static str
             "m is missing: write `m = r.sub == p.sub && r.obj == p.obj && r.act == p.act` in [matchers]"
         }
     }
+}
+
+fn push_columns_words(words: &mut String, key: Key) -> Result<(), NoMemory>
+    ensures { OnOk result (string_bytes words.new
+        ≡ string_bytes words.old ++ columns_words key) }
+{
+    push(words, "the columns of ")?;
+    push(words, key_text(key))?;
+    push(
+        words,
+        " are 1 to 32 different names of letters, digits and `_`, joined by commas",
+    )
+}
+
+fn push_shape_words(words: &mut String, relation: u8) -> Result<(), NoMemory>
+    ensures { OnOk result (string_bytes words.new
+        ≡ string_bytes words.old ++ shape_words relation) }
+{
+    push(words, relation_key(relation))?;
+    push(words, " is `_, _`, or `_, _, _` with domains")
 }
 
 fn push_effect_words(words: &mut String) -> Result<(), NoMemory>
@@ -254,46 +256,35 @@ fn push_function_words(words: &mut String, name: &str) -> Result<(), NoMemory>
     ensures { OnOk result (string_bytes words.new
         ≡ string_bytes words.old ++ function_words name.now) }
 {
-    push_parts(words, &["unknown function \"", name, "\""])?;
-    match near_function(name) {
-        Some(near) => push_parts(words, &[": did you mean ", near]),
-        None => push(
+    push(words, "unknown function ")?;
+    push_quoted(words, name)?;
+    let Some(near) = near_function(name) else {
+        return push(
             words,
             ": the functions are keyMatch to keyMatch5, regexMatch, ipMatch, globMatch, keyGet to keyGet3",
-        ),
-    }
+        );
+    };
+    push(words, ": did you mean ")?;
+    push(words, near)
 }
 
 fn push_column_words(words: &mut String, rest: &[u8]) -> Result<(), NoMemory>
     ensures { OnOk result (string_bytes words.new
-        ≡ string_bytes words.old ++ column_words rest.now) }
+        ≡ string_bytes words.old ++ column_words (key_and_rest rest.now)) }
 {
-    match rest {
-        [b'r', b'.', name @ ..] => push_parts(
+    let Some((key, name)) = key_and_rest(rest) else {
+        return push(
             words,
-            &[
-                "\"r.",
-                word_front(name),
-                "\" is not declared in [request_definition]",
-            ],
-        ),
-        [b'p', b'.', name @ ..] => push_parts(
-            words,
-            &[
-                "\"p.",
-                word_front(name),
-                "\" is not declared in [policy_definition]",
-            ],
-        ),
-        _ => push_parts(
-            words,
-            &[
-                "\"",
-                word_front(rest),
-                "\" is not declared in [policy_definition]",
-            ],
-        ),
-    }
+            "the column that eval reads is not declared in [policy_definition]",
+        );
+    };
+    push(words, "\"")?;
+    push(words, key_text(key))?;
+    push(words, ".")?;
+    push(words, word_front(name))?;
+    push(words, "\" is not declared in [")?;
+    push(words, section_of(key))?;
+    push(words, "]")
 }
 
 // Appends the words of another number of arguments than a function, `eval` or a role relation takes.
@@ -302,25 +293,28 @@ fn push_arguments_words(words: &mut String, name: &str) -> Result<(), NoMemory>
         ≡ string_bytes words.old ++ arguments_words name.now (function_of name.now)) }
 {
     if let Some(function) = Function::of_name(name) {
-        push_parts(words, &[name, " takes "])?;
+        push(words, name)?;
+        push(words, " takes ")?;
         push_number(words, u64::from(function.arguments()))?;
         return push(words, " arguments");
     }
     if name == "eval" {
         return push(words, "eval takes one column of p, as eval(p.rule)");
     }
-    push_parts(words, &[name, " takes 2 names, or 3 with a domain"])
+    push(words, name)?;
+    push(words, " takes 2 names, or 3 with a domain")
 }
 
 fn push_role_words(words: &mut String, text: &str, name: &str) -> Result<(), NoMemory>
     ensures { OnOk result (string_bytes words.new ≡ string_bytes words.old
         ++ role_words name.now (from_key name.now false (file_lines text.now))) }
 {
+    push(words, name)?;
     let Some((_, line, _)) = from_key(text, name) else {
-        return push_parts(words, &[name, " is not declared in [role_definition]"]);
+        return push(words, " is not declared in [role_definition]");
     };
-    if behind_blanks(cut_at_equals(line).1).starts_with("_, _, _") {
-        return push_parts(words, &[name, " takes 3 names, 2 stand here"]);
+    if begins_so(behind_blanks(cut_at_equals(line).1).as_bytes(), b"_, _, _") {
+        return push(words, " takes 3 names, 2 stand here");
     }
-    push_parts(words, &[name, " takes 2 names, 3 stand here"])
+    push(words, " takes 2 names, 3 stand here")
 }

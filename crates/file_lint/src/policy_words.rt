@@ -1,4 +1,5 @@
-ghost use Rattle.std.specs.Prelude.{◌≡◌, ◌++◌, IfOk, OnOk, codes, decimal, length, string_bytes};
+ghost use Rattle.std.specs.Prelude.{◌≡◌, ◌++◌, [], IfOk, OnOk, codes, decimal, length, string_bytes};
+ghost use Rattle.std.specs.Option.{option_map_or};
 ghost use Rattle.perm_base.specs.Fields.{joined};
 ghost use Rattle.perm_base.specs.RoleShapes.{shape_of};
 ghost use Rattle.text_parts.specs.Numbered.{line};
@@ -6,10 +7,11 @@ ghost use Rattle.file_lint.specs.PolicyWords.{count_words, fault_column, name_in
 
 use crate::columns::{field_column, field_count};
 use crate::finding::{Finding, Level};
+use crate::hints::begins_so;
 use crate::limits::limit_words;
-use crate::mending::{push_parts, relation_key};
+use crate::mending::relation_key;
 use crate::names::has_order_mark;
-use crate::printing::push_number;
+use crate::texts::{push, push_number, push_quoted};
 use model_conf::Model;
 use outside::{NoMemory, Text};
 use perm_base::{RoleShape, Rule, TableId, push_texts};
@@ -18,6 +20,7 @@ use std::alloc::Global;
 use text_parts::{behind_blanks, trimmed};
 
 /// The finding of a fault of a line of this number.
+#[tactic(auto, unfolding(crate::specs::PolicyWords::policy_error))]
 pub(crate) fn policy_error(
     alloc: Global,
     model: &Model,
@@ -70,12 +73,6 @@ fn push_words(
     }
 }
 
-fn push(words: &mut String, text: &str) -> Result<(), NoMemory>
-    ensures { OnOk result (string_bytes words.new ≡ string_bytes words.old ++ text.now) }
-{
-    Ok(words.push_str(text)?)
-}
-
 // Appends the words of a first field that names no table.
 fn push_table_words(words: &mut String, model: &Model, line: &str) -> Result<(), NoMemory>
     ensures { OnOk result (string_bytes words.new
@@ -87,16 +84,16 @@ fn push_table_words(words: &mut String, model: &Model, line: &str) -> Result<(),
             "begins with a byte-order mark: take its three bytes away",
         );
     }
-    if behind_blanks(line).starts_with(';') {
+    let front = behind_blanks(line).as_bytes();
+    if begins_so(front, b";") {
         return push(words, "a comment begins with `#`");
     }
-    if behind_blanks(line).starts_with("//") {
+    if begins_so(front, b"//") {
         return push(words, "a comment begins with `#`");
     }
-    push_parts(
-        words,
-        &["unknown table \"", name_in(line), "\": the model has "],
-    )?;
+    push(words, "unknown table ")?;
+    push_quoted(words, name_in(line))?;
+    push(words, ": the model has ")?;
     push_tables(words, model)
 }
 
@@ -117,7 +114,8 @@ fn push_tables(words: &mut String, model: &Model) -> Result<(), NoMemory>
 {
     words.push_str("p")?;
     for shape in model.relations() {
-        push_parts(words, &[", ", relation_key(shape.number)])?;
+        words.push_str(", ")?;
+        words.push_str(relation_key(shape.number))?;
     }
     Ok(())
 }
@@ -140,10 +138,18 @@ fn push_wanted(words: &mut String, model: &Model, table: Option<TableId>) -> Res
     match table {
         None => push(words, "as many wanted as its table has columns"),
         Some(TableId::P) => push_columns(words, model.policy_columns()),
-        Some(TableId::G(number)) => match shape_of(model.relations(), number) {
-            Some(shape) => push(words, role_names(shape)),
-            None => Ok(()),
-        },
+        Some(TableId::G(number)) => push_role_names(words, shape_of(model.relations(), number)),
+    }
+}
+
+// Appends the columns of a relation, where there is one.
+fn push_role_names(words: &mut String, shape: Option<RoleShape>) -> Result<(), NoMemory>
+    ensures { OnOk result (string_bytes words.new
+        ≡ string_bytes words.old ++ option_map_or role_names shape []) }
+{
+    match shape {
+        Some(shape) => push(words, role_names(shape)),
+        None => Ok(()),
     }
 }
 

@@ -1,8 +1,8 @@
-ghost use Rattle.std.specs.Prelude.{◌≡◌, ◌++◌, OnOk, decimal, string_bytes};
+ghost use Rattle.std.specs.Prelude.{◌≡◌, ◌++◌, OnOk, string_bytes};
 ghost use Rattle.file_lint.specs.Findings.{count_line, count_of, finding_line, finding_lines, is_same, level_text};
 
 use crate::finding::{Finding, Level};
-use itoa::Buffer;
+use crate::texts::push_number;
 use outside::NoMemory;
 
 /// How many findings are of a level.
@@ -52,15 +52,6 @@ fn push_finding(text: &mut String, file: &str, found: &Finding) -> Result<(), No
     text.push_str(": ")?;
     text.push_str(found.text.as_str())?;
     text.push_str("\n")?;
-    Ok(())
-}
-
-/// Appends a number in decimal digits.
-pub(crate) fn push_number(text: &mut String, number: u64) -> Result<(), NoMemory>
-    ensures { OnOk result (string_bytes text.new ≡ string_bytes text.old ++ decimal number) }
-{
-    let mut digits = Buffer::new();
-    text.push_str(digits.format(number))?;
     Ok(())
 }
 

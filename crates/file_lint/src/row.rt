@@ -1,12 +1,12 @@
-ghost use Rattle.std.specs.Prelude.{◌≡◌, ◌++◌, ◌<◌, IfOk, IfSome, OnOk, Some, flat_map, length};
+ghost use Rattle.std.specs.Prelude.{◌≡◌, ◌++◌, ◌<◌, IfOk, IfSome, OnOk, Some, length, string_bytes};
 ghost use Rattle.perm_base.specs.Shapes.{AreValid};
 ghost use Rattle.policy_table.specs.Limits.{columns_of};
 ghost use Rattle.file_lint.specs.RowWarnings.{effect_warnings, field_of, is_effect, link_warnings, own_warnings, rank_warnings, repeat_warnings, subject_warnings, warning_in};
 
 use crate::columns::field_column;
 use crate::finding::{Finding, Level};
-use crate::mending::push_parts;
 use crate::numbers::integer_of;
+use crate::texts::{push, push_quoted, quoted_and};
 use outside::{NoMemory, Text};
 use perm_base::{RoleShape, Rule, Shapes, TableId, is_pattern};
 use policy_csv::Entry;
@@ -30,23 +30,15 @@ impl<'a> Model for Row<'a> {
 }
 
 /// A warning at the field of a line that has so many fields before it, the table's name among them.
-pub(crate) fn warning_in(
-    alloc: Global,
-    row: &Row<'_>,
-    before: u64,
-    words: &[&str],
-) -> Result<Finding, NoMemory>
-    ensures { IfOk result (λ found. found
-        ≡ warning_in row.now before (flat_map (λ part. part.now) words.now)) }
+pub(crate) fn warning_in(row: &Row<'_>, before: u64, words: String) -> Finding
+    ensures { result ≡ warning_in row.now before (string_bytes words) }
 {
-    let mut text = String::new(alloc);
-    push_parts(&mut text, words)?;
-    Ok(Finding {
+    Finding {
         line: row.number,
         column: field_column(row.text, before),
         level: Level::Warning,
-        text: Text::from_string(text),
-    })
+        text: Text::from_string(words),
+    }
 }
 
 /// The warnings of a rule that stands already.
@@ -61,8 +53,8 @@ pub(crate) fn repeat_warnings(
 {
     let mut found = Vec::new(alloc);
     if seen.has(entry.table, &entry.rule) {
-        let words = ["this rule stands above already: it counts once"];
-        found.push(warning_in(alloc, row, 0, &words)?)?;
+        let words = String::from_str(alloc, "this rule stands above already: it counts once")?;
+        found.push(warning_in(row, 0, words))?;
     }
     Ok(found)
 }
@@ -123,12 +115,12 @@ fn push_effect(
     if is_effect(text) {
         return Ok(());
     }
-    let words = [
-        "\"",
+    let words = quoted_and(
+        alloc,
         text,
-        "\" is neither allow nor deny: the rule counts as not matched",
-    ];
-    found.push(warning_in(alloc, row, u64::from(at) + 1, &words)?)?;
+        " is neither allow nor deny: the rule counts as not matched",
+    )?;
+    found.push(warning_in(row, u64::from(at) + 1, words))?;
     Ok(())
 }
 
@@ -153,12 +145,12 @@ fn push_rank(
     if !ranked || integer_of(text).is_some() {
         return Ok(());
     }
-    let words = [
-        "\"",
+    let words = quoted_and(
+        alloc,
         text,
-        "\" is no number: the rule ranks behind every number",
-    ];
-    found.push(warning_in(alloc, row, 1, &words)?)?;
+        " is no number: the rule ranks behind every number",
+    )?;
+    found.push(warning_in(row, 1, words))?;
     Ok(())
 }
 
@@ -181,12 +173,12 @@ fn push_subject(
     if !is_pattern(shape.names, text.as_bytes()) {
         return Ok(());
     }
-    let words = [
-        "\"",
+    let words = quoted_and(
+        alloc,
         text,
-        "\" is a pattern of g: a name that is asked is never a pattern, so this rule is for the name of these very bytes",
-    ];
-    found.push(warning_in(alloc, row, u64::from(at) + 1, &words)?)?;
+        " is a pattern of g: a name that is asked is never a pattern, so this rule is for the name of these very bytes",
+    )?;
+    found.push(warning_in(row, u64::from(at) + 1, words))?;
     Ok(())
 }
 
@@ -203,7 +195,9 @@ fn push_link(
     if name != field(rule, 1) {
         return Ok(());
     }
-    let words = ["a link from \"", name, "\" to itself"];
-    found.push(warning_in(alloc, row, 2, &words)?)?;
+    let mut words = String::from_str(alloc, "a link from ")?;
+    push_quoted(&mut words, name)?;
+    push(&mut words, " to itself")?;
+    found.push(warning_in(row, 2, words))?;
     Ok(())
 }

@@ -1,4 +1,4 @@
-ghost use Rattle.std.specs.Prelude.{◌≡◌, IfOk, MatchBool, OnOk, flat_map, map};
+ghost use Rattle.std.specs.Prelude.{◌≡◌, IfOk, MatchBool, OnOk, map, string_bytes};
 ghost use Rattle.ip_match.specs.Blocks.{IsBlock};
 ghost use Rattle.ip_match.specs.declared.block.Block as ip;
 ghost use Rattle.matcher_read.specs.Expression.{Expression};
@@ -10,6 +10,7 @@ ghost use Rattle.file_lint.specs.RowWarnings.{HeldFinds};
 use crate::finding::Finding;
 use crate::nodes::{Held, Looked};
 use crate::row::{Row, field, warning_in};
+use crate::texts::quoted_and;
 use ip_match::read_block;
 use model_conf::{Model, RuleTextFault, read_rule_text};
 use outside::NoMemory;
@@ -55,28 +56,27 @@ fn push_held(
         Held::RuleText => !is_rule_text(alloc, model, text)?,
     };
     if surprises {
-        let words = held_words(look.held, text);
-        found.push(warning_in(alloc, row, u64::from(look.at) + 1, &words)?)?;
+        let words = held_words(alloc, look.held, text)?;
+        found.push(warning_in(row, u64::from(look.at) + 1, words))?;
     }
     Ok(())
 }
 
 // What a field that surprises is told by.
-fn held_words(held: Held, text: &str) -> [&str; 3]
-    ensures { flat_map (λ part. part.now) result ≡ held_words held text.now }
+fn held_words(alloc: Global, held: Held, text: &str) -> Result<String, NoMemory>
+    ensures { IfOk result (λ words. string_bytes words ≡ held_words held text.now) }
 {
     match held {
-        Held::Block => [
-            "\"",
+        Held::Block => quoted_and(
+            alloc,
             text,
-            "\" is no address and no block: ipMatch fails with it",
-        ],
-        Held::KeyPattern => [
-            "",
-            "",
+            " is no address and no block: ipMatch fails with it",
+        ),
+        Held::KeyPattern => Ok(String::from_str(
+            alloc,
             "`{` is no sign of keyMatch2: write `:name`, or ask keyMatch3",
-        ],
-        Held::RuleText => ["\"", text, "\" says no rule: eval fails with it"],
+        )?),
+        Held::RuleText => quoted_and(alloc, text, " says no rule: eval fails with it"),
     }
 }
 

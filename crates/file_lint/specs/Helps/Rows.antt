@@ -13,11 +13,11 @@ use Rattle.policy_table.specs.Tables.{Fields, Policy, rows}
 use Rattle.text_parts.specs.Full.{given_number}
 use Rattle.text_parts.specs.Numbered.{Line}
 use Rattle.file_lint.specs.Findings.{Finding}
-use Rattle.file_lint.specs.ModelWords.{quoted}
 use Rattle.file_lint.specs.Nodes.{Looked}
 use Rattle.file_lint.specs.PolicyErrors.{told_in}
 use Rattle.file_lint.specs.PolicyWords.{policy_error}
 use Rattle.file_lint.specs.RowWarnings.{LookedFinds, RowFinds}
+use Rattle.file_lint.specs.Texts.{quoted}
 use Rattle.file_lint.specs.declared.nodes.Held.{Held}
 use Rattle.file_lint.specs.declared.nodes.Held.TheVariants.{Block, KeyPattern, RuleText}
 

@@ -1,4 +1,4 @@
-use Rattle.std.proofs.Common.{◌≡◌, ◌+◌, ◌++◌, ◌≤◌, flat_map, length}
+use Rattle.std.proofs.Common.{◌≡◌, ◌+◌, ◌++◌, ◌≤◌, length}
 use Rattle.std.specs.Prelude.{string_bytes}
 use Rattle.std.specs.Str.{IsUtf8}
 use Rattle.text_parts.specs.Lines.{with_ends}
@@ -8,7 +8,7 @@ use Rattle.file_lint.proofs.mending.with_line.Given as goal
 
 abbrev pub invariant-loop-line : goal.invariant-loop-line
 invariant-loop-line l = record {
-  left : string_bytes l.made ++ with_ends (replaced l.extent l.at (flat_map (λ part. part.now) l.by) l.reach (numbered l.number (text_lines l.rest))) ≡ with_line l.extent l.at (flat_map (λ part. part.now) l.by) l.text;
+  left : string_bytes l.made ++ with_ends (replaced l.extent l.at l.by l.reach (numbered l.number (text_lines l.rest))) ≡ with_line l.extent l.at l.by l.text;
   within : l.number + length l.rest ≤ 1 + length l.text;
   utf8 : IsUtf8 l.rest;
 }
