@@ -1,12 +1,12 @@
 -- Rules that are kept, and the columns that the matcher takes for something.
 use Rattle.std.proofs.Common.{◌≡◌, ℕ, ◌+◌, ◌<◌, ◌≤◌, Bool, true, false, List, [], ◌∷◌, Option, Some, None, inl, inr, length, refl, sym, ap, subst, ◌∙◌, arith}
-use Rattle.std.specs.Option.{option_map_or}
+use Rattle.std.specs.Option.{option_and_then, option_map_or}
 use Rattle.std.specs.Prelude.{IfSome, is_some, nat_lt, if◌then◌else◌}
 use Rattle.std.specs.List.{AllByRecursion, cons_option, filter_map}
 use Rattle.std.specs.Str.{bytes_eq}
 use Rattle.std.proofs.lemmas.List.Quantifiers.{position-Some}
 use Rattle.std.proofs.lemmas.List.Elements.{All-from_recursion}
-use Rattle.matcher_read.specs.Expression.{function, relation, unknown, Expression, text, whole, truth, request, policy, evaluated, negation, opposite, binary, among, call, Expressions, no_more, one_more}
+use Rattle.matcher_read.specs.Expression.{function, relation, unknown, Expression, text, whole, truth, request, policy, evaluated, negation, opposite, binary, among, call, Expressions}
 use Rattle.model_conf.specs.ModelText.{ModelParts}
 use Rattle.perm_base.specs.RoleShapes.{AreRoles, shape_of}
 use Rattle.perm_base.specs.Shapes.{AreValid}
@@ -25,7 +25,7 @@ use Rattle.policy_table.specs.declared.change.Change.TheVariants.{Insert}
 use Rattle.policy_table.proofs.CallerLemmas.{one_longer, rows_other, rows_own, same_table}
 use Rattle.text_parts.specs.Numbered.{Line}
 use Rattle.file_lint.specs.Findings.{Finding}
-use Rattle.file_lint.specs.Nodes.{Looked, held_by, looked_at, looked_both, looked_in, nodes_of, place_in, second_column}
+use Rattle.file_lint.specs.Nodes.{Looked, held_by, looked_at, looked_both, looked_in, nodes_of, place_in, policy_place, second_column, second_of}
 use Rattle.file_lint.specs.Helps.Rows.{AreWithin, LineFinds, LineTells}
 use Rattle.file_lint.specs.declared.nodes.Held.{Held}
 use Rattle.file_lint.specs.declared.nodes.Held.TheVariants.{RuleText}
@@ -65,20 +65,16 @@ placed_below columns (Some at) (Some held) within = within at refl
 place_below : (columns : List (List ℕ)) (name : List ℕ) (at : ℕ) → place_in columns name ≡ Some at → at < length columns
 place_below columns name at is = (position-Some (bytes_eq name) columns at [] is).0
 
+policy_below : (columns : List (List ℕ)) (e : Expression) (at : ℕ) → policy_place columns e ≡ Some at → at < length columns
+policy_below columns (policy place column) at is = place_below columns column at is
+policy_below columns _ at is = absurd cc
+
 second_below : (columns : List (List ℕ)) (es : Expressions) (at : ℕ) → second_column columns es ≡ Some at → at < length columns
-second_below columns no_more at is = absurd cc
-second_below columns (one_more first no_more) at is = absurd cc
-second_below columns (one_more first (one_more (text place bytes) others)) at is = absurd cc
-second_below columns (one_more first (one_more (whole place n) others)) at is = absurd cc
-second_below columns (one_more first (one_more (truth place b) others)) at is = absurd cc
-second_below columns (one_more first (one_more (request place column path) others)) at is = absurd cc
-second_below columns (one_more first (one_more (policy place column) others)) at is = place_below columns column at is
-second_below columns (one_more first (one_more (evaluated place column) others)) at is = absurd cc
-second_below columns (one_more first (one_more (negation place e) others)) at is = absurd cc
-second_below columns (one_more first (one_more (opposite place e) others)) at is = absurd cc
-second_below columns (one_more first (one_more (binary place op e f) others)) at is = absurd cc
-second_below columns (one_more first (one_more (among place e es) others)) at is = absurd cc
-second_below columns (one_more first (one_more (call place callee es) others)) at is = absurd cc
+second_below columns es at is = by (second_of es) is
+  where
+    by : (second : Option Expression) → option_and_then (policy_place columns) second ≡ Some at → at < length columns
+    by None is = absurd cc
+    by (Some e) is = policy_below columns e at is
 
 node_below : (columns : List (List ℕ)) (e : Expression) → MayBeBelow (length columns) (looked_at columns e)
 node_below columns (text at bytes) = tt

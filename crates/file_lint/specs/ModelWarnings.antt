@@ -1,15 +1,18 @@
 -- The warnings of a model: what loads and then surprises, by the nodes of its matcher and by its columns.
-use Rattle.std.specs.Prelude.{ℕ, ◌-◌, ◌==◌, ◌&&◌, ◌||◌, Bool, true, false, not, List, [], ◌∷◌, ◌++◌, codes, flat_map, if◌then◌else◌}
+use Rattle.std.specs.Prelude.{ℕ, ◌-◌, ◌==◌, ◌&&◌, ◌||◌, Bool, true, false, not, List, [], ◌∷◌, ◌++◌, codes, flat_map, Option, Some, None, if◌then◌else◌}
 use Rattle.std.specs.List.{list_any}
+use Rattle.std.specs.Option.{option_map_or}
 use Rattle.std.specs.Str.{bytes_eq}
-use Rattle.matcher_read.specs.Expression.{Expression, text, binary, call, function, Expressions, one_more}
+use Rattle.matcher_read.specs.Expression.{Expression, text, binary, call, function, Expressions}
+use Rattle.matcher_read.specs.declared.tree.Function.{Function}
 use Rattle.matcher_read.specs.declared.tree.Function.TheVariants.{RegexMatch}
+use Rattle.matcher_read.specs.declared.tree.Operator.{Operator}
 use Rattle.matcher_read.specs.declared.tree.Operator.TheVariants.{Plus}
 use Rattle.model_conf.specs.ModelText.{ModelParts}
 use Rattle.model_conf.specs.Shapes.{is_ranked}
 use Rattle.perm_base.specs.FieldLine.{begins_with}
 use Rattle.file_lint.specs.Findings.{Finding, finding}
-use Rattle.file_lint.specs.Nodes.{nodes_of}
+use Rattle.file_lint.specs.Nodes.{nodes_of, second_of}
 use Rattle.file_lint.specs.Places.{Place, place_of_value}
 use Rattle.file_lint.specs.declared.finding.Level.TheVariants.{Warning}
 
@@ -27,10 +30,14 @@ unfoldable pub has_class : List ℕ → Bool
 has_class [] = false
 has_class (byte ∷ bytes) = (byte == 92 && begins_with is_class bytes) || has_class bytes
 
+-- the node is a text that holds one
+abbrev pub has_class_in : Expression → Bool
+has_class_in (text at bytes) = has_class bytes
+has_class_in _ = false
+
 -- the pattern of a search holds a class
 abbrev pub has_class_at : Expressions → Bool
-has_class_at (one_more first (one_more (text at bytes) others)) = has_class bytes
-has_class_at _ = false
+has_class_at es = option_map_or has_class_in (second_of es) false
 
 abbrev pub warning_at : Place → List ℕ → Finding
 warning_at at words = finding at.line at.column Warning words
@@ -44,13 +51,31 @@ class_words = codes "`\\w`, `\\d` and `\\b` are those of Unicode here, and those
 abbrev pub priority_words : List ℕ
 priority_words = codes "the column priority ranks no rules: it does where it is the first, and the effect is `priority(p.eft) || deny`"
 
+-- where a node surprises, and how
+abbrev pub told_if : Bool → ℕ → List ℕ → Option (ℕ × List ℕ)
+told_if is at words = if is then Some (at, words) else None
+
+abbrev pub told_of_operator : ℕ → Operator → Bool → Option (ℕ × List ℕ)
+told_of_operator at Plus texts = told_if texts at plus_words
+told_of_operator at _ texts = None
+
+abbrev pub told_of_call : ℕ → Function → Bool → Option (ℕ × List ℕ)
+told_of_call at RegexMatch class = told_if class at class_words
+told_of_call at _ class = None
+
+abbrev pub told_of : Expression → Option (ℕ × List ℕ)
+told_of (binary at op left right) = told_of_operator at op (is_text left || is_text right)
+told_of (call at (function called) es) = told_of_call at called (has_class_at es)
+told_of _ = None
+
+-- the warning of these words at a byte of the matcher, or none
+abbrev pub warnings_by : List ℕ → Option (ℕ × List ℕ) → List Finding
+warnings_by bytes None = []
+warnings_by bytes (Some told) = warning_at (place_of_value (codes "m") (told.0 - 1) bytes) told.1 ∷ []
+
 -- the warnings of a node, at its place in the matcher
 abbrev pub node_warnings : List ℕ → Expression → List Finding
-node_warnings bytes (binary at Plus left right) =
-    if is_text left || is_text right then warning_at (place_of_value (codes "m") (at - 1) bytes) plus_words ∷ [] else []
-node_warnings bytes (call at (function RegexMatch) es) =
-    if has_class_at es then warning_at (place_of_value (codes "m") (at - 1) bytes) class_words ∷ [] else []
-node_warnings bytes _ = []
+node_warnings bytes e = warnings_by bytes (told_of e)
 
 -- a column of p is named `priority`, and p is not ranked
 abbrev pub is_unranked : ModelParts → Bool

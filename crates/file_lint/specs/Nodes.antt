@@ -1,6 +1,7 @@
 -- The nodes of a matcher, and those that a linter looks at.
 use Rattle.std.specs.Prelude.{ℕ, List, [], ◌∷◌, ◌++◌, Option, Some, None, position}
 use Rattle.std.specs.List.{filter_map}
+use Rattle.std.specs.Option.{option_and_then}
 use Rattle.std.specs.Str.{bytes_eq}
 use Rattle.matcher_read.specs.Expression.{function, Expression, text, whole, truth, request, policy, evaluated, negation, opposite, binary, among, call, Expressions, no_more, one_more}
 use Rattle.matcher_read.specs.declared.tree.Function.{Function}
@@ -46,15 +47,29 @@ held_by _ = None
 abbrev pub place_in : List (List ℕ) → List ℕ → Option ℕ
 place_in columns name = position (bytes_eq name) columns
 
--- the second argument of a call, where it is a column of p
+-- the first and the second of some expressions
+abbrev pub first_of : Expressions → Option Expression
+first_of no_more = None
+first_of (one_more e es) = Some e
+
+abbrev pub second_of : Expressions → Option Expression
+second_of no_more = None
+second_of (one_more e es) = first_of es
+
+-- the place of the column of p that an expression is
+abbrev pub policy_place : List (List ℕ) → Expression → Option ℕ
+policy_place columns (policy at column) = place_in columns column
+policy_place columns _ = None
+
+-- the place of the second argument of a call, where it is a column of p
 abbrev pub second_column : List (List ℕ) → Expressions → Option ℕ
-second_column columns (one_more first (one_more (policy at column) others)) = place_in columns column
-second_column columns _ = None
+second_column columns es = option_and_then (policy_place columns) (second_of es)
 
 -- both, where they are told
 abbrev pub looked_both : Option ℕ → Option Held → Option Looked
+looked_both None held = None
+looked_both (Some at) None = None
 looked_both (Some at) (Some held) = Some (looked at held)
-looked_both _ _ = None
 
 -- the column that a node takes for something
 abbrev pub looked_at : List (List ℕ) → Expression → Option Looked

@@ -51,11 +51,7 @@ pub(crate) struct Mended {
 
 /// A model's text with this fault, which is its first, taken away, where that can be.
 #[tactic(auto, unfolding(crate::specs::Mended::mended))]
-pub(crate) fn mended(
-    alloc: Global,
-    text: &str,
-    fault: ModelFault,
-) -> Result<Option<Mended>, NoMemory>
+pub(crate) fn mend(alloc: Global, text: &str, fault: ModelFault) -> Result<Option<Mended>, NoMemory>
     ensures { IfOk result (λ made. option_map mended_seen made ≡ mended fault text.now) }
 {
     match fault {

@@ -5,7 +5,7 @@ ghost use Rattle.file_lint.specs.ModelErrors.{HasErrors, LintsModel, is_hidden, 
 ghost use Rattle.file_lint.specs.Helps.Rounds.{IsOfBytes};
 
 use crate::finding::Finding;
-use crate::mending::mended;
+use crate::mending::mend;
 use crate::model_warnings::model_warnings;
 use crate::model_words::error_of;
 use crate::order::in_order;
@@ -90,7 +90,7 @@ fn further_errors(alloc: Global, bytes: String, first: ModelFault) -> Result<Vec
             return Ok(errors);
         }
         errors.push(error_of(alloc, text.as_str(), fault)?)?;
-        let Some(after) = mended(alloc, text.as_str(), fault)? else {
+        let Some(after) = mend(alloc, text.as_str(), fault)? else {
             return Ok(errors);
         };
         let Some(next) = fault_in(alloc, after.text.as_str())? else {

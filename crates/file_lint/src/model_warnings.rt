@@ -1,11 +1,10 @@
-ghost use Rattle.std.specs.Prelude.{◌≡◌, ◌++◌, ℕ, IfOk, IsUtf8, List, OnOk, map, option_map};
+ghost use Rattle.std.specs.Prelude.{◌≡◌, ◌++◌, IfOk, IsUtf8, OnOk, map, option_map};
 ghost use Rattle.perm_base.specs.FieldLine.{begins_with};
 ghost use Rattle.matcher_read.specs.Expression.{expression, expressions_of};
-ghost use Rattle.file_lint.specs.ModelWarnings.{column_warnings, has_class, has_class_at, is_class, is_text, is_unranked, model_warnings, node_warnings, warning_at};
-ghost use Rattle.file_lint.specs.Helps.Rounds.{warnings_by};
+ghost use Rattle.file_lint.specs.ModelWarnings.{column_warnings, has_class, has_class_at, has_class_in, is_class, is_text, is_unranked, model_warnings, node_warnings, told_if, told_of, told_of_call, told_of_operator, warning_at};
 
 use crate::finding::{Finding, Level};
-use crate::nodes::nodes_of;
+use crate::nodes::{nodes_of, second_of};
 use crate::places::Spot;
 use crate::values::place_of_value;
 use matcher_read::{Function, Operator, Tree};
@@ -22,6 +21,7 @@ const PRIORITY_WORDS: &str =
     "the column priority ranks no rules: it does where it is the first, and the effect is `priority(p.eft) || deny`";
 
 /// The warnings of a model, which these bytes say.
+#[tactic(auto, unfolding(crate::specs::ModelWarnings::model_warnings))]
 pub(crate) fn model_warnings(
     alloc: Global,
     bytes: &[u8],
@@ -84,23 +84,48 @@ fn push_node_warnings(
 
 // Where a node surprises, and how.
 fn words_of(node: &Tree) -> Option<(u32, &'static str)>
-    ensures { (bytes : List ℕ) → node_warnings bytes (expression node.now)
-        ≡ warnings_by bytes (option_map (λ w. (w.0, w.1.now)) result) }
+    ensures { option_map (λ told. (told.0, told.1.now)) result ≡ told_of (expression node.now) }
 {
     match node {
         Tree::Binary {
             at,
-            operator: Operator::Plus,
+            operator,
             left,
             right,
-        } if is_text(left) || is_text(right) => Some((*at, PLUS_WORDS)),
+        } => told_of_operator(*at, *operator, is_text(left) || is_text(right)),
         Tree::Call {
             at,
-            function: Function::RegexMatch,
+            function,
             arguments,
-        } if has_class_at(arguments) => Some((*at, CLASS_WORDS)),
+        } => told_of_call(*at, *function, has_class_at(arguments)),
         _ => None,
     }
+}
+
+// The same of an operator, by whether one of its sides is a text.
+fn told_of_operator(at: u32, operator: Operator, texts: bool) -> Option<(u32, &'static str)>
+    ensures { option_map (λ told. (told.0, told.1.now)) result ≡ told_of_operator at operator texts }
+{
+    match operator {
+        Operator::Plus => told_if(texts, at, PLUS_WORDS),
+        _ => None,
+    }
+}
+
+// The same of a call, by whether its pattern holds a class.
+fn told_of_call(at: u32, function: Function, class: bool) -> Option<(u32, &'static str)>
+    ensures { option_map (λ told. (told.0, told.1.now)) result ≡ told_of_call at function class }
+{
+    match function {
+        Function::RegexMatch => told_if(class, at, CLASS_WORDS),
+        _ => None,
+    }
+}
+
+fn told_if(is: bool, at: u32, words: &'static str) -> Option<(u32, &'static str)>
+    ensures { option_map (λ told. (told.0, told.1.now)) result ≡ told_if is at words.now }
+{
+    if is { Some((at, words)) } else { None }
 }
 
 fn is_text(tree: &Tree) -> bool
@@ -116,8 +141,18 @@ fn is_text(tree: &Tree) -> bool
 fn has_class_at(arguments: &[Tree]) -> bool
     ensures { result ≡ has_class_at (expressions_of (map expression arguments.now)) }
 {
-    match arguments {
-        [_, Tree::Text { text, .. }, ..] => has_class(text.bytes()),
+    match second_of(arguments) {
+        Some(pattern) => has_class_in(pattern),
+        None => false,
+    }
+}
+
+// The node is a text that holds a class.
+fn has_class_in(tree: &Tree) -> bool
+    ensures { result ≡ has_class_in (expression tree.now) }
+{
+    match tree {
+        Tree::Text { text, .. } => has_class(text.bytes()),
         _ => false,
     }
 }

@@ -1,6 +1,6 @@
 ghost use Rattle.std.specs.Prelude.{◌≡◌, ◌++◌, IfOk, OnOk, map, option_map};
 ghost use Rattle.matcher_read.specs.Expression.{expression, expressions_of};
-ghost use Rattle.file_lint.specs.Nodes.{all_nodes_of, held_by, looked_at, looked_in, nodes_of, second_column};
+ghost use Rattle.file_lint.specs.Nodes.{all_nodes_of, first_of, held_by, looked_at, looked_both, looked_in, nodes_of, policy_place, second_column, second_of};
 ghost use Rattle.file_lint.specs.Helps.Trees.{looked_seen, seen};
 
 use matcher_read::{Function, Tree};
@@ -102,33 +102,64 @@ fn looked_at(columns: &Rule, tree: &Tree) -> Option<Looked>
 {
     match tree {
         Tree::Eval { column, .. } => {
-            let at = columns.place_of(column.bytes())?;
-            Some(Looked {
-                at,
-                held: Held::RuleText,
-            })
+            looked_both(columns.place_of(column.bytes()), Some(Held::RuleText))
         }
         Tree::Call {
             function,
             arguments,
             ..
-        } => {
-            let at = second_column(columns, arguments)?;
-            let held = held_by(*function)?;
-            Some(Looked { at, held })
-        }
+        } => looked_both(second_column(columns, arguments), held_by(*function)),
         _ => None,
     }
 }
 
-// The second argument of a call, where it is a column of p.
+// A column with what it is taken for, where both are told.
+fn looked_both(at: Option<u32>, held: Option<Held>) -> Option<Looked>
+    ensures { option_map looked_seen result ≡ looked_both at held }
+{
+    let at = at?;
+    let held = held?;
+    Some(Looked { at, held })
+}
+
+// The place of the second argument of a call, where it is a column of p.
 fn second_column(columns: &Rule, arguments: &[Tree]) -> Option<u32>
     ensures { result ≡ second_column columns.now
         (expressions_of (map expression arguments.now)) }
 {
-    match arguments {
-        [_, Tree::Policy { column, .. }, ..] => columns.place_of(column.bytes()),
+    let second = second_of(arguments)?;
+    policy_place(columns, second)
+}
+
+// The place of the column of p that a node is.
+fn policy_place(columns: &Rule, tree: &Tree) -> Option<u32>
+    ensures { result ≡ policy_place columns.now (expression tree.now) }
+{
+    match tree {
+        Tree::Policy { column, .. } => columns.place_of(column.bytes()),
         _ => None,
+    }
+}
+
+/// The second of some trees.
+pub(crate) fn second_of(trees: &[Tree]) -> Option<&Tree>
+    ensures { option_map (λ tree. expression tree.now) result
+        ≡ second_of (expressions_of (map expression trees.now)) }
+{
+    match trees {
+        [] => None,
+        [_, rest @ ..] => first_of(rest),
+    }
+}
+
+// The first of some trees.
+fn first_of(trees: &[Tree]) -> Option<&Tree>
+    ensures { option_map (λ tree. expression tree.now) result
+        ≡ first_of (expressions_of (map expression trees.now)) }
+{
+    match trees {
+        [] => None,
+        [first, ..] => Some(first),
     }
 }
 
