@@ -5,12 +5,13 @@ use Rattle.std.specs.Option.{option_map_or}
 use Rattle.std.specs.Str.{bytes_eq}
 use Rattle.matcher_read.specs.Expression.{Expression, text, binary, call, function, Expressions}
 use Rattle.matcher_read.specs.declared.tree.Function.{Function}
-use Rattle.matcher_read.specs.declared.tree.Function.TheVariants.{RegexMatch}
+use Rattle.matcher_read.specs.declared.tree.Function.TheVariants.{KeyMatch2, RegexMatch}
 use Rattle.matcher_read.specs.declared.tree.Operator.{Operator}
 use Rattle.matcher_read.specs.declared.tree.Operator.TheVariants.{Plus}
 use Rattle.model_conf.specs.ModelText.{ModelParts}
 use Rattle.model_conf.specs.Shapes.{is_ranked}
 use Rattle.perm_base.specs.FieldLine.{begins_with}
+use Rattle.text_parts.specs.Lines.{has_byte}
 use Rattle.file_lint.specs.Findings.{Finding, finding}
 use Rattle.file_lint.specs.Nodes.{nodes_of, second_of}
 use Rattle.file_lint.specs.Places.{Place, place_of_value}
@@ -35,9 +36,14 @@ abbrev pub has_class_in : Expression → Bool
 has_class_in (text at bytes) = has_class bytes
 has_class_in _ = false
 
--- the pattern of a search holds a class
-abbrev pub has_class_at : Expressions → Bool
-has_class_at es = option_map_or has_class_in (second_of es) false
+-- the node is a text that holds `{`
+abbrev pub has_brace_in : Expression → Bool
+has_brace_in (text at bytes) = has_byte 123 bytes
+has_brace_in _ = false
+
+-- the second argument of a call passes the test
+abbrev pub second_is : (Expression → Bool) → Expressions → Bool
+second_is test es = option_map_or test (second_of es) false
 
 abbrev pub warning_at : Place → List ℕ → Finding
 warning_at at words = finding at.line at.column Warning words
@@ -47,6 +53,9 @@ plus_words = codes "`+` adds whole numbers: of a text it fails, and does not joi
 
 abbrev pub class_words : List ℕ
 class_words = codes "`\\w`, `\\d` and `\\b` are those of Unicode here, and those of ASCII in Casbin for Go"
+
+abbrev pub brace_words : List ℕ
+brace_words = codes "`{` is no sign of keyMatch2: write `:name`, or ask keyMatch3"
 
 abbrev pub priority_words : List ℕ
 priority_words = codes "the column priority ranks no rules: it does where it is the first, and the effect is `priority(p.eft) || deny`"
@@ -59,13 +68,14 @@ abbrev pub told_of_operator : ℕ → Operator → Bool → Option (ℕ × List 
 told_of_operator at Plus texts = told_if texts at plus_words
 told_of_operator at _ texts = None
 
-abbrev pub told_of_call : ℕ → Function → Bool → Option (ℕ × List ℕ)
-told_of_call at RegexMatch class = told_if class at class_words
-told_of_call at _ class = None
+abbrev pub told_of_call : ℕ → Function → Expressions → Option (ℕ × List ℕ)
+told_of_call at RegexMatch es = told_if (second_is has_class_in es) at class_words
+told_of_call at KeyMatch2 es = told_if (second_is has_brace_in es) at brace_words
+told_of_call at _ es = None
 
 abbrev pub told_of : Expression → Option (ℕ × List ℕ)
 told_of (binary at op left right) = told_of_operator at op (is_text left || is_text right)
-told_of (call at (function called) es) = told_of_call at called (has_class_at es)
+told_of (call at (function called) es) = told_of_call at called es
 told_of _ = None
 
 -- the warning of these words at a byte of the matcher, or none

@@ -20,6 +20,7 @@ use Rattle.text_parts.specs.Lines.{has_byte}
 use Rattle.text_parts.specs.Numbered.{Line}
 use Rattle.file_lint.specs.Columns.{field_column}
 use Rattle.file_lint.specs.Findings.{Finding, finding, in_order}
+use Rattle.file_lint.specs.ModelWarnings.{brace_words}
 use Rattle.file_lint.specs.Nodes.{Looked, looked_in}
 use Rattle.file_lint.specs.Texts.{quoted}
 use Rattle.file_lint.specs.declared.finding.Level.TheVariants.{Warning}
@@ -82,7 +83,7 @@ HeldFinds model line at text Block findings =
     Surprises ((block : IpBlock) × IsBlock text block) ((block : IpBlock) → ¬ (IsBlock text block))
     (warning_in line (at + 1) (quoted text ++ codes " is no address and no block: ipMatch fails with it")) findings
 HeldFinds model line at text KeyPattern findings =
-    findings ≡ (if has_byte 123 text then warning_in line (at + 1) (codes "`{` is no sign of keyMatch2: write `:name`, or ask keyMatch3") ∷ [] else [])
+    findings ≡ (if has_byte 123 text then warning_in line (at + 1) brace_words ∷ [] else [])
 HeldFinds model line at text RuleText findings =
     Surprises ((e : Expression) × IsRuleText model text e) (IsNoRuleText model text)
     (warning_in line (at + 1) (quoted text ++ codes " says no rule: eval fails with it")) findings

@@ -1,7 +1,7 @@
 ghost use Rattle.std.specs.Prelude.{◌≡◌, ◌++◌, IfOk, IsUtf8, OnOk, map, option_map};
 ghost use Rattle.perm_base.specs.FieldLine.{begins_with};
 ghost use Rattle.matcher_read.specs.Expression.{expression, expressions_of};
-ghost use Rattle.file_lint.specs.ModelWarnings.{column_warnings, has_class, has_class_at, has_class_in, is_class, is_text, is_unranked, model_warnings, node_warnings, told_if, told_of, told_of_call, told_of_operator, warning_at};
+ghost use Rattle.file_lint.specs.ModelWarnings.{column_warnings, has_brace_in, has_class, has_class_in, is_class, is_text, is_unranked, model_warnings, node_warnings, second_is, told_if, told_of, told_of_call, told_of_operator, warning_at};
 
 use crate::finding::{Finding, Level};
 use crate::nodes::{nodes_of, second_of};
@@ -11,11 +11,15 @@ use matcher_read::{Function, Operator, Tree};
 use model_conf::Model;
 use outside::{NoMemory, Text};
 use std::alloc::Global;
+use text_parts::has_byte;
 
 const PLUS_WORDS: &str = "`+` adds whole numbers: of a text it fails, and does not join";
 
 const CLASS_WORDS: &str =
     "`\\w`, `\\d` and `\\b` are those of Unicode here, and those of ASCII in Casbin for Go";
+
+/// What is told of `{` in a pattern of `keyMatch2`.
+pub(crate) const BRACE_WORDS: &str = "`{` is no sign of keyMatch2: write `:name`, or ask keyMatch3";
 
 const PRIORITY_WORDS: &str =
     "the column priority ranks no rules: it does where it is the first, and the effect is `priority(p.eft) || deny`";
@@ -97,7 +101,7 @@ fn words_of(node: &Tree) -> Option<(u32, &'static str)>
             at,
             function,
             arguments,
-        } => told_of_call(*at, *function, has_class_at(arguments)),
+        } => told_of_call(*at, *function, arguments),
         _ => None,
     }
 }
@@ -112,12 +116,14 @@ fn told_of_operator(at: u32, operator: Operator, texts: bool) -> Option<(u32, &'
     }
 }
 
-// The same of a call, by whether its pattern holds a class.
-fn told_of_call(at: u32, function: Function, class: bool) -> Option<(u32, &'static str)>
-    ensures { option_map (λ told. (told.0, told.1.now)) result ≡ told_of_call at function class }
+// The same of a call.
+fn told_of_call(at: u32, function: Function, arguments: &[Tree]) -> Option<(u32, &'static str)>
+    ensures { option_map (λ told. (told.0, told.1.now)) result
+        ≡ told_of_call at function (expressions_of (map expression arguments.now)) }
 {
     match function {
-        Function::RegexMatch => told_if(class, at, CLASS_WORDS),
+        Function::RegexMatch => told_if(second_has_class(arguments), at, CLASS_WORDS),
+        Function::KeyMatch2 => told_if(second_has_brace(arguments), at, BRACE_WORDS),
         _ => None,
     }
 }
@@ -137,13 +143,33 @@ fn is_text(tree: &Tree) -> bool
     }
 }
 
-// The pattern of a search holds a class.
-fn has_class_at(arguments: &[Tree]) -> bool
-    ensures { result ≡ has_class_at (expressions_of (map expression arguments.now)) }
+// The second argument is a text that holds a class.
+fn second_has_class(arguments: &[Tree]) -> bool
+    ensures { result ≡ second_is has_class_in (expressions_of (map expression arguments.now)) }
 {
     match second_of(arguments) {
-        Some(pattern) => has_class_in(pattern),
+        Some(second) => has_class_in(second),
         None => false,
+    }
+}
+
+// The second argument is a text that holds `{`.
+fn second_has_brace(arguments: &[Tree]) -> bool
+    ensures { result ≡ second_is has_brace_in (expressions_of (map expression arguments.now)) }
+{
+    match second_of(arguments) {
+        Some(second) => has_brace_in(second),
+        None => false,
+    }
+}
+
+// The node is a text that holds `{`.
+fn has_brace_in(tree: &Tree) -> bool
+    ensures { result ≡ has_brace_in (expression tree.now) }
+{
+    match tree {
+        Tree::Text { text, .. } => has_byte(text.as_str(), b'{'),
+        _ => false,
     }
 }
 

@@ -8,6 +8,7 @@ ghost use Rattle.file_lint.specs.Helps.Trees.{looked_seen};
 ghost use Rattle.file_lint.specs.RowWarnings.{HeldFinds};
 
 use crate::finding::Finding;
+use crate::model_warnings::BRACE_WORDS;
 use crate::nodes::{Held, Looked};
 use crate::row::{Row, field, warning_in};
 use crate::texts::quoted_and;
@@ -72,10 +73,7 @@ fn held_words(alloc: Global, held: Held, text: &str) -> Result<String, NoMemory>
             text,
             " is no address and no block: ipMatch fails with it",
         ),
-        Held::KeyPattern => Ok(String::from_str(
-            alloc,
-            "`{` is no sign of keyMatch2: write `:name`, or ask keyMatch3",
-        )?),
+        Held::KeyPattern => Ok(String::from_str(alloc, BRACE_WORDS)?),
         Held::RuleText => quoted_and(alloc, text, " says no rule: eval fails with it"),
     }
 }

@@ -13,6 +13,7 @@ use Rattle.policy_table.specs.Tables.{Fields, Policy, rows}
 use Rattle.text_parts.specs.Full.{given_number}
 use Rattle.text_parts.specs.Numbered.{Line}
 use Rattle.file_lint.specs.Findings.{Finding}
+use Rattle.file_lint.specs.ModelWarnings.{brace_words}
 use Rattle.file_lint.specs.Nodes.{Looked}
 use Rattle.file_lint.specs.PolicyErrors.{told_in}
 use Rattle.file_lint.specs.PolicyWords.{policy_error}
@@ -53,5 +54,5 @@ LineTells model shapes first line before after findings now =
 -- what a field that surprises is told by
 abbrev pub held_words : Held → List ℕ → List ℕ
 held_words Block text = quoted text ++ codes " is no address and no block: ipMatch fails with it"
-held_words KeyPattern text = codes "`{` is no sign of keyMatch2: write `:name`, or ask keyMatch3"
+held_words KeyPattern text = brace_words
 held_words RuleText text = quoted text ++ codes " says no rule: eval fails with it"
