@@ -40,6 +40,10 @@ told_further left guessed bytes first after next others some shown made is rest 
 pub told_enough : (left : ℕ) (guessed : Bool) (bytes : List ℕ) (first : ModelFault) → left ≡ 0 → HasErrors left guessed bytes first []
 told_enough left guessed bytes first none = subst (λ (n : ℕ). HasErrors n guessed bytes first []) (sym none) enough
 
+-- no round yet
+pub goes_begin : (found : List Finding) (Told : List Finding → Type 0) → found ≡ [] → Goes found Told Told
+goes_begin found Told none = λ others is. subst (λ (l : List Finding). Told (l ++ others)) (sym none) is
+
 -- one round more: what holds of any end holds of any end behind the error that was pushed
 pub goes_further : (found now : List Finding) (error : Finding) (Told HasOld HasNow : List Finding → Type 0) → now ≡ found ++ error ∷ [] → ((others : List Finding) → HasNow others → HasOld (error ∷ others))
     → Goes found Told HasOld → Goes now Told HasNow

@@ -1,11 +1,14 @@
 -- The findings of a policy's lines, from one line to the next, and of one field after the other.
 use Rattle.std.proofs.Common.{◌≡◌, ◌≢◌, ℕ, ◌+◌, ◌<◌, ◌≤◌, Bool, true, false, List, [], ◌∷◌, ◌++◌, Option, Some, None, inl, inr, ◌⊎◌, append_assoc, append-nil, length, map, refl, sym, ap, subst, ◌∙◌, arith}
-use Rattle.std.specs.Prelude.{IsUtf8, flat_map}
+use Rattle.std.specs.Prelude.{IsUtf8, OnOk, Result, Ok, Err, flat_map}
 use Rattle.std.specs.List.{AllZip}
 use Rattle.std.proofs.lemmas.Grind.{flat_map-append}
 use Rattle.ip_match.specs.Blocks.{IsBlock}
 use Rattle.model_conf.specs.ModelText.{ModelParts}
+use Rattle.outside.specs.declared.fault.NoMemory.{NoMemory as NoMem}
 use Rattle.perm_base.specs.declared.shapes.Shapes.{Shapes}
+use Rattle.perm_base.specs.declared.shapes.TableId.{TableId}
+use Rattle.perm_base.specs.declared.shapes.TableId.TheVariants.{P}
 use Rattle.policy_csv.specs.Faults.{IsFaultInLine, IsTextFault}
 use Rattle.policy_csv.specs.Faults.IsPolicyFault.{in_line, not_utf8}
 use Rattle.policy_csv.specs.Lines.{policy_lines}
@@ -15,13 +18,13 @@ use Rattle.policy_csv.specs.declared.fault.PolicyFault.{PolicyFault}
 use Rattle.policy_csv.specs.declared.fault.PolicyFault.TheVariants.{NotUtf8, Quote, UnknownTable, Columns, FieldTooLong, Full, NoMemory}
 use Rattle.policy_table.specs.Tables.{Fields, Policy, without_rules}
 use Rattle.text_parts.specs.Full.{given_number}
-use Rattle.text_parts.specs.Numbered.{Line}
-use Rattle.file_lint.specs.Findings.{Finding}
-use Rattle.file_lint.specs.Nodes.{Looked}
+use Rattle.text_parts.specs.Numbered.{Line, line}
+use Rattle.file_lint.specs.Findings.{Finding, in_order}
+use Rattle.file_lint.specs.Nodes.{Looked, looked_in}
 use Rattle.file_lint.specs.PolicyErrors.{FindsBy, HasFirst, LintsLines, told_in}
 use Rattle.file_lint.specs.PolicyErrors.LintsLines.{at_fault, no_line, rule, told}
 use Rattle.file_lint.specs.PolicyWords.{policy_error}
-use Rattle.file_lint.specs.RowWarnings.{LookedFinds, RowFinds, Surprises}
+use Rattle.file_lint.specs.RowWarnings.{AreLooked, IsLookedAt, LookedFinds, RowFinds, Surprises, own_warnings, repeat_warnings}
 use Rattle.file_lint.specs.Helps.Rows.{AreFound, FindsMore, LineFinds, LineTells}
 
 zip_append : {X Y : Type 0} (R : X → Y → Type 0) (xs front : List X) (ys back : List Y) → AllZip R xs ys → AllZip R front back → AllZip R (xs ++ front) (ys ++ back)
@@ -46,6 +49,24 @@ found_more model line rule looked look before mid after (found, (pieces, each, i
     wider : after ≡ before ++ (found ++ piece)
     wider = more ∙ ap (λ (l : List Finding). l ++ piece) grown ∙ append_assoc before found piece
 
+-- what the fields of a rule of p surprise by, as its table says it
+pub looked_told : (model : ModelParts) (line : Line) (rule : Fields) (table : TableId) (looked : List Looked) (before after : List Finding) (result : Result (Unit {0}) NoMem) → table ≡ P → looked ≡ looked_in model
+    → OnOk result (FindsMore (AreFound model line rule looked) before after) → OnOk result (FindsMore (AreLooked model line rule table) before after)
+looked_told model line rule table looked before after (Err e) own all finds = tt
+looked_told model line rule table looked before after (Ok done) own all finds =
+    subst (λ (t : TableId). FindsMore (AreLooked model line rule t) before after) (sym own) (by (subst (λ (l : List Looked). FindsMore (AreFound model line rule l) before after) all finds))
+  where
+    by : FindsMore (AreFound model line rule (looked_in model)) before after → FindsMore (IsLookedAt model line rule) before after
+    by (found, (pieces, each, is), grown) = (found, record { pieces = pieces; each = each; together = is }, grown)
+
+-- the warnings of a rule, step after step
+pub row_found : (model : ModelParts) (shapes : Shapes) (before : Policy) (line : Line) (entry : Entry) (repeats own whole ordered old now : List Finding) (result : Result (Unit {0}) NoMem)
+    → repeats ≡ repeat_warnings before line entry → own ≡ repeats ++ own_warnings shapes line entry entry.table → FindsMore (AreLooked model line entry.rule entry.table) own whole → ordered ≡ in_order whole
+    → OnOk result (now ≡ old ++ ordered) → OnOk result (FindsMore (RowFinds model shapes before line entry) old now)
+row_found model shapes before line entry repeats own whole ordered old now (Err e) first second third order grown = tt
+row_found model shapes before line entry repeats own whole ordered old now (Ok done) first second (looked, are, more) order grown =
+    (ordered, record { looked = looked; are_looked = are; all = order ∙ ap in_order (more ∙ ap (λ (l : List Finding). l ++ looked) (second ∙ ap (λ (l : List Finding). l ++ own_warnings shapes line entry entry.table) first)) }, grown)
+
 -- a field that surprises, and one that does not
 pub no_surprise : (good bad : Type 0) (found : Finding) (before : List Finding) → good → FindsMore (Surprises good bad found) before before
 no_surprise good bad found before is = ([], inl (is, refl), sym (append-nil before))
@@ -56,6 +77,12 @@ surprise good bad found before after is grown = (found ∷ [], inr (is, refl), g
 -- what lines behind these say of any end
 abbrev pub LinesGo : ModelParts → Shapes → Option PolicyFault → Policy → List Line → List Finding → (Whole : List Finding → Type 0) → Type 0
 LinesGo model shapes first before lines found Whole = (others : List Finding) → LintsLines model shapes first before lines others → Whole (found ++ others)
+
+-- no line yet
+pub lines_begin : (model : ModelParts) (shapes : Shapes) (first : Option PolicyFault) (start : Policy) (lines : List Line) (found : List Finding) → start ≡ without_rules false → found ≡ []
+    → LinesGo model shapes first start lines found (LintsLines model shapes first (without_rules false) lines)
+lines_begin model shapes first start lines found is none = λ others rest.
+    subst (λ (l : List Finding). LintsLines model shapes first (without_rules false) lines (l ++ others)) (sym none) (subst (λ (p : Policy). LintsLines model shapes first p lines others) is rest)
 
 -- no more lines
 pub lines_end : (model : ModelParts) (shapes : Shapes) (first : Option PolicyFault) (before : Policy) (lines : List Line) (found : List Finding) (Whole : List Finding → Type 0) → lines ≡ []
@@ -106,6 +133,11 @@ pub first_of_lines : (shapes : Shapes) (bytes : List ℕ) (first : Option Policy
 first_of_lines shapes bytes None is utf8 = λ same. absurd cc
 first_of_lines shapes bytes (Some why) (not_utf8 bad same) utf8 = λ is. absurd (bad utf8)
 first_of_lines shapes bytes (Some why) (in_line also is) utf8 = λ same. let own : why ≡ NotUtf8 = cc in never_in_line shapes bytes (subst (IsFaultInLine shapes bytes) own is)
+
+-- bytes that have no lines
+pub finds_bytes : (model : ModelParts) (shapes : Shapes) (bytes : List ℕ) (first : Option PolicyFault) (found : List Finding) → first ≡ Some NotUtf8 → found ≡ policy_error model NotUtf8 (line 1 []) ∷ []
+    → FindsBy model shapes bytes first found
+finds_bytes model shapes bytes first found is are = subst (λ (f : Option PolicyFault). FindsBy model shapes bytes f found) (sym is) are
 
 -- the findings of lines are those of the text
 pub finds_lines : (model : ModelParts) (shapes : Shapes) (bytes : List ℕ) (first : Option PolicyFault) (found : List Finding) → ¬ (first ≡ Some NotUtf8) → LintsLines model shapes first (without_rules false) (policy_lines bytes) found

@@ -69,7 +69,7 @@ subjects line fields at None = tt
 subjects line fields at (Some shape) = where_so _ _ refl
 
 own : (shapes : Shapes) (line : Line) (entry : Entry) (table : TableId) → AreWarnings (own_warnings shapes line entry table)
-own shapes line entry P = both _ _ (both _ _ (effects line entry.rule shapes.effect_column) (ranks line entry.rule shapes.ranked)) (subjects line entry.rule shapes.subject_column _)
+own shapes line entry P = both _ _ (both (effect_warnings line entry.rule shapes.effect_column) _ (effects line entry.rule shapes.effect_column) (ranks line entry.rule shapes.ranked)) (subjects line entry.rule shapes.subject_column _)
 own shapes line entry (G number) = where_so _ _ refl
 
 surprising : (good bad : Type 0) (found : Finding) (findings : List Finding) → found.level ≡ Warning → Surprises good bad found findings → AreWarnings findings

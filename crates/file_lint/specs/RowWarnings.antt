@@ -66,11 +66,14 @@ subject_warnings line rule at (Some shape) =
 abbrev pub link_warnings : Line → Fields → List Finding
 link_warnings line rule = if bytes_eq (field_of rule 0) (field_of rule 1) then warning_in line 2 (codes "a link from " ++ quoted (field_of rule 0) ++ codes " to itself") ∷ [] else []
 
+-- what the fields of a rule of p surprise by
+abbrev pub policy_warnings : Shapes → Line → Fields → List Finding
+policy_warnings shapes line rule =
+    effect_warnings line rule shapes.effect_column ++ rank_warnings line rule shapes.ranked ++ subject_warnings line rule shapes.subject_column (shape_of shapes.roles 1)
+
 -- what a rule's own fields surprise by
 abbrev pub own_warnings : Shapes → Line → Entry → TableId → List Finding
-own_warnings shapes line entry P =
-    effect_warnings line entry.rule shapes.effect_column ++ rank_warnings line entry.rule shapes.ranked
-    ++ subject_warnings line entry.rule shapes.subject_column (shape_of shapes.roles 1)
+own_warnings shapes line entry P = policy_warnings shapes line entry.rule
 own_warnings shapes line entry (G number) = link_warnings line entry.rule
 
 -- a field that is no address and no block, or no rule text

@@ -3,7 +3,7 @@ ghost use Rattle.perm_base.specs.Shapes.{AreValid};
 ghost use Rattle.policy_csv.specs.Policy.{SaysRule, with_entry};
 ghost use Rattle.policy_table.specs.Tables.{place};
 ghost use Rattle.file_lint.specs.Nodes.{looked_in};
-ghost use Rattle.file_lint.specs.RowWarnings.{RowFinds};
+ghost use Rattle.file_lint.specs.RowWarnings.{AreLooked, RowFinds};
 ghost use Rattle.file_lint.specs.PolicyErrors.{line_of, told_in};
 ghost use Rattle.file_lint.specs.Helps.Rows.{AreFewer, FindsMore, LineFinds, LineTells};
 ghost use Rattle.file_lint.specs.Helps.Trees.{looked_seen};
@@ -101,13 +101,30 @@ impl<'a> Judge<'a> {
     {
         let mut found = repeat_warnings(alloc, seen, row, entry)?;
         push_own_warnings(alloc, self.shapes, row, entry, &mut found)?;
+        self.push_held_fields(alloc, row, entry, &mut found)?;
+        let ordered = in_order(alloc, found)?;
+        push_all(findings, ordered)
+    }
+
+    // Pushes what the fields of a rule of p surprise by that the matcher takes for something.
+    fn push_held_fields(
+        &self,
+        alloc: Global,
+        row: &Row<'_>,
+        entry: &Entry,
+        found: &mut Vec<Finding>,
+    ) -> Result<(), NoMemory>
+        requires columns { self.now.shapes.now.columns ≡ length self.now.model.now.policy }
+        requires looked { map looked_seen self.now.looked.now ≡ looked_in self.now.model.now }
+        requires says { SaysRule self.now.shapes.now row.now.text entry.now }
+        ensures { OnOk result (FindsMore
+            (AreLooked self.now.model.now row.now entry.now.rule entry.now.table)
+            found.old.items found.new.items) }
+    {
         match entry.table {
-            TableId::P => {
-                push_looked(alloc, self.model, self.looked, row, &entry.rule, &mut found)?;
-            }
-            TableId::G(_) => {}
+            TableId::P => { push_looked(alloc, self.model, self.looked, row, &entry.rule, found) }
+            TableId::G(_) => Ok(()),
         }
-        push_all(findings, in_order(alloc, found)?)
     }
 }
 

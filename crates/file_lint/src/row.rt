@@ -1,7 +1,7 @@
 ghost use Rattle.std.specs.Prelude.{◌≡◌, ◌++◌, ◌<◌, IfOk, IfSome, OnOk, Some, length, string_bytes};
 ghost use Rattle.perm_base.specs.Shapes.{AreValid};
 ghost use Rattle.policy_table.specs.Limits.{columns_of};
-ghost use Rattle.file_lint.specs.RowWarnings.{effect_warnings, field_of, is_effect, link_warnings, own_warnings, rank_warnings, repeat_warnings, subject_warnings, warning_in};
+ghost use Rattle.file_lint.specs.RowWarnings.{effect_warnings, field_of, is_effect, link_warnings, own_warnings, policy_warnings, rank_warnings, repeat_warnings, subject_warnings, warning_in};
 
 use crate::columns::field_column;
 use crate::finding::{Finding, Level};
@@ -73,20 +73,29 @@ pub(crate) fn push_own_warnings(
         ++ own_warnings shapes.now row.now entry.now entry.now.table) }
 {
     match entry.table {
-        TableId::P => {
-            push_effect(alloc, row, &entry.rule, shapes.effect_column, found)?;
-            push_rank(alloc, row, &entry.rule, shapes.ranked, found)?;
-            push_subject(
-                alloc,
-                row,
-                &entry.rule,
-                shapes.subject_column,
-                shapes.roles.find(1),
-                found,
-            )
-        }
+        TableId::P => push_policy_warnings(alloc, shapes, row, &entry.rule, found),
         TableId::G(_) => push_link(alloc, row, &entry.rule, found),
     }
+}
+
+// Pushes what the fields of a rule of p surprise by.
+fn push_policy_warnings(
+    alloc: Global,
+    shapes: &Shapes,
+    row: &Row<'_>,
+    rule: &Rule,
+    found: &mut Vec<Finding>,
+) -> Result<(), NoMemory>
+    requires effect { IfSome shapes.now.effect_column (λ at. at < length rule.now) }
+    requires some { 0 < length rule.now }
+    requires subject { shapes.now.subject_column < length rule.now }
+    ensures { OnOk result (found.new.items ≡ found.old.items
+        ++ policy_warnings shapes.now row.now rule.now) }
+{
+    push_effect(alloc, row, rule, shapes.effect_column, found)?;
+    push_rank(alloc, row, rule, shapes.ranked, found)?;
+    let relation = shapes.roles.find(1);
+    push_subject(alloc, row, rule, shapes.subject_column, relation, found)
 }
 
 /// The field of a rule at a place.

@@ -4,11 +4,11 @@ use Rattle.file_lint.specs.Helps.Steps.{mended_seen}
 use Rattle.file_lint.specs.Mended.{mended}
 use Rattle.file_lint.specs.ModelErrors.{HasErrors, is_hidden, most_errors}
 use Rattle.file_lint.specs.ModelWords.{error_of}
-use Rattle.file_lint.proofs.RoundLemmas.{goes_further, told_cleared, told_enough, told_further, told_hidden, told_last}
+use Rattle.file_lint.proofs.RoundLemmas.{goes_begin, goes_further, told_cleared, told_enough, told_further, told_hidden, told_last}
 use Rattle.file_lint.proofs.model_errors.further_errors.Goals as goal
 
 pub loop-left-init : goal.loop-left-init
-loop-left-init c = λ others is. is
+loop-left-init c = goes_begin _ (HasErrors most_errors false (string_bytes c.args.bytes) c.args.first) (search rules)
 
 pub returns-then-is_hidden : goal.returns-then-is_hidden
 returns-then-is_hidden c =

@@ -8,13 +8,13 @@ use Rattle.file_lint.specs.Findings.{Finding}
 use Rattle.file_lint.specs.PolicyErrors.{LintsLines}
 use Rattle.file_lint.proofs.policy.lines_found.Given as goal
 
-abbrev pub invariant-loop-line : goal.invariant-loop-line
-invariant-loop-line l = record {
+abbrev pub invariant-loop-at : goal.invariant-loop-at
+invariant-loop-at l = record {
   goes : (others : List Finding) → LintsLines l.model l.shapes l.first l.seen.policy (full_lines l.number l.rest) others → LintsLines l.model l.shapes l.first (without_rules false) (policy_lines l.text) (l.findings.items ++ others);
   few : (table : TableId) → length (rows l.seen.policy table) < l.number;
   within : l.number + length l.rest ≤ 1 + length l.text;
   utf8 : IsUtf8 l.rest;
 }
 
-abbrev pub decreases-loop-line : goal.decreases-loop-line
-decreases-loop-line l = length l.rest
+abbrev pub decreases-loop-at : goal.decreases-loop-at
+decreases-loop-at l = length l.rest

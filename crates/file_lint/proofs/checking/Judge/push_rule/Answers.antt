@@ -1,15 +1,8 @@
-use Rattle.std.proofs.Common.{◌≡◌, Some, length, sym, ap, subst, ◌∙◌, rules}
-use Rattle.perm_base.specs.declared.shapes.TableId.TheVariants.{P}
-use Rattle.policy_table.specs.Limits.{columns_of}
-use Rattle.file_lint.specs.Helps.Rows.{AreWithin}
-use Rattle.file_lint.proofs.KeptLemmas.{looked_within}
+use Rattle.std.proofs.Common.{◌≡◌, rules}
+use Rattle.file_lint.proofs.RowLemmas.{row_found}
 use Rattle.file_lint.proofs.checking.Judge.push_rule.Goals as goal
 
--- the rule has as many fields as p has columns: `says.columns` at P is `Some shapes.columns ≡ Some (length rule)`
-pub push_looked-requires : goal.push_looked-requires
-push_looked-requires c =
-    let judge = c.args.self.now in
-    let rule = c.args.entry.now.rule in
-    let told : columns_of judge.shapes.now P ≡ Some (length rule) = rw c.in-P.is at c.requires.says.columns in
-    let same : length rule ≡ length judge.model.now.policy = sym (let own : judge.shapes.now.columns ≡ length rule = cc in own) ∙ c.requires.columns in
-    subst (λ looked. AreWithin looked rule) (sym c.requires.looked) (looked_within judge.model.now rule same)
+pub returns : goal.returns
+returns c =
+    row_found c.args.self.now.model.now c.args.self.now.shapes.now c.args.seen.now.policy c.args.row.now c.args.entry.now c.in_ok-found.found.items c.push_own_warnings.new.found.items c.push_held_fields.new.found.items c.in_ok-ordered.ordered.items
+    c.args.findings.now.items c.push_all.new.findings.items c.push_all.result c.in_ok-found.ensures c.in_ok-push_own_warnings.ensures c.in_ok-push_held_fields.ensures c.in_ok-ordered.ensures c.push_all.ensures
