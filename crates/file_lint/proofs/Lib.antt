@@ -1,5 +1,6 @@
 pub mod NumberLemmas
 pub mod OrderLemmas
+pub mod CutLemmas
 pub mod PlaceLemmas
 pub mod MendLemmas
 pub mod NearLemmas

@@ -1,4 +1,4 @@
-ghost use Rattle.std.specs.Prelude.{◌≡◌, ◌&&◌, ◌+◌, ◌<◌, ◌≤◌, ◌^◌, IfSome, false, length, nat_lt, true};
+ghost use Rattle.std.specs.Prelude.{◌≡◌, ◌==◌, ◌&&◌, ◌+◌, ◌<◌, ◌≤◌, ◌^◌, IfSome, false, length, nat_lt, true};
 ghost use Rattle.std.specs.List.{after_first, before_first};
 ghost use Rattle.text_parts.specs.Numbered.{line, numbered, text_lines};
 ghost use Rattle.file_lint.specs.Places.{behind_blanks_at, blanks_before, ends_in, file_lines, from_key, is_equals, is_open, key_in, line_at, open_length, place, place_in};
@@ -23,8 +23,7 @@ pub(crate) fn ends_in(text: &[u8], sign: u8) -> bool
 
 /// How many bytes of a line that is continued stand before the `\`.
 pub(crate) fn open_length(text: &str) -> usize
-    ensures value { result ≡ open_length text.now }
-    ensures within { result ≤ length text.now }
+    ensures { result ≡ open_length text.now }
 {
     before_blanks(text).len().saturating_sub(1)
 }
@@ -62,10 +61,19 @@ pub(crate) fn cut_at_equals(text: &str) -> (&str, &str)
     ensures front { result.0.now ≡ before_first is_equals text.now }
     ensures back { result.1.now ≡ after_first is_equals text.now }
 {
-    match text.split_once('=') {
-        Some((front, back)) => (front, back),
-        None => (text, ""),
-    }
+    cut_at(text, '=')
+}
+
+/// What stands before the first such sign of ASCII in a text, and what behind it; the text and nothing where it has none.
+pub(crate) fn cut_at(text: &str, sign: char) -> (&str, &str)
+    requires { sign < 128 }
+    ensures front { result.0.now ≡ before_first (λ byte. byte == sign) text.now }
+    ensures back { result.1.now ≡ after_first (λ byte. byte == sign) text.now }
+{
+    let Some((front, back)) = text.split_once(sign) else {
+        return (text, "");
+    };
+    (front, back)
 }
 
 /// The line of a number in a text; empty where there is none.

@@ -12,7 +12,7 @@ ghost use Rattle.file_lint.specs.Helps.Steps.{mended_seen};
 
 use crate::hints::begins_so;
 use crate::lines::{cut_at_equals, from_key, is_open, key_in, line_at};
-use crate::names::{header_in, key_and_rest, lower_of};
+use crate::names::{has_order_mark, header_in, key_and_rest, lower_of};
 use crate::near::near_section;
 use crate::texts::{joined, push};
 use crate::values::{place_of_value, rest_at};
@@ -117,7 +117,10 @@ fn without_line(alloc: Global, text: &str, number: u64) -> Result<Option<Mended>
 fn without_mark(line: &str) -> Option<&str>
     ensures { option_map (λ rest. rest.now) result ≡ without_mark line.now }
 {
-    line.strip_prefix('\u{feff}')
+    if !has_order_mark(line) {
+        return None;
+    }
+    Some(&line[3..])
 }
 
 // A text with the section that a line nearly names, or without the lines of the section.

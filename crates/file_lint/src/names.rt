@@ -3,6 +3,7 @@ ghost use Rattle.file_lint.specs.Hints.{begins_so};
 ghost use Rattle.file_lint.specs.ModelNames.{header_in, key_and_rest, key_behind, key_of, lower_of, order_mark, section_of};
 
 use crate::hints::begins_so;
+use crate::lines::cut_at;
 use model_conf::Key;
 use text_parts::trimmed;
 
@@ -17,13 +18,7 @@ pub(crate) fn has_order_mark(text: &str) -> bool
 pub(crate) fn header_in(line: &str) -> &str
     ensures { result.now ≡ header_in line.now }
 {
-    let Some((_, behind)) = line.split_once('[') else {
-        return "";
-    };
-    match behind.split_once(']') {
-        Some((name, _)) => trimmed(name),
-        None => trimmed(behind),
-    }
+    trimmed(cut_at(cut_at(line, '[').1, ']').0)
 }
 
 /// The key that is written in upper case.

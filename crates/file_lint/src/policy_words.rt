@@ -9,6 +9,7 @@ use crate::columns::{field_column, field_count};
 use crate::finding::{Finding, Level};
 use crate::hints::begins_so;
 use crate::limits::limit_words;
+use crate::lines::cut_at;
 use crate::mending::relation_key;
 use crate::names::has_order_mark;
 use crate::texts::{push, push_number, push_quoted};
@@ -101,10 +102,7 @@ fn push_table_words(words: &mut String, model: &Model, line: &str) -> Result<(),
 fn name_in(line: &str) -> &str
     ensures { result.now ≡ name_in line.now }
 {
-    match line.split_once(',') {
-        Some((name, _)) => trimmed(name),
-        None => trimmed(line),
-    }
+    trimmed(cut_at(line, ',').0)
 }
 
 // Appends `p`, and the relations of the model.

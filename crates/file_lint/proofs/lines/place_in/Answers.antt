@@ -18,7 +18,7 @@ loop-next-preserved c =
     let text = c.loop-next.text.now in
     let after = numbered (at + 1 + 1) (text_lines c.in-Some.after.now) in
     record {
-      left = ap (λ n. place_in (line (at + 1) c.in-Some.next.now) after (c.loop-next.left - (n + 1))) c.open_length.ensures.value
+      left = ap (λ n. place_in (line (at + 1) c.in-Some.next.now) after (c.loop-next.left - (n + 1))) c.open_length.ensures
           ∙ sym (place_in-next at text (line (at + 1) c.in-Some.next.now) after c.loop-next.left (sym c.goes_past.ensures.past ∙ c.if-not-goes_past.false))
           ∙ ap (λ l. place_in (line at text) l c.loop-next.left) (sym (numbered_first (at + 1) c.loop-next.rest.now c.in-Some.next.now c.in-Some.after.now c.in-Some.ensures.first)) ∙ c.loop-next.invariant.left;
       within = omega (arith, c.in-Some.ensures.shorter, c.loop-next.invariant.within);
