@@ -4,6 +4,7 @@ pub mod CutLemmas
 pub mod PlaceLemmas
 pub mod MendLemmas
 pub mod NearLemmas
+pub mod WantLemmas
 pub mod RoundLemmas
 pub mod ColumnLemmas
 pub mod RowLemmas

@@ -67,6 +67,17 @@ row_found model shapes before line entry repeats own whole ordered old now (Err 
 row_found model shapes before line entry repeats own whole ordered old now (Ok done) first second (looked, are, more) order grown =
     (ordered, record { looked = looked; are_looked = are; all = order ∙ ap in_order (more ∙ ap (λ (l : List Finding). l ++ looked) (second ∙ ap (λ (l : List Finding). l ++ own_warnings shapes line entry entry.table) first)) }, grown)
 
+-- a line that says a rule, and one that has a fault of its own
+pub entry_judged : (model : ModelParts) (shapes : Shapes) (line : Line) (before after : Policy) (findings now : List Finding) (entry : Entry) (result : Result (Unit {0}) NoMem) → SaysRule shapes line.text entry
+    → OnOk result (after ≡ with_entry entry before) → OnOk result (FindsMore (RowFinds model shapes before line entry) findings now) → OnOk result (LineFinds model shapes line before after findings now)
+entry_judged model shapes line before after findings now entry (Err e) says kept finds = tt
+entry_judged model shapes line before after findings now entry (Ok done) says kept finds = inl (entry, says, kept, finds)
+
+pub fault_judged : (model : ModelParts) (shapes : Shapes) (line : Line) (before : Policy) (findings now : List Finding) (why : PolicyFault) (result : Result (Unit {0}) NoMem)
+    → IsTextFault shapes (given_number line.number) line.text why → OnOk result (why ≢ NoMemory) → OnOk result (now ≡ findings ++ policy_error model why line ∷ []) → OnOk result (LineFinds model shapes line before before findings now)
+fault_judged model shapes line before findings now why (Err e) is known grown = tt
+fault_judged model shapes line before findings now why (Ok done) is known grown = inr (why, known, is, refl, grown)
+
 -- a field that surprises, and one that does not
 pub no_surprise : (good bad : Type 0) (found : Finding) (before : List Finding) → good → FindsMore (Surprises good bad found) before before
 no_surprise good bad found before is = ([], inl (is, refl), sym (append-nil before))

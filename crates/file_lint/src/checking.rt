@@ -1,10 +1,11 @@
-ghost use Rattle.std.specs.Prelude.{◌≡◌, ◌++◌, IsSome, OnOk, length, map};
+ghost use Rattle.std.specs.Prelude.{◌≡◌, ◌≢◌, ◌++◌, ◌∷◌, [], IsSome, OnOk, length, map};
 ghost use Rattle.perm_base.specs.Shapes.{AreValid};
 ghost use Rattle.policy_csv.specs.Policy.{SaysRule, with_entry};
 ghost use Rattle.policy_table.specs.Tables.{place};
 ghost use Rattle.file_lint.specs.Nodes.{looked_in};
 ghost use Rattle.file_lint.specs.RowWarnings.{AreLooked, RowFinds};
 ghost use Rattle.file_lint.specs.PolicyErrors.{line_of, told_in};
+ghost use Rattle.file_lint.specs.PolicyWords.{policy_error};
 ghost use Rattle.file_lint.specs.Helps.Rows.{AreFewer, FindsMore, LineFinds, LineTells};
 ghost use Rattle.file_lint.specs.Helps.Trees.{looked_seen};
 
@@ -14,6 +15,7 @@ use crate::order::in_order;
 use crate::policy_words::policy_error;
 use crate::row::{Row, push_own_warnings, repeat_warnings};
 use crate::rows::push_looked;
+use crate::wants::unless_policy_want;
 use model_conf::Model;
 use outside::NoMemory;
 use perm_base::{Shapes, TableId};
@@ -50,7 +52,8 @@ impl<'a> Judge<'a> {
         let Some(why) = told_in(first, given_number(row.number)) else {
             return self.push_line(alloc, row, seen, findings);
         };
-        findings.push(policy_error(alloc, self.model, why, row.number, row.text)?)?;
+        let error = policy_error(alloc, self.model, why, row.number, row.text)?;
+        findings.push(error)?;
         Ok(())
     }
 
@@ -70,16 +73,50 @@ impl<'a> Judge<'a> {
             seen.old.policy seen.new.policy findings.old.items findings.new.items) }
     {
         match read_entry(alloc, self.shapes, given_number(row.number), row.text) {
-            Ok(entry) => {
-                self.push_rule(alloc, row, &entry, seen, findings)?;
-                keep(seen, entry)
-            }
-            Err(PolicyFault::NoMemory) => Err(NoMemory),
-            Err(why) => {
-                findings.push(policy_error(alloc, self.model, why, row.number, row.text)?)?;
-                Ok(())
-            }
+            Ok(entry) => self.push_entry(alloc, row, entry, seen, findings),
+            Err(why) => self.push_fault(alloc, row, why, findings),
         }
+    }
+
+    // Pushes the warnings of a rule, and keeps it.
+    fn push_entry(
+        &self,
+        alloc: Global,
+        row: &Row<'_>,
+        entry: Entry,
+        seen: &mut Tables,
+        findings: &mut Vec<Finding>,
+    ) -> Result<(), NoMemory>
+        requires valid { AreValid self.now.shapes.now }
+        requires columns { self.now.shapes.now.columns ≡ length self.now.model.now.policy }
+        requires looked { map looked_seen self.now.looked.now ≡ looked_in self.now.model.now }
+        requires few { AreFewer seen.old.policy }
+        requires says { SaysRule self.now.shapes.now row.now.text entry }
+        ensures kept { OnOk result (seen.new.policy ≡ with_entry entry seen.old.policy) }
+        ensures finds { OnOk result (FindsMore
+            (RowFinds self.now.model.now self.now.shapes.now seen.old.policy row.now entry)
+            findings.old.items findings.new.items) }
+    {
+        self.push_rule(alloc, row, &entry, seen, findings)?;
+        keep(seen, entry)
+    }
+
+    // Pushes the own fault of a line, unless the line was not read for want of memory.
+    fn push_fault(
+        &self,
+        alloc: Global,
+        row: &Row<'_>,
+        why: PolicyFault,
+        findings: &mut Vec<Finding>,
+    ) -> Result<(), NoMemory>
+        ensures known { OnOk result (why ≢ PolicyFault.NoMemory) }
+        ensures grown { OnOk result (findings.new.items ≡ findings.old.items
+            ++ policy_error self.now.model.now why row.now ∷ []) }
+    {
+        unless_policy_want(why)?;
+        let error = policy_error(alloc, self.model, why, row.number, row.text)?;
+        findings.push(error)?;
+        Ok(())
     }
 
     // Pushes the warnings of a rule, in the order of their columns.

@@ -26,6 +26,7 @@ mod row;
 mod rows;
 mod texts;
 mod values;
+mod wants;
 
 pub use finding::{Finding, Level};
 pub use laws::{errors_begin_with_the_fault, policies_without_fault_have_no_errors};

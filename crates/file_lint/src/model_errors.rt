@@ -1,4 +1,4 @@
-ghost use Rattle.std.specs.Prelude.{◌≡◌, ℕ, IfOk, List, MatchOption, false, string_bytes};
+ghost use Rattle.std.specs.Prelude.{◌≡◌, ◌≢◌, ℕ, IfOk, List, MatchOption, false, string_bytes};
 ghost use Rattle.model_conf.specs.Faults.{IsModelFault};
 ghost use Rattle.model_conf.specs.ModelText.{IsModel, ModelParts};
 ghost use Rattle.file_lint.specs.ModelErrors.{HasErrors, LintsModel, is_hidden, is_of_names, most_errors};
@@ -9,6 +9,7 @@ use crate::mending::mend;
 use crate::model_warnings::model_warnings;
 use crate::model_words::error_of;
 use crate::order::in_order;
+use crate::wants::unless_model_want;
 use model_conf::{Model, ModelFault, read_model};
 use outside::NoMemory;
 use std::alloc::Global;
@@ -33,23 +34,36 @@ pub fn lint_model(alloc: Global, bytes: &[u8]) -> Result<ModelLint, NoMemory>
     ensures { IfOk result (λ lint. LintsModel bytes.now lint.read lint.findings.items) }
 {
     match read_model(alloc, bytes) {
-        Ok(model) => {
-            let warnings = model_warnings(alloc, bytes, &model)?;
-            Ok(lint_of(in_order(alloc, warnings)?, Ok(model)))
-        }
-        Err(ModelFault::NoMemory) => Err(NoMemory),
-        Err(first) => {
-            let errors = errors_of(alloc, bytes, first)?;
-            Ok(lint_of(in_order(alloc, errors)?, Err(first)))
-        }
+        Ok(model) => lint_of_model(alloc, bytes, model),
+        Err(fault) => lint_of_fault(alloc, bytes, fault),
     }
 }
 
-fn lint_of(findings: Vec<Finding>, read: Result<Model, ModelFault>) -> ModelLint
-    ensures findings { result.findings.items ≡ findings.items }
-    ensures read { result.read ≡ read }
+// The warnings of a model, which these bytes say.
+fn lint_of_model(alloc: Global, bytes: &[u8], model: Model) -> Result<ModelLint, NoMemory>
+    requires { IsModel bytes.now model }
+    ensures { IfOk result (λ lint. LintsModel bytes.now lint.read lint.findings.items) }
 {
-    ModelLint { findings, read }
+    let warnings = model_warnings(alloc, bytes, &model)?;
+    let findings = in_order(alloc, warnings)?;
+    Ok(ModelLint {
+        findings,
+        read: Ok(model),
+    })
+}
+
+// The errors of bytes that are no model, unless they were not read for want of memory.
+fn lint_of_fault(alloc: Global, bytes: &[u8], first: ModelFault) -> Result<ModelLint, NoMemory>
+    requires { first ≢ ModelFault.NoMemory → IsModelFault bytes.now first }
+    ensures { IfOk result (λ lint. LintsModel bytes.now lint.read lint.findings.items) }
+{
+    unless_model_want(first)?;
+    let errors = errors_of(alloc, bytes, first)?;
+    let findings = in_order(alloc, errors)?;
+    Ok(ModelLint {
+        findings,
+        read: Err(first),
+    })
 }
 
 // The errors of a text from its first fault on.
@@ -60,8 +74,8 @@ fn errors_of(alloc: Global, bytes: &[u8], first: ModelFault) -> Result<Vec<Findi
     let Ok(text) = str::from_utf8(bytes) else {
         return only_error(alloc, first);
     };
-    let text = String::from_str(alloc, text)?;
-    further_errors(alloc, text, first)
+    let owned = String::from_str(alloc, text)?;
+    further_errors(alloc, owned, first)
 }
 
 // The error of a text that is not UTF-8, or too long.
@@ -71,7 +85,8 @@ fn only_error(alloc: Global, first: ModelFault) -> Result<Vec<Finding>, NoMemory
         → HasErrors most_errors false bytes first errors.items) }
 {
     let mut errors = Vec::new(alloc);
-    errors.push(error_of(alloc, "", first)?)?;
+    let error = error_of(alloc, "", first)?;
+    errors.push(error)?;
     Ok(errors)
 }
 
@@ -89,7 +104,8 @@ fn further_errors(alloc: Global, bytes: String, first: ModelFault) -> Result<Vec
         if is_hidden(guessed, fault) {
             return Ok(errors);
         }
-        errors.push(error_of(alloc, text.as_str(), fault)?)?;
+        let error = error_of(alloc, text.as_str(), fault)?;
+        errors.push(error)?;
         let Some(after) = mend(alloc, text.as_str(), fault)? else {
             return Ok(errors);
         };
@@ -110,11 +126,11 @@ fn fault_in(alloc: Global, text: &str) -> Result<Option<ModelFault>, NoMemory>
         ((model : ModelParts) × IsModel text.now model)
         (IsModelFault text.now)) }
 {
-    match read_model(alloc, text.as_bytes()) {
-        Ok(_) => Ok(None),
-        Err(ModelFault::NoMemory) => Err(NoMemory),
-        Err(next) => Ok(Some(next)),
-    }
+    let Err(next) = read_model(alloc, text.as_bytes()) else {
+        return Ok(None);
+    };
+    unless_model_want(next)?;
+    Ok(Some(next))
 }
 
 // Columns or shapes were guessed, and the fault is one of names.

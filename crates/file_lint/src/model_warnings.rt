@@ -34,7 +34,9 @@ pub(crate) fn model_warnings(
     requires { IsUtf8 bytes.now }
     ensures { IfOk result (λ found. found.items ≡ model_warnings bytes.now model.now) }
 {
-    let text = str::from_utf8(bytes).unwrap_or("");
+    let Ok(text) = str::from_utf8(bytes) else {
+        unreachable!()
+    };
     let mut found = Vec::new(alloc);
     push_column_warnings(alloc, text, model, &mut found)?;
     let nodes = nodes_of(alloc, model.matcher())?;
@@ -57,7 +59,8 @@ fn push_column_warnings(
         return Ok(());
     }
     let at = place_of_value(text, "p", 0);
-    found.push(warning_at(alloc, &at, PRIORITY_WORDS)?)?;
+    let warning = warning_at(alloc, &at, PRIORITY_WORDS)?;
+    found.push(warning)?;
     Ok(())
 }
 
@@ -82,7 +85,8 @@ fn push_node_warnings(
         return Ok(());
     };
     let place = place_of_value(text, "m", at.saturating_sub(1));
-    found.push(warning_at(alloc, &place, words)?)?;
+    let warning = warning_at(alloc, &place, words)?;
+    found.push(warning)?;
     Ok(())
 }
 

@@ -11,6 +11,7 @@ use crate::finding::Finding;
 use crate::nodes::looked_in;
 use crate::policy_words::policy_error;
 use crate::row::Row;
+use crate::wants::unless_policy_want;
 use model_conf::Model;
 use outside::NoMemory;
 use perm_base::Shapes;
@@ -45,10 +46,8 @@ pub fn lint_policy(
 {
     let fault = first_fault(alloc, bytes, shapes)?;
     let Ok(text) = str::from_utf8(bytes) else {
-        return Ok(PolicyLint {
-            findings: only_error(alloc, model)?,
-            fault,
-        });
+        let findings = only_error(alloc, model)?;
+        return Ok(PolicyLint { findings, fault });
     };
     let findings = lines_found(alloc, text, model, shapes, fault)?;
     Ok(PolicyLint { findings, fault })
@@ -63,11 +62,11 @@ fn first_fault(
     requires { AreValid shapes.now }
     ensures { IfOk result (HasFirst shapes.now bytes.now) }
 {
-    match read_policy(alloc, bytes, shapes) {
-        Ok(_) => Ok(None),
-        Err(PolicyFault::NoMemory) => Err(NoMemory),
-        Err(first) => Ok(Some(first)),
-    }
+    let Err(first) = read_policy(alloc, bytes, shapes) else {
+        return Ok(None);
+    };
+    unless_policy_want(first)?;
+    Ok(Some(first))
 }
 
 // The error of a text that is not UTF-8.
@@ -76,7 +75,8 @@ fn only_error(alloc: Global, model: &Model) -> Result<Vec<Finding>, NoMemory>
         ≡ policy_error model.now PolicyFault.NotUtf8 (line 1 []) ∷ []) }
 {
     let mut findings = Vec::new(alloc);
-    findings.push(policy_error(alloc, model, PolicyFault::NotUtf8, 1, "")?)?;
+    let error = policy_error(alloc, model, PolicyFault::NotUtf8, 1, "")?;
+    findings.push(error)?;
     Ok(findings)
 }
 

@@ -6,7 +6,7 @@ pub returns-in_default : goal.returns-in_default
 returns-in_default c =
     let has = c.in_ok-fault.ensures in
     let is = first_of_bytes c.args.shapes.now c.args.bytes.now c.in_ok-fault.fault has (search rules) in
-    record { has = has; finds = finds_bytes c.args.model.now c.args.shapes.now c.args.bytes.now c.in_ok-fault.fault _ is c.in_ok-only_error.ensures }
+    record { has = has; finds = finds_bytes c.args.model.now c.args.shapes.now c.args.bytes.now c.in_ok-fault.fault _ is c.in_ok-findings.ensures }
 
 pub returns : goal.returns
 returns c =

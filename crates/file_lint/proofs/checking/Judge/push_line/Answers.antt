@@ -1,18 +1,13 @@
-use Rattle.std.proofs.Common.{◌≡◌, ◌≢◌, ◌++◌, ◌∷◌, [], inl, inr, refl, length, rules}
-use Rattle.policy_csv.specs.declared.fault.PolicyFault.TheVariants.{NoMemory}
-use Rattle.policy_csv.proofs.CallerLemmas.{place_known}
-use Rattle.file_lint.specs.PolicyWords.{policy_error}
+use Rattle.file_lint.proofs.RowLemmas.{entry_judged, fault_judged}
 use Rattle.file_lint.proofs.checking.Judge.push_line.Goals as goal
 
-pub keep-requires-clause-table : goal.keep-requires-clause-table
-keep-requires-clause-table c = let says = c.in-Ok.ensures.found in place_known c.args.self.now.shapes.now c.in-Ok.entry.table (length c.in-Ok.entry.rule) c.requires.valid.roles says.columns
-
--- a rule: what `push_rule` found, and what `keep` kept
+-- a rule that is kept with its warnings, or the line's own fault
 pub returns-in-Ok : goal.returns-in-Ok
-returns-in-Ok c = inl (c.in-Ok.entry, c.in-Ok.ensures.found, (search rules), (search rules))
+returns-in-Ok c =
+    entry_judged c.args.self.now.model.now c.args.self.now.shapes.now c.args.row.now c.args.seen.now.policy c.push_entry.new.seen.policy c.args.findings.now.items c.push_entry.new.findings.items c.in-Ok.entry c.push_entry.result
+    c.in-Ok.ensures.found c.push_entry.ensures.kept c.push_entry.ensures.finds
 
--- the line's own fault, which is no want of memory
 pub returns-in-Err : goal.returns-in-Err
 returns-in-Err c =
-    let no_want : c.in-Err-2.why ≢ NoMemory = search rules in
-    inr (c.in-Err-2.why, no_want, c.in-Err-2.ensures.fault, refl, (search rules))
+    fault_judged c.args.self.now.model.now c.args.self.now.shapes.now c.args.row.now c.args.seen.now.policy c.args.findings.now.items c.push_fault.new.findings.items c.in-Err.why c.push_fault.result
+    c.in-Err.ensures.fault c.push_fault.ensures.known c.push_fault.ensures.grown
