@@ -1,12 +1,9 @@
 -- A text with a line replaced, from one line to the next.
-use Rattle.std.proofs.Common.{◌≡◌, ℕ, ◌+◌, Bool, true, false, cond, List, [], ◌∷◌, ◌++◌, length, refl, sym, ap, ◌∙◌, arith}
-use Rattle.std.specs.List.{prefix_len}
+use Rattle.std.proofs.Common.{◌≡◌, ℕ, List, [], ◌∷◌, ◌++◌, refl, sym, ap, ◌∙◌}
 use Rattle.std.proofs.lemmas.List.{append_assoc}
-use Rattle.std.proofs.lemmas.List.Folds.{length-prefix_len}
 use Rattle.text_parts.specs.Lines.{with_ends}
-use Rattle.text_parts.specs.Names.{is_word}
-use Rattle.text_parts.specs.Numbered.{Line, line}
-use Rattle.file_lint.specs.Mended.{piece, reach_behind, replaced, word_front}
+use Rattle.text_parts.specs.Numbered.{Line}
+use Rattle.file_lint.specs.Mended.{piece, reach_behind, replaced}
 use Rattle.file_lint.specs.declared.mending.Extent.{Extent}
 use Rattle.file_lint.specs.declared.mending.Reach.{Reach}
 

@@ -1,5 +1,5 @@
 -- Where a policy has no fault, all findings are warnings.
-use Rattle.std.proofs.Common.{◌≡◌, ◌≢◌, ℕ, Bool, true, false, List, [], ◌∷◌, ◌++◌, Option, Some, None, inl, inr, filter, length, refl, sym, ap, subst, ◌∙◌}
+use Rattle.std.proofs.Common.{◌≡◌, ◌≢◌, ℕ, ◌+◌, Bool, true, false, cond, List, [], ◌∷◌, ◌++◌, Option, Some, None, inl, inr, refl, sym, ap, subst, ◌∙◌, arith}
 use Rattle.std.specs.Prelude.{Ok, Err, flat_map, if◌then◌else◌}
 use Rattle.std.specs.List.{AllByRecursion, AllZip}
 use Rattle.model_conf.specs.ModelText.{ModelParts}
@@ -21,6 +21,7 @@ use Rattle.file_lint.specs.Nodes.{Looked}
 use Rattle.file_lint.specs.PolicyErrors.{LintsLines}
 use Rattle.file_lint.specs.PolicyErrors.LintsLines.{at_fault, no_line, rule, told}
 use Rattle.file_lint.specs.RowWarnings.{AreLooked, HeldFinds, LookedFinds, RowFinds, Surprises, effect_warnings, field_of, own_warnings, rank_warnings, repeat_warnings, subject_warnings}
+use Rattle.file_lint.specs.declared.finding.Level.{Level}
 use Rattle.file_lint.specs.declared.finding.Level.TheVariants.{Error, Warning}
 use Rattle.file_lint.specs.declared.nodes.Held.{Held}
 use Rattle.file_lint.specs.declared.nodes.Held.TheVariants.{Block, KeyPattern, RuleText}
@@ -114,4 +115,6 @@ warned model shapes before (next ∷ lines) (entry ∷ entries) findings says (a
 -- among warnings is no error
 pub no_errors : (findings : List Finding) → AreWarnings findings → count_of Error findings ≡ 0
 no_errors [] all = refl
-no_errors (first ∷ others) all = rw all.0 (no_errors others all.1)
+no_errors (first ∷ others) all =
+    let none : cond (is_same Error first.level) 1 0 ≡ 0 = ap (λ (level : Level). cond (is_same Error level) 1 0) all.0 in
+    omega (arith, none, no_errors others all.1)

@@ -33,6 +33,12 @@ pub(crate) fn blanks_before(text: &[u8]) -> usize
     ensures value { result ≡ blanks_before text.now }
     ensures within { result ≤ length text.now }
 {
+    blank_count(text)
+}
+
+fn blank_count(text: &[u8]) -> usize
+    ensures { result ≡ blanks_before text.now }
+{
     text.iter().take_while(|byte| is_blank(**byte)).count()
 }
 

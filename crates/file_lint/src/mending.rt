@@ -1,4 +1,4 @@
-ghost use Rattle.std.specs.Prelude.{◌≡◌, ◌-◌, ◌++◌, IfOk, OnOk, false, option_map, string_bytes};
+ghost use Rattle.std.specs.Prelude.{◌≡◌, ◌-◌, ◌≤◌, ◌++◌, IfOk, OnOk, false, length, option_map, string_bytes};
 ghost use Rattle.std.specs.List.{prefix_len};
 ghost use Rattle.text_parts.specs.Names.{is_word};
 ghost use Rattle.text_parts.specs.Numbered.{line};
@@ -334,14 +334,21 @@ pub(crate) fn word_front(text: &[u8]) -> &str
     ensures { result.now ≡ word_front text.now }
 {
     let end = word_length(text);
-    match str::from_utf8(&text[..end]) {
-        Ok(word) => word,
-        Err(_) => "",
-    }
+    let Ok(word) = str::from_utf8(&text[..end]) else {
+        unreachable!()
+    };
+    word
 }
 
 // How many letters, digits and `_` stand in front of a text.
 fn word_length(text: &[u8]) -> usize
+    ensures value { result ≡ prefix_len is_word text.now }
+    ensures within { result ≤ length text.now }
+{
+    word_count(text)
+}
+
+fn word_count(text: &[u8]) -> usize
     ensures { result ≡ prefix_len is_word text.now }
 {
     text.iter().take_while(|byte| is_word(**byte)).count()

@@ -1,5 +1,5 @@
-ghost use Rattle.std.specs.Prelude.{◌≡◌, ◌++◌, OnOk, string_bytes};
-ghost use Rattle.file_lint.specs.Findings.{count_line, count_of, finding_line, finding_lines, is_same, level_text};
+ghost use Rattle.std.specs.Prelude.{◌≡◌, ◌≤◌, ◌++◌, OnOk, length, string_bytes};
+ghost use Rattle.file_lint.specs.Findings.{count_line, count_of, finding_line, finding_lines, is_error, is_same, level_text};
 
 use crate::finding::{Finding, Level};
 use crate::texts::push_number;
@@ -7,12 +7,19 @@ use outside::NoMemory;
 
 /// How many findings are of a level.
 pub fn count_of(findings: &[Finding], level: Level) -> u64
+    ensures value { result ≡ count_of level findings.now }
+    ensures few { result ≤ length findings.now }
+{
+    count(findings, level) as u64
+}
+
+fn count(findings: &[Finding], level: Level) -> usize
     ensures { result ≡ count_of level findings.now }
 {
     findings
         .iter()
         .filter(|found| is_same(level, found.level))
-        .count() as u64
+        .count()
 }
 
 /// Appends the line of each finding in a file of this name.
@@ -67,10 +74,17 @@ fn level_text(level: Level) -> &'static str
 fn is_same(level: Level, other: Level) -> bool
     ensures { result ≡ is_same level other }
 {
-    match (level, other) {
-        (Level::Error, Level::Error) => true,
-        (Level::Warning, Level::Warning) => true,
-        (Level::Error, Level::Warning) => false,
-        (Level::Warning, Level::Error) => false,
+    match level {
+        Level::Error => is_error(other),
+        Level::Warning => !is_error(other),
+    }
+}
+
+fn is_error(level: Level) -> bool
+    ensures { result ≡ is_error level }
+{
+    match level {
+        Level::Error => true,
+        Level::Warning => false,
     }
 }
