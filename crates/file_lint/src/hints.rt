@@ -1,6 +1,6 @@
 ghost use Rattle.std.specs.Prelude.{◌≡◌, map};
 ghost use Rattle.file_lint.specs.Places.{ends_in};
-ghost use Rattle.file_lint.specs.Hints.{begins_so, begins_with_one, ends_in_digit, hint, hint_of_names, is_end};
+ghost use Rattle.file_lint.specs.Hints.{begins_so, begins_with_one, ends_in_digit, hint, hint_of_names, is_end, is_over};
 
 use crate::lines::{blanks_before, ends_in};
 
@@ -61,7 +61,14 @@ fn hint_of_names(before: &[u8], rest: &[u8]) -> &'static str
 fn is_end(text: &[u8]) -> bool
     ensures { result ≡ is_end text.now }
 {
-    match &text[blanks_before(text)..] {
+    is_over(&text[blanks_before(text)..])
+}
+
+// Nothing stands there, or a comment.
+fn is_over(text: &[u8]) -> bool
+    ensures { result ≡ is_over text.now }
+{
+    match text {
         [] => true,
         [first, ..] => *first == b'#',
     }

@@ -1,4 +1,4 @@
-ghost use Rattle.std.specs.Prelude.{◌≡◌, ◌++◌, IfOk, OnOk, map, option_map};
+ghost use Rattle.std.specs.Prelude.{◌≡◌, ◌++◌, ◌∷◌, [], IfOk, OnOk, map, option_map};
 ghost use Rattle.matcher_read.specs.Expression.{expression, expressions_of};
 ghost use Rattle.file_lint.specs.Nodes.{all_nodes_of, first_of, held_by, looked_at, looked_both, looked_in, nodes_of, policy_place, second_column, second_of};
 ghost use Rattle.file_lint.specs.Helps.Trees.{looked_seen, seen};
@@ -46,27 +46,43 @@ fn push_nodes<'a>(tree: &'a Tree, nodes: &mut Vec<&'a Tree>) -> Result<(), NoMem
     ensures { OnOk result (seen nodes.new.items
         ≡ seen nodes.old.items ++ nodes_of (expression tree.now)) }
 {
-    nodes.push(tree)?;
     match tree {
-        Tree::Text { .. }
-        | Tree::Whole { .. }
-        | Tree::Truth { .. }
-        | Tree::Request { .. }
-        | Tree::Policy { .. }
-        | Tree::Eval { .. } => Ok(()),
-        Tree::Not { operand, .. } | Tree::Negate { operand, .. } => push_nodes(operand, nodes),
+        Tree::Not { operand, .. } => {
+            push_one(tree, nodes)?;
+            push_nodes(operand, nodes)
+        }
+        Tree::Negate { operand, .. } => {
+            push_one(tree, nodes)?;
+            push_nodes(operand, nodes)
+        }
         Tree::Binary { left, right, .. } => {
+            push_one(tree, nodes)?;
             push_nodes(left, nodes)?;
             push_nodes(right, nodes)
         }
         Tree::Among { value, members, .. } => {
+            push_one(tree, nodes)?;
             push_nodes(value, nodes)?;
             push_all_nodes(members, nodes)
         }
-        Tree::Call { arguments, .. } | Tree::Role { arguments, .. } => {
+        Tree::Call { arguments, .. } => {
+            push_one(tree, nodes)?;
             push_all_nodes(arguments, nodes)
         }
+        Tree::Role { arguments, .. } => {
+            push_one(tree, nodes)?;
+            push_all_nodes(arguments, nodes)
+        }
+        _ => push_one(tree, nodes),
     }
+}
+
+// Pushes one node.
+fn push_one<'a>(tree: &'a Tree, nodes: &mut Vec<&'a Tree>) -> Result<(), NoMemory>
+    ensures { OnOk result (seen nodes.new.items ≡ seen nodes.old.items ++ expression tree.now ∷ []) }
+{
+    nodes.push(tree)?;
+    Ok(())
 }
 
 // Pushes the nodes of each of these.
