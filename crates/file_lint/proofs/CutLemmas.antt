@@ -1,10 +1,10 @@
 -- A text that is cut at its first such byte, or behind its letters, or that begins with the byte-order mark.
 use Rattle.std.proofs.Common.{◌≡◌, ℕ, ◌+◌, ◌<◌, ◌≤◌, true, List, [], ◌++◌, Option, Some, None, Bor, get_or, length, take, drop, refl, sym, ap, ◌∙◌, arith}
 use Rattle.std.specs.Prelude.{◌==◌, IsUtf8}
-use Rattle.std.specs.List.{after_first, before_first, prefix_len}
+use Rattle.std.specs.List.{after_first, before_first, position_or_len, prefix_len}
 use Rattle.std.specs.Str.{IsCharBoundary}
 use Rattle.std.proofs.lemmas.Bool.Decides.{Decides-eqb}
-use Rattle.std.proofs.lemmas.List.{drop_all, get_or-take, take_all}
+use Rattle.std.proofs.lemmas.List.{drop_all, get_or-take, length-take, take_all}
 use Rattle.std.proofs.lemmas.List.Folds.{length-prefix_len}
 use Rattle.std.proofs.lemmas.List.Sums.{prefix_len_passes}
 use Rattle.std.proofs.lemmas.Slice.Eq.{starts_is}
@@ -18,6 +18,9 @@ use Rattle.file_lint.specs.ModelNames.{order_mark}
 
 pub cut_front : (sign : ℕ) (text : List ℕ) (cut : Bor (List ℕ) × Bor (List ℕ)) → IsSplitOnceResult sign text (Some cut) → sign < 128 → cut.0.now ≡ before_first (λ byte. byte == sign) text
 cut_front sign text cut is ascii = (split_once_first sign text (Some cut) is ascii).1
+
+pub front_within : (sign : ℕ) (text front : List ℕ) → front ≡ before_first (λ byte. byte == sign) text → length front ≤ length text
+front_within sign text front is = omega (arith, ap (λ (l : List ℕ). length l) is, length-take (position_or_len (λ byte. byte == sign) text) text)
 
 pub cut_back : (sign : ℕ) (text : List ℕ) (cut : Bor (List ℕ) × Bor (List ℕ)) → IsSplitOnceResult sign text (Some cut) → sign < 128 → cut.1.now ≡ after_first (λ byte. byte == sign) text
 cut_back sign text cut is ascii = (split_once_first sign text (Some cut) is ascii).2

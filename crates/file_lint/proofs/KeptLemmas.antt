@@ -1,8 +1,8 @@
 -- Rules that are kept, and the columns that the matcher takes for something.
-use Rattle.std.proofs.Common.{◌≡◌, ℕ, ◌+◌, ◌<◌, ◌≤◌, Bool, true, false, List, [], ◌∷◌, Option, Some, None, inl, inr, length, refl, sym, ap, subst, ◌∙◌, arith}
+use Rattle.std.proofs.Common.{◌≡◌, ℕ, ◌+◌, ◌<◌, ◌≤◌, Bool, true, false, List, [], ◌∷◌, ◌++◌, Option, Some, None, inl, inr, length, refl, sym, ap, subst, ◌∙◌, arith}
 use Rattle.std.specs.Option.{option_and_then, option_map_or}
-use Rattle.std.specs.Prelude.{IfSome, is_some, nat_lt, if◌then◌else◌}
-use Rattle.std.specs.List.{AllByRecursion, cons_option, filter_map}
+use Rattle.std.specs.Prelude.{IfSome, flat_map, is_some, nat_lt, if◌then◌else◌}
+use Rattle.std.specs.List.{AllByRecursion}
 use Rattle.std.specs.Str.{bytes_eq}
 use Rattle.std.proofs.lemmas.List.Quantifiers.{position-Some}
 use Rattle.std.proofs.lemmas.List.Elements.{All-from_recursion}
@@ -53,14 +53,14 @@ few_kept entry before at table here = by (stands entry.rule (rows before entry.t
 abbrev IsBelow : ℕ → Looked → Type 0
 IsBelow most look = look.at < most
 
-abbrev MayBeBelow : ℕ → Option Looked → Type 0
-MayBeBelow most None = Unit {0}
-MayBeBelow most (Some look) = IsBelow most look
+both_below : (most : ℕ) (front back : List Looked) → AllByRecursion (IsBelow most) front → AllByRecursion (IsBelow most) back → AllByRecursion (IsBelow most) (front ++ back)
+both_below most [] back one two = two
+both_below most (look ∷ front) back one two = (one.0, both_below most front back one.1 two)
 
-placed_below : (columns : List (List ℕ)) (place : Option ℕ) (held : Option Held) → ((at : ℕ) → place ≡ Some at → at < length columns) → MayBeBelow (length columns) (looked_both place held)
+placed_below : (columns : List (List ℕ)) (place : Option ℕ) (held : Option Held) → ((at : ℕ) → place ≡ Some at → at < length columns) → AllByRecursion (IsBelow (length columns)) (looked_both place held)
 placed_below columns None held within = tt
 placed_below columns (Some at) None within = tt
-placed_below columns (Some at) (Some held) within = within at refl
+placed_below columns (Some at) (Some held) within = (within at refl, tt)
 
 place_below : (columns : List (List ℕ)) (name : List ℕ) (at : ℕ) → place_in columns name ≡ Some at → at < length columns
 place_below columns name at is = (position-Some (bytes_eq name) columns at [] is).0
@@ -76,7 +76,7 @@ second_below columns es at is = by (second_of es) is
     by None is = absurd cc
     by (Some e) is = policy_below columns e at is
 
-node_below : (columns : List (List ℕ)) (e : Expression) → MayBeBelow (length columns) (looked_at columns e)
+node_below : (columns : List (List ℕ)) (e : Expression) → AllByRecursion (IsBelow (length columns)) (looked_at columns e)
 node_below columns (text at bytes) = tt
 node_below columns (whole at n) = tt
 node_below columns (truth at b) = tt
@@ -91,14 +91,9 @@ node_below columns (call at (function called) es) = placed_below columns (second
 node_below columns (call at (relation number) es) = tt
 node_below columns (call at (unknown parts) es) = tt
 
-all_below : (columns : List (List ℕ)) (nodes : List Expression) → AllByRecursion (IsBelow (length columns)) (filter_map (looked_at columns) nodes)
+all_below : (columns : List (List ℕ)) (nodes : List Expression) → AllByRecursion (IsBelow (length columns)) (flat_map (looked_at columns) nodes)
 all_below columns [] = tt
-all_below columns (e ∷ nodes) = by (looked_at columns e) (node_below columns e) (all_below columns nodes)
-  where
-    by : (found : Option Looked) → MayBeBelow (length columns) found → AllByRecursion (IsBelow (length columns)) (filter_map (looked_at columns) nodes)
-        → AllByRecursion (IsBelow (length columns)) (cons_option found (filter_map (looked_at columns) nodes))
-    by None fits rest = rest
-    by (Some look) fits rest = (fits, rest)
+all_below columns (e ∷ nodes) = both_below (length columns) (looked_at columns e) (flat_map (looked_at columns) nodes) (node_below columns e) (all_below columns nodes)
 
 -- the columns that a matcher takes for something are columns of a rule of p
 pub looked_within : (model : ModelParts) (rule : Fields) → length rule ≡ length model.policy → AreWithin (looked_in model) rule

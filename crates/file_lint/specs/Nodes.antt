@@ -1,6 +1,5 @@
 -- The nodes of a matcher, and those that a linter looks at.
-use Rattle.std.specs.Prelude.{ℕ, List, [], ◌∷◌, ◌++◌, Option, Some, None, position}
-use Rattle.std.specs.List.{filter_map}
+use Rattle.std.specs.Prelude.{ℕ, List, [], ◌∷◌, ◌++◌, Option, Some, None, flat_map, position}
 use Rattle.std.specs.Option.{option_and_then}
 use Rattle.std.specs.Str.{bytes_eq}
 use Rattle.matcher_read.specs.Expression.{function, Expression, text, whole, truth, request, policy, evaluated, negation, opposite, binary, among, call, Expressions, no_more, one_more}
@@ -66,17 +65,17 @@ abbrev pub second_column : List (List ℕ) → Expressions → Option ℕ
 second_column columns es = option_and_then (policy_place columns) (second_of es)
 
 -- both, where they are told
-abbrev pub looked_both : Option ℕ → Option Held → Option Looked
-looked_both None held = None
-looked_both (Some at) None = None
-looked_both (Some at) (Some held) = Some (looked at held)
+abbrev pub looked_both : Option ℕ → Option Held → List Looked
+looked_both None held = []
+looked_both (Some at) None = []
+looked_both (Some at) (Some held) = looked at held ∷ []
 
 -- the column that a node takes for something
-abbrev pub looked_at : List (List ℕ) → Expression → Option Looked
+abbrev pub looked_at : List (List ℕ) → Expression → List Looked
 looked_at columns (evaluated at column) = looked_both (place_in columns column) (Some RuleText)
 looked_at columns (call at (function called) es) = looked_both (second_column columns es) (held_by called)
-looked_at columns _ = None
+looked_at columns _ = []
 
 -- the columns that a matcher takes for something, in the order of its nodes
 abbrev pub looked_in : ModelParts → List Looked
-looked_in model = filter_map (looked_at model.policy) (nodes_of model.matcher)
+looked_in model = flat_map (looked_at model.policy) (nodes_of model.matcher)

@@ -66,6 +66,7 @@ pub(crate) fn key_in(text: &str) -> &str
 pub(crate) fn cut_at_equals(text: &str) -> (&str, &str)
     ensures front { result.0.now ≡ before_first is_equals text.now }
     ensures back { result.1.now ≡ after_first is_equals text.now }
+    ensures within { length result.0.now ≤ length text.now }
 {
     cut_at(text, '=')
 }
@@ -75,6 +76,7 @@ pub(crate) fn cut_at(text: &str, sign: char) -> (&str, &str)
     requires { sign < 128 }
     ensures front { result.0.now ≡ before_first (λ byte. byte == sign) text.now }
     ensures back { result.1.now ≡ after_first (λ byte. byte == sign) text.now }
+    ensures within { length result.0.now ≤ length text.now }
 {
     let Some((front, back)) = text.split_once(sign) else {
         return (text, "");

@@ -1,7 +1,8 @@
-ghost use Rattle.std.specs.Prelude.{◌≡◌, ◌++◌, IfOk, IsUtf8, OnOk, map, option_map};
+ghost use Rattle.std.specs.Prelude.{◌≡◌, ◌++◌, IfOk, IsUtf8, OnOk, flat_map, map, option_map};
 ghost use Rattle.perm_base.specs.FieldLine.{begins_with};
 ghost use Rattle.matcher_read.specs.Expression.{expression, expressions_of};
 ghost use Rattle.file_lint.specs.ModelWarnings.{column_warnings, has_brace_in, has_class, has_class_in, is_class, is_text, is_unranked, model_warnings, node_warnings, second_is, told_if, told_of, told_of_call, told_of_operator, warning_at};
+ghost use Rattle.file_lint.specs.Helps.Trees.{seen};
 
 use crate::finding::{Finding, Level};
 use crate::nodes::{nodes_of, second_of};
@@ -40,10 +41,24 @@ pub(crate) fn model_warnings(
     let mut found = Vec::new(alloc);
     push_column_warnings(alloc, text, model, &mut found)?;
     let nodes = nodes_of(alloc, model.matcher())?;
-    for node in nodes {
-        push_node_warnings(alloc, text, node, &mut found)?;
-    }
+    push_all_warnings(alloc, text, nodes.as_slice(), &mut found)?;
     Ok(found)
+}
+
+// Pushes the warnings of nodes.
+fn push_all_warnings(
+    alloc: Global,
+    text: &str,
+    nodes: &[&Tree],
+    found: &mut Vec<Finding>,
+) -> Result<(), NoMemory>
+    ensures { OnOk result (found.new.items
+        ≡ found.old.items ++ flat_map (node_warnings text.now) (seen nodes.now)) }
+{
+    for node in nodes {
+        push_node_warnings(alloc, text, node, found)?;
+    }
+    Ok(())
 }
 
 fn push_column_warnings(

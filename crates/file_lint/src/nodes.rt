@@ -1,4 +1,4 @@
-ghost use Rattle.std.specs.Prelude.{◌≡◌, ◌++◌, ◌∷◌, [], IfOk, OnOk, map, option_map};
+ghost use Rattle.std.specs.Prelude.{◌≡◌, ◌++◌, ◌∷◌, [], IfOk, OnOk, flat_map, map, option_map};
 ghost use Rattle.matcher_read.specs.Expression.{expression, expressions_of};
 ghost use Rattle.file_lint.specs.Nodes.{all_nodes_of, first_of, held_by, looked_at, looked_both, looked_in, nodes_of, policy_place, second_column, second_of};
 ghost use Rattle.file_lint.specs.Helps.Trees.{looked_seen, seen};
@@ -102,40 +102,55 @@ pub(crate) fn looked_in(alloc: Global, model: &Model) -> Result<Vec<Looked>, NoM
     ensures { IfOk result (λ found. map looked_seen found.items ≡ looked_in model.now) }
 {
     let nodes = nodes_of(alloc, model.matcher())?;
-    let columns = model.policy_columns();
     let mut found = Vec::new(alloc);
-    for node in nodes {
-        if let Some(looked) = looked_at(columns, node) {
-            found.push(looked)?;
-        }
-    }
+    push_all_looked(model.policy_columns(), nodes.as_slice(), &mut found)?;
     Ok(found)
 }
 
-// The column that a node takes for something.
-fn looked_at(columns: &Rule, tree: &Tree) -> Option<Looked>
-    ensures { option_map looked_seen result ≡ looked_at columns.now (expression tree.now) }
+// Pushes the columns that nodes take for something.
+fn push_all_looked(columns: &Rule, nodes: &[&Tree], found: &mut Vec<Looked>) -> Result<(), NoMemory>
+    ensures { OnOk result (map looked_seen found.new.items
+        ≡ map looked_seen found.old.items ++ flat_map (looked_at columns.now) (seen nodes.now)) }
+{
+    for node in nodes {
+        push_looked(columns, node, found)?;
+    }
+    Ok(())
+}
+
+// Pushes the column that a node takes for something.
+fn push_looked(columns: &Rule, tree: &Tree, found: &mut Vec<Looked>) -> Result<(), NoMemory>
+    ensures { OnOk result (map looked_seen found.new.items
+        ≡ map looked_seen found.old.items ++ looked_at columns.now (expression tree.now)) }
 {
     match tree {
-        Tree::Eval { column, .. } => {
-            looked_both(columns.place_of(column.bytes()), Some(Held::RuleText))
-        }
+        Tree::Eval { column, .. } => push_both(
+            columns.place_of(column.bytes()),
+            Some(Held::RuleText),
+            found,
+        ),
         Tree::Call {
             function,
             arguments,
             ..
-        } => looked_both(second_column(columns, arguments), held_by(*function)),
-        _ => None,
+        } => push_both(second_column(columns, arguments), held_by(*function), found),
+        _ => Ok(()),
     }
 }
 
-// A column with what it is taken for, where both are told.
-fn looked_both(at: Option<u32>, held: Option<Held>) -> Option<Looked>
-    ensures { option_map looked_seen result ≡ looked_both at held }
+// Pushes a column with what it is taken for, where both are told.
+fn push_both(at: Option<u32>, held: Option<Held>, found: &mut Vec<Looked>) -> Result<(), NoMemory>
+    ensures { OnOk result (map looked_seen found.new.items
+        ≡ map looked_seen found.old.items ++ looked_both at held) }
 {
-    let at = at?;
-    let held = held?;
-    Some(Looked { at, held })
+    let Some(at) = at else {
+        return Ok(());
+    };
+    let Some(held) = held else {
+        return Ok(());
+    };
+    found.push(Looked { at, held })?;
+    Ok(())
 }
 
 // The place of the second argument of a call, where it is a column of p.
