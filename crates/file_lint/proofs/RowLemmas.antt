@@ -1,9 +1,10 @@
 -- The findings of a policy's lines, from one line to the next, and of one field after the other.
 use Rattle.std.proofs.Common.{◌≡◌, ◌≢◌, ℕ, ◌+◌, ◌<◌, ◌≤◌, Bool, true, false, List, [], ◌∷◌, ◌++◌, Option, Some, None, inl, inr, ◌⊎◌, append_assoc, append-nil, length, map, refl, sym, ap, subst, ◌∙◌, arith}
-use Rattle.std.specs.Prelude.{IsUtf8, OnOk, Result, Ok, Err, flat_map}
+use Rattle.std.specs.Prelude.{IfSome, IsUtf8, MatchBool, OnOk, Result, Ok, Err, flat_map, is_some, if◌then◌else◌}
 use Rattle.std.specs.List.{AllZip}
 use Rattle.std.proofs.lemmas.Grind.{flat_map-append}
 use Rattle.ip_match.specs.Blocks.{IsBlock}
+use Rattle.ip_match.specs.declared.block.Block.{Block as IpBlock}
 use Rattle.model_conf.specs.ModelText.{ModelParts}
 use Rattle.outside.specs.declared.fault.NoMemory.{NoMemory as NoMem}
 use Rattle.perm_base.specs.declared.shapes.Shapes.{Shapes}
@@ -78,12 +79,29 @@ pub fault_judged : (model : ModelParts) (shapes : Shapes) (line : Line) (before 
 fault_judged model shapes line before findings now why (Err e) is known grown = tt
 fault_judged model shapes line before findings now why (Ok done) is known grown = inr (why, known, is, refl, grown)
 
--- a field that surprises, and one that does not
-pub no_surprise : (good bad : Type 0) (found : Finding) (before : List Finding) → good → FindsMore (Surprises good bad found) before before
-no_surprise good bad found before is = ([], inl (is, refl), sym (append-nil before))
+-- a field that does not surprise, and one that does
+pub no_surprise : (good bad : Type 0) (found : Finding) (before : List Finding) (fine : Bool) → MatchBool fine good bad → fine ≡ true → FindsMore (Surprises good bad found) before before
+no_surprise good bad found before fine says is = ([], inl (subst (λ (b : Bool). MatchBool b good bad) is says, refl), sym (append-nil before))
 
-pub surprise : (good bad : Type 0) (found : Finding) (before after : List Finding) → bad → after ≡ before ++ found ∷ [] → FindsMore (Surprises good bad found) before after
-surprise good bad found before after is grown = (found ∷ [], inr (is, refl), grown)
+pub surprise : (good bad : Type 0) (found : Finding) (before after : List Finding) (fine : Bool) → MatchBool fine good bad → fine ≡ false → after ≡ before ++ found ∷ [] → FindsMore (Surprises good bad found) before after
+surprise good bad found before after fine says is grown = (found ∷ [], inr (subst (λ (b : Bool). MatchBool b good bad) is says, refl), grown)
+
+-- the same of a field with a test
+pub told_not : (test : Bool) (found : Finding) (before : List Finding) → test ≡ false → FindsMore (λ (findings : List Finding). findings ≡ (if test then found ∷ [] else [])) before before
+told_not test found before is = ([], ap (λ (b : Bool). if b then found ∷ [] else []) (sym is), sym (append-nil before))
+
+pub told_so : (test : Bool) (found : Finding) (before after : List Finding) → test ≡ true → after ≡ before ++ found ∷ [] → FindsMore (λ (findings : List Finding). findings ≡ (if test then found ∷ [] else [])) before after
+told_so test found before after is grown = (found ∷ [], ap (λ (b : Bool). if b then found ∷ [] else []) (sym is), grown)
+
+-- a text writes a block where one is read
+pub block_told : (text bytes : List ℕ) (o : Option IpBlock) (read : Bool) → bytes ≡ text → read ≡ is_some o → IfSome o (IsBlock bytes) → ((block : IpBlock) → IsBlock bytes block → o ≡ Some block)
+    → MatchBool read ((block : IpBlock) × IsBlock text block) ((block : IpBlock) → ¬ (IsBlock text block))
+block_told text bytes o read same is says only = subst (λ (t : List ℕ). MatchBool read ((block : IpBlock) × IsBlock t block) ((block : IpBlock) → ¬ (IsBlock t block))) same (by o is says only)
+  where
+    by : (o : Option IpBlock) → read ≡ is_some o → IfSome o (IsBlock bytes) → ((block : IpBlock) → IsBlock bytes block → o ≡ Some block)
+        → MatchBool read ((block : IpBlock) × IsBlock bytes block) ((block : IpBlock) → ¬ (IsBlock bytes block))
+    by None is says only = subst (λ (b : Bool). MatchBool b ((block : IpBlock) × IsBlock bytes block) ((block : IpBlock) → ¬ (IsBlock bytes block))) (sym is) (λ block of. let both : ◌≡◌ {A = Option IpBlock} None (Some block) = only block of in absurd cc)
+    by (Some block) is says only = subst (λ (b : Bool). MatchBool b ((block : IpBlock) × IsBlock bytes block) ((block : IpBlock) → ¬ (IsBlock bytes block))) (sym is) (block, says)
 
 -- what lines behind these say of any end
 abbrev pub LinesGo : ModelParts → Shapes → Option PolicyFault → Policy → List Line → List Finding → (Whole : List Finding → Type 0) → Type 0

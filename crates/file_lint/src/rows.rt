@@ -1,11 +1,13 @@
-ghost use Rattle.std.specs.Prelude.{◌≡◌, IfOk, MatchBool, OnOk, map, string_bytes};
+ghost use Rattle.std.specs.Prelude.{◌≡◌, IfOk, MatchBool, OnOk, map};
 ghost use Rattle.ip_match.specs.Blocks.{IsBlock};
 ghost use Rattle.ip_match.specs.declared.block.Block as ip;
 ghost use Rattle.matcher_read.specs.Expression.{Expression};
 ghost use Rattle.model_conf.specs.RuleText.{IsNoRuleText, IsRuleText};
-ghost use Rattle.file_lint.specs.Helps.Rows.{AreFound, AreWithin, FindsMore, held_words};
+ghost use Rattle.model_conf.specs.ModelText.{ModelParts};
+ghost use Rattle.file_lint.specs.Helps.Rows.{AreFound, AreWithin, FindsMore};
 ghost use Rattle.file_lint.specs.Helps.Trees.{looked_seen};
 ghost use Rattle.file_lint.specs.RowWarnings.{HeldFinds};
+ghost use Rattle.file_lint.specs.declared.nodes.Held.TheVariants as held;
 
 use crate::finding::Finding;
 use crate::model_warnings::BRACE_WORDS;
@@ -51,31 +53,74 @@ fn push_held(
     ensures { OnOk result (FindsMore (HeldFinds model.now row.now look.at text.now look.held)
         found.old.items found.new.items) }
 {
-    let surprises = match look.held {
-        Held::Block => !is_block(text),
-        Held::KeyPattern => has_byte(text, b'{'),
-        Held::RuleText => !is_rule_text(alloc, model, text)?,
-    };
-    if surprises {
-        let words = held_words(alloc, look.held, text)?;
-        found.push(warning_in(row, u64::from(look.at) + 1, words))?;
+    match look.held {
+        Held::Block => push_block(alloc, look.at, row, text, found),
+        Held::KeyPattern => push_key_pattern(alloc, look.at, row, text, found),
+        Held::RuleText => push_rule_text(alloc, model, look.at, row, text, found),
     }
+}
+
+// Pushes what a field surprises by that has to be an address or a block.
+fn push_block(
+    alloc: Global,
+    at: u32,
+    row: &Row<'_>,
+    text: &str,
+    found: &mut Vec<Finding>,
+) -> Result<(), NoMemory>
+    ensures { (model : ModelParts) → OnOk result (FindsMore
+        (HeldFinds model row.now at text.now held.Block) found.old.items found.new.items) }
+{
+    if is_block(text) {
+        return Ok(());
+    }
+    let words = quoted_and(
+        alloc,
+        text,
+        " is no address and no block: ipMatch fails with it",
+    )?;
+    found.push(warning_in(row, u64::from(at) + 1, words))?;
     Ok(())
 }
 
-// What a field that surprises is told by.
-fn held_words(alloc: Global, held: Held, text: &str) -> Result<String, NoMemory>
-    ensures { IfOk result (λ words. string_bytes words ≡ held_words held text.now) }
+// Pushes what a field surprises by that has to be a pattern of `keyMatch2`.
+fn push_key_pattern(
+    alloc: Global,
+    at: u32,
+    row: &Row<'_>,
+    text: &str,
+    found: &mut Vec<Finding>,
+) -> Result<(), NoMemory>
+    ensures { (model : ModelParts) → OnOk result (FindsMore
+        (HeldFinds model row.now at text.now held.KeyPattern) found.old.items found.new.items) }
 {
-    match held {
-        Held::Block => quoted_and(
-            alloc,
-            text,
-            " is no address and no block: ipMatch fails with it",
-        ),
-        Held::KeyPattern => Ok(String::from_str(alloc, BRACE_WORDS)?),
-        Held::RuleText => quoted_and(alloc, text, " says no rule: eval fails with it"),
+    if !has_byte(text, b'{') {
+        return Ok(());
     }
+    let words = String::from_str(alloc, BRACE_WORDS)?;
+    found.push(warning_in(row, u64::from(at) + 1, words))?;
+    Ok(())
+}
+
+// Pushes what a field surprises by that has to say a rule.
+fn push_rule_text(
+    alloc: Global,
+    model: &Model,
+    at: u32,
+    row: &Row<'_>,
+    text: &str,
+    found: &mut Vec<Finding>,
+) -> Result<(), NoMemory>
+    ensures { OnOk result (FindsMore (HeldFinds model.now row.now at text.now held.RuleText)
+        found.old.items found.new.items) }
+{
+    let says = is_rule_text(alloc, model, text)?;
+    if says {
+        return Ok(());
+    }
+    let words = quoted_and(alloc, text, " says no rule: eval fails with it")?;
+    found.push(warning_in(row, u64::from(at) + 1, words))?;
+    Ok(())
 }
 
 // The text writes an address or a block.

@@ -1,5 +1,5 @@
 -- What the steps over a policy's lines give; only private functions cite this.
-use Rattle.std.specs.Prelude.{◌≡◌, ◌≢◌, ℕ, ◌+◌, ◌<◌, ◌^◌, ◌⊎◌, List, [], ◌∷◌, ◌++◌, All, Option, Some, None, codes, flat_map, length}
+use Rattle.std.specs.Prelude.{◌≡◌, ◌≢◌, ℕ, ◌+◌, ◌<◌, ◌^◌, ◌⊎◌, List, [], ◌∷◌, ◌++◌, All, Option, Some, None, flat_map, length}
 use Rattle.std.specs.List.{AllZip}
 use Rattle.model_conf.specs.ModelText.{ModelParts}
 use Rattle.perm_base.specs.declared.shapes.Shapes.{Shapes}
@@ -13,14 +13,10 @@ use Rattle.policy_table.specs.Tables.{Fields, Policy, rows}
 use Rattle.text_parts.specs.Full.{given_number}
 use Rattle.text_parts.specs.Numbered.{Line}
 use Rattle.file_lint.specs.Findings.{Finding}
-use Rattle.file_lint.specs.ModelWarnings.{brace_words}
 use Rattle.file_lint.specs.Nodes.{Looked}
 use Rattle.file_lint.specs.PolicyErrors.{told_in}
 use Rattle.file_lint.specs.PolicyWords.{policy_error}
 use Rattle.file_lint.specs.RowWarnings.{LookedFinds, RowFinds}
-use Rattle.file_lint.specs.Texts.{quoted}
-use Rattle.file_lint.specs.declared.nodes.Held.{Held}
-use Rattle.file_lint.specs.declared.nodes.Held.TheVariants.{Block, KeyPattern, RuleText}
 
 -- findings were put behind others, of which this holds
 abbrev pub FindsMore : (List Finding → Type 0) → List Finding → List Finding → Type 0
@@ -50,9 +46,3 @@ abbrev pub LineTells : ModelParts → Shapes → Option PolicyFault → Line →
 LineTells model shapes first line before after findings now =
     ((why : PolicyFault) × (told_in first (given_number line.number) ≡ Some why) × (after ≡ before) × (now ≡ findings ++ policy_error model why line ∷ []))
     ⊎ ((told_in first (given_number line.number) ≡ None) × LineFinds model shapes line before after findings now)
-
--- what a field that surprises is told by
-abbrev pub held_words : Held → List ℕ → List ℕ
-held_words Block text = quoted text ++ codes " is no address and no block: ipMatch fails with it"
-held_words KeyPattern text = brace_words
-held_words RuleText text = quoted text ++ codes " says no rule: eval fails with it"
