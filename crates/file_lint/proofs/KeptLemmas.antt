@@ -1,34 +1,23 @@
--- Rules that are kept, and the columns that the matcher takes for something.
-use Rattle.std.proofs.Common.{◌≡◌, ℕ, ◌+◌, ◌<◌, ◌≤◌, Bool, true, false, List, [], ◌∷◌, ◌++◌, Option, Some, None, inl, inr, length, refl, sym, ap, subst, ◌∙◌, arith}
-use Rattle.std.specs.Option.{option_and_then, option_map_or}
-use Rattle.std.specs.Prelude.{IfSome, flat_map, is_some, nat_lt, if◌then◌else◌}
-use Rattle.std.specs.List.{AllByRecursion}
-use Rattle.std.specs.Str.{bytes_eq}
-use Rattle.std.proofs.lemmas.List.Quantifiers.{position-Some}
-use Rattle.std.proofs.lemmas.List.Elements.{All-from_recursion}
-use Rattle.matcher_read.specs.Expression.{function, relation, unknown, Expression, text, whole, truth, request, policy, evaluated, negation, opposite, binary, among, call, Expressions}
+-- The fields of rules, and how many rules are kept.
+use Rattle.std.proofs.Common.{◌≡◌, ℕ, zero, suc, ◌+◌, ◌<◌, ◌≤◌, Bool, true, false, List, [], ◌∷◌, Option, Some, None, inl, inr, length, refl, sym, subst, ◌∙◌, arith}
+use Rattle.std.specs.Prelude.{slice_get, is_some, nat_lt, if◌then◌else◌}
+use Rattle.std.proofs.lemmas.Option.{slice_get-get_or}
 use Rattle.model_conf.specs.ModelText.{ModelParts}
-use Rattle.perm_base.specs.RoleShapes.{AreRoles, shape_of}
-use Rattle.perm_base.specs.Shapes.{AreValid}
-use Rattle.perm_base.specs.declared.shapes.RoleShape.{RoleShape}
+use Rattle.perm_base.specs.RoleShapes.{AreRoles}
 use Rattle.perm_base.specs.declared.shapes.Shapes.{Shapes}
 use Rattle.perm_base.specs.declared.shapes.TableId.{TableId}
-use Rattle.perm_base.specs.declared.shapes.TableId.TheVariants.{P, G}
 use Rattle.policy_csv.proofs.CallerLemmas.{place_known}
 use Rattle.policy_csv.specs.Policy.{with_entry}
 use Rattle.policy_csv.specs.declared.entry.Entry.{Entry}
 use Rattle.policy_csv.specs.declared.fault.PolicyFault.{PolicyFault}
 use Rattle.policy_table.specs.Changes.{changed, changed_rules, is_table}
-use Rattle.policy_table.specs.Limits.{columns_of, role_columns}
 use Rattle.policy_table.specs.Tables.{Fields, Policy, is_ranked, place, rows, stands}
 use Rattle.policy_table.specs.declared.change.Change.TheVariants.{Insert}
 use Rattle.policy_table.proofs.CallerLemmas.{one_longer, rows_other, rows_own, same_table}
 use Rattle.text_parts.specs.Numbered.{Line}
 use Rattle.file_lint.specs.Findings.{Finding}
-use Rattle.file_lint.specs.Nodes.{Looked, held_by, looked_at, looked_both, looked_in, nodes_of, place_in, policy_place, second_column, second_of}
-use Rattle.file_lint.specs.Helps.Rows.{AreWithin, LineFinds, LineTells}
-use Rattle.file_lint.specs.declared.nodes.Held.{Held}
-use Rattle.file_lint.specs.declared.nodes.Held.TheVariants.{RuleText}
+use Rattle.file_lint.specs.RowWarnings.{field_of}
+use Rattle.file_lint.specs.Helps.Rows.{LineFinds, LineTells}
 
 -- a rule that is kept makes no table longer by more than one
 pub few_kept : (entry : Entry) (before : Policy) (at : ℕ) (table : TableId) → place entry.table ≡ Some at → length (rows (with_entry entry before) table) ≤ length (rows before table) + 1
@@ -49,83 +38,17 @@ few_kept entry before at table here = by (stands entry.rule (rows before entry.t
     by true = omega arith
     by false = put (is_table table entry.table) refl
 
--- the column is one of so many
-abbrev IsBelow : ℕ → Looked → Type 0
-IsBelow most look = look.at < most
+-- a field that is there, and one behind them all
+pub field_read : (rule : Fields) (at : ℕ) (text : List ℕ) → at < length rule → slice_get rule at ≡ Some text → text ≡ field_of rule at
+field_read rule at text within is =
+    let there : Some text ≡ Some (field_of rule at) = sym is ∙ slice_get-get_or rule at [] within in
+    cc
 
-both_below : (most : ℕ) (front back : List Looked) → AllByRecursion (IsBelow most) front → AllByRecursion (IsBelow most) back → AllByRecursion (IsBelow most) (front ++ back)
-both_below most [] back one two = two
-both_below most (look ∷ front) back one two = (one.0, both_below most front back one.1 two)
-
-placed_below : (columns : List (List ℕ)) (place : Option ℕ) (held : Option Held) → ((at : ℕ) → place ≡ Some at → at < length columns) → AllByRecursion (IsBelow (length columns)) (looked_both place held)
-placed_below columns None held within = tt
-placed_below columns (Some at) None within = tt
-placed_below columns (Some at) (Some held) within = (within at refl, tt)
-
-place_below : (columns : List (List ℕ)) (name : List ℕ) (at : ℕ) → place_in columns name ≡ Some at → at < length columns
-place_below columns name at is = (position-Some (bytes_eq name) columns at [] is).0
-
-policy_below : (columns : List (List ℕ)) (e : Expression) (at : ℕ) → policy_place columns e ≡ Some at → at < length columns
-policy_below columns (policy place column) at is = place_below columns column at is
-policy_below columns _ at is = absurd cc
-
-second_below : (columns : List (List ℕ)) (es : Expressions) (at : ℕ) → second_column columns es ≡ Some at → at < length columns
-second_below columns es at is = by (second_of es) is
-  where
-    by : (second : Option Expression) → option_and_then (policy_place columns) second ≡ Some at → at < length columns
-    by None is = absurd cc
-    by (Some e) is = policy_below columns e at is
-
-node_below : (columns : List (List ℕ)) (e : Expression) → AllByRecursion (IsBelow (length columns)) (looked_at columns e)
-node_below columns (text at bytes) = tt
-node_below columns (whole at n) = tt
-node_below columns (truth at b) = tt
-node_below columns (request at column path) = tt
-node_below columns (policy at column) = tt
-node_below columns (evaluated at column) = placed_below columns (place_in columns column) (Some RuleText) (place_below columns column)
-node_below columns (negation at e) = tt
-node_below columns (opposite at e) = tt
-node_below columns (binary at op e f) = tt
-node_below columns (among at e es) = tt
-node_below columns (call at (function called) es) = placed_below columns (second_column columns es) (held_by called) (second_below columns es)
-node_below columns (call at (relation number) es) = tt
-node_below columns (call at (unknown parts) es) = tt
-
-all_below : (columns : List (List ℕ)) (nodes : List Expression) → AllByRecursion (IsBelow (length columns)) (flat_map (looked_at columns) nodes)
-all_below columns [] = tt
-all_below columns (e ∷ nodes) = both_below (length columns) (looked_at columns e) (flat_map (looked_at columns) nodes) (node_below columns e) (all_below columns nodes)
-
--- the columns that a matcher takes for something are columns of a rule of p
-pub looked_within : (model : ModelParts) (rule : Fields) → length rule ≡ length model.policy → AreWithin (looked_in model) rule
-looked_within model rule same =
-    All-from_recursion (λ (look : Looked). look.at < length rule) (looked_in model) (subst (λ (most : ℕ). AllByRecursion (IsBelow most) (looked_in model)) (sym same) (all_below model.policy (nodes_of model.matcher)))
-
--- the columns of a rule of p, and of a link
-pub own_columns : (shapes : Shapes) (n : ℕ) → columns_of shapes P ≡ Some n → shapes.columns ≡ n
-own_columns shapes n is = cc
-
-pub effect_within : (shapes : Shapes) (n : ℕ) → AreValid shapes → columns_of shapes P ≡ Some n → IfSome shapes.effect_column (λ at. at < n)
-effect_within shapes n valid is = subst (λ (most : ℕ). IfSome shapes.effect_column (λ at. at < most)) (own_columns shapes n is) valid.effect
-
-pub subject_within : (shapes : Shapes) (n : ℕ) → AreValid shapes → columns_of shapes P ≡ Some n → shapes.subject_column < n
-subject_within shapes n valid is = subst (λ (most : ℕ). shapes.subject_column < most) (own_columns shapes n is) valid.subject
-
-pub some_columns : (shapes : Shapes) (n : ℕ) → AreValid shapes → columns_of shapes P ≡ Some n → 0 < n
-some_columns shapes n valid is = subst (λ (most : ℕ). 0 < most) (own_columns shapes n is) valid.some
-
-pub link_columns : (shapes : Shapes) (number n : ℕ) → columns_of shapes (G number) ≡ Some n → 1 < n
-link_columns shapes number n is = by (shape_of shapes.roles number) is
-  where
-    many : (shape : RoleShape) → 1 < role_columns shape
-    many shape = two shape.with_domain
-      where
-        two : (with_domain : Bool) → 1 < (if with_domain then 3 else 2)
-        two true = omega arith
-        two false = omega arith
-
-    by : (found : Option RoleShape) → option_map_or (λ (shape : RoleShape). Some (role_columns shape)) found None ≡ Some n → 1 < n
-    by None is = absurd cc
-    by (Some shape) is = let own : role_columns shape ≡ n = cc in subst (λ (m : ℕ). 1 < m) own (many shape)
+pub field_past : (rule : Fields) (at : ℕ) → length rule ≤ at → [] ≡ field_of rule at
+field_past [] zero past = refl
+field_past [] (suc at) past = refl
+field_past (first ∷ others) zero past = absurd (omega (arith, past))
+field_past (first ∷ others) (suc at) past = field_past others at (omega (arith, past))
 
 placed : (p : Option ℕ) → is_some p ≡ true → (at : ℕ) × (p ≡ Some at)
 placed None is = absurd cc

@@ -1,4 +1,4 @@
-ghost use Rattle.std.specs.Prelude.{◌≡◌, ◌≢◌, ◌++◌, ◌∷◌, [], IsSome, OnOk, length, map};
+ghost use Rattle.std.specs.Prelude.{◌≡◌, ◌≢◌, ◌++◌, ◌∷◌, [], IsSome, OnOk, map};
 ghost use Rattle.perm_base.specs.Shapes.{AreValid};
 ghost use Rattle.policy_csv.specs.Policy.{SaysRule, with_entry};
 ghost use Rattle.policy_table.specs.Tables.{place};
@@ -43,7 +43,6 @@ impl<'a> Judge<'a> {
         findings: &mut Vec<Finding>,
     ) -> Result<(), NoMemory>
         requires valid { AreValid self.now.shapes.now }
-        requires columns { self.now.shapes.now.columns ≡ length self.now.model.now.policy }
         requires looked { map looked_seen self.now.looked.now ≡ looked_in self.now.model.now }
         requires few { AreFewer seen.old.policy }
         ensures { OnOk result (LineTells self.now.model.now self.now.shapes.now first row.now
@@ -66,7 +65,6 @@ impl<'a> Judge<'a> {
         findings: &mut Vec<Finding>,
     ) -> Result<(), NoMemory>
         requires valid { AreValid self.now.shapes.now }
-        requires columns { self.now.shapes.now.columns ≡ length self.now.model.now.policy }
         requires looked { map looked_seen self.now.looked.now ≡ looked_in self.now.model.now }
         requires few { AreFewer seen.old.policy }
         ensures { OnOk result (LineFinds self.now.model.now self.now.shapes.now row.now
@@ -88,7 +86,6 @@ impl<'a> Judge<'a> {
         findings: &mut Vec<Finding>,
     ) -> Result<(), NoMemory>
         requires valid { AreValid self.now.shapes.now }
-        requires columns { self.now.shapes.now.columns ≡ length self.now.model.now.policy }
         requires looked { map looked_seen self.now.looked.now ≡ looked_in self.now.model.now }
         requires few { AreFewer seen.old.policy }
         requires says { SaysRule self.now.shapes.now row.now.text entry }
@@ -128,10 +125,7 @@ impl<'a> Judge<'a> {
         seen: &Tables,
         findings: &mut Vec<Finding>,
     ) -> Result<(), NoMemory>
-        requires valid { AreValid self.now.shapes.now }
-        requires columns { self.now.shapes.now.columns ≡ length self.now.model.now.policy }
-        requires looked { map looked_seen self.now.looked.now ≡ looked_in self.now.model.now }
-        requires says { SaysRule self.now.shapes.now row.now.text entry.now }
+        requires { map looked_seen self.now.looked.now ≡ looked_in self.now.model.now }
         ensures { OnOk result (FindsMore
             (RowFinds self.now.model.now self.now.shapes.now seen.now.policy row.now entry.now)
             findings.old.items findings.new.items) }
@@ -151,9 +145,7 @@ impl<'a> Judge<'a> {
         entry: &Entry,
         found: &mut Vec<Finding>,
     ) -> Result<(), NoMemory>
-        requires columns { self.now.shapes.now.columns ≡ length self.now.model.now.policy }
-        requires looked { map looked_seen self.now.looked.now ≡ looked_in self.now.model.now }
-        requires says { SaysRule self.now.shapes.now row.now.text entry.now }
+        requires { map looked_seen self.now.looked.now ≡ looked_in self.now.model.now }
         ensures { OnOk result (FindsMore
             (AreLooked self.now.model.now row.now entry.now.rule entry.now.table)
             found.old.items found.new.items) }

@@ -39,7 +39,6 @@ pub fn lint_policy(
     shapes: &Shapes,
 ) -> Result<PolicyLint, NoMemory>
     requires valid { AreValid shapes.now }
-    requires columns { shapes.now.columns ≡ length model.now.policy }
     requires short { length bytes.now < 2 ^ 32 - 1 }
     ensures { IfOk result (λ lint.
         LintsPolicy model.now shapes.now bytes.now lint.fault lint.findings.items) }
@@ -89,7 +88,6 @@ fn lines_found(
     first: Option<PolicyFault>,
 ) -> Result<Vec<Finding>, NoMemory>
     requires valid { AreValid shapes.now }
-    requires columns { shapes.now.columns ≡ length model.now.policy }
     requires short { length text.now < 2 ^ 32 - 1 }
     ensures { IfOk result (λ found. LintsLines model.now shapes.now first
         (without_rules false) (policy_lines text.now) found.items) }

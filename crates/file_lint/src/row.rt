@@ -1,6 +1,4 @@
-ghost use Rattle.std.specs.Prelude.{◌≡◌, ◌++◌, ◌<◌, IfOk, IfSome, OnOk, Some, length, string_bytes};
-ghost use Rattle.perm_base.specs.Shapes.{AreValid};
-ghost use Rattle.policy_table.specs.Limits.{columns_of};
+ghost use Rattle.std.specs.Prelude.{◌≡◌, ◌++◌, IfOk, OnOk, string_bytes};
 ghost use Rattle.file_lint.specs.RowWarnings.{effect_warnings, field_of, is_effect, link_warnings, own_warnings, policy_warnings, rank_warnings, repeat_warnings, subject_warnings, warning_in};
 
 use crate::columns::field_column;
@@ -67,8 +65,6 @@ pub(crate) fn push_own_warnings(
     entry: &Entry,
     found: &mut Vec<Finding>,
 ) -> Result<(), NoMemory>
-    requires columns { columns_of shapes.now entry.now.table ≡ Some (length entry.now.rule) }
-    requires valid { AreValid shapes.now }
     ensures { OnOk result (found.new.items ≡ found.old.items
         ++ own_warnings shapes.now row.now entry.now entry.now.table) }
 {
@@ -86,9 +82,6 @@ fn push_policy_warnings(
     rule: &Rule,
     found: &mut Vec<Finding>,
 ) -> Result<(), NoMemory>
-    requires effect { IfSome shapes.now.effect_column (λ at. at < length rule.now) }
-    requires some { 0 < length rule.now }
-    requires subject { shapes.now.subject_column < length rule.now }
     ensures { OnOk result (found.new.items ≡ found.old.items
         ++ policy_warnings shapes.now row.now rule.now) }
 {
@@ -98,11 +91,13 @@ fn push_policy_warnings(
     push_subject(alloc, row, rule, shapes.subject_column, relation, found)
 }
 
-/// The field of a rule at a place.
+/// The field of a rule at a place; empty where it has none there.
 pub(crate) fn field(rule: &Rule, at: u32) -> &str
-    requires { at < length rule.now }
     ensures { result.now ≡ field_of rule.now at }
 {
+    if at >= rule.len() {
+        return "";
+    }
     rule.text(at)
 }
 
@@ -113,7 +108,6 @@ fn push_effect(
     column: Option<u32>,
     found: &mut Vec<Finding>,
 ) -> Result<(), NoMemory>
-    requires { IfSome column (λ at. at < length rule.now) }
     ensures { OnOk result (found.new.items
         ≡ found.old.items ++ effect_warnings row.now rule.now column) }
 {
@@ -146,7 +140,6 @@ fn push_rank(
     ranked: bool,
     found: &mut Vec<Finding>,
 ) -> Result<(), NoMemory>
-    requires { 0 < length rule.now }
     ensures { OnOk result (found.new.items
         ≡ found.old.items ++ rank_warnings row.now rule.now ranked) }
 {
@@ -171,7 +164,6 @@ fn push_subject(
     relation: Option<RoleShape>,
     found: &mut Vec<Finding>,
 ) -> Result<(), NoMemory>
-    requires { at < length rule.now }
     ensures { OnOk result (found.new.items
         ≡ found.old.items ++ subject_warnings row.now rule.now at relation) }
 {
@@ -197,7 +189,6 @@ fn push_link(
     rule: &Rule,
     found: &mut Vec<Finding>,
 ) -> Result<(), NoMemory>
-    requires { 1 < length rule.now }
     ensures { OnOk result (found.new.items ≡ found.old.items ++ link_warnings row.now rule.now) }
 {
     let name = field(rule, 0);

@@ -4,7 +4,7 @@ ghost use Rattle.ip_match.specs.declared.block.Block as ip;
 ghost use Rattle.matcher_read.specs.Expression.{Expression};
 ghost use Rattle.model_conf.specs.RuleText.{IsNoRuleText, IsRuleText};
 ghost use Rattle.model_conf.specs.ModelText.{ModelParts};
-ghost use Rattle.file_lint.specs.Helps.Rows.{AreFound, AreWithin, FindsMore};
+ghost use Rattle.file_lint.specs.Helps.Rows.{AreFound, FindsMore};
 ghost use Rattle.file_lint.specs.Helps.Trees.{looked_seen};
 ghost use Rattle.file_lint.specs.RowWarnings.{HeldFinds};
 ghost use Rattle.file_lint.specs.declared.nodes.Held.TheVariants as held;
@@ -30,7 +30,6 @@ pub(crate) fn push_looked(
     rule: &Rule,
     found: &mut Vec<Finding>,
 ) -> Result<(), NoMemory>
-    requires { AreWithin (map looked_seen looked.now) rule.now }
     ensures { OnOk result (FindsMore
         (AreFound model.now row.now rule.now (map looked_seen looked.now))
         found.old.items found.new.items) }

@@ -1,5 +1,5 @@
 -- What the words of a lint ask for, and why a lint stops.
-use Rattle.std.proofs.Common.{◌≡◌, ℕ, ◌<◌, ◌≤◌, List, Option, Some, None, Ok, inl, inr, ⊎_elim, length, refl, sym, ap, subst}
+use Rattle.std.proofs.Common.{◌≡◌, ℕ, ◌<◌, ◌≤◌, List, Option, Some, None, Ok, inl, inr, ⊎_elim, sym, subst}
 use Rattle.std.specs.Prelude.{IfSome}
 use Rattle.std.proofs.lemmas.Option.{option_and_then_some}
 use Rattle.command_words.specs.Commands.{command_of}
@@ -10,17 +10,15 @@ use Rattle.command_words.proofs.CallerLemmas.{HasRanges, command_of-ranges}
 use Rattle.file_lint.specs.Findings.{Finding}
 use Rattle.file_lint.specs.ModelErrors.{LintsModel}
 use Rattle.model_conf.specs.ModelText.{IsModel, ModelParts}
-use Rattle.model_conf.specs.Shapes.{shapes_of}
 use Rattle.outside.specs.Files.{Files}
 use Rattle.outside.specs.Faults.{Rose}
 use Rattle.outside.proofs.CallerLemmas.{rose_later}
-use Rattle.perm_base.specs.declared.shapes.Shapes.{Shapes}
 use Rattle.run_status.specs.declared.part.Part.TheVariants.{Model, Policy, Input, Report}
 use Rattle.run_status.specs.declared.stop.Stop.{Stop}
 use Rattle.run_status.specs.declared.stop.Stop.TheVariants.{NoRelation, CannotRead, TooLong, NoMemory}
 use Rattle.lint_run.specs.Ends.{LintStops}
 use Rattle.lint_run.specs.Helps.{FetchStops, FilesStop, PolicyFileStops, ShapesStop}
-use Rattle.lint_run.specs.Linting.{FileIs, absent_in, lint_asked, lint_of, shapes_with}
+use Rattle.lint_run.specs.Linting.{FileIs, absent_in, lint_asked, lint_of}
 use Rattle.lint_run.specs.declared.job.LintJob.{LintJob}
 
 -- a limit is one to 250
@@ -111,8 +109,3 @@ files_end words files job shelf out before now (TooLong _) asked same stops = ab
 files_end words files job shelf out before now (NoRelation relation) asked same (model, is, absent) = ((job, asked, (model, is, absent)), same)
 files_end words files job shelf out before now NoMemory asked same stops = same
 files_end words files job shelf out before now _ asked same stops = absurd stops
-
--- a model's shapes have as many columns as its policy
-pub columns_of_model : (options : Options) (model : ModelParts) (shapes : Shapes) → shapes ≡ shapes_with options model → shapes.columns ≡ length model.policy
-unfolding shapes_of
-columns_of_model options model shapes is = ap (λ (s : Shapes). s.columns) is

@@ -45,11 +45,7 @@ fn stop_of(part: Part, reason: Fetch) -> Stop
 }
 
 /// The shapes of the model's policies, where it has the relations and domain columns that options name.
-pub(crate) fn policy_shapes(
-    alloc: Global,
-    model: &Model,
-    options: &Options,
-) -> Result<Shapes, Stop>
+pub(crate) fn policy_shapes(alloc: Global, model: &Model, options: &Options) -> Result<Shapes, Stop>
     requires { (0 < options.now.limit) × (options.now.limit ≤ 250) }
     ensures found { IfOk result (λ shapes. shapes ≡ shapes_with options.now model.now) }
     ensures fits { IfOk result (λ _. absent_in options.now model.now ≡ None) }

@@ -1,5 +1,5 @@
 -- What the steps over a policy's lines give; only private functions cite this.
-use Rattle.std.specs.Prelude.{◌≡◌, ◌≢◌, ℕ, ◌+◌, ◌<◌, ◌^◌, ◌⊎◌, List, [], ◌∷◌, ◌++◌, All, Option, Some, None, flat_map, length}
+use Rattle.std.specs.Prelude.{◌≡◌, ◌≢◌, ℕ, ◌+◌, ◌<◌, ◌^◌, ◌⊎◌, List, [], ◌∷◌, ◌++◌, Option, Some, None, flat_map, length}
 use Rattle.std.specs.List.{AllZip}
 use Rattle.model_conf.specs.ModelText.{ModelParts}
 use Rattle.perm_base.specs.declared.shapes.Shapes.{Shapes}
@@ -21,10 +21,6 @@ use Rattle.file_lint.specs.RowWarnings.{LookedFinds, RowFinds}
 -- findings were put behind others, of which this holds
 abbrev pub FindsMore : (List Finding → Type 0) → List Finding → List Finding → Type 0
 FindsMore Finds before after = (found : List Finding) × Finds found × (after ≡ before ++ found)
-
--- each of the columns is one of the rule's
-abbrev pub AreWithin : List Looked → Fields → Type 0
-AreWithin looked rule = All (λ (look : Looked). look.at < length rule) looked
 
 -- what the fields of these columns surprise by, one after the other
 abbrev pub AreFound : ModelParts → Line → Fields → List Looked → List Finding → Type 0

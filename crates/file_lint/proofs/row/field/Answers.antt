@@ -1,10 +1,9 @@
-use Rattle.std.proofs.Common.{◌≡◌, Some, [], sym, ◌∙◌}
-use Rattle.std.specs.Prelude.{slice_get}
-use Rattle.std.proofs.lemmas.Option.{slice_get-get_or}
-use Rattle.file_lint.specs.RowWarnings.{field_of}
+use Rattle.std.proofs.Common.{arith}
+use Rattle.file_lint.proofs.KeptLemmas.{field_past, field_read}
 use Rattle.file_lint.proofs.row.field.Goals as goal
 
+pub returns-then-at-ge-len : goal.returns-then-at-ge-len
+returns-then-at-ge-len c = field_past c.args.rule.now c.args.at (omega arith)
+
 pub returns : goal.returns
-returns c =
-    let there : Some c.text.result.now ≡ Some (field_of c.args.rule.now c.args.at) = sym c.text.ensures.value ∙ slice_get-get_or c.args.rule.now c.args.at [] c.requires in
-    cc
+returns c = field_read c.args.rule.now c.args.at c.text.result.now (omega arith) c.text.ensures.value

@@ -1,7 +1,7 @@
 use Rattle.std.proofs.Common.{◌≡◌, Err, None, rules}
 use Rattle.outside.specs.Faults.{Rose}
 use Rattle.lint_run.specs.Linting.{absent_in}
-use Rattle.lint_run.proofs.LintLemmas.{columns_of_model, options_unfit, policy_unfetched}
+use Rattle.lint_run.proofs.LintLemmas.{options_unfit, policy_unfetched}
 use Rattle.lint_run.proofs.linting.lint_policy_file.Goals as goal
 
 pub returns-in_err-shapes-clause-stopped : goal.returns-in_err-shapes-clause-stopped
@@ -14,6 +14,3 @@ returns-in_err-bytes-clause-stopped g c =
     let stop : c.from_residual-in_err-bytes.result ≡ Err c.in_err-bytes.field-0.0 = search rules in
     let fits : absent_in c.args.job.now.options c.args.model.now ≡ None = c.in_ok-shapes.ensures.fits in
     rw stop (policy_unfetched (g.F.Shelf.files c.args.shelf.now) c.args.job.now c.args.model.now (Rose (g.F.Shelf.faults c.args.shelf.now) (g.F.Shelf.faults c.fetch.new.shelf)) c.in_err-bytes.field-0.0 fits c.in_err-bytes.ensures.stopped)
-
-pub lint_policy-requires-clause-columns : goal.lint_policy-requires-clause-columns
-lint_policy-requires-clause-columns g c = columns_of_model c.args.job.now.options c.args.model.now c.in_ok-shapes.shapes c.in_ok-shapes.ensures.found
