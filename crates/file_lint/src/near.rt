@@ -1,6 +1,6 @@
 ghost use Rattle.std.specs.Prelude.{◌≡◌, option_map};
 ghost use Rattle.file_lint.specs.Near.{called_names, is_near, near_name, section_names};
-ghost use Rattle.file_lint.specs.Helps.Steps.{is_near_tail, same_front};
+ghost use Rattle.file_lint.specs.Helps.Steps.{begins_with_byte, is_empty, is_near_behind, is_near_rest, is_near_tail, is_one, same_front};
 
 // All functions.
 const FUNCTIONS: [&str; 11] = [
@@ -67,9 +67,18 @@ fn is_near(text: &[u8], other: &[u8]) -> bool
 fn same_front(text: &[u8], other: &[u8]) -> bool
     ensures { result ≡ same_front text.now other.now }
 {
-    match (text, other) {
-        ([byte, ..], [next, ..]) => byte == next,
-        _ => false,
+    match text {
+        [] => false,
+        [byte, ..] => begins_with_byte(*byte, other),
+    }
+}
+
+fn begins_with_byte(byte: u8, text: &[u8]) -> bool
+    ensures { result ≡ begins_with_byte byte text.now }
+{
+    match text {
+        [] => false,
+        [first, ..] => byte == *first,
     }
 }
 
@@ -77,10 +86,42 @@ fn same_front(text: &[u8], other: &[u8]) -> bool
 fn is_near_tail(text: &[u8], other: &[u8]) -> bool
     ensures { result ≡ is_near_tail text.now other.now }
 {
-    match (text, other) {
-        ([], []) => false,
-        ([], [_, rest @ ..]) => rest.is_empty(),
-        ([_, rest @ ..], []) => rest.is_empty(),
-        ([_, texts @ ..], [_, others @ ..]) => texts == others || text == others || texts == other,
+    match text {
+        [] => is_one(other),
+        [_, behind @ ..] => is_near_behind(text, behind, other),
     }
+}
+
+fn is_one(text: &[u8]) -> bool
+    ensures { result ≡ is_one text.now }
+{
+    match text {
+        [] => false,
+        [_, behind @ ..] => is_empty(behind),
+    }
+}
+
+fn is_empty(text: &[u8]) -> bool
+    ensures { result ≡ is_empty text.now }
+{
+    match text {
+        [] => true,
+        [_, ..] => false,
+    }
+}
+
+// The same of a text with one byte at least, and what stands behind that byte.
+fn is_near_behind(text: &[u8], behind: &[u8], other: &[u8]) -> bool
+    ensures { result ≡ is_near_behind text.now behind.now other.now }
+{
+    match other {
+        [] => is_empty(behind),
+        [_, others @ ..] => is_near_rest(text, behind, other, others),
+    }
+}
+
+fn is_near_rest(text: &[u8], behind: &[u8], other: &[u8], others: &[u8]) -> bool
+    ensures { result ≡ is_near_rest text.now behind.now other.now others.now }
+{
+    behind == others || text == others || behind == other
 }
