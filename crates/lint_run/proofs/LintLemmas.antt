@@ -1,6 +1,6 @@
 -- What the words of a lint ask for, and why a lint stops.
-use Rattle.std.proofs.Common.{◌≡◌, ℕ, ◌<◌, ◌≤◌, List, Option, Some, None, Ok, inl, inr, ⊎_elim, sym, subst}
-use Rattle.std.specs.Prelude.{IfSome}
+use Rattle.std.proofs.Common.{◌≡◌, ℕ, ◌<◌, ◌≤◌, List, [], Option, Some, None, Ok, inl, inr, ⊎_elim, length, refl, sym, ap, subst}
+use Rattle.std.specs.Prelude.{Err, IfSome, Result}
 use Rattle.std.proofs.lemmas.Option.{option_and_then_some}
 use Rattle.command_words.specs.Commands.{command_of}
 use Rattle.command_words.specs.declared.command.Command.{Command}
@@ -10,15 +10,21 @@ use Rattle.command_words.proofs.CallerLemmas.{HasRanges, command_of-ranges}
 use Rattle.file_lint.specs.Findings.{Finding}
 use Rattle.file_lint.specs.ModelErrors.{LintsModel}
 use Rattle.model_conf.specs.ModelText.{IsModel, ModelParts}
-use Rattle.outside.specs.Files.{Files}
+use Rattle.model_conf.specs.declared.fault.ModelFault.{ModelFault}
+use Rattle.outside.specs.Files.{Files, Holds}
 use Rattle.outside.specs.Faults.{Rose}
 use Rattle.outside.proofs.CallerLemmas.{rose_later}
+use Rattle.policy_csv.specs.declared.fault.PolicyFault.{PolicyFault}
+use Rattle.run_status.specs.Parts.{limit_of}
+use Rattle.run_status.specs.Statuses.{status_of}
 use Rattle.run_status.specs.declared.part.Part.TheVariants.{Model, Policy, Input, Report}
+use Rattle.run_status.specs.declared.status.Status.{Status}
 use Rattle.run_status.specs.declared.stop.Stop.{Stop}
-use Rattle.run_status.specs.declared.stop.Stop.TheVariants.{NoRelation, CannotRead, TooLong, NoMemory}
+use Rattle.run_status.specs.declared.stop.Stop.TheVariants.{NoModel, NoRelation, CannotRead, TooLong, NoMemory}
 use Rattle.lint_run.specs.Ends.{LintStops}
-use Rattle.lint_run.specs.Helps.{FetchStops, FilesStop, PolicyFileStops, ShapesStop}
-use Rattle.lint_run.specs.Linting.{FileIs, absent_in, lint_asked, lint_of}
+use Rattle.lint_run.specs.Helps.{FetchStops, FilesStop, IsPolicyLinted, PolicyFileStops, ShapesStop}
+use Rattle.lint_run.specs.Linting.{FileIs, Lints, absent_in, lint_asked, lint_of, lint_text, policy_end}
+use Rattle.lint_run.specs.Linting.Lints.{both, model_alone}
 use Rattle.lint_run.specs.declared.job.LintJob.{LintJob}
 
 -- a limit is one to 250
@@ -78,6 +84,26 @@ policy_unfetched files job model shelf (TooLong Input) fits (same, wide) = absur
 policy_unfetched files job model shelf (TooLong Report) fits (same, wide) = absurd cc
 policy_unfetched files job model shelf NoMemory fits stops = tt
 policy_unfetched files job model shelf _ fits stops = absurd stops
+
+-- a file of which a model, or a fault, and these findings were told
+pub model_told : (files : Option Files) (name bytes : List ℕ) (read : Result ModelParts ModelFault) (found : List Finding) (model : ModelParts) → Holds files name bytes → length bytes ≤ limit_of Model → LintsModel bytes read found → read ≡ Ok model
+    → FileIs files name Model (λ bytes. LintsModel bytes (Ok model) found)
+model_told files name bytes read found model holds within is same = (bytes, holds, within, subst (λ (r : Result ModelParts ModelFault). LintsModel bytes r found) same is)
+
+pub fault_told : (files : Option Files) (name bytes : List ℕ) (read : Result ModelParts ModelFault) (found : List Finding) (first : ModelFault) → Holds files name bytes → length bytes ≤ limit_of Model → LintsModel bytes read found → read ≡ Err first
+    → FileIs files name Model (λ bytes. LintsModel bytes (Err first) found)
+fault_told files name bytes read found first holds within is same = (bytes, holds, within, subst (λ (r : Result ModelParts ModelFault). LintsModel bytes r found) same is)
+
+-- what both files come to, the policy's by a shelf that tells the same files at a later moment
+pub linted_alone : (files : Option Files) (job : LintJob) (first : ModelFault) (found others : List Finding) (status : Status) → FileIs files job.files.model Model (λ bytes. LintsModel bytes (Err first) found) → others ≡ [] → status ≡ status_of (NoModel first)
+    → Lints files job (lint_text job found others) status
+linted_alone files job first found others status is none ends = model_alone first found is (ap (lint_text job found) none) ends
+
+pub linted_both : (files mid : Option Files) (job : LintJob) (model : ModelParts) (first : Option PolicyFault) (found others : List Finding) (status : Status) → mid ≡ files → FileIs files job.files.model Model (λ bytes. LintsModel bytes (Ok model) found)
+    → IsPolicyLinted mid job model first others → status ≡ policy_end first → Lints files job (lint_text job found others) status
+linted_both files mid job model first found others status same is linted ends =
+    let later = subst (λ (f : Option Files). IsPolicyLinted f job model first others) same linted in
+    both model first found others is later.fits later.finds refl ends
 
 -- a file that holds the findings of a model holds the model
 pub model_held : (files : Option Files) (name : List ℕ) (model : ModelParts) (found : List Finding) → FileIs files name Model (λ bytes. LintsModel bytes (Ok model) found) → FileIs files name Model (λ bytes. IsModel bytes model)

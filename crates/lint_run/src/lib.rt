@@ -6,3 +6,4 @@ mod job;
 mod linting;
 
 pub use linting::{asks_for_lint, run_lint};
+pub use run_status::Status;
