@@ -9,11 +9,13 @@ use Rattle.command_words.specs.declared.command.Options.{Options}
 use Rattle.command_words.proofs.CallerLemmas.{HasRanges, command_of-ranges}
 use Rattle.file_lint.specs.Findings.{Finding}
 use Rattle.file_lint.specs.ModelErrors.{LintsModel}
+use Rattle.file_lint.specs.PolicyErrors.{LintsPolicy}
 use Rattle.model_conf.specs.ModelText.{IsModel, ModelParts}
 use Rattle.model_conf.specs.declared.fault.ModelFault.{ModelFault}
 use Rattle.outside.specs.Files.{Files, Holds}
 use Rattle.outside.specs.Faults.{Rose}
 use Rattle.outside.proofs.CallerLemmas.{rose_later}
+use Rattle.perm_base.specs.declared.shapes.Shapes.{Shapes}
 use Rattle.policy_csv.specs.declared.fault.PolicyFault.{PolicyFault}
 use Rattle.run_status.specs.Parts.{limit_of}
 use Rattle.run_status.specs.Statuses.{status_of}
@@ -23,7 +25,7 @@ use Rattle.run_status.specs.declared.stop.Stop.{Stop}
 use Rattle.run_status.specs.declared.stop.Stop.TheVariants.{NoModel, NoRelation, CannotRead, TooLong, NoMemory}
 use Rattle.lint_run.specs.Ends.{LintStops}
 use Rattle.lint_run.specs.Helps.{FetchStops, FilesStop, IsPolicyLinted, PolicyFileStops, ShapesStop}
-use Rattle.lint_run.specs.Linting.{FileIs, Lints, absent_in, lint_asked, lint_of, lint_text, policy_end}
+use Rattle.lint_run.specs.Linting.{FileIs, Lints, absent_in, lint_asked, lint_of, lint_text, policy_end, shapes_with}
 use Rattle.lint_run.specs.Linting.Lints.{both, model_alone}
 use Rattle.lint_run.specs.declared.job.LintJob.{LintJob}
 
@@ -93,6 +95,13 @@ model_told files name bytes read found model holds within is same = (bytes, hold
 pub fault_told : (files : Option Files) (name bytes : List ℕ) (read : Result ModelParts ModelFault) (found : List Finding) (first : ModelFault) → Holds files name bytes → length bytes ≤ limit_of Model → LintsModel bytes read found → read ≡ Err first
     → FileIs files name Model (λ bytes. LintsModel bytes (Err first) found)
 fault_told files name bytes read found first holds within is same = (bytes, holds, within, subst (λ (r : Result ModelParts ModelFault). LintsModel bytes r found) same is)
+
+pub policy_told : (files : Option Files) (job : LintJob) (model : ModelParts) (shapes : Shapes) (bytes : List ℕ) (first : Option PolicyFault) (found : List Finding) → Holds files job.files.policy bytes → length bytes ≤ limit_of Policy → absent_in job.options model ≡ None
+    → shapes ≡ shapes_with job.options model → LintsPolicy model shapes bytes first found → IsPolicyLinted files job model first found
+policy_told files job model shapes bytes first found holds within fits same is = record {
+  fits = fits;
+  finds = (bytes, holds, within, subst (λ (s : Shapes). LintsPolicy model s bytes first found) same is);
+}
 
 -- what both files come to, the policy's by a shelf that tells the same files at a later moment
 pub linted_alone : (files : Option Files) (job : LintJob) (first : ModelFault) (found others : List Finding) (status : Status) → FileIs files job.files.model Model (λ bytes. LintsModel bytes (Err first) found) → others ≡ [] → status ≡ status_of (NoModel first)

@@ -124,7 +124,8 @@ fn lint_policy_file<F: Shelf>(
 {
     let shapes = policy_shapes(alloc, model, &job.options)?;
     let bytes = fetch(alloc, shelf, job.files.policy, Part::Policy)?;
-    Ok(lint_policy(alloc, &bytes, model, &shapes)?)
+    let lint = lint_policy(alloc, &bytes, model, &shapes)?;
+    Ok(lint)
 }
 
 // The status by the first fault of a policy.
