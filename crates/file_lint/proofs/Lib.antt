@@ -8,5 +8,6 @@ pub mod WantLemmas
 pub mod RoundLemmas
 pub mod ColumnLemmas
 pub mod RowLemmas
+pub mod OtherLemmas
 pub mod KeptLemmas
 pub mod WarningLemmas

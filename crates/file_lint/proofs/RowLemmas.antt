@@ -62,11 +62,11 @@ looked_told model line rule table looked before after (Ok done) own all finds =
 
 -- the warnings of a rule, step after step
 pub row_found : (model : ModelParts) (shapes : Shapes) (before : Policy) (line : Line) (entry : Entry) (repeats own whole ordered old now : List Finding) (result : Result (Unit {0}) NoMem)
-    → repeats ≡ repeat_warnings before line entry → own ≡ repeats ++ own_warnings shapes line entry entry.table → FindsMore (AreLooked model line entry.rule entry.table) own whole → ordered ≡ in_order whole
+    → repeats ≡ repeat_warnings before line entry → own ≡ repeats ++ own_warnings model shapes before line entry entry.table → FindsMore (AreLooked model line entry.rule entry.table) own whole → ordered ≡ in_order whole
     → OnOk result (now ≡ old ++ ordered) → OnOk result (FindsMore (RowFinds model shapes before line entry) old now)
 row_found model shapes before line entry repeats own whole ordered old now (Err e) first second third order grown = tt
 row_found model shapes before line entry repeats own whole ordered old now (Ok done) first second (looked, are, more) order grown =
-    (ordered, record { looked = looked; are_looked = are; all = order ∙ ap in_order (more ∙ ap (λ (l : List Finding). l ++ looked) (second ∙ ap (λ (l : List Finding). l ++ own_warnings shapes line entry entry.table) first)) }, grown)
+    (ordered, record { looked = looked; are_looked = are; all = order ∙ ap in_order (more ∙ ap (λ (l : List Finding). l ++ looked) (second ∙ ap (λ (l : List Finding). l ++ own_warnings model shapes before line entry entry.table) first)) }, grown)
 
 -- a line that says a rule, and one that has a fault of its own
 pub entry_judged : (model : ModelParts) (shapes : Shapes) (line : Line) (before after : Policy) (findings now : List Finding) (entry : Entry) (result : Result (Unit {0}) NoMem) → SaysRule shapes line.text entry

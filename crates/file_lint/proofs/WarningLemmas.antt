@@ -2,6 +2,7 @@
 use Rattle.std.proofs.Common.{◌≡◌, ◌≢◌, ℕ, ◌+◌, Bool, true, false, cond, List, [], ◌∷◌, ◌++◌, Option, Some, None, inl, inr, refl, sym, ap, subst, ◌∙◌, arith}
 use Rattle.std.specs.Prelude.{Ok, Err, flat_map, if◌then◌else◌}
 use Rattle.std.specs.List.{AllByRecursion, AllZip}
+use Rattle.effect_fold.specs.declared.effect.Effect.{Effect}
 use Rattle.model_conf.specs.ModelText.{ModelParts}
 use Rattle.perm_base.specs.declared.shapes.RoleShape.{RoleShape}
 use Rattle.perm_base.specs.declared.shapes.Shapes.{Shapes}
@@ -20,7 +21,7 @@ use Rattle.file_lint.specs.Findings.{Finding, count_of, in_order, is_behind, is_
 use Rattle.file_lint.specs.Nodes.{Looked}
 use Rattle.file_lint.specs.PolicyErrors.{LintsLines}
 use Rattle.file_lint.specs.PolicyErrors.LintsLines.{at_fault, no_line, rule, told}
-use Rattle.file_lint.specs.RowWarnings.{AreLooked, HeldFinds, LookedFinds, RowFinds, Surprises, effect_warnings, field_of, own_warnings, rank_warnings, repeat_warnings, subject_warnings}
+use Rattle.file_lint.specs.RowWarnings.{AreLooked, HeldFinds, LookedFinds, RowFinds, Surprises, effect_warnings, field_of, order_warnings, own_warnings, policy_warnings, rank_warnings, repeat_warnings, subject_warnings}
 use Rattle.file_lint.specs.declared.finding.Level.{Level}
 use Rattle.file_lint.specs.declared.finding.Level.TheVariants.{Error, Warning}
 use Rattle.file_lint.specs.declared.nodes.Held.{Held}
@@ -69,9 +70,15 @@ subjects : (line : Line) (fields : Fields) (at : ℕ) (shape : Option RoleShape)
 subjects line fields at None = tt
 subjects line fields at (Some shape) = where_so _ _ refl
 
-own : (shapes : Shapes) (line : Line) (entry : Entry) (table : TableId) → AreWarnings (own_warnings shapes line entry table)
-own shapes line entry P = both _ _ (both (effect_warnings line entry.rule shapes.effect_column) _ (effects line entry.rule shapes.effect_column) (ranks line entry.rule shapes.ranked)) (subjects line entry.rule shapes.subject_column _)
-own shapes line entry (G number) = where_so _ _ refl
+orders : (effect : Effect) (before : Policy) (line : Line) (fields : Fields) (column : Option ℕ) → AreWarnings (order_warnings effect before line fields column)
+orders effect before line fields None = tt
+orders effect before line fields (Some at) = where_so _ _ refl
+
+own : (model : ModelParts) (shapes : Shapes) (before : Policy) (line : Line) (entry : Entry) (table : TableId) → AreWarnings (own_warnings model shapes before line entry table)
+own model shapes before line entry P =
+    both (policy_warnings shapes line entry.rule) _ (both _ _ (both (effect_warnings line entry.rule shapes.effect_column) _ (effects line entry.rule shapes.effect_column) (ranks line entry.rule shapes.ranked)) (subjects line entry.rule shapes.subject_column _))
+    (orders model.effect before line entry.rule shapes.effect_column)
+own model shapes before line entry (G number) = where_so _ _ refl
 
 surprising : (good bad : Type 0) (found : Finding) (findings : List Finding) → found.level ≡ Warning → Surprises good bad found findings → AreWarnings findings
 surprising good bad found findings is (inl (fine, none)) = subst AreWarnings (sym none) tt
@@ -97,7 +104,7 @@ looked_of model line fields (G number) findings is = subst AreWarnings (sym is) 
 
 row : (model : ModelParts) (shapes : Shapes) (before : Policy) (line : Line) (entry : Entry) (findings : List Finding) → RowFinds model shapes before line entry findings → AreWarnings findings
 row model shapes before line entry findings is =
-    subst AreWarnings (sym is.all) (ordered _ (both _ is.looked (both (repeat_warnings before line entry) (own_warnings shapes line entry entry.table) (where_so _ _ refl) (own shapes line entry entry.table))
+    subst AreWarnings (sym is.all) (ordered _ (both _ is.looked (both (repeat_warnings before line entry) (own_warnings model shapes before line entry entry.table) (where_so _ _ refl) (own model shapes before line entry entry.table))
     (looked_of model line entry.rule entry.table is.looked is.are_looked)))
 
 -- a line that says a rule has no fault of its own

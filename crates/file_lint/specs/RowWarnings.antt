@@ -1,7 +1,9 @@
 -- The warnings of a policy's rules: what loads and then surprises, each in the row where it stands.
-use Rattle.std.specs.Prelude.{◌≡◌, ◌⊎◌, ℕ, ◌+◌, ◌||◌, Bool, true, false, is_none, List, [], ◌∷◌, ◌++◌, codes, flat_map, get_or, Option, Some, None, if◌then◌else◌}
+use Rattle.std.specs.Prelude.{◌≡◌, ◌⊎◌, ℕ, ◌+◌, ◌&&◌, ◌||◌, Bool, true, false, is_none, not, slice_set, List, [], ◌∷◌, ◌++◌, codes, flat_map, get_or, Option, Some, None, if◌then◌else◌}
 use Rattle.std.specs.List.{AllZip}
 use Rattle.std.specs.Str.{bytes_eq}
+use Rattle.effect_fold.specs.declared.effect.Effect.{Effect}
+use Rattle.effect_fold.specs.declared.effect.Effect.TheVariants.{Priority, SubjectPriority}
 use Rattle.ip_match.specs.Blocks.{IsBlock}
 use Rattle.ip_match.specs.declared.block.Block.{Block as IpBlock}
 use Rattle.matcher_read.specs.Expression.{Expression}
@@ -62,6 +64,26 @@ subject_warnings line rule at (Some shape) =
     then warning_in line (at + 1) (quoted (field_of rule at) ++ codes " is a pattern of g: a name that is asked is never a pattern, so this rule is for the name of these very bytes") ∷ []
     else []
 
+-- the first rule that fits decides
+abbrev pub is_by_priority : Effect → Bool
+is_by_priority Priority = true
+is_by_priority SubjectPriority = true
+is_by_priority _ = false
+
+-- an equal rule but for this effect stands above
+abbrev pub has_other : Policy → Fields → ℕ → List ℕ → Bool
+has_other before rule at effect = stands (slice_set rule at effect) (rows before P)
+
+-- the rule does not stand yet, and one that differs in its effect alone does
+abbrev pub is_behind_other : Policy → Fields → ℕ → Bool
+is_behind_other before rule at = not (stands rule (rows before P)) && (has_other before rule at (codes "allow") || has_other before rule at (codes "deny"))
+
+-- a rule behind one that differs in its effect alone, and decides first
+abbrev pub order_warnings : Effect → Policy → Line → Fields → Option ℕ → List Finding
+order_warnings effect before line rule None = []
+order_warnings effect before line rule (Some at) =
+    if is_by_priority effect && is_behind_other before rule at then warning_in line (at + 1) (codes "a rule above differs in its effect alone: it decides first, and this one is never reached") ∷ [] else []
+
 -- a link from a name to itself
 abbrev pub link_warnings : Line → Fields → List Finding
 link_warnings line rule = if bytes_eq (field_of rule 0) (field_of rule 1) then warning_in line 2 (codes "a link from " ++ quoted (field_of rule 0) ++ codes " to itself") ∷ [] else []
@@ -71,10 +93,10 @@ abbrev pub policy_warnings : Shapes → Line → Fields → List Finding
 policy_warnings shapes line rule =
     effect_warnings line rule shapes.effect_column ++ rank_warnings line rule shapes.ranked ++ subject_warnings line rule shapes.subject_column (shape_of shapes.roles 1)
 
--- what a rule's own fields surprise by
-abbrev pub own_warnings : Shapes → Line → Entry → TableId → List Finding
-own_warnings shapes line entry P = policy_warnings shapes line entry.rule
-own_warnings shapes line entry (G number) = link_warnings line entry.rule
+-- what a rule surprises by, behind the rules of these tables
+abbrev pub own_warnings : ModelParts → Shapes → Policy → Line → Entry → TableId → List Finding
+own_warnings model shapes before line entry P = policy_warnings shapes line entry.rule ++ order_warnings model.effect before line entry.rule shapes.effect_column
+own_warnings model shapes before line entry (G number) = link_warnings line entry.rule
 
 -- a field that is no address and no block, or no rule text
 abbrev pub Surprises : (good bad : Type 0) → Finding → List Finding → Type 0
@@ -109,4 +131,4 @@ AreLooked model line rule (G number) findings = findings ≡ []
 pub record RowFinds (model : ModelParts) (shapes : Shapes) (before : Policy) (line : Line) (entry : Entry) (findings : List Finding) : Type 0 where
   pub looked : List Finding
   pub are_looked : AreLooked model line entry.rule entry.table looked
-  pub all : findings ≡ in_order (repeat_warnings before line entry ++ own_warnings shapes line entry entry.table ++ looked)
+  pub all : findings ≡ in_order (repeat_warnings before line entry ++ own_warnings model shapes before line entry entry.table ++ looked)

@@ -131,7 +131,8 @@ impl<'a> Judge<'a> {
             findings.old.items findings.new.items) }
     {
         let mut found = repeat_warnings(alloc, seen, row, entry)?;
-        push_own_warnings(alloc, self.shapes, row, entry, &mut found)?;
+        let effect = self.model.effect();
+        push_own_warnings(alloc, effect, self.shapes, seen, row, entry, &mut found)?;
         self.push_held_fields(alloc, row, entry, &mut found)?;
         let ordered = in_order(alloc, found)?;
         push_all(findings, ordered)

@@ -18,6 +18,7 @@ mod near;
 mod nodes;
 mod numbers;
 mod order;
+mod others;
 mod places;
 mod policy;
 mod policy_words;

@@ -1,10 +1,13 @@
 ghost use Rattle.std.specs.Prelude.{◌≡◌, ◌++◌, IfOk, OnOk, string_bytes};
-ghost use Rattle.file_lint.specs.RowWarnings.{effect_warnings, field_of, is_effect, link_warnings, own_warnings, policy_warnings, rank_warnings, repeat_warnings, subject_warnings, warning_in};
+ghost use Rattle.model_conf.specs.ModelText.{ModelParts};
+ghost use Rattle.file_lint.specs.RowWarnings.{effect_warnings, field_of, is_effect, link_warnings, order_warnings, own_warnings, policy_warnings, rank_warnings, repeat_warnings, subject_warnings, warning_in};
 
 use crate::columns::field_column;
 use crate::finding::{Finding, Level};
 use crate::numbers::integer_of;
+use crate::others::push_order;
 use crate::texts::{push, push_quoted, quoted_and};
+use effect_fold::Effect;
 use outside::{NoMemory, Text};
 use perm_base::{RoleShape, Rule, Shapes, TableId, is_pattern};
 use policy_csv::Entry;
@@ -57,21 +60,41 @@ pub(crate) fn repeat_warnings(
     Ok(found)
 }
 
-/// Pushes what a rule's own fields surprise by.
+/// Pushes what a rule surprises by, behind the rules of these tables.
 pub(crate) fn push_own_warnings(
     alloc: Global,
+    effect: Effect,
     shapes: &Shapes,
+    seen: &Tables,
     row: &Row<'_>,
     entry: &Entry,
     found: &mut Vec<Finding>,
 ) -> Result<(), NoMemory>
-    ensures { OnOk result (found.new.items ≡ found.old.items
-        ++ own_warnings shapes.now row.now entry.now entry.now.table) }
+    ensures { (model : ModelParts) → model.effect ≡ effect → OnOk result (found.new.items
+        ≡ found.old.items
+        ++ own_warnings model shapes.now seen.now.policy row.now entry.now entry.now.table) }
 {
     match entry.table {
-        TableId::P => push_policy_warnings(alloc, shapes, row, &entry.rule, found),
+        TableId::P => push_rule_warnings(alloc, effect, shapes, seen, row, &entry.rule, found),
         TableId::G(_) => push_link(alloc, row, &entry.rule, found),
     }
+}
+
+// Pushes what a rule of p surprises by, behind the rules of these tables.
+fn push_rule_warnings(
+    alloc: Global,
+    effect: Effect,
+    shapes: &Shapes,
+    seen: &Tables,
+    row: &Row<'_>,
+    rule: &Rule,
+    found: &mut Vec<Finding>,
+) -> Result<(), NoMemory>
+    ensures { OnOk result (found.new.items ≡ found.old.items ++ (policy_warnings shapes.now row.now rule.now
+        ++ order_warnings effect seen.now.policy row.now rule.now shapes.now.effect_column)) }
+{
+    push_policy_warnings(alloc, shapes, row, rule, found)?;
+    push_order(alloc, effect, seen, row, rule, shapes.effect_column, found)
 }
 
 // Pushes what the fields of a rule of p surprise by.
