@@ -1,10 +1,13 @@
 -- Lines, and the places in them, from one line to the next.
-use Rattle.std.proofs.Common.{◌≡◌, ℕ, zero, suc, ◌+◌, ◌-◌, ◌<◌, ◌≤◌, Bool, true, false, cond, not, List, [], ◌∷◌, ◌++◌, length, take, drop, refl, sym, ap, subst, ◌∙◌, arith}
+use Rattle.std.proofs.Common.{◌≡◌, ◌≢◌, ℕ, zero, suc, ◌+◌, ◌-◌, ◌<◌, ◌≤◌, Bool, true, false, cond, not, List, [], ◌∷◌, ◌++◌, length, take, drop, eq-eqb, refl, sym, ap, subst, ◌∙◌, arith}
 use Rattle.std.specs.Prelude.{◌==◌, ◌&&◌, ◌||◌, nat_lt, if◌then◌else◌}
 use Rattle.std.specs.Str.{bytes_eq}
+use Rattle.std.proofs.lemmas.Bool.{ne_eqb}
+use Rattle.std.proofs.lemmas.List.Sums.{prefix_len-drop_all}
+use Rattle.text_parts.specs.Blanks.{is_blank}
 use Rattle.text_parts.specs.Numbered.{Line, line, numbered, text_lines}
 use Rattle.text_parts.specs.Passed.{is_passed_in_model}
-use Rattle.file_lint.specs.Places.{behind_blanks_at, from_key, is_open, key_in, line_at, open_length, place, place_in, value_in}
+use Rattle.file_lint.specs.Places.{behind_blanks_at, blanks_before, from_key, is_open, key_in, line_at, open_length, place, place_in, value_in}
 use Rattle.file_lint.specs.Helps.Steps.{begins_with_key, goes_on}
 
 -- `line_at`: no line, the line that is sought, and another one
@@ -12,13 +15,13 @@ pub line_at-none : (number : ℕ) → line_at number [] ≡ []
 unfolding line_at
 line_at-none number = refl
 
-pub line_at-found : (number at : ℕ) (text : List ℕ) (others : List Line) → (at == number) ≡ true → line_at number (line at text ∷ others) ≡ text
+pub line_at-found : (number at : ℕ) (text : List ℕ) (others : List Line) → at ≡ number → line_at number (line at text ∷ others) ≡ text
 unfolding line_at
-line_at-found number at text others e = rw e refl
+line_at-found number at text others same = let e : (at == number) ≡ true = eq-eqb at number same in rw e refl
 
-pub line_at-next : (number at : ℕ) (text : List ℕ) (others : List Line) → (at == number) ≡ false → line_at number (line at text ∷ others) ≡ line_at number others
+pub line_at-next : (number at : ℕ) (text : List ℕ) (others : List Line) → at ≢ number → line_at number (line at text ∷ others) ≡ line_at number others
 unfolding line_at
-line_at-next number at text others e = rw e refl
+line_at-next number at text others other = let e : (at == number) ≡ false = ne_eqb at number other in rw e refl
 
 -- `from_key`: no line, the line that begins with the key, and another one
 pub from_key-none : (key : List ℕ) (continued : Bool) → from_key key continued [] ≡ []
@@ -85,3 +88,7 @@ numbered_first number text first rest e = ap (numbered number) e
 
 pub numbered_none : (number : ℕ) (text : List ℕ) → text_lines text ≡ [] → numbered number (text_lines text) ≡ []
 numbered_none number text e = ap (numbered number) e
+
+-- behind a text stand no blanks
+pub blanks_past : (text : List ℕ) (offset : ℕ) → length text ≤ offset → offset ≡ offset + blanks_before (drop offset text)
+blanks_past text offset past = omega (arith, prefix_len-drop_all is_blank text offset past)

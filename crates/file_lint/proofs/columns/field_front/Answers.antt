@@ -13,8 +13,8 @@ loop-left-preserved c =
       within = omega arith;
     }
 
-pub returns-then-left-clause-value : goal.returns-then-left-clause-value
-returns-then-left-clause-value c = front_past c.args.line.now c.loop-left.at c.loop-left.left c.loop-left.within _ (omega arith) (omega arith) c.loop-left.invariant.within c.loop-left.invariant.rest
+pub returns-then-left-gt0-clause-value : goal.returns-then-left-gt0-clause-value
+returns-then-left-gt0-clause-value c = front_past c.args.line.now c.loop-left.at c.loop-left.left c.loop-left.within _ (omega arith) (omega arith) c.loop-left.invariant.within c.loop-left.invariant.rest
 
 pub returns-clause-value : goal.returns-clause-value
 returns-clause-value c = c.behind_blanks_at.ensures.value ∙ front_reached c.args.line.now c.loop-left.at c.loop-left.left c.loop-left.within _ (omega arith) c.loop-left.invariant.rest
