@@ -1,5 +1,5 @@
 -- The fields of rules, and how many rules are kept.
-use Rattle.std.proofs.Common.{◌≡◌, ℕ, zero, suc, ◌+◌, ◌<◌, ◌≤◌, Bool, true, false, List, [], ◌∷◌, Option, Some, None, inl, inr, length, refl, sym, subst, ◌∙◌, arith}
+use Rattle.std.proofs.Common.{◌≡◌, ℕ, zero, suc, ◌+◌, ◌<◌, ◌≤◌, Bool, true, false, List, [], ◌∷◌, Option, Some, None, inl, inr, length, not, refl, sym, ap, subst, ◌∙◌, arith}
 use Rattle.std.specs.Prelude.{slice_get, is_some, nat_lt, if◌then◌else◌}
 use Rattle.std.proofs.lemmas.Option.{slice_get-get_or}
 use Rattle.model_conf.specs.ModelText.{ModelParts}
@@ -37,6 +37,14 @@ few_kept entry before at table here = by (stands entry.rule (rows before entry.t
     by : (stood : Bool) → length (rows (if stood then before else changed (Insert entry.table entry.rule) before) table) ≤ length (rows before table) + 1
     by true = omega arith
     by false = put (is_table table entry.table) refl
+
+-- a rule that was put in, unless it stood, is kept
+pub kept_by : (entry : Entry) (before after : Policy) (new : Bool) → new ≡ not (stands entry.rule (rows before entry.table)) → after ≡ (if new then changed (Insert entry.table entry.rule) before else before) → after ≡ with_entry entry before
+kept_by entry before after new is now = now ∙ by (stands entry.rule (rows before entry.table)) is
+  where
+    by : (stood : Bool) → new ≡ not stood → (if new then changed (Insert entry.table entry.rule) before else before) ≡ (if stood then before else changed (Insert entry.table entry.rule) before)
+    by true none = ap (λ (b : Bool). if b then changed (Insert entry.table entry.rule) before else before) none
+    by false some = ap (λ (b : Bool). if b then changed (Insert entry.table entry.rule) before else before) some
 
 -- a field that is there, and one behind them all
 pub field_read : (rule : Fields) (at : ℕ) (text : List ℕ) → at < length rule → slice_get rule at ≡ Some text → text ≡ field_of rule at

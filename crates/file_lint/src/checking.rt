@@ -165,7 +165,7 @@ fn keep(seen: &mut Tables, entry: Entry) -> Result<(), NoMemory>
     ensures { OnOk result (seen.new.policy ≡ with_entry entry seen.old.policy) }
 {
     let Entry { table, rule } = entry;
-    let _new = seen.insert(table, rule)?;
+    seen.insert(table, rule)?;
     Ok(())
 }
 
