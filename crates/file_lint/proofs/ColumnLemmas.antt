@@ -35,7 +35,9 @@ front_past bytes at left within whole some past most is =
 
 -- the field is reached
 pub front_reached : (bytes : List ℕ) (at left : ℕ) (within : Within) (whole : ℕ) → left ≡ 0 → at + field_front left within (drop at bytes) ≡ whole → at + blanks_before (drop at bytes) ≡ whole
-front_reached bytes at left within whole none is = ap (λ (n : ℕ). at + n) (rw none (front_here within (drop at bytes))) ∙ is
+front_reached bytes at left within whole none is =
+    let here = ap (λ (n : ℕ). field_front n within (drop at bytes)) none ∙ front_here within (drop at bytes) in
+    omega (arith, here, is)
 
 count_none : (within : Within) → field_count within [] ≡ 1
 unfolding field_count
