@@ -26,10 +26,14 @@ is_text _ = false
 abbrev pub is_class : ℕ → Bool
 is_class byte = byte == 119 || byte == 100 || byte == 98 || byte == 87 || byte == 68 || byte == 66
 
+-- `\`, and one of them behind it
+abbrev pub is_class_here : ℕ → List ℕ → Bool
+is_class_here byte behind = byte == 92 && begins_with is_class behind
+
 -- one of them stands behind a `\` in the text
 unfoldable pub has_class : List ℕ → Bool
 has_class [] = false
-has_class (byte ∷ bytes) = (byte == 92 && begins_with is_class bytes) || has_class bytes
+has_class (byte ∷ bytes) = is_class_here byte bytes || has_class bytes
 
 -- the node is a text that holds one
 abbrev pub has_class_in : Expression → Bool

@@ -1,7 +1,7 @@
 ghost use Rattle.std.specs.Prelude.{◌≡◌, ◌++◌, IfOk, IsUtf8, OnOk, flat_map, map, option_map};
 ghost use Rattle.perm_base.specs.FieldLine.{begins_with};
 ghost use Rattle.matcher_read.specs.Expression.{expression, expressions_of};
-ghost use Rattle.file_lint.specs.ModelWarnings.{column_warnings, has_brace_in, has_class, has_class_in, is_class, is_text, is_unranked, model_warnings, node_warnings, second_is, told_if, told_of, told_of_call, told_of_operator, warning_at};
+ghost use Rattle.file_lint.specs.ModelWarnings.{column_warnings, has_brace_in, has_class, has_class_in, is_class, is_class_here, is_text, is_unranked, model_warnings, node_warnings, second_is, told_if, told_of, told_of_call, told_of_operator, warning_at};
 ghost use Rattle.file_lint.specs.Helps.Trees.{seen};
 
 use crate::finding::{Finding, Level};
@@ -205,14 +205,19 @@ fn has_class_in(tree: &Tree) -> bool
 fn has_class(text: &[u8]) -> bool
     ensures { result ≡ has_class text.now }
 {
-    let mut rest = text;
-    while let [sign, behind @ ..] = rest {
-        if *sign == b'\\' && begins_with_class(behind) {
+    for (at, byte) in text.iter().enumerate() {
+        if is_class_here(*byte, &text[at + 1..]) {
             return true;
         }
-        rest = behind;
     }
     false
+}
+
+// A class stands here: its sign, and behind it the letter.
+fn is_class_here(byte: u8, behind: &[u8]) -> bool
+    ensures { result ≡ is_class_here byte behind.now }
+{
+    byte == b'\\' && begins_with_class(behind)
 }
 
 fn begins_with_class(text: &[u8]) -> bool
