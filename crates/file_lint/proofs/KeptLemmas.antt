@@ -15,7 +15,7 @@ use Rattle.policy_table.specs.Tables.{Fields, Policy, is_ranked, place, rows, st
 use Rattle.policy_table.specs.declared.change.Change.TheVariants.{Insert}
 use Rattle.policy_table.proofs.CallerLemmas.{one_longer, rows_other, rows_own, same_table}
 use Rattle.text_parts.specs.Numbered.{Line}
-use Rattle.file_lint.specs.Findings.{Finding}
+use Rattle.file_lint.specs.Findings.{FindingParts}
 use Rattle.file_lint.specs.RowWarnings.{field_of}
 use Rattle.file_lint.specs.Helps.Rows.{LineFinds, LineTells}
 
@@ -63,7 +63,7 @@ placed None is = absurd cc
 placed (Some at) is = (at, refl)
 
 -- a line makes no table longer by more than one rule
-few_judged : (model : ModelParts) (shapes : Shapes) (line : Line) (before after : Policy) (findings now : List Finding) → AreRoles shapes.roles → LineFinds model shapes line before after findings now
+few_judged : (model : ModelParts) (shapes : Shapes) (line : Line) (before after : Policy) (findings now : List FindingParts) → AreRoles shapes.roles → LineFinds model shapes line before after findings now
     → (table : TableId) → length (rows after table) ≤ length (rows before table) + 1
 few_judged model shapes line before after findings now roles (inl (entry, says, kept, more)) table =
     let at = placed (place entry.table) (place_known shapes entry.table (length entry.rule) roles says.columns) in
@@ -71,7 +71,7 @@ few_judged model shapes line before after findings now roles (inl (entry, says, 
 few_judged model shapes line before after findings now roles (inr (why, no_want, is, kept, grown)) table =
     subst (λ (p : Policy). length (rows p table) ≤ length (rows before table) + 1) (sym kept) (omega arith)
 
-pub few_after : (model : ModelParts) (shapes : Shapes) (first : Option PolicyFault) (line : Line) (before after : Policy) (findings now : List Finding) → AreRoles shapes.roles
+pub few_after : (model : ModelParts) (shapes : Shapes) (first : Option PolicyFault) (line : Line) (before after : Policy) (findings now : List FindingParts) → AreRoles shapes.roles
     → LineTells model shapes first line before after findings now → (table : TableId) → length (rows after table) ≤ length (rows before table) + 1
 few_after model shapes first line before after findings now roles (inl (why, is, kept, grown)) table =
     subst (λ (p : Policy). length (rows p table) ≤ length (rows before table) + 1) (sym kept) (omega arith)

@@ -24,7 +24,7 @@ use Rattle.file_lint.specs.declared.mending.Reach.{Reach}
 use Rattle.file_lint.specs.declared.mending.Reach.TheVariants.{Ahead, Within, Past}
 
 -- a mended text, and whether columns or shapes were guessed in it
-pub record Mended : Type 0 where
+pub record MendedText : Type 0 where
   pub text : List ℕ
   pub guessed : Bool
 
@@ -79,7 +79,7 @@ abbrev pub key_number : List ℕ → List ℕ → Option ℕ
 key_number key bytes = number_of (from_key key false (file_lines bytes))
 
 -- a mended text that is not longer than a model may be
-abbrev pub if_short : Bool → List ℕ → Option Mended
+abbrev pub if_short : Bool → List ℕ → Option MendedText
 if_short guessed text = if nat_lt most_bytes (length text) then None else Some (record { text = text; guessed = guessed })
 
 -- the section of a key, and the key with a value
@@ -97,7 +97,7 @@ is_guess k.E = false
 is_guess k.M = false
 
 -- the value of a key is replaced
-abbrev pub with_value : List ℕ → List ℕ → Bool → Option ℕ → List ℕ → Option Mended
+abbrev pub with_value : List ℕ → List ℕ → Bool → Option ℕ → List ℕ → Option MendedText
 with_value key value guessed None bytes = None
 with_value key value guessed (Some at) bytes = if_short guessed (with_line Continued at (key ++ codes " = " ++ value) bytes)
 
@@ -108,7 +108,7 @@ usual_value k.E = codes "some(where (p.eft == allow))"
 usual_value k.M = codes "true"
 
 -- a line of columns with one more in front
-abbrev pub with_column : List ℕ → List ℕ → List Line → List ℕ → Option Mended
+abbrev pub with_column : List ℕ → List ℕ → List Line → List ℕ → Option MendedText
 with_column key column [] bytes = None
 with_column key column (first ∷ others) bytes = if_short false (with_line Alone first.number (key ++ codes " = " ++ column ++ codes "," ++ after_first is_equals first.text) bytes)
 
@@ -117,15 +117,15 @@ abbrev pub word_front : List ℕ → List ℕ
 word_front text = take (prefix_len is_word text) text
 
 -- the column of a key is declared
-abbrev pub with_column_of : List ℕ → Key × List ℕ → Option Mended
+abbrev pub with_column_of : List ℕ → Key × List ℕ → Option MendedText
 with_column_of bytes cut = with_column (key_text cut.0) (word_front cut.1) (from_key (key_text cut.0) false (file_lines bytes)) bytes
 
 -- the column of a name `r.column` or `p.column` at the front of a text is declared
-abbrev pub with_declared : List ℕ → List ℕ → Option Mended
+abbrev pub with_declared : List ℕ → List ℕ → Option MendedText
 with_declared text bytes = option_and_then (with_column_of bytes) (key_and_rest text)
 
 -- a relation of that name is declared, where none is
-abbrev pub with_relation : List ℕ → Option ℕ → List ℕ → Option Mended
+abbrev pub with_relation : List ℕ → Option ℕ → List ℕ → Option MendedText
 with_relation name (Some at) bytes = None
 with_relation name None bytes = if_short true (with_more (codes "[role_definition]\n" ++ name ++ codes " = _, _\n") bytes)
 
@@ -160,7 +160,7 @@ with_key number (Some key) line bytes = with_line Alone number (key ++ codes " =
 with_key number None line bytes = with_line Continued number [] bytes
 
 -- the text with the fault taken away, where that can be
-unfoldable pub mended : ModelFault → List ℕ → Option Mended
+unfoldable pub mended : ModelFault → List ℕ → Option MendedText
 mended fault.TooLong bytes = None
 mended fault.NotUtf8 bytes = None
 mended (fault.Line number) bytes = if_short false (without_line number (line_at number (file_lines bytes)) bytes)

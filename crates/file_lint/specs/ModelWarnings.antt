@@ -12,7 +12,7 @@ use Rattle.model_conf.specs.ModelText.{ModelParts}
 use Rattle.model_conf.specs.Shapes.{is_ranked}
 use Rattle.perm_base.specs.FieldLine.{begins_with}
 use Rattle.text_parts.specs.Lines.{has_byte}
-use Rattle.file_lint.specs.Findings.{Finding, finding}
+use Rattle.file_lint.specs.Findings.{FindingParts, finding}
 use Rattle.file_lint.specs.Nodes.{nodes_of, second_of}
 use Rattle.file_lint.specs.Places.{Place, place_of_value}
 use Rattle.file_lint.specs.declared.finding.Level.TheVariants.{Warning}
@@ -49,7 +49,7 @@ has_brace_in _ = false
 abbrev pub second_is : (Expression → Bool) → Expressions → Bool
 second_is test es = option_map_or test (second_of es) false
 
-abbrev pub warning_at : Place → List ℕ → Finding
+abbrev pub warning_at : Place → List ℕ → FindingParts
 warning_at at words = finding at.line at.column Warning words
 
 abbrev pub plus_words : List ℕ
@@ -83,21 +83,21 @@ told_of (call at (function called) es) = told_of_call at called es
 told_of _ = None
 
 -- the warning of these words at a byte of the matcher, or none
-abbrev pub warnings_by : List ℕ → Option (ℕ × List ℕ) → List Finding
+abbrev pub warnings_by : List ℕ → Option (ℕ × List ℕ) → List FindingParts
 warnings_by bytes None = []
 warnings_by bytes (Some told) = warning_at (place_of_value (codes "m") (told.0 - 1) bytes) told.1 ∷ []
 
 -- the warnings of a node, at its place in the matcher
-abbrev pub node_warnings : List ℕ → Expression → List Finding
+abbrev pub node_warnings : List ℕ → Expression → List FindingParts
 node_warnings bytes e = warnings_by bytes (told_of e)
 
 -- a column of p is named `priority`, and p is not ranked
 abbrev pub is_unranked : ModelParts → Bool
 is_unranked model = list_any (bytes_eq (codes "priority")) model.policy && not (is_ranked model.effect model.policy)
 
-abbrev pub column_warnings : List ℕ → ModelParts → List Finding
+abbrev pub column_warnings : List ℕ → ModelParts → List FindingParts
 column_warnings bytes model = if is_unranked model then warning_at (place_of_value (codes "p") 0 bytes) priority_words ∷ [] else []
 
 -- all of them
-unfoldable pub model_warnings : List ℕ → ModelParts → List Finding
+unfoldable pub model_warnings : List ℕ → ModelParts → List FindingParts
 model_warnings bytes model = column_warnings bytes model ++ flat_map (node_warnings bytes) (nodes_of model.matcher)

@@ -14,7 +14,7 @@ use Rattle.model_conf.specs.declared.key.Key.TheVariants as k
 use Rattle.text_parts.specs.Blanks.{behind_blanks, trimmed}
 use Rattle.text_parts.specs.Lines.{has_byte}
 use Rattle.text_parts.specs.Numbered.{Line}
-use Rattle.file_lint.specs.Findings.{Finding, finding}
+use Rattle.file_lint.specs.Findings.{FindingParts, finding}
 use Rattle.file_lint.specs.Hints.{begins_so, hint}
 use Rattle.file_lint.specs.Mended.{relation_key, word_front}
 use Rattle.file_lint.specs.ModelNames.{header_in, key_and_rest, lower_of, order_mark, section_of}
@@ -158,13 +158,13 @@ fault_words (fault.UnknownColumn at) bytes line before rest = column_words (key_
 fault_words (fault.RoleUse at) bytes line before rest = role_words (word_front rest) (from_key (word_front rest) false (file_lines bytes))
 fault_words fault.NoMemory bytes line before rest = []
 
-abbrev pub error_at : Place → List ℕ → Finding
+abbrev pub error_at : Place → List ℕ → FindingParts
 error_at at words = finding at.line at.column Error words
 
 -- the finding of a fault at a place of the text
-abbrev pub told_at : ModelFault → List ℕ → Place → Finding
+abbrev pub told_at : ModelFault → List ℕ → Place → FindingParts
 told_at why bytes at = error_at at (fault_words why bytes (line_at at.line (file_lines bytes)) (front_at at bytes) (rest_at at bytes))
 
 -- the finding of a fault of a text
-unfoldable pub error_of : ModelFault → List ℕ → Finding
+unfoldable pub error_of : ModelFault → List ℕ → FindingParts
 error_of why bytes = told_at why bytes (place_of why bytes)

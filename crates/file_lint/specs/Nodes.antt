@@ -29,11 +29,11 @@ abbrev mutual
   all_nodes_of (one_more e es) = nodes_of e ++ all_nodes_of es
 
 -- a column of p, by its place, and what the matcher takes its fields for
-pub record Looked : Type 0 where
+pub record LookedColumn : Type 0 where
   pub at : ℕ
   pub held : Held
 
-abbrev pub looked : ℕ → Held → Looked
+abbrev pub looked : ℕ → Held → LookedColumn
 looked at held = record { at = at; held = held }
 
 -- what a function takes its second argument for
@@ -65,17 +65,17 @@ abbrev pub second_column : List (List ℕ) → Expressions → Option ℕ
 second_column columns es = option_and_then (policy_place columns) (second_of es)
 
 -- both, where they are told
-abbrev pub looked_both : Option ℕ → Option Held → List Looked
+abbrev pub looked_both : Option ℕ → Option Held → List LookedColumn
 looked_both None held = []
 looked_both (Some at) None = []
 looked_both (Some at) (Some held) = looked at held ∷ []
 
 -- the column that a node takes for something
-abbrev pub looked_at : List (List ℕ) → Expression → List Looked
+abbrev pub looked_at : List (List ℕ) → Expression → List LookedColumn
 looked_at columns (evaluated at column) = looked_both (place_in columns column) (Some RuleText)
 looked_at columns (call at (function called) es) = looked_both (second_column columns es) (held_by called)
 looked_at columns _ = []
 
 -- the columns that a matcher takes for something, in the order of its nodes
-abbrev pub looked_in : ModelParts → List Looked
+abbrev pub looked_in : ModelParts → List LookedColumn
 looked_in model = flat_map (looked_at model.policy) (nodes_of model.matcher)

@@ -22,9 +22,9 @@ pub struct Finding {
 }
 
 impl Model for Finding {
-    ghost use Rattle.file_lint.specs.Findings.{Finding, finding};
+    ghost use Rattle.file_lint.specs.Findings.{FindingParts, finding};
 
-    ghost Value = { Finding };
+    ghost Value = { FindingParts };
 
     ghost view = { λ f. finding f.line f.column f.level f.text };
 }

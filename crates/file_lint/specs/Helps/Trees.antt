@@ -3,7 +3,7 @@ use Rattle.std.specs.Prelude.{List, map}
 use Rattle.std.specs.Borrow.{Bor}
 use Rattle.matcher_read.specs.Expression.{Expression, expression}
 use Rattle.matcher_read.specs.declared.tree.Tree.{Tree}
-use Rattle.file_lint.specs.Nodes.{Looked, looked}
+use Rattle.file_lint.specs.Nodes.{LookedColumn, looked}
 use Rattle.file_lint.specs.declared.nodes.Looked.{Looked as Kept}
 
 -- the expressions of trees
@@ -11,5 +11,5 @@ abbrev pub seen : List (Bor Tree) → List Expression
 seen trees = map (λ (tree : Bor Tree). expression tree.now) trees
 
 -- a column by its place
-abbrev pub looked_seen : Kept → Looked
+abbrev pub looked_seen : Kept → LookedColumn
 looked_seen kept = looked kept.at kept.held
