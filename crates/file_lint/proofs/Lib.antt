@@ -9,6 +9,7 @@ pub mod ClassLemmas
 pub mod RoundLemmas
 pub mod ColumnLemmas
 pub mod RowLemmas
+pub mod LineLemmas
 pub mod OtherLemmas
 pub mod KeptLemmas
 pub mod WarningLemmas

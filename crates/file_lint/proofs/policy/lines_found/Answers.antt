@@ -5,7 +5,7 @@ use Rattle.text_parts.specs.Full.{full_lines}
 use Rattle.text_parts.specs.Numbered.{line}
 use Rattle.file_lint.specs.PolicyErrors.{LintsLines}
 use Rattle.file_lint.proofs.KeptLemmas.{few_after}
-use Rattle.file_lint.proofs.RowLemmas.{line_goes, lines_begin, lines_end}
+use Rattle.file_lint.proofs.LineLemmas.{line_goes, lines_begin, lines_end}
 use Rattle.file_lint.proofs.policy.lines_found.Goals as goal
 
 pub loop-at-init : goal.loop-at-init

@@ -1,5 +1,5 @@
 use Rattle.std.proofs.Common.{◌≡◌, Some, rules}
-use Rattle.file_lint.proofs.RowLemmas.{finds_bytes, finds_lines, first_of_bytes, first_of_lines}
+use Rattle.file_lint.proofs.LineLemmas.{finds_bytes, finds_lines, first_of_bytes, first_of_lines}
 use Rattle.file_lint.proofs.policy.lint_policy.Goals as goal
 
 pub returns-in_default : goal.returns-in_default
