@@ -18,6 +18,7 @@ pub(crate) enum Kind {
     Report,
     Ship,
     Follow,
+    Lint,
     Demo,
 }
 
@@ -36,6 +37,7 @@ impl Kind {
             "report" => Some(Kind::Report),
             "ship" => Some(Kind::Ship),
             "follow" => Some(Kind::Follow),
+            "lint" => Some(Kind::Lint),
             "demo" => Some(Kind::Demo),
             _ => None,
         }
@@ -59,7 +61,7 @@ impl Kind {
         match self {
             Kind::Enforce | Kind::Explain | Kind::Session => true,
             Kind::Check | Kind::Format | Kind::Implicit | Kind::Report => false,
-            Kind::Ship | Kind::Follow | Kind::Demo => false,
+            Kind::Ship | Kind::Follow | Kind::Lint | Kind::Demo => false,
         }
     }
 
@@ -69,7 +71,9 @@ impl Kind {
         match self {
             Kind::Enforce => name == "cache" || is_of_roles(name),
             Kind::Explain => name == "most" || is_of_roles(name),
-            Kind::Implicit | Kind::Report | Kind::Ship | Kind::Follow => is_of_roles(name),
+            Kind::Implicit | Kind::Report | Kind::Ship | Kind::Follow | Kind::Lint => {
+                is_of_roles(name)
+            }
             Kind::Session => name == "workers" || is_of_roles(name),
             Kind::Check | Kind::Format => false,
             Kind::Demo => name == "workers",

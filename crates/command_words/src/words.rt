@@ -26,6 +26,7 @@ const MOST_COUNT: u32 = 100_000;
 /// - `report MODEL POLICY [--limit L] [--match LIST] [--domain-match LIST]`
 /// - `ship MODEL POLICY [--limit L] [--match LIST] [--domain-match LIST]`
 /// - `follow MODEL POLICY [--limit L] [--match LIST] [--domain-match LIST]`
+/// - `lint MODEL POLICY [--limit L] [--match LIST] [--domain-match LIST]`
 /// - `demo N [--workers W]`
 ///
 /// `L` is a number from 1 to 250 and `W` one from 0 to 8, each in one to three decimal digits; `C` is one from 1 to 10,000, in one
@@ -57,6 +58,7 @@ fn command_from<'a>(kind: Kind, before: &'a [String], behind: &'a [String]) -> O
         Kind::Report => report(before, behind),
         Kind::Ship => ship(before, behind),
         Kind::Follow => follow(before, behind),
+        Kind::Lint => lint(before, behind),
         Kind::Demo => demo(before, behind),
     }
 }
@@ -179,6 +181,15 @@ fn follow<'a>(before: &'a [String], behind: &'a [String]) -> Option<Command<'a>>
     let files = files_of(before, behind)?;
     let options = options_in(before)?;
     Some(Command::Follow { files, options })
+}
+
+fn lint<'a>(before: &'a [String], behind: &'a [String]) -> Option<Command<'a>>
+    ensures { let given = items (texts before.now) in
+        result ≡ command_with Kind.Lint given (operands given ++ texts behind.now) }
+{
+    let files = files_of(before, behind)?;
+    let options = options_in(before)?;
+    Some(Command::Lint { files, options })
 }
 
 fn demo<'a>(before: &'a [String], behind: &'a [String]) -> Option<Command<'a>>

@@ -1,0 +1,9 @@
+//! The command `lint`: it fetches a model and a policy, and tells what is wrong with them, and what loads and then surprises.
+#![tactic(auto)]
+
+mod files;
+mod job;
+mod linting;
+
+pub use linting::{asks_for_lint, run_lint};
+pub use run_status::Status;
