@@ -38,11 +38,11 @@ both (first ∷ front) back one two = (one.0, both front back one.1 two)
 put : (found : FindingParts) (others : List FindingParts) → found.level ≡ Warning → AreWarnings others → AreWarnings (put_in found others)
 unfolding put_in
 put found [] is all = (is, tt)
-put found (first ∷ others) is all = by (is_behind found first)
+put found (first ∷ others) is all = by (is_behind found first) (put found others is all.1)
   where
-    by : (behind : Bool) → AreWarnings (if behind then first ∷ put_in found others else found ∷ first ∷ others)
-    by true = (all.0, put found others is all.1)
-    by false = (is, all)
+    by : (behind : Bool) → AreWarnings (put_in found others) → AreWarnings (if behind then first ∷ put_in found others else found ∷ first ∷ others)
+    by true later = (all.0, later)
+    by false later = (is, all)
 
 ordered : (findings : List FindingParts) → AreWarnings findings → AreWarnings (in_order findings)
 unfolding in_order
