@@ -65,9 +65,9 @@ line_goes model shapes first before after next lines whole found now Whole cut (
 
 -- the first fault of a text that is not UTF-8, and of one that is
 pub first_of_bytes : (shapes : Shapes) (bytes : List ℕ) (first : Option PolicyFault) → HasFirst shapes bytes first → ¬ (IsUtf8 bytes) → first ≡ Some NotUtf8
-first_of_bytes shapes bytes None (policy, is) no = absurd (no is.utf8)
-first_of_bytes shapes bytes (Some why) (not_utf8 bad same) no = ap (λ (f : PolicyFault). Some f) same
-first_of_bytes shapes bytes (Some why) (in_line utf8 is) no = absurd (no utf8)
+first_of_bytes shapes bytes None (policy, is) never = absurd (never is.utf8)
+first_of_bytes shapes bytes (Some why) (not_utf8 bad same) never = ap (λ (f : PolicyFault). Some f) same
+first_of_bytes shapes bytes (Some why) (in_line utf8 is) never = absurd (never utf8)
 
 never_in_line : (shapes : Shapes) (bytes : List ℕ) → ¬ (IsFaultInLine shapes bytes NotUtf8)
 never_in_line shapes bytes is = is.bad
@@ -85,11 +85,11 @@ finds_bytes model shapes bytes first found is are = subst (λ (f : Option Policy
 -- the findings of lines are those of the text
 pub finds_lines : (model : ModelParts) (shapes : Shapes) (bytes : List ℕ) (first : Option PolicyFault) (found : List FindingParts) → ¬ (first ≡ Some NotUtf8) → LintsLines model shapes first (without_rules false) (policy_lines bytes) found
     → FindsBy model shapes bytes first found
-finds_lines model shapes bytes None found no is = is
-finds_lines model shapes bytes (Some NotUtf8) found no is = absurd (no refl)
-finds_lines model shapes bytes (Some (Quote number column)) found no is = is
-finds_lines model shapes bytes (Some (UnknownTable number)) found no is = is
-finds_lines model shapes bytes (Some (Columns number)) found no is = is
-finds_lines model shapes bytes (Some (FieldTooLong number)) found no is = is
-finds_lines model shapes bytes (Some (Full number what)) found no is = is
-finds_lines model shapes bytes (Some NoMemory) found no is = is
+finds_lines model shapes bytes None found never is = is
+finds_lines model shapes bytes (Some NotUtf8) found never is = absurd (never refl)
+finds_lines model shapes bytes (Some (Quote number column)) found never is = is
+finds_lines model shapes bytes (Some (UnknownTable number)) found never is = is
+finds_lines model shapes bytes (Some (Columns number)) found never is = is
+finds_lines model shapes bytes (Some (FieldTooLong number)) found never is = is
+finds_lines model shapes bytes (Some (Full number what)) found never is = is
+finds_lines model shapes bytes (Some NoMemory) found never is = is

@@ -59,10 +59,10 @@ errors_begin left bytes first errors (further after next shown made is rest) = (
 
 -- a text that is not UTF-8 has a fault of its bytes
 pub of_bytes : (bytes : List ℕ) (first : ModelFault) → IsModelFault bytes first → ¬ (IsUtf8 bytes) → IsOfBytes first
-of_bytes bytes first (too_long long) no = inl refl
-of_bytes bytes first (not_utf8 few bad) no = inr refl
-of_bytes bytes first (at_line statements text is) no = absurd (no text.utf8)
-of_bytes bytes first (behind_lines statements text none is) no = absurd (no text.utf8)
+of_bytes bytes first (too_long long) never = inl refl
+of_bytes bytes first (not_utf8 few bad) never = inr refl
+of_bytes bytes first (at_line statements text is) never = absurd (never text.utf8)
+of_bytes bytes first (behind_lines statements text none is) never = absurd (never text.utf8)
 
 -- such a fault is told by the same words of all bytes, and nothing takes it away
 told_of_bytes : (first : ModelFault) (bytes : List ℕ) → IsOfBytes first → error_of first bytes ≡ error_of first []
