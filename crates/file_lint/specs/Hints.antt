@@ -1,5 +1,5 @@
 -- What to write in place of what no matcher goes on with, by what stands at the place of the fault and in front of it.
-use Rattle.std.specs.Prelude.{ℕ, ◌==◌, ◌&&◌, Bool, true, nat_eq, nat_lt, List, [], ◌∷◌, codes, drop, length, if◌then◌else◌}
+use Rattle.std.specs.Prelude.{ℕ, ◌==◌, ◌&&◌, ◌||◌, Bool, true, nat_eq, nat_lt, List, [], ◌∷◌, codes, drop, length, if◌then◌else◌}
 use Rattle.std.specs.Char.{is_ascii_digit}
 use Rattle.std.specs.List.{list_any, prefix_len, starts_with}
 use Rattle.text_parts.specs.Blanks.{is_blank}
@@ -32,16 +32,24 @@ hint_of_names before rest =
     else if begins_with_one (codes "r2." ∷ codes "p2." ∷ codes "r3." ∷ codes "p3." ∷ []) rest then codes "a model has one r and one p: write `r.` or `p.`"
     else codes "no matcher goes on so"
 
--- nothing stands there, or a comment
+-- the sign of a line that is continued, at its end
+abbrev pub is_continued : ℕ → List ℕ → Bool
+is_continued byte behind = byte == 92 && prefix_len is_blank behind == length behind
+
+-- a comment, or that sign
+abbrev pub ends_here : ℕ → List ℕ → Bool
+ends_here byte behind = byte == 35 || is_continued byte behind
+
+-- nothing stands there, or one of these
 abbrev pub is_over : List ℕ → Bool
 is_over [] = true
-is_over (byte ∷ bytes) = byte == 35
+is_over (byte ∷ bytes) = ends_here byte bytes
 
--- behind blanks nothing stands there, or a comment
+-- behind blanks it is over
 abbrev pub is_end : List ℕ → Bool
 is_end rest = is_over (drop (prefix_len is_blank rest) rest)
 
--- what to write, by what stands in front and at the place; behind the last byte blanks or a comment may stand
+-- what to write, by what stands in front and at the place; behind the last byte blanks, a comment or the sign of a line that is continued may stand
 abbrev pub hint : List ℕ → List ℕ → List ℕ
 hint before rest =
     if is_end rest then codes "the matcher ends here, and something is missing"

@@ -1,6 +1,6 @@
 ghost use Rattle.std.specs.Prelude.{◌≡◌, map};
 ghost use Rattle.file_lint.specs.Places.{ends_in};
-ghost use Rattle.file_lint.specs.Hints.{begins_so, begins_with_one, ends_in_digit, hint, hint_of_names, is_end, is_over};
+ghost use Rattle.file_lint.specs.Hints.{begins_so, begins_with_one, ends_here, ends_in_digit, hint, hint_of_names, is_continued, is_end, is_over};
 
 use crate::lines::{blanks_before, ends_in};
 
@@ -57,21 +57,34 @@ fn hint_of_names(before: &[u8], rest: &[u8]) -> &'static str
     }
 }
 
-// Behind blanks nothing stands there, or a comment.
+// Behind blanks it is over.
 fn is_end(text: &[u8]) -> bool
     ensures { result ≡ is_end text.now }
 {
     is_over(&text[blanks_before(text)..])
 }
 
-// Nothing stands there, or a comment.
+// Nothing stands there, or a comment, or the sign of a line that is continued.
 fn is_over(text: &[u8]) -> bool
     ensures { result ≡ is_over text.now }
 {
     match text {
         [] => true,
-        [first, ..] => *first == b'#',
+        [first, behind @ ..] => ends_here(*first, behind),
     }
+}
+
+fn ends_here(byte: u8, behind: &[u8]) -> bool
+    ensures { result ≡ ends_here byte behind.now }
+{
+    byte == b'#' || is_continued(byte, behind)
+}
+
+// The sign of a line that is continued, at its end.
+fn is_continued(byte: u8, behind: &[u8]) -> bool
+    ensures { result ≡ is_continued byte behind.now }
+{
+    byte == b'\\' && blanks_before(behind) == behind.len()
 }
 
 /// A text begins so.
