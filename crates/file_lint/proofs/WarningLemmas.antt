@@ -81,7 +81,7 @@ own model shapes before line entry P =
 own model shapes before line entry (G number) = where_so _ _ refl
 
 surprising : (good bad : Type 0) (found : FindingParts) (findings : List FindingParts) → found.level ≡ Warning → Surprises good bad found findings → AreWarnings findings
-surprising good bad found findings is (inl (fine, none)) = subst AreWarnings (sym none) tt
+surprising good bad found findings is (inl (holds, none)) = subst AreWarnings (sym none) tt
 surprising good bad found findings is (inr (odd, one)) = subst AreWarnings (sym one) (is, tt)
 
 looked_one : (model : ModelParts) (line : Line) (fields : Fields) (look : LookedColumn) (findings : List FindingParts) → LookedFinds model line fields look findings → AreWarnings findings
