@@ -1,6 +1,6 @@
 -- The fields of a line, from one byte to the next.
-use Rattle.std.proofs.Common.{◌≡◌, ℕ, zero, suc, ◌+◌, ◌<◌, ◌≤◌, List, [], ◌∷◌, get_or, length, drop, refl, ap, ◌∙◌, arith}
-use Rattle.std.proofs.lemmas.List.{at_drop_all, drop_more}
+use Rattle.std.proofs.Common.{◌≡◌, ℕ, zero, suc, ◌+◌, ◌<◌, List, [], ◌∷◌, length, refl, ap, ◌∙◌, arith}
+use Rattle.std.proofs.lemmas.List.{nil_from_length}
 use Rattle.file_lint.specs.Columns.{behind_byte, ended, ends_field, field_count, field_front, fields_left}
 use Rattle.file_lint.specs.Places.{blanks_before}
 use Rattle.file_lint.specs.declared.columns.Within.{Within}
@@ -21,22 +21,22 @@ front_next zero within byte bytes some = absurd (omega arith)
 front_next (suc left) within byte bytes some = refl
 
 -- one byte more is passed
-pub front_step : (bytes : List ℕ) (at left : ℕ) (within : Within) (whole : ℕ) → 0 < left → at < length bytes → at + field_front left within (drop at bytes) ≡ whole
-    → (at + 1) + field_front (fields_left left (ends_field within (get_or bytes at 0))) (behind_byte within (get_or bytes at 0)) (drop (at + 1) bytes) ≡ whole
-front_step bytes at left within whole some there is =
-    let step = ap (field_front left within) (drop_more bytes at 0 there) ∙ front_next left within (get_or bytes at 0) (drop (at + 1) bytes) some in
+pub front_step : (rest behind : List ℕ) (byte passed left : ℕ) (within : Within) (whole : ℕ) → 0 < left → rest ≡ byte ∷ behind → passed + field_front left within rest ≡ whole
+    → (passed + 1) + field_front (fields_left left (ends_field within byte)) (behind_byte within byte) behind ≡ whole
+front_step rest behind byte passed left within whole some cut is =
+    let step : field_front left within rest ≡ 1 + field_front (fields_left left (ends_field within byte)) (behind_byte within byte) behind = ap (field_front left within) cut ∙ front_next left within byte behind some in
     omega (arith, step, is)
 
 -- the line ends before the field
-pub front_past : (bytes : List ℕ) (at left : ℕ) (within : Within) (whole : ℕ) → 0 < left → length bytes ≤ at → at ≤ length bytes → at + field_front left within (drop at bytes) ≡ whole → length bytes ≡ whole
-front_past bytes at left within whole some past most is =
-    let none = at_drop_all (field_front left within) bytes at past ∙ front_end left within some in
-    omega (arith, none, is)
+pub front_past : (rest : List ℕ) (passed left : ℕ) (within : Within) (whole : ℕ) → 0 < left → length rest ≡ 0 → passed + field_front left within rest ≡ whole → passed ≡ whole
+front_past rest passed left within whole some none is =
+    let end : field_front left within rest ≡ 0 = ap (field_front left within) (nil_from_length rest none) ∙ front_end left within some in
+    omega (arith, end, is)
 
 -- the field is reached
-pub front_reached : (bytes : List ℕ) (at left : ℕ) (within : Within) (whole : ℕ) → left ≡ 0 → at + field_front left within (drop at bytes) ≡ whole → at + blanks_before (drop at bytes) ≡ whole
-front_reached bytes at left within whole none is =
-    let here = ap (λ (n : ℕ). field_front n within (drop at bytes)) none ∙ front_here within (drop at bytes) in
+pub front_reached : (rest : List ℕ) (passed left : ℕ) (within : Within) (whole : ℕ) → left ≡ 0 → passed + field_front left within rest ≡ whole → passed + blanks_before rest ≡ whole
+front_reached rest passed left within whole none is =
+    let here : field_front left within rest ≡ blanks_before rest = ap (λ (n : ℕ). field_front n within rest) none ∙ front_here within rest in
     omega (arith, here, is)
 
 count_none : (within : Within) → field_count within [] ≡ 1
@@ -48,11 +48,13 @@ unfolding field_count
 count_next within byte bytes = refl
 
 -- one byte more is counted, and no more
-pub count_step : (bytes : List ℕ) (at : ℕ) (within : Within) (count whole : ℕ) → at < length bytes → count + field_count within (drop at bytes) ≡ whole
-    → (count + ended (ends_field within (get_or bytes at 0))) + field_count (behind_byte within (get_or bytes at 0)) (drop (at + 1) bytes) ≡ whole
-count_step bytes at within count whole there is =
-    let step = ap (field_count within) (drop_more bytes at 0 there) ∙ count_next within (get_or bytes at 0) (drop (at + 1) bytes) in
+pub count_step : (rest behind : List ℕ) (byte count : ℕ) (within : Within) (whole : ℕ) → rest ≡ byte ∷ behind → count + field_count within rest ≡ whole
+    → (count + ended (ends_field within byte)) + field_count (behind_byte within byte) behind ≡ whole
+count_step rest behind byte count within whole cut is =
+    let step : field_count within rest ≡ ended (ends_field within byte) + field_count (behind_byte within byte) behind = ap (field_count within) cut ∙ count_next within byte behind in
     omega (arith, step, is)
 
-pub count_end : (bytes : List ℕ) (at : ℕ) (within : Within) (count whole : ℕ) → length bytes ≤ at → count + field_count within (drop at bytes) ≡ whole + 1 → count ≡ whole
-count_end bytes at within count whole past is = let none = at_drop_all (field_count within) bytes at past ∙ count_none within in omega (arith, none, is)
+pub count_end : (rest : List ℕ) (count : ℕ) (within : Within) (whole : ℕ) → length rest ≡ 0 → count + field_count within rest ≡ 1 + whole → count ≡ whole
+count_end rest count within whole none is =
+    let end : field_count within rest ≡ 1 = ap (field_count within) (nil_from_length rest none) ∙ count_none within in
+    omega (arith, end, is)

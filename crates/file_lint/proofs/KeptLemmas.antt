@@ -1,7 +1,6 @@
--- The fields of rules, and how many rules are kept.
+-- How many rules are kept.
 use Rattle.std.proofs.Common.{◌≡◌, ℕ, zero, suc, ◌+◌, ◌<◌, ◌≤◌, Bool, true, false, List, [], ◌∷◌, Option, Some, None, inl, inr, length, not, refl, sym, ap, subst, ◌∙◌, arith}
-use Rattle.std.specs.Prelude.{slice_get, is_some, nat_lt, if◌then◌else◌}
-use Rattle.std.proofs.lemmas.Option.{slice_get-get_or}
+use Rattle.std.specs.Prelude.{is_some, nat_lt, if◌then◌else◌}
 use Rattle.model_conf.specs.ModelText.{ModelParts}
 use Rattle.perm_base.specs.RoleShapes.{AreRoles}
 use Rattle.perm_base.specs.declared.shapes.Shapes.{Shapes}
@@ -15,8 +14,7 @@ use Rattle.policy_table.specs.Tables.{Fields, Policy, is_ranked, place, rows, st
 use Rattle.policy_table.specs.declared.change.Change.TheVariants.{Insert}
 use Rattle.policy_table.proofs.CallerLemmas.{one_longer, rows_other, rows_own, same_table}
 use Rattle.text_parts.specs.Numbered.{Line}
-use Rattle.file_lint.specs.Findings.{FindingParts}
-use Rattle.file_lint.specs.RowWarnings.{field_of}
+use Rattle.file_lint.specs.declared.finding.Finding.{Finding}
 use Rattle.file_lint.specs.Helps.Rows.{LineFinds, LineTells}
 
 -- a rule that is kept makes no table longer by more than one
@@ -46,24 +44,12 @@ kept_by entry before after new is now = now ∙ by (stands entry.rule (rows befo
     by true none = ap (λ (b : Bool). if b then changed (Insert entry.table entry.rule) before else before) none
     by false some = ap (λ (b : Bool). if b then changed (Insert entry.table entry.rule) before else before) some
 
--- a field that is there, and one behind them all
-pub field_read : (rule : Fields) (at : ℕ) (text : List ℕ) → at < length rule → slice_get rule at ≡ Some text → text ≡ field_of rule at
-field_read rule at text within is =
-    let there : Some text ≡ Some (field_of rule at) = sym is ∙ slice_get-get_or rule at [] within in
-    cc
-
-pub field_past : (rule : Fields) (at : ℕ) → length rule ≤ at → [] ≡ field_of rule at
-field_past [] zero past = refl
-field_past [] (suc at) past = refl
-field_past (first ∷ others) zero past = absurd (omega (arith, past))
-field_past (first ∷ others) (suc at) past = field_past others at (omega (arith, past))
-
 placed : (p : Option ℕ) → is_some p ≡ true → (at : ℕ) × (p ≡ Some at)
 placed None is = absurd cc
 placed (Some at) is = (at, refl)
 
 -- a line makes no table longer by more than one rule
-few_judged : (model : ModelParts) (shapes : Shapes) (line : Line) (before after : Policy) (findings now : List FindingParts) → AreRoles shapes.roles → LineFinds model shapes line before after findings now
+few_judged : (model : ModelParts) (shapes : Shapes) (line : Line) (before after : Policy) (findings now : List Finding) → AreRoles shapes.roles → LineFinds model shapes line before after findings now
     → (table : TableId) → length (rows after table) ≤ length (rows before table) + 1
 few_judged model shapes line before after findings now roles (inl (entry, says, kept, more)) table =
     let at = placed (place entry.table) (place_known shapes entry.table (length entry.rule) roles says.columns) in
@@ -71,7 +57,7 @@ few_judged model shapes line before after findings now roles (inl (entry, says, 
 few_judged model shapes line before after findings now roles (inr (why, no_want, is, kept, grown)) table =
     subst (λ (p : Policy). length (rows p table) ≤ length (rows before table) + 1) (sym kept) (omega arith)
 
-pub few_after : (model : ModelParts) (shapes : Shapes) (first : Option PolicyFault) (line : Line) (before after : Policy) (findings now : List FindingParts) → AreRoles shapes.roles
+pub few_after : (model : ModelParts) (shapes : Shapes) (first : Option PolicyFault) (line : Line) (before after : Policy) (findings now : List Finding) → AreRoles shapes.roles
     → LineTells model shapes first line before after findings now → (table : TableId) → length (rows after table) ≤ length (rows before table) + 1
 few_after model shapes first line before after findings now roles (inl (why, is, kept, grown)) table =
     subst (λ (p : Policy). length (rows p table) ≤ length (rows before table) + 1) (sym kept) (omega arith)

@@ -3,9 +3,7 @@ pub mod OrderLemmas
 pub mod CutLemmas
 pub mod PlaceLemmas
 pub mod MendLemmas
-pub mod NearLemmas
 pub mod WantLemmas
-pub mod ClassLemmas
 pub mod RoundLemmas
 pub mod ColumnLemmas
 pub mod RowLemmas

@@ -11,51 +11,51 @@ use Rattle.policy_csv.specs.declared.fault.PolicyFault.TheVariants.{NotUtf8, Quo
 use Rattle.policy_table.specs.Tables.{Policy, without_rules}
 use Rattle.text_parts.specs.Full.{given_number}
 use Rattle.text_parts.specs.Numbered.{Line, line}
-use Rattle.file_lint.specs.Findings.{FindingParts}
 use Rattle.file_lint.specs.PolicyErrors.{FindsBy, HasFirst, LintsLines, told_in}
 use Rattle.file_lint.specs.PolicyErrors.LintsLines.{at_fault, no_line, rule, told}
 use Rattle.file_lint.specs.PolicyWords.{policy_error}
+use Rattle.file_lint.specs.declared.finding.Finding.{Finding}
 use Rattle.file_lint.specs.Helps.Rows.{LineFinds, LineTells}
 
 -- what lines behind these say of any end
-abbrev pub LinesGo : ModelParts → Shapes → Option PolicyFault → Policy → List Line → List FindingParts → (Whole : List FindingParts → Type 0) → Type 0
-LinesGo model shapes first before lines found Whole = (others : List FindingParts) → LintsLines model shapes first before lines others → Whole (found ++ others)
+abbrev pub LinesGo : ModelParts → Shapes → Option PolicyFault → Policy → List Line → List Finding → (Whole : List Finding → Type 0) → Type 0
+LinesGo model shapes first before lines found Whole = (others : List Finding) → LintsLines model shapes first before lines others → Whole (found ++ others)
 
 -- no line yet
-pub lines_begin : (model : ModelParts) (shapes : Shapes) (first : Option PolicyFault) (start : Policy) (lines : List Line) (found : List FindingParts) → start ≡ without_rules false → found ≡ []
+pub lines_begin : (model : ModelParts) (shapes : Shapes) (first : Option PolicyFault) (start : Policy) (lines : List Line) (found : List Finding) → start ≡ without_rules false → found ≡ []
     → LinesGo model shapes first start lines found (LintsLines model shapes first (without_rules false) lines)
 lines_begin model shapes first start lines found is none = λ others rest.
-    subst (λ (l : List FindingParts). LintsLines model shapes first (without_rules false) lines (l ++ others)) (sym none) (subst (λ (p : Policy). LintsLines model shapes first p lines others) is rest)
+    subst (λ (l : List Finding). LintsLines model shapes first (without_rules false) lines (l ++ others)) (sym none) (subst (λ (p : Policy). LintsLines model shapes first p lines others) is rest)
 
 -- no more lines
-pub lines_end : (model : ModelParts) (shapes : Shapes) (first : Option PolicyFault) (before : Policy) (lines : List Line) (found : List FindingParts) (Whole : List FindingParts → Type 0) → lines ≡ []
+pub lines_end : (model : ModelParts) (shapes : Shapes) (first : Option PolicyFault) (before : Policy) (lines : List Line) (found : List Finding) (Whole : List Finding → Type 0) → lines ≡ []
     → LinesGo model shapes first before lines found Whole → Whole found
 lines_end model shapes first before lines found Whole none goes =
     subst Whole (append-nil found) (goes [] (subst (λ (l : List Line). LintsLines model shapes first before l []) (sym none) no_line))
 
 -- the line of the told fault
-line_told : (model : ModelParts) (shapes : Shapes) (first : Option PolicyFault) (before : Policy) (next : Line) (lines whole : List Line) (found now : List FindingParts) (why : PolicyFault) (Whole : List FindingParts → Type 0)
+line_told : (model : ModelParts) (shapes : Shapes) (first : Option PolicyFault) (before : Policy) (next : Line) (lines whole : List Line) (found now : List Finding) (why : PolicyFault) (Whole : List Finding → Type 0)
     → whole ≡ next ∷ lines → told_in first (given_number next.number) ≡ Some why → now ≡ found ++ policy_error model why next ∷ []
     → LinesGo model shapes first before whole found Whole → LinesGo model shapes first before lines now Whole
 line_told model shapes first before next lines whole found now why Whole cut is grown goes = λ others rest.
     let all = subst (λ (l : List Line). LintsLines model shapes first before l (policy_error model why next ∷ others)) (sym cut) (told why is rest) in
-    subst (λ (l : List FindingParts). Whole (l ++ others)) (sym grown) (subst Whole (sym (append_assoc found (policy_error model why next ∷ []) others)) (goes (policy_error model why next ∷ others) all))
+    subst (λ (l : List Finding). Whole (l ++ others)) (sym grown) (subst Whole (sym (append_assoc found (policy_error model why next ∷ []) others)) (goes (policy_error model why next ∷ others) all))
 
 -- a line by itself
-line_judged : (model : ModelParts) (shapes : Shapes) (first : Option PolicyFault) (before after : Policy) (next : Line) (lines whole : List Line) (found now : List FindingParts) (Whole : List FindingParts → Type 0)
+line_judged : (model : ModelParts) (shapes : Shapes) (first : Option PolicyFault) (before after : Policy) (next : Line) (lines whole : List Line) (found now : List Finding) (Whole : List Finding → Type 0)
     → whole ≡ next ∷ lines → told_in first (given_number next.number) ≡ None → LineFinds model shapes next before after found now
     → LinesGo model shapes first before whole found Whole → LinesGo model shapes first after lines now Whole
 line_judged model shapes first before after next lines whole found now Whole cut none (inl (entry, says, kept, (piece, finds, grown))) goes = λ others rest.
     let behind = subst (λ (p : Policy). LintsLines model shapes first p lines others) kept rest in
     let all = subst (λ (l : List Line). LintsLines model shapes first before l (piece ++ others)) (sym cut) (rule entry none says finds behind) in
-    subst (λ (l : List FindingParts). Whole (l ++ others)) (sym grown) (subst Whole (sym (append_assoc found piece others)) (goes (piece ++ others) all))
+    subst (λ (l : List Finding). Whole (l ++ others)) (sym grown) (subst Whole (sym (append_assoc found piece others)) (goes (piece ++ others) all))
 line_judged model shapes first before after next lines whole found now Whole cut none (inr (why, no_want, is, kept, grown)) goes = λ others rest.
     let behind = subst (λ (p : Policy). LintsLines model shapes first p lines others) kept rest in
     let all = subst (λ (l : List Line). LintsLines model shapes first before l (policy_error model why next ∷ others)) (sym cut) (at_fault why none no_want is behind) in
-    subst (λ (l : List FindingParts). Whole (l ++ others)) (sym grown) (subst Whole (sym (append_assoc found (policy_error model why next ∷ []) others)) (goes (policy_error model why next ∷ others) all))
+    subst (λ (l : List Finding). Whole (l ++ others)) (sym grown) (subst Whole (sym (append_assoc found (policy_error model why next ∷ []) others)) (goes (policy_error model why next ∷ others) all))
 
 -- either
-pub line_goes : (model : ModelParts) (shapes : Shapes) (first : Option PolicyFault) (before after : Policy) (next : Line) (lines whole : List Line) (found now : List FindingParts) (Whole : List FindingParts → Type 0)
+pub line_goes : (model : ModelParts) (shapes : Shapes) (first : Option PolicyFault) (before after : Policy) (next : Line) (lines whole : List Line) (found now : List Finding) (Whole : List Finding → Type 0)
     → whole ≡ next ∷ lines → LineTells model shapes first next before after found now
     → LinesGo model shapes first before whole found Whole → LinesGo model shapes first after lines now Whole
 line_goes model shapes first before after next lines whole found now Whole cut (inl (why, is, kept, grown)) goes =
@@ -78,12 +78,12 @@ first_of_lines shapes bytes (Some why) (not_utf8 bad same) utf8 = λ is. absurd 
 first_of_lines shapes bytes (Some why) (in_line also is) utf8 = λ same. let own : why ≡ NotUtf8 = cc in never_in_line shapes bytes (subst (IsFaultInLine shapes bytes) own is)
 
 -- bytes that have no lines
-pub finds_bytes : (model : ModelParts) (shapes : Shapes) (bytes : List ℕ) (first : Option PolicyFault) (found : List FindingParts) → first ≡ Some NotUtf8 → found ≡ policy_error model NotUtf8 (line 1 []) ∷ []
+pub finds_bytes : (model : ModelParts) (shapes : Shapes) (bytes : List ℕ) (first : Option PolicyFault) (found : List Finding) → first ≡ Some NotUtf8 → found ≡ policy_error model NotUtf8 (line 1 []) ∷ []
     → FindsBy model shapes bytes first found
 finds_bytes model shapes bytes first found is are = subst (λ (f : Option PolicyFault). FindsBy model shapes bytes f found) (sym is) are
 
 -- the findings of lines are those of the text
-pub finds_lines : (model : ModelParts) (shapes : Shapes) (bytes : List ℕ) (first : Option PolicyFault) (found : List FindingParts) → ¬ (first ≡ Some NotUtf8) → LintsLines model shapes first (without_rules false) (policy_lines bytes) found
+pub finds_lines : (model : ModelParts) (shapes : Shapes) (bytes : List ℕ) (first : Option PolicyFault) (found : List Finding) → ¬ (first ≡ Some NotUtf8) → LintsLines model shapes first (without_rules false) (policy_lines bytes) found
     → FindsBy model shapes bytes first found
 finds_lines model shapes bytes None found never is = is
 finds_lines model shapes bytes (Some NotUtf8) found never is = absurd (never refl)

@@ -1,5 +1,5 @@
 -- A rule with another field.
-use Rattle.std.proofs.Common.{◌≡◌, ℕ, zero, suc, ◌<◌, ◌≤◌, ◌^◌, Bool, true, false, List, [], ◌∷◌, length, set, refl, sym, ap, ◌∙◌, arith}
+use Rattle.std.proofs.Common.{◌≡◌, ℕ, zero, suc, ◌<◌, ◌≤◌, ◌^◌, Bool, true, false, List, [], ◌∷◌, length, set, refl, arith}
 use Rattle.std.specs.Prelude.{◌||◌}
 use Rattle.std.specs.List.{list_any}
 use Rattle.std.proofs.lemmas.List.{length-set}
@@ -20,9 +20,3 @@ unended (first ∷ others) (suc at) text none all = by (has_line_end first) all 
 
 pub fields_with : (fields : List (List ℕ)) (at : ℕ) (text : List ℕ) → has_line_end text ≡ false → AreFields fields → AreFields (set fields at text)
 fields_with fields at text none are = record { few = omega (arith, are.few, length-set fields at text); whole_lines = unended fields at text none are.whole_lines }
-
--- behind all fields nothing is set
-pub set_past : (fields : List (List ℕ)) (at : ℕ) (text : List ℕ) → length fields ≤ at → fields ≡ set fields at text
-set_past [] at text past = refl
-set_past (first ∷ others) zero text past = absurd (omega (arith, past))
-set_past (first ∷ others) (suc at) text past = ap (λ (l : List (List ℕ)). first ∷ l) (set_past others at text (omega (arith, past)))

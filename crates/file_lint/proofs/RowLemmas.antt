@@ -2,7 +2,6 @@
 use Rattle.std.proofs.Common.{◌≡◌, ◌≢◌, ℕ, Bool, true, false, List, [], ◌∷◌, ◌++◌, Option, Some, None, inl, inr, append_assoc, append-nil, refl, sym, ap, subst, ◌∙◌}
 use Rattle.std.specs.Prelude.{IfSome, MatchBool, OnOk, Result, Ok, Err, flat_map, is_some, if◌then◌else◌}
 use Rattle.std.specs.List.{AllZip}
-use Rattle.std.proofs.lemmas.Grind.{flat_map-append}
 use Rattle.ip_match.specs.Blocks.{IsBlock}
 use Rattle.ip_match.specs.declared.block.Block.{Block as IpBlock}
 use Rattle.model_conf.specs.ModelText.{ModelParts}
@@ -18,75 +17,66 @@ use Rattle.policy_csv.specs.declared.fault.PolicyFault.TheVariants.{NoMemory}
 use Rattle.policy_table.specs.Tables.{Fields, Policy}
 use Rattle.text_parts.specs.Full.{given_number}
 use Rattle.text_parts.specs.Numbered.{Line}
-use Rattle.file_lint.specs.Findings.{FindingParts, in_order}
-use Rattle.file_lint.specs.Nodes.{LookedColumn, looked_in}
+use Rattle.file_lint.specs.Findings.{in_order}
+use Rattle.file_lint.specs.Nodes.{looked_in}
 use Rattle.file_lint.specs.PolicyWords.{policy_error}
 use Rattle.file_lint.specs.RowWarnings.{AreLooked, IsLookedAt, LookedFinds, RowFinds, Surprises, own_warnings, repeat_warnings}
+use Rattle.file_lint.specs.declared.finding.Finding.{Finding}
+use Rattle.file_lint.specs.declared.nodes.Looked.{Looked}
 use Rattle.file_lint.specs.Helps.Rows.{AreFound, FindsMore, LineFinds}
 
-zip_append : {X Y : Type 0} (R : X → Y → Type 0) (xs front : List X) (ys back : List Y) → AllZip R xs ys → AllZip R front back → AllZip R (xs ++ front) (ys ++ back)
-zip_append R [] front [] back one other = other
-zip_append R [] front (y ∷ ys) back one other = absurd one
-zip_append R (x ∷ xs) front [] back one other = absurd one
-zip_append R (x ∷ xs) front (y ∷ ys) back one other = (one.0, zip_append R xs front ys back one.1 other)
+-- no column
+pub found_none : (model : ModelParts) (line : Line) (rule : Fields) (looked : List Looked) (before : List Finding) → looked ≡ [] → FindsMore (AreFound model line rule looked) before before
+found_none model line rule looked before none = subst (λ (l : List Looked). FindsMore (AreFound model line rule l) before before) (sym none) ([], ([], tt, refl), sym (append-nil before))
 
--- no column yet
-pub found_none : (model : ModelParts) (line : Line) (rule : Fields) (before : List FindingParts) → FindsMore (AreFound model line rule []) before before
-found_none model line rule before = ([], ([], tt, refl), sym (append-nil before))
-
--- one column more
-pub found_more : (model : ModelParts) (line : Line) (rule : Fields) (looked : List LookedColumn) (look : LookedColumn) (before mid after : List FindingParts) → FindsMore (AreFound model line rule looked) before mid
-    → FindsMore (LookedFinds model line rule look) mid after → FindsMore (AreFound model line rule (looked ++ look ∷ [])) before after
-found_more model line rule looked look before mid after (found, (pieces, each, is), grown) (piece, finds, more) =
-    (found ++ piece, (pieces ++ piece ∷ [], zip_append (LookedFinds model line rule) looked (look ∷ []) pieces (piece ∷ []) each (finds, tt), together), wider)
-  where
-    together : found ++ piece ≡ flat_map (λ (p : List FindingParts). p) (pieces ++ piece ∷ [])
-    together = ap (λ (l : List FindingParts). l ++ piece) is ∙ ap (λ (l : List FindingParts). flat_map (λ (p : List FindingParts). p) pieces ++ l) (sym (append-nil piece)) ∙ sym (flat_map-append (λ (p : List FindingParts). p) pieces (piece ∷ []))
-
-    wider : after ≡ before ++ (found ++ piece)
-    wider = more ∙ ap (λ (l : List FindingParts). l ++ piece) grown ∙ append_assoc before found piece
+-- one column, and those behind it
+pub found_first : (model : ModelParts) (line : Line) (rule : Fields) (looked others : List Looked) (look : Looked) (before mid after : List Finding) → looked ≡ look ∷ others → FindsMore (LookedFinds model line rule look) before mid
+    → FindsMore (AreFound model line rule others) mid after → FindsMore (AreFound model line rule looked) before after
+found_first model line rule looked others look before mid after cut (piece, finds, more) (found, (pieces, each, is), grown) =
+    subst (λ (l : List Looked). FindsMore (AreFound model line rule l) before after) (sym cut)
+    (piece ++ found, (piece ∷ pieces, (finds, each), ap (λ (l : List Finding). piece ++ l) is), grown ∙ ap (λ (l : List Finding). l ++ found) more ∙ append_assoc before piece found)
 
 -- what the fields of a rule of p surprise by, as its table says it
-pub looked_told : (model : ModelParts) (line : Line) (rule : Fields) (table : TableId) (looked : List LookedColumn) (before after : List FindingParts) (result : Result (Unit {0}) NoMem) → table ≡ P → looked ≡ looked_in model
+pub looked_told : (model : ModelParts) (line : Line) (rule : Fields) (table : TableId) (looked : List Looked) (before after : List Finding) (result : Result (Unit {0}) NoMem) → table ≡ P → looked ≡ looked_in model
     → OnOk result (FindsMore (AreFound model line rule looked) before after) → OnOk result (FindsMore (AreLooked model line rule table) before after)
 looked_told model line rule table looked before after (Err e) own all finds = tt
 looked_told model line rule table looked before after (Ok done) own all finds =
-    subst (λ (t : TableId). FindsMore (AreLooked model line rule t) before after) (sym own) (by (subst (λ (l : List LookedColumn). FindsMore (AreFound model line rule l) before after) all finds))
+    subst (λ (t : TableId). FindsMore (AreLooked model line rule t) before after) (sym own) (by (subst (λ (l : List Looked). FindsMore (AreFound model line rule l) before after) all finds))
   where
     by : FindsMore (AreFound model line rule (looked_in model)) before after → FindsMore (IsLookedAt model line rule) before after
     by (found, (pieces, each, is), grown) = (found, record { pieces = pieces; each = each; together = is }, grown)
 
 -- the warnings of a rule, step after step
-pub row_found : (model : ModelParts) (shapes : Shapes) (before : Policy) (line : Line) (entry : Entry) (repeats own whole ordered old now : List FindingParts) (result : Result (Unit {0}) NoMem)
+pub row_found : (model : ModelParts) (shapes : Shapes) (before : Policy) (line : Line) (entry : Entry) (repeats own whole ordered old now : List Finding) (result : Result (Unit {0}) NoMem)
     → repeats ≡ repeat_warnings before line entry → own ≡ repeats ++ own_warnings model shapes before line entry entry.table → FindsMore (AreLooked model line entry.rule entry.table) own whole → ordered ≡ in_order whole
     → OnOk result (now ≡ old ++ ordered) → OnOk result (FindsMore (RowFinds model shapes before line entry) old now)
 row_found model shapes before line entry repeats own whole ordered old now (Err e) first second third order grown = tt
 row_found model shapes before line entry repeats own whole ordered old now (Ok done) first second (looked, are, more) order grown =
-    (ordered, record { looked = looked; are_looked = are; all = order ∙ ap in_order (more ∙ ap (λ (l : List FindingParts). l ++ looked) (second ∙ ap (λ (l : List FindingParts). l ++ own_warnings model shapes before line entry entry.table) first)) }, grown)
+    (ordered, record { looked = looked; are_looked = are; all = order ∙ ap in_order (more ∙ ap (λ (l : List Finding). l ++ looked) (second ∙ ap (λ (l : List Finding). l ++ own_warnings model shapes before line entry entry.table) first)) }, grown)
 
 -- a line that says a rule, and one that has a fault of its own
-pub entry_judged : (model : ModelParts) (shapes : Shapes) (line : Line) (before after : Policy) (findings now : List FindingParts) (entry : Entry) (result : Result (Unit {0}) NoMem) → SaysRule shapes line.text entry
+pub entry_judged : (model : ModelParts) (shapes : Shapes) (line : Line) (before after : Policy) (findings now : List Finding) (entry : Entry) (result : Result (Unit {0}) NoMem) → SaysRule shapes line.text entry
     → OnOk result (after ≡ with_entry entry before) → OnOk result (FindsMore (RowFinds model shapes before line entry) findings now) → OnOk result (LineFinds model shapes line before after findings now)
 entry_judged model shapes line before after findings now entry (Err e) says kept finds = tt
 entry_judged model shapes line before after findings now entry (Ok done) says kept finds = inl (entry, says, kept, finds)
 
-pub fault_judged : (model : ModelParts) (shapes : Shapes) (line : Line) (before : Policy) (findings now : List FindingParts) (why : PolicyFault) (result : Result (Unit {0}) NoMem)
+pub fault_judged : (model : ModelParts) (shapes : Shapes) (line : Line) (before : Policy) (findings now : List Finding) (why : PolicyFault) (result : Result (Unit {0}) NoMem)
     → IsTextFault shapes (given_number line.number) line.text why → OnOk result (why ≢ NoMemory) → OnOk result (now ≡ findings ++ policy_error model why line ∷ []) → OnOk result (LineFinds model shapes line before before findings now)
 fault_judged model shapes line before findings now why (Err e) is known grown = tt
 fault_judged model shapes line before findings now why (Ok done) is known grown = inr (why, known, is, refl, grown)
 
 -- a field that does not surprise, and one that does
-pub no_surprise : (good bad : Type 0) (found : FindingParts) (before : List FindingParts) (fine : Bool) → MatchBool fine good bad → fine ≡ true → FindsMore (Surprises good bad found) before before
+pub no_surprise : (good bad : Type 0) (found : Finding) (before : List Finding) (fine : Bool) → MatchBool fine good bad → fine ≡ true → FindsMore (Surprises good bad found) before before
 no_surprise good bad found before fine says is = ([], inl (subst (λ (b : Bool). MatchBool b good bad) is says, refl), sym (append-nil before))
 
-pub surprise : (good bad : Type 0) (found : FindingParts) (before after : List FindingParts) (fine : Bool) → MatchBool fine good bad → fine ≡ false → after ≡ before ++ found ∷ [] → FindsMore (Surprises good bad found) before after
+pub surprise : (good bad : Type 0) (found : Finding) (before after : List Finding) (fine : Bool) → MatchBool fine good bad → fine ≡ false → after ≡ before ++ found ∷ [] → FindsMore (Surprises good bad found) before after
 surprise good bad found before after fine says is grown = (found ∷ [], inr (subst (λ (b : Bool). MatchBool b good bad) is says, refl), grown)
 
 -- the same of a field with a test
-pub told_not : (test : Bool) (found : FindingParts) (before : List FindingParts) → test ≡ false → FindsMore (λ (findings : List FindingParts). findings ≡ (if test then found ∷ [] else [])) before before
+pub told_not : (test : Bool) (found : Finding) (before : List Finding) → test ≡ false → FindsMore (λ (findings : List Finding). findings ≡ (if test then found ∷ [] else [])) before before
 told_not test found before is = ([], ap (λ (b : Bool). if b then found ∷ [] else []) (sym is), sym (append-nil before))
 
-pub told_so : (test : Bool) (found : FindingParts) (before after : List FindingParts) → test ≡ true → after ≡ before ++ found ∷ [] → FindsMore (λ (findings : List FindingParts). findings ≡ (if test then found ∷ [] else [])) before after
+pub told_so : (test : Bool) (found : Finding) (before after : List Finding) → test ≡ true → after ≡ before ++ found ∷ [] → FindsMore (λ (findings : List Finding). findings ≡ (if test then found ∷ [] else [])) before after
 told_so test found before after is grown = (found ∷ [], ap (λ (b : Bool). if b then found ∷ [] else []) (sym is), grown)
 
 -- a text writes a block where one is read

@@ -1,5 +1,5 @@
 -- Names in a model: of a section, of a key that is written in upper case, and the key in front of a column; and the byte-order mark.
-use Rattle.std.specs.Prelude.{ℕ, ◌==◌, List, [], ◌∷◌, codes, find, Option, Some, None, option_map, if◌then◌else◌}
+use Rattle.std.specs.Prelude.{ℕ, ◌==◌, List, [], ◌∷◌, codes, Option, Some, None, if◌then◌else◌}
 use Rattle.std.specs.List.{after_first, before_first}
 use Rattle.std.specs.Str.{bytes_eq}
 use Rattle.model_conf.specs.declared.key.Key.{Key}
@@ -17,8 +17,12 @@ header_in line = trimmed (before_first (λ (byte : ℕ). byte == 93) (after_firs
 -- keys that are written in upper case
 abbrev pub lower_of : List ℕ → Option (List ℕ)
 lower_of key =
-    option_map (λ (pair : List ℕ × List ℕ). pair.1) (find (λ (pair : List ℕ × List ℕ). bytes_eq key pair.0)
-    ((codes "R", codes "r") ∷ (codes "P", codes "p") ∷ (codes "E", codes "e") ∷ (codes "M", codes "m") ∷ (codes "G", codes "g") ∷ []))
+    if bytes_eq key (codes "R") then Some (codes "r")
+    else if bytes_eq key (codes "P") then Some (codes "p")
+    else if bytes_eq key (codes "E") then Some (codes "e")
+    else if bytes_eq key (codes "M") then Some (codes "m")
+    else if bytes_eq key (codes "G") then Some (codes "g")
+    else None
 
 -- the section of a key
 abbrev pub section_of : Key → List ℕ

@@ -1,8 +1,6 @@
 -- The warnings of a model: what loads and then surprises, by the nodes of its matcher and by its columns.
-use Rattle.std.specs.Prelude.{ℕ, ◌-◌, ◌==◌, ◌&&◌, ◌||◌, Bool, true, false, not, List, [], ◌∷◌, ◌++◌, codes, flat_map, Option, Some, None, if◌then◌else◌}
-use Rattle.std.specs.List.{list_any}
+use Rattle.std.specs.Prelude.{ℕ, ◌-◌, ◌==◌, ◌&&◌, ◌||◌, Bool, true, false, is_some, not, List, [], ◌∷◌, ◌++◌, codes, flat_map, Option, Some, None, if◌then◌else◌}
 use Rattle.std.specs.Option.{option_map_or}
-use Rattle.std.specs.Str.{bytes_eq}
 use Rattle.matcher_read.specs.Expression.{Expression, text, binary, call, function, Expressions}
 use Rattle.matcher_read.specs.declared.tree.Function.{Function}
 use Rattle.matcher_read.specs.declared.tree.Function.TheVariants.{KeyMatch2, RegexMatch}
@@ -12,26 +10,35 @@ use Rattle.model_conf.specs.ModelText.{ModelParts}
 use Rattle.model_conf.specs.Shapes.{is_ranked}
 use Rattle.perm_base.specs.FieldLine.{begins_with}
 use Rattle.text_parts.specs.Lines.{has_byte}
-use Rattle.file_lint.specs.Findings.{FindingParts, finding}
-use Rattle.file_lint.specs.Nodes.{nodes_of, second_of}
-use Rattle.file_lint.specs.Places.{Place, place_of_value}
+use Rattle.file_lint.specs.Findings.{finding}
+use Rattle.file_lint.specs.Nodes.{nodes_of, column_place, second_of}
+use Rattle.file_lint.specs.Places.{place_of_value}
+use Rattle.file_lint.specs.declared.finding.Finding.{Finding}
 use Rattle.file_lint.specs.declared.finding.Level.TheVariants.{Warning}
+use Rattle.file_lint.specs.declared.places.Place.{Place}
 
 -- the node is a text
 abbrev pub is_text : Expression → Bool
 is_text (text at bytes) = true
 is_text _ = false
 
--- `w`, `d`, `b`, or one of them in upper case
+-- `w`, `d` or `b`
+abbrev pub is_lower_class : ℕ → Bool
+is_lower_class byte = byte == 119 || byte == 100 || byte == 98
+
+-- one of them in upper case
+abbrev pub is_upper_class : ℕ → Bool
+is_upper_class byte = byte == 87 || byte == 68 || byte == 66
+
 abbrev pub is_class : ℕ → Bool
-is_class byte = byte == 119 || byte == 100 || byte == 98 || byte == 87 || byte == 68 || byte == 66
+is_class byte = is_lower_class byte || is_upper_class byte
 
 -- `\`, and one of them behind it
 abbrev pub is_class_here : ℕ → List ℕ → Bool
 is_class_here byte behind = byte == 92 && begins_with is_class behind
 
 -- one of them stands behind a `\` in the text
-unfoldable pub has_class : List ℕ → Bool
+abbrev pub has_class : List ℕ → Bool
 has_class [] = false
 has_class (byte ∷ bytes) = is_class_here byte bytes || has_class bytes
 
@@ -49,7 +56,7 @@ has_brace_in _ = false
 abbrev pub second_is : (Expression → Bool) → Expressions → Bool
 second_is test es = option_map_or test (second_of es) false
 
-abbrev pub warning_at : Place → List ℕ → FindingParts
+abbrev pub warning_at : Place → List ℕ → Finding
 warning_at at words = finding at.line at.column Warning words
 
 abbrev pub plus_words : List ℕ
@@ -83,21 +90,21 @@ told_of (call at (function called) es) = told_of_call at called es
 told_of _ = None
 
 -- the warning of these words at a byte of the matcher, or none
-abbrev pub warnings_by : List ℕ → Option (ℕ × List ℕ) → List FindingParts
+abbrev pub warnings_by : List ℕ → Option (ℕ × List ℕ) → List Finding
 warnings_by bytes None = []
 warnings_by bytes (Some told) = warning_at (place_of_value (codes "m") (told.0 - 1) bytes) told.1 ∷ []
 
 -- the warnings of a node, at its place in the matcher
-abbrev pub node_warnings : List ℕ → Expression → List FindingParts
+abbrev pub node_warnings : List ℕ → Expression → List Finding
 node_warnings bytes e = warnings_by bytes (told_of e)
 
 -- a column of p is named `priority`, and p is not ranked
 abbrev pub is_unranked : ModelParts → Bool
-is_unranked model = list_any (bytes_eq (codes "priority")) model.policy && not (is_ranked model.effect model.policy)
+is_unranked model = is_some (column_place model.policy (codes "priority")) && not (is_ranked model.effect model.policy)
 
-abbrev pub column_warnings : List ℕ → ModelParts → List FindingParts
+abbrev pub column_warnings : List ℕ → ModelParts → List Finding
 column_warnings bytes model = if is_unranked model then warning_at (place_of_value (codes "p") 0 bytes) priority_words ∷ [] else []
 
 -- all of them
-unfoldable pub model_warnings : List ℕ → ModelParts → List FindingParts
+unfoldable pub model_warnings : List ℕ → ModelParts → List Finding
 model_warnings bytes model = column_warnings bytes model ++ flat_map (node_warnings bytes) (nodes_of model.matcher)

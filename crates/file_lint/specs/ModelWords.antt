@@ -14,14 +14,16 @@ use Rattle.model_conf.specs.declared.key.Key.TheVariants as k
 use Rattle.text_parts.specs.Blanks.{behind_blanks, trimmed}
 use Rattle.text_parts.specs.Lines.{has_byte}
 use Rattle.text_parts.specs.Numbered.{Line}
-use Rattle.file_lint.specs.Findings.{FindingParts, finding}
+use Rattle.file_lint.specs.Findings.{finding}
 use Rattle.file_lint.specs.Hints.{begins_so, hint}
 use Rattle.file_lint.specs.Mended.{relation_key, word_front}
 use Rattle.file_lint.specs.ModelNames.{header_in, key_and_rest, lower_of, order_mark, section_of}
 use Rattle.file_lint.specs.Near.{called_names, near_name, section_names}
-use Rattle.file_lint.specs.Places.{Place, place, file_lines, from_key, front_at, front_of, is_equals, key_in, line_at, place_of_value, rest_at}
+use Rattle.file_lint.specs.Places.{place, file_lines, from_key, front_at, front_of, is_equals, key_in, line_at, place_of_value, rest_at}
 use Rattle.file_lint.specs.Texts.{quoted}
+use Rattle.file_lint.specs.declared.finding.Finding.{Finding}
 use Rattle.file_lint.specs.declared.finding.Level.TheVariants.{Error}
+use Rattle.file_lint.specs.declared.places.Place.{Place}
 
 -- where a fault of a matcher stands in its text: so many bytes behind its front
 abbrev pub matcher_offset : MatcherFault → ℕ
@@ -158,13 +160,13 @@ fault_words (fault.UnknownColumn at) bytes line before rest = column_words (key_
 fault_words (fault.RoleUse at) bytes line before rest = role_words (word_front rest) (from_key (word_front rest) false (file_lines bytes))
 fault_words fault.NoMemory bytes line before rest = []
 
-abbrev pub error_at : Place → List ℕ → FindingParts
+abbrev pub error_at : Place → List ℕ → Finding
 error_at at words = finding at.line at.column Error words
 
 -- the finding of a fault at a place of the text
-abbrev pub told_at : ModelFault → List ℕ → Place → FindingParts
+abbrev pub told_at : ModelFault → List ℕ → Place → Finding
 told_at why bytes at = error_at at (fault_words why bytes (line_at at.line (file_lines bytes)) (front_at at bytes) (rest_at at bytes))
 
 -- the finding of a fault of a text
-unfoldable pub error_of : ModelFault → List ℕ → FindingParts
+unfoldable pub error_of : ModelFault → List ℕ → Finding
 error_of why bytes = told_at why bytes (place_of why bytes)

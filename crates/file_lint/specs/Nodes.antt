@@ -8,6 +8,7 @@ use Rattle.matcher_read.specs.declared.tree.Function.TheVariants as f
 use Rattle.model_conf.specs.ModelText.{ModelParts}
 use Rattle.file_lint.specs.declared.nodes.Held.{Held}
 use Rattle.file_lint.specs.declared.nodes.Held.TheVariants.{Block, KeyPattern, RuleText}
+use Rattle.file_lint.specs.declared.nodes.Looked.{Looked}
 
 -- all nodes, each before those below it
 abbrev mutual
@@ -29,11 +30,7 @@ abbrev mutual
   all_nodes_of (one_more e es) = nodes_of e ++ all_nodes_of es
 
 -- a column of p, by its place, and what the matcher takes its fields for
-pub record LookedColumn : Type 0 where
-  pub at : ℕ
-  pub held : Held
-
-abbrev pub looked : ℕ → Held → LookedColumn
+abbrev pub looked : ℕ → Held → Looked
 looked at held = record { at = at; held = held }
 
 -- what a function takes its second argument for
@@ -43,8 +40,8 @@ held_by f.KeyMatch2 = Some KeyPattern
 held_by _ = None
 
 -- the place of a column among those of p
-abbrev pub place_in : List (List ℕ) → List ℕ → Option ℕ
-place_in columns name = position (bytes_eq name) columns
+abbrev pub column_place : List (List ℕ) → List ℕ → Option ℕ
+column_place columns name = position (bytes_eq name) columns
 
 -- the first and the second of some expressions
 abbrev pub first_of : Expressions → Option Expression
@@ -57,7 +54,7 @@ second_of (one_more e es) = first_of es
 
 -- the place of the column of p that an expression is
 abbrev pub policy_place : List (List ℕ) → Expression → Option ℕ
-policy_place columns (policy at column) = place_in columns column
+policy_place columns (policy at column) = column_place columns column
 policy_place columns _ = None
 
 -- the place of the second argument of a call, where it is a column of p
@@ -65,17 +62,17 @@ abbrev pub second_column : List (List ℕ) → Expressions → Option ℕ
 second_column columns es = option_and_then (policy_place columns) (second_of es)
 
 -- both, where they are told
-abbrev pub looked_both : Option ℕ → Option Held → List LookedColumn
+abbrev pub looked_both : Option ℕ → Option Held → List Looked
 looked_both None held = []
 looked_both (Some at) None = []
 looked_both (Some at) (Some held) = looked at held ∷ []
 
 -- the column that a node takes for something
-abbrev pub looked_at : List (List ℕ) → Expression → List LookedColumn
-looked_at columns (evaluated at column) = looked_both (place_in columns column) (Some RuleText)
+abbrev pub looked_at : List (List ℕ) → Expression → List Looked
+looked_at columns (evaluated at column) = looked_both (column_place columns column) (Some RuleText)
 looked_at columns (call at (function called) es) = looked_both (second_column columns es) (held_by called)
 looked_at columns _ = []
 
 -- the columns that a matcher takes for something, in the order of its nodes
-abbrev pub looked_in : ModelParts → List LookedColumn
+abbrev pub looked_in : ModelParts → List Looked
 looked_in model = flat_map (looked_at model.policy) (nodes_of model.matcher)

@@ -1,25 +1,18 @@
 -- Places in a model's file: a line, the value of a key and a byte of it, also where lines continue a line. Lines and columns are counted from 1.
-use Rattle.std.specs.Prelude.{ℕ, ◌+◌, ◌-◌, ◌==◌, ◌&&◌, Bool, true, false, nat_lt, List, [], ◌∷◌, drop, get_or, length, take, if◌then◌else◌}
-use Rattle.std.specs.List.{before_first, prefix_len}
+use Rattle.std.specs.Prelude.{ℕ, ◌+◌, ◌-◌, ◌==◌, ◌&&◌, Bool, true, false, nat_eq, nat_lt, List, [], ◌∷◌, drop, length, take, if◌then◌else◌}
+use Rattle.std.specs.List.{before_first, ends_with, prefix_len}
 use Rattle.std.specs.Str.{bytes_eq}
 use Rattle.text_parts.specs.Blanks.{before_blanks, is_blank, trimmed}
 use Rattle.text_parts.specs.Numbered.{Line, numbered, text_lines}
 use Rattle.text_parts.specs.Passed.{is_passed_in_model}
-
-pub record Place : Type 0 where
-  pub line : ℕ
-  pub column : ℕ
+use Rattle.file_lint.specs.declared.places.Place.{Place}
 
 abbrev pub place : ℕ → ℕ → Place
 place line column = record { line = line; column = column }
 
--- the last byte of a text; 0 where it is empty
-abbrev pub last_byte : List ℕ → ℕ
-last_byte text = get_or text (length text - 1) 0
-
 -- the text ends in this byte
 abbrev pub ends_in : ℕ → List ℕ → Bool
-ends_in sign text = nat_lt 0 (length text) && last_byte text == sign
+ends_in sign text = ends_with nat_eq text (sign ∷ [])
 
 -- a line that is continued ends in `\`, blanks apart
 abbrev pub is_open : List ℕ → Bool

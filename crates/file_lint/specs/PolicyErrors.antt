@@ -11,9 +11,9 @@ use Rattle.policy_csv.specs.declared.fault.PolicyFault.TheVariants as fault
 use Rattle.policy_table.specs.Tables.{Policy, without_rules}
 use Rattle.text_parts.specs.Full.{given_number}
 use Rattle.text_parts.specs.Numbered.{Line, line}
-use Rattle.file_lint.specs.Findings.{FindingParts}
 use Rattle.file_lint.specs.PolicyWords.{policy_error}
 use Rattle.file_lint.specs.RowWarnings.{RowFinds}
+use Rattle.file_lint.specs.declared.finding.Finding.{Finding}
 
 -- the line of a fault; one of the bytes has none
 abbrev pub line_of : PolicyFault → Option ℕ
@@ -35,13 +35,13 @@ told_in None number = None
 told_in (Some first) number = if_of_line number first (line_of first)
 
 -- the findings of lines, behind the rules of these tables: of the line of the first fault that fault; of any other that says a rule its warnings, and else the fault that it has by itself, for which no limit counts
-pub data LintsLines (model : ModelParts) (shapes : Shapes) (first : Option PolicyFault) : Policy → List Line → List FindingParts → Type 0 where
+pub data LintsLines (model : ModelParts) (shapes : Shapes) (first : Option PolicyFault) : Policy → List Line → List Finding → Type 0 where
   no_line : {before : Policy} → LintsLines model shapes first before [] []
-  told : {before : Policy} {next : Line} {lines : List Line} {others : List FindingParts} (why : PolicyFault) → told_in first (given_number next.number) ≡ Some why
+  told : {before : Policy} {next : Line} {lines : List Line} {others : List Finding} (why : PolicyFault) → told_in first (given_number next.number) ≡ Some why
       → LintsLines model shapes first before lines others → LintsLines model shapes first before (next ∷ lines) (policy_error model why next ∷ others)
-  rule : {before : Policy} {next : Line} {lines : List Line} {found others : List FindingParts} (entry : Entry) → told_in first (given_number next.number) ≡ None → SaysRule shapes next.text entry
+  rule : {before : Policy} {next : Line} {lines : List Line} {found others : List Finding} (entry : Entry) → told_in first (given_number next.number) ≡ None → SaysRule shapes next.text entry
       → RowFinds model shapes before next entry found → LintsLines model shapes first (with_entry entry before) lines others → LintsLines model shapes first before (next ∷ lines) (found ++ others)
-  at_fault : {before : Policy} {next : Line} {lines : List Line} {others : List FindingParts} (why : PolicyFault) → told_in first (given_number next.number) ≡ None
+  at_fault : {before : Policy} {next : Line} {lines : List Line} {others : List Finding} (why : PolicyFault) → told_in first (given_number next.number) ≡ None
       → why ≢ fault.NoMemory → IsTextFault shapes (given_number next.number) next.text why → LintsLines model shapes first before lines others
       → LintsLines model shapes first before (next ∷ lines) (policy_error model why next ∷ others)
 
@@ -51,11 +51,11 @@ HasFirst shapes bytes None = (policy : Policy) × IsPolicy shapes bytes policy
 HasFirst shapes bytes (Some first) = IsPolicyFault shapes bytes first
 
 -- the findings of a text by its first fault; one that is not UTF-8 has no lines
-abbrev pub FindsBy : ModelParts → Shapes → List ℕ → Option PolicyFault → List FindingParts → Type 0
+abbrev pub FindsBy : ModelParts → Shapes → List ℕ → Option PolicyFault → List Finding → Type 0
 FindsBy model shapes bytes (Some fault.NotUtf8) findings = findings ≡ policy_error model fault.NotUtf8 (line 1 []) ∷ []
 FindsBy model shapes bytes first findings = LintsLines model shapes first (without_rules false) (policy_lines bytes) findings
 
 -- the findings of a text in the order of their places, and its first fault
-pub record LintsPolicy (model : ModelParts) (shapes : Shapes) (bytes : List ℕ) (first : Option PolicyFault) (findings : List FindingParts) : Type 0 where
+pub record LintsPolicy (model : ModelParts) (shapes : Shapes) (bytes : List ℕ) (first : Option PolicyFault) (findings : List Finding) : Type 0 where
   pub has : HasFirst shapes bytes first
   pub finds : FindsBy model shapes bytes first findings

@@ -16,13 +16,14 @@ use Rattle.policy_table.specs.declared.limit.Limit.TheVariants.{PolicyRows, Role
 use Rattle.text_parts.specs.Blanks.{behind_blanks, trimmed}
 use Rattle.text_parts.specs.Numbered.{Line}
 use Rattle.file_lint.specs.Columns.{field_column, field_count}
-use Rattle.file_lint.specs.Findings.{FindingParts, finding}
+use Rattle.file_lint.specs.Findings.{finding}
 use Rattle.file_lint.specs.Hints.{begins_so}
 use Rattle.file_lint.specs.Mended.{relation_key}
 use Rattle.file_lint.specs.ModelNames.{order_mark}
 use Rattle.file_lint.specs.ModelWords.{comment_words, mark_words}
 use Rattle.file_lint.specs.Texts.{quoted}
 use Rattle.file_lint.specs.declared.columns.Within.TheVariants.{Front}
+use Rattle.file_lint.specs.declared.finding.Finding.{Finding}
 use Rattle.file_lint.specs.declared.finding.Level.TheVariants.{Error}
 
 -- what stands in front of the first comma
@@ -79,5 +80,5 @@ fault_column (fault.Quote number column) line = column
 fault_column _ line = field_column 0 line
 
 -- the finding of a fault of a line
-unfoldable pub policy_error : ModelParts → PolicyFault → Line → FindingParts
+unfoldable pub policy_error : ModelParts → PolicyFault → Line → Finding
 policy_error model why line = finding line.number (fault_column why line.text) Error (policy_words model why line.text)

@@ -1,4 +1,4 @@
-ghost use Rattle.std.specs.Prelude.{◌≡◌, ◌≢◌, ◌++◌, ◌∷◌, [], IsSome, OnOk, map};
+ghost use Rattle.std.specs.Prelude.{◌≡◌, ◌≢◌, ◌++◌, ◌∷◌, [], IsSome, OnOk};
 ghost use Rattle.perm_base.specs.Shapes.{AreValid};
 ghost use Rattle.policy_csv.specs.Policy.{SaysRule, with_entry};
 ghost use Rattle.policy_table.specs.Tables.{place};
@@ -6,8 +6,7 @@ ghost use Rattle.file_lint.specs.Nodes.{looked_in};
 ghost use Rattle.file_lint.specs.RowWarnings.{AreLooked, RowFinds};
 ghost use Rattle.file_lint.specs.PolicyErrors.{line_of, told_in};
 ghost use Rattle.file_lint.specs.PolicyWords.{policy_error};
-ghost use Rattle.file_lint.specs.Helps.Rows.{AreFewer, FindsMore, LineFinds, LineTells};
-ghost use Rattle.file_lint.specs.Helps.Trees.{looked_seen};
+ghost use Rattle.file_lint.specs.Helps.Rows.{AreFewer, FindsMore, LineFinds, LineTells, row_line};
 
 use crate::finding::Finding;
 use crate::nodes::Looked;
@@ -43,9 +42,9 @@ impl<'a> Judge<'a> {
         findings: &mut Vec<Finding>,
     ) -> Result<(), NoMemory>
         requires valid { AreValid self.now.shapes.now }
-        requires looked { map looked_seen self.now.looked.now ≡ looked_in self.now.model.now }
+        requires looked { self.now.looked.now ≡ looked_in self.now.model.now }
         requires few { AreFewer seen.old.policy }
-        ensures { OnOk result (LineTells self.now.model.now self.now.shapes.now first row.now
+        ensures { OnOk result (LineTells self.now.model.now self.now.shapes.now first (row_line row.now)
             seen.old.policy seen.new.policy findings.old.items findings.new.items) }
     {
         let Some(why) = told_in(first, given_number(row.number)) else {
@@ -65,9 +64,9 @@ impl<'a> Judge<'a> {
         findings: &mut Vec<Finding>,
     ) -> Result<(), NoMemory>
         requires valid { AreValid self.now.shapes.now }
-        requires looked { map looked_seen self.now.looked.now ≡ looked_in self.now.model.now }
+        requires looked { self.now.looked.now ≡ looked_in self.now.model.now }
         requires few { AreFewer seen.old.policy }
-        ensures { OnOk result (LineFinds self.now.model.now self.now.shapes.now row.now
+        ensures { OnOk result (LineFinds self.now.model.now self.now.shapes.now (row_line row.now)
             seen.old.policy seen.new.policy findings.old.items findings.new.items) }
     {
         match read_entry(alloc, self.shapes, given_number(row.number), row.text) {
@@ -86,12 +85,12 @@ impl<'a> Judge<'a> {
         findings: &mut Vec<Finding>,
     ) -> Result<(), NoMemory>
         requires valid { AreValid self.now.shapes.now }
-        requires looked { map looked_seen self.now.looked.now ≡ looked_in self.now.model.now }
+        requires looked { self.now.looked.now ≡ looked_in self.now.model.now }
         requires few { AreFewer seen.old.policy }
-        requires says { SaysRule self.now.shapes.now row.now.text entry }
+        requires says { SaysRule self.now.shapes.now row.now.text.now entry }
         ensures kept { OnOk result (seen.new.policy ≡ with_entry entry seen.old.policy) }
         ensures finds { OnOk result (FindsMore
-            (RowFinds self.now.model.now self.now.shapes.now seen.old.policy row.now entry)
+            (RowFinds self.now.model.now self.now.shapes.now seen.old.policy (row_line row.now) entry)
             findings.old.items findings.new.items) }
     {
         self.push_rule(alloc, row, &entry, seen, findings)?;
@@ -108,7 +107,7 @@ impl<'a> Judge<'a> {
     ) -> Result<(), NoMemory>
         ensures known { OnOk result (why ≢ PolicyFault.NoMemory) }
         ensures grown { OnOk result (findings.new.items ≡ findings.old.items
-            ++ policy_error self.now.model.now why row.now ∷ []) }
+            ++ policy_error self.now.model.now why (row_line row.now) ∷ []) }
     {
         unless_policy_want(why)?;
         let error = policy_error(alloc, self.model, why, row.number, row.text)?;
@@ -125,9 +124,9 @@ impl<'a> Judge<'a> {
         seen: &Tables,
         findings: &mut Vec<Finding>,
     ) -> Result<(), NoMemory>
-        requires { map looked_seen self.now.looked.now ≡ looked_in self.now.model.now }
+        requires { self.now.looked.now ≡ looked_in self.now.model.now }
         ensures { OnOk result (FindsMore
-            (RowFinds self.now.model.now self.now.shapes.now seen.now.policy row.now entry.now)
+            (RowFinds self.now.model.now self.now.shapes.now seen.now.policy (row_line row.now) entry.now)
             findings.old.items findings.new.items) }
     {
         let mut found = repeat_warnings(alloc, seen, row, entry)?;
@@ -146,9 +145,9 @@ impl<'a> Judge<'a> {
         entry: &Entry,
         found: &mut Vec<Finding>,
     ) -> Result<(), NoMemory>
-        requires { map looked_seen self.now.looked.now ≡ looked_in self.now.model.now }
+        requires { self.now.looked.now ≡ looked_in self.now.model.now }
         ensures { OnOk result (FindsMore
-            (AreLooked self.now.model.now row.now entry.now.rule entry.now.table)
+            (AreLooked self.now.model.now (row_line row.now) entry.now.rule entry.now.table)
             found.old.items found.new.items) }
     {
         match entry.table {

@@ -2,7 +2,7 @@ ghost use Rattle.std.specs.Prelude.{◌≡◌, ◌+◌, ◌≤◌, length};
 ghost use Rattle.file_lint.specs.Columns.{behind_byte, ended, ends_field, field_column, field_count, field_front, fields_left, is_quoted};
 ghost use Rattle.file_lint.specs.declared.columns.Within.TheVariants as state;
 
-use crate::lines::behind_blanks_at;
+use crate::lines::blanks_before;
 use text_parts::is_blank;
 
 /// How far a line is read: at the front of a field, in quotes, behind a quote that closes them, or in a field without.
@@ -26,20 +26,20 @@ fn field_front(line: &str, before: u64) -> usize
     ensures value { result ≡ field_front before state.Front line.now }
     ensures within { result ≤ length line.now }
 {
-    let bytes = line.as_bytes();
     let mut left = before;
     let mut within = Within::Front;
-    let mut at = 0;
-    while left > 0 && at < bytes.len() {
-        let byte = bytes[at];
-        left = fields_left(left, ends_field(within, byte));
-        within = behind_byte(within, byte);
-        at += 1;
+    let mut rest = line.as_bytes();
+    let mut passed = 0;
+    while left > 0 {
+        let Some((byte, behind)) = rest.split_first() else {
+            return passed;
+        };
+        left = fields_left(left, ends_field(within, *byte));
+        within = behind_byte(within, *byte);
+        rest = behind;
+        passed += 1;
     }
-    if left > 0 {
-        return bytes.len();
-    }
-    behind_blanks_at(line, at)
+    passed + blanks_before(rest)
 }
 
 // How many fields are left to pass.
@@ -54,17 +54,20 @@ pub(crate) fn field_count(line: &str) -> u64
     ensures { result ≡ field_count state.Front line.now }
 {
     let mut within = Within::Front;
+    let mut rest = line.as_bytes();
     let mut count = 1;
-    for byte in line.as_bytes() {
+    while let Some((byte, behind)) = rest.split_first() {
         count += ended(ends_field(within, *byte));
         within = behind_byte(within, *byte);
+        rest = behind;
     }
     count
 }
 
 // One, where a field ends.
 fn ended(ends: bool) -> u64
-    ensures { result ≡ ended ends }
+    ensures value { result ≡ ended ends }
+    ensures few { result ≤ 1 }
 {
     if ends { 1 } else { 0 }
 }

@@ -1,5 +1,4 @@
 use outside::{Share, Text};
-use std::marker::Model;
 
 /// How much a finding matters.
 #[derive(Clone, Copy, Debug, PartialEq, Eq)]
@@ -19,14 +18,6 @@ pub struct Finding {
     pub column: u64,
     pub level: Level,
     pub text: Text,
-}
-
-impl Model for Finding {
-    ghost use Rattle.file_lint.specs.Findings.{FindingParts, finding};
-
-    ghost Value = { FindingParts };
-
-    ghost view = { λ f. finding f.line f.column f.level f.text };
 }
 
 impl Share for Finding {}

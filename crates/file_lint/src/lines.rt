@@ -1,10 +1,10 @@
-ghost use Rattle.std.specs.Prelude.{◌≡◌, ◌==◌, ◌&&◌, ◌+◌, ◌<◌, ◌≤◌, ◌^◌, IfSome, false, length, nat_lt, true};
+ghost use Rattle.std.specs.Prelude.{◌≡◌, ◌==◌, ◌&&◌, ◌+◌, ◌-◌, ◌<◌, ◌≤◌, ◌^◌, IfSome, false, length, nat_lt};
 ghost use Rattle.std.specs.List.{after_first, before_first};
 ghost use Rattle.text_parts.specs.Numbered.{line, numbered, text_lines};
 ghost use Rattle.file_lint.specs.Places.{behind_blanks_at, blanks_before, ends_in, file_lines, from_key, is_equals, is_open, key_in, line_at, open_length, place, place_in};
 ghost use Rattle.file_lint.specs.Helps.Steps.{begins_with_key, goes_on, lines_found};
 
-use crate::places::Spot;
+use crate::places::Place;
 use text_parts::{before_blanks, is_blank, is_passed_in_model, next_text_line, trimmed};
 
 /// A line that is continued ends in `\`, blanks apart.
@@ -18,7 +18,7 @@ pub(crate) fn is_open(text: &str) -> bool
 pub(crate) fn ends_in(text: &[u8], sign: u8) -> bool
     ensures { result ≡ ends_in sign text.now }
 {
-    !text.is_empty() && text[text.len() - 1] == sign
+    text.ends_with(&[sign])
 }
 
 /// How many bytes of a line that is continued stand before the `\`.
@@ -135,7 +135,7 @@ fn goes_on(line: &str, continued: bool) -> bool
 }
 
 /// The byte that has so many before it in a line with those that continue it.
-pub(crate) fn place_in(number: u64, first: &str, behind: &str, before: usize) -> Spot
+pub(crate) fn place_in(number: u64, first: &str, behind: &str, before: usize) -> Place
     requires number { number + length behind.now < 2 ^ 64 }
     requires few { before + 1 < 2 ^ 64 }
     ensures { result ≡ place_in (line number first.now)
@@ -147,30 +147,38 @@ pub(crate) fn place_in(number: u64, first: &str, behind: &str, before: usize) ->
     let mut left = before;
     while let Some((next, after)) = next_text_line(rest) {
         if !goes_past(text, left) {
-            return spot(at, left);
+            return place_behind(at, left);
         }
-        left -= open_length(text) + 1;
+        left = behind_line(text, left);
         at += 1;
         text = next;
         rest = after;
     }
-    spot(at, left)
+    place_behind(at, left)
 }
 
 // The byte that has so many before it stands behind this line, which the next one continues.
 fn goes_past(text: &str, before: usize) -> bool
-    ensures past { result ≡ (is_open text.now && nat_lt (open_length text.now) before) }
-    ensures room { result ≡ true → open_length text.now < before }
+    ensures { result ≡ (is_open text.now && nat_lt (open_length text.now) before) }
 {
     is_open(text) && open_length(text) < before
 }
 
+// How many of so many bytes stand behind a line that is continued, and the blank between it and the next.
+fn behind_line(text: &str, before: usize) -> usize
+    ensures { result ≡ before - (open_length text.now + 1) }
+{
+    before
+        .saturating_sub(open_length(text))
+        .saturating_sub(1)
+}
+
 // The place behind so many bytes of a line.
-fn spot(line: u64, before: usize) -> Spot
+fn place_behind(line: u64, before: usize) -> Place
     requires { before + 1 < 2 ^ 64 }
     ensures { result ≡ place line (before + 1) }
 {
-    Spot {
+    Place {
         line,
         column: before as u64 + 1,
     }

@@ -379,7 +379,10 @@ pub(crate) fn key_text(key: Key) -> &'static str
 pub(crate) fn relation_key(relation: u8) -> &'static str
     ensures { result.now ≡ relation_key relation }
 {
-    TableId::G(relation).name().unwrap_or("")
+    match TableId::G(relation).name() {
+        Some(name) => name,
+        None => "",
+    }
 }
 
 fn usual_lines(key: Key) -> &'static str

@@ -1,11 +1,11 @@
-ghost use Rattle.std.specs.Prelude.{◌≡◌, ◌≢◌, ℕ, IfOk, List, MatchOption, false, string_bytes};
+ghost use Rattle.std.specs.Prelude.{◌≡◌, ◌≢◌, ◌||◌, ℕ, IfOk, List, MatchOption, false, string_bytes};
 ghost use Rattle.model_conf.specs.Faults.{IsModelFault};
 ghost use Rattle.model_conf.specs.ModelText.{IsModel, ModelParts};
 ghost use Rattle.file_lint.specs.ModelErrors.{HasErrors, LintsModel, is_hidden, is_of_names, most_errors};
 ghost use Rattle.file_lint.specs.Helps.Rounds.{IsOfBytes};
 
 use crate::finding::Finding;
-use crate::mending::mend;
+use crate::mending::{Mended, mend};
 use crate::model_warnings::model_warnings;
 use crate::model_words::error_of;
 use crate::order::in_order;
@@ -72,10 +72,12 @@ fn errors_of(alloc: Global, bytes: &[u8], first: ModelFault) -> Result<Vec<Findi
     ensures { IfOk result (λ errors. HasErrors most_errors false bytes.now first errors.items) }
 {
     let Ok(text) = str::from_utf8(bytes) else {
-        return only_error(alloc, first);
+        let only = only_error(alloc, first)?;
+        return Ok(only);
     };
     let owned = String::from_str(alloc, text)?;
-    further_errors(alloc, owned, first)
+    let errors = further_errors(alloc, owned, first)?;
+    Ok(errors)
 }
 
 // The error of a text that is not UTF-8, or too long.
@@ -104,15 +106,16 @@ fn further_errors(alloc: Global, bytes: String, first: ModelFault) -> Result<Vec
         if is_hidden(guessed, fault) {
             return Ok(errors);
         }
-        let error = error_of(alloc, text.as_str(), fault)?;
+        let shown = text.as_str();
+        let error = error_of(alloc, shown, fault)?;
         errors.push(error)?;
-        let Some(after) = mend(alloc, text.as_str(), fault)? else {
+        let Some(after) = mend(alloc, shown, fault)? else {
             return Ok(errors);
         };
-        let Some(next) = fault_in(alloc, after.text.as_str())? else {
+        let Some(next) = fault_in(alloc, &after)? else {
             return Ok(errors);
         };
-        guessed = guessed || after.guessed;
+        guessed = has_guessed(guessed, after.guessed);
         text = after.text;
         fault = next;
         left -= 1;
@@ -120,13 +123,20 @@ fn further_errors(alloc: Global, bytes: String, first: ModelFault) -> Result<Vec
     Ok(errors)
 }
 
-// The first fault of a text, unless it is a model.
-fn fault_in(alloc: Global, text: &str) -> Result<Option<ModelFault>, NoMemory>
-    ensures { IfOk result (λ found. MatchOption found
-        ((model : ModelParts) × IsModel text.now model)
-        (IsModelFault text.now)) }
+// Something was guessed, now or before.
+fn has_guessed(before: bool, now: bool) -> bool
+    ensures { result ≡ (before || now) }
 {
-    let Err(next) = read_model(alloc, text.as_bytes()) else {
+    before || now
+}
+
+// The first fault of a mended text, unless it is a model.
+fn fault_in(alloc: Global, after: &Mended) -> Result<Option<ModelFault>, NoMemory>
+    ensures { IfOk result (λ found. MatchOption found
+        ((model : ModelParts) × IsModel (string_bytes after.now.text) model)
+        (IsModelFault (string_bytes after.now.text))) }
+{
+    let Err(next) = read_model(alloc, after.text.as_bytes()) else {
         return Ok(None);
     };
     unless_model_want(next)?;

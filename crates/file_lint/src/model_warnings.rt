@@ -1,12 +1,12 @@
-ghost use Rattle.std.specs.Prelude.{◌≡◌, ◌++◌, IfOk, IsUtf8, OnOk, flat_map, map, option_map};
+ghost use Rattle.std.specs.Prelude.{◌≡◌, ◌||◌, ◌++◌, IfOk, IsUtf8, OnOk, flat_map, map, option_map};
 ghost use Rattle.perm_base.specs.FieldLine.{begins_with};
 ghost use Rattle.matcher_read.specs.Expression.{expression, expressions_of};
-ghost use Rattle.file_lint.specs.ModelWarnings.{column_warnings, has_brace_in, has_class, has_class_in, is_class, is_class_here, is_text, is_unranked, model_warnings, node_warnings, second_is, told_if, told_of, told_of_call, told_of_operator, warning_at};
+ghost use Rattle.file_lint.specs.ModelWarnings.{column_warnings, has_brace_in, has_class, has_class_in, is_class, is_class_here, is_lower_class, is_text, is_unranked, is_upper_class, model_warnings, node_warnings, second_is, told_if, told_of, told_of_call, told_of_operator, warning_at};
 ghost use Rattle.file_lint.specs.Helps.Trees.{seen};
 
 use crate::finding::{Finding, Level};
 use crate::nodes::{nodes_of, second_of};
-use crate::places::Spot;
+use crate::places::Place;
 use crate::values::place_of_value;
 use matcher_read::{Function, Operator, Tree};
 use model_conf::Model;
@@ -115,7 +115,7 @@ fn words_of(node: &Tree) -> Option<(u32, &'static str)>
             operator,
             left,
             right,
-        } => told_of_operator(*at, *operator, is_text(left) || is_text(right)),
+        } => told_of_operator(*at, *operator, is_text_beside(left, right)),
         Tree::Call {
             at,
             function,
@@ -151,6 +151,13 @@ fn told_if(is: bool, at: u32, words: &'static str) -> Option<(u32, &'static str)
     ensures { option_map (λ told. (told.0, told.1.now)) result ≡ told_if is at words.now }
 {
     if is { Some((at, words)) } else { None }
+}
+
+// One of both is a text.
+fn is_text_beside(left: &Tree, right: &Tree) -> bool
+    ensures { result ≡ (is_text (expression left.now) || is_text (expression right.now)) }
+{
+    is_text(left) || is_text(right)
 }
 
 fn is_text(tree: &Tree) -> bool
@@ -205,10 +212,12 @@ fn has_class_in(tree: &Tree) -> bool
 fn has_class(text: &[u8]) -> bool
     ensures { result ≡ has_class text.now }
 {
-    for (at, byte) in text.iter().enumerate() {
-        if is_class_here(*byte, &text[at + 1..]) {
+    let mut rest = text;
+    while let Some((byte, behind)) = rest.split_first() {
+        if is_class_here(*byte, behind) {
             return true;
         }
+        rest = behind;
     }
     false
 }
@@ -223,20 +232,32 @@ fn is_class_here(byte: u8, behind: &[u8]) -> bool
 fn begins_with_class(text: &[u8]) -> bool
     ensures { result ≡ begins_with is_class text.now }
 {
-    match text {
-        [] => false,
-        [byte, ..] => is_class(*byte),
-    }
+    let Some((byte, _)) = text.split_first() else {
+        return false;
+    };
+    is_class(*byte)
 }
 
 fn is_class(byte: u8) -> bool
     ensures { result ≡ is_class byte }
 {
-    byte == b'w' || byte == b'd' || byte == b'b' || byte == b'W' || byte == b'D' || byte == b'B'
+    is_lower_class(byte) || is_upper_class(byte)
+}
+
+fn is_lower_class(byte: u8) -> bool
+    ensures { result ≡ is_lower_class byte }
+{
+    byte == b'w' || byte == b'd' || byte == b'b'
+}
+
+fn is_upper_class(byte: u8) -> bool
+    ensures { result ≡ is_upper_class byte }
+{
+    byte == b'W' || byte == b'D' || byte == b'B'
 }
 
 /// A warning with these words at a place.
-pub(crate) fn warning_at(alloc: Global, at: &Spot, words: &str) -> Result<Finding, NoMemory>
+pub(crate) fn warning_at(alloc: Global, at: &Place, words: &str) -> Result<Finding, NoMemory>
     ensures { IfOk result (λ found. found ≡ warning_at at.now words.now) }
 {
     Ok(Finding {

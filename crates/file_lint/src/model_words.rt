@@ -10,7 +10,7 @@ use crate::lines::{cut_at_equals, from_key, key_in, line_at};
 use crate::mending::{key_text, relation_key, word_front};
 use crate::names::{has_order_mark, header_in, key_and_rest, lower_of, section_of};
 use crate::near::{near_function, near_section};
-use crate::places::Spot;
+use crate::places::Place;
 use crate::texts::{push, push_number, push_quoted};
 use crate::values::{front_at, front_of, place_of_value, rest_at};
 use matcher_read::{Function, MatcherFault};
@@ -31,7 +31,7 @@ pub(crate) fn error_of(alloc: Global, text: &str, why: ModelFault) -> Result<Fin
 }
 
 /// An error with these words at a place.
-pub(crate) fn error_at(at: &Spot, words: String) -> Finding
+pub(crate) fn error_at(at: &Place, words: String) -> Finding
     ensures { result ≡ error_at at.now (string_bytes words) }
 {
     Finding {
@@ -43,14 +43,14 @@ pub(crate) fn error_at(at: &Spot, words: String) -> Finding
 }
 
 // Where a fault stands.
-fn place_of(text: &str, why: ModelFault) -> Spot
+fn place_of(text: &str, why: ModelFault) -> Place
     ensures { result ≡ place_of why text.now }
 {
     match why {
         ModelFault::TooLong
         | ModelFault::NotUtf8
         | ModelFault::Missing { .. }
-        | ModelFault::NoMemory => Spot { line: 1, column: 1 },
+        | ModelFault::NoMemory => Place { line: 1, column: 1 },
         ModelFault::Line { line }
         | ModelFault::UnknownSection { line }
         | ModelFault::UnknownKey { line }
@@ -81,7 +81,7 @@ fn matcher_offset(why: MatcherFault) -> u32
 }
 
 // Appends the words of a fault at its place.
-fn push_words(words: &mut String, text: &str, why: ModelFault, at: &Spot) -> Result<(), NoMemory>
+fn push_words(words: &mut String, text: &str, why: ModelFault, at: &Place) -> Result<(), NoMemory>
     ensures { OnOk result (string_bytes words.new ≡ string_bytes words.old
         ++ fault_words why text.now (line_at at.now.line (file_lines text.now))
         (front_at at.now text.now) (rest_at at.now text.now)) }

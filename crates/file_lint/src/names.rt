@@ -51,26 +51,19 @@ pub(crate) fn section_of(key: Key) -> &'static str
 pub(crate) fn key_and_rest(name: &[u8]) -> Option<(Key, &[u8])>
     ensures { option_map (λ cut. (cut.0, cut.1.now)) result ≡ key_and_rest name.now }
 {
-    match name {
-        [] => None,
-        [byte, behind @ ..] => key_behind(*byte, behind),
-    }
+    let (byte, behind) = name.split_first()?;
+    key_behind(*byte, behind)
 }
 
 // The same by the first byte and those behind it.
 fn key_behind(byte: u8, behind: &[u8]) -> Option<(Key, &[u8])>
     ensures { option_map (λ cut. (cut.0, cut.1.now)) result ≡ key_behind byte behind.now }
 {
-    match behind {
-        [] => None,
-        [dot, rest @ ..] => {
-            if *dot == b'.' {
-                key_of(byte, rest)
-            } else {
-                None
-            }
-        }
+    let (dot, rest) = behind.split_first()?;
+    if *dot != b'.' {
+        return None;
     }
+    key_of(byte, rest)
 }
 
 fn key_of(byte: u8, rest: &[u8]) -> Option<(Key, &[u8])>

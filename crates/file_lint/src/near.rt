@@ -1,6 +1,5 @@
-ghost use Rattle.std.specs.Prelude.{◌≡◌, option_map};
-ghost use Rattle.file_lint.specs.Near.{called_names, is_near, near_name, section_names};
-ghost use Rattle.file_lint.specs.Helps.Steps.{begins_with_byte, is_empty, is_near_behind, is_near_rest, is_near_tail, is_one, same_front};
+ghost use Rattle.std.specs.Prelude.{◌≡◌, ◌==◌, option_map};
+ghost use Rattle.file_lint.specs.Near.{called_names, is_empty, is_near, is_near_rest, is_one, near_name, section_names};
 
 // All functions.
 const FUNCTIONS: [&str; 11] = [
@@ -56,70 +55,44 @@ fn is_near(text: &[u8], other: &[u8]) -> bool
 {
     let mut rest = text;
     let mut left = other;
-    while same_front(rest, left) {
-        rest = &rest[1..];
-        left = &left[1..];
+    while let Some((byte, behind)) = rest.split_first() {
+        let Some((next, others)) = left.split_first() else {
+            return is_empty(behind);
+        };
+        if !is_same(*byte, *next) {
+            return is_near_rest(rest, behind, left, others);
+        }
+        rest = behind;
+        left = others;
     }
-    is_near_tail(rest, left)
+    is_one(left)
 }
 
-// Both begin with the same byte.
-fn same_front(text: &[u8], other: &[u8]) -> bool
-    ensures { result ≡ same_front text.now other.now }
+fn is_same(byte: u8, other: u8) -> bool
+    ensures { result ≡ (byte == other) }
 {
-    match text {
-        [] => false,
-        [byte, ..] => begins_with_byte(*byte, other),
-    }
-}
-
-fn begins_with_byte(byte: u8, text: &[u8]) -> bool
-    ensures { result ≡ begins_with_byte byte text.now }
-{
-    match text {
-        [] => false,
-        [first, ..] => byte == *first,
-    }
-}
-
-// The same of texts whose first bytes differ.
-fn is_near_tail(text: &[u8], other: &[u8]) -> bool
-    ensures { result ≡ is_near_tail text.now other.now }
-{
-    match text {
-        [] => is_one(other),
-        [_, behind @ ..] => is_near_behind(text, behind, other),
-    }
-}
-
-fn is_one(text: &[u8]) -> bool
-    ensures { result ≡ is_one text.now }
-{
-    match text {
-        [] => false,
-        [_, behind @ ..] => is_empty(behind),
-    }
+    byte == other
 }
 
 fn is_empty(text: &[u8]) -> bool
     ensures { result ≡ is_empty text.now }
 {
-    match text {
-        [] => true,
-        [_, ..] => false,
-    }
+    let Some(_) = text.split_first() else {
+        return true;
+    };
+    false
 }
 
-// The same of a text with one byte at least, and what stands behind that byte.
-fn is_near_behind(text: &[u8], behind: &[u8], other: &[u8]) -> bool
-    ensures { result ≡ is_near_behind text.now behind.now other.now }
+fn is_one(text: &[u8]) -> bool
+    ensures { result ≡ is_one text.now }
 {
-    match other {
-        [] => is_empty(behind),
-        [_, others @ ..] => is_near_rest(text, behind, other, others),
-    }
+    let Some((_, behind)) = text.split_first() else {
+        return false;
+    };
+    is_empty(behind)
 }
 
+// The same for texts whose first bytes differ, and what stands behind these bytes.
 fn is_near_rest(text: &[u8], behind: &[u8], other: &[u8], others: &[u8]) -> bool
     ensures { result ≡ is_near_rest text.now behind.now other.now others.now }
 {

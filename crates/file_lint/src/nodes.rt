@@ -1,7 +1,7 @@
 ghost use Rattle.std.specs.Prelude.{◌≡◌, ◌++◌, ◌∷◌, [], IfOk, OnOk, flat_map, map, option_map};
 ghost use Rattle.matcher_read.specs.Expression.{expression, expressions_of};
 ghost use Rattle.file_lint.specs.Nodes.{all_nodes_of, first_of, held_by, looked_at, looked_both, looked_in, nodes_of, policy_place, second_column, second_of};
-ghost use Rattle.file_lint.specs.Helps.Trees.{looked_seen, seen};
+ghost use Rattle.file_lint.specs.Helps.Trees.{seen};
 
 use matcher_read::{Function, Tree};
 use model_conf::Model;
@@ -99,7 +99,7 @@ fn push_all_nodes<'a>(trees: &'a [Tree], nodes: &mut Vec<&'a Tree>) -> Result<()
 
 /// The columns of p that a model's matcher takes for something, in the order of its nodes.
 pub(crate) fn looked_in(alloc: Global, model: &Model) -> Result<Vec<Looked>, NoMemory>
-    ensures { IfOk result (λ found. map looked_seen found.items ≡ looked_in model.now) }
+    ensures { IfOk result (λ found. found.items ≡ looked_in model.now) }
 {
     let nodes = nodes_of(alloc, model.matcher())?;
     let mut found = Vec::new(alloc);
@@ -109,8 +109,8 @@ pub(crate) fn looked_in(alloc: Global, model: &Model) -> Result<Vec<Looked>, NoM
 
 // Pushes the columns that nodes take for something.
 fn push_all_looked(columns: &Rule, nodes: &[&Tree], found: &mut Vec<Looked>) -> Result<(), NoMemory>
-    ensures { OnOk result (map looked_seen found.new.items
-        ≡ map looked_seen found.old.items ++ flat_map (looked_at columns.now) (seen nodes.now)) }
+    ensures { OnOk result (found.new.items
+        ≡ found.old.items ++ flat_map (looked_at columns.now) (seen nodes.now)) }
 {
     for node in nodes {
         push_looked(columns, node, found)?;
@@ -120,8 +120,8 @@ fn push_all_looked(columns: &Rule, nodes: &[&Tree], found: &mut Vec<Looked>) -> 
 
 // Pushes the column that a node takes for something.
 fn push_looked(columns: &Rule, tree: &Tree, found: &mut Vec<Looked>) -> Result<(), NoMemory>
-    ensures { OnOk result (map looked_seen found.new.items
-        ≡ map looked_seen found.old.items ++ looked_at columns.now (expression tree.now)) }
+    ensures { OnOk result (found.new.items
+        ≡ found.old.items ++ looked_at columns.now (expression tree.now)) }
 {
     match tree {
         Tree::Eval { column, .. } => push_both(
@@ -140,8 +140,8 @@ fn push_looked(columns: &Rule, tree: &Tree, found: &mut Vec<Looked>) -> Result<(
 
 // Pushes a column with what it is taken for, where both are told.
 fn push_both(at: Option<u32>, held: Option<Held>, found: &mut Vec<Looked>) -> Result<(), NoMemory>
-    ensures { OnOk result (map looked_seen found.new.items
-        ≡ map looked_seen found.old.items ++ looked_both at held) }
+    ensures { OnOk result (found.new.items
+        ≡ found.old.items ++ looked_both at held) }
 {
     let Some(at) = at else {
         return Ok(());
@@ -177,10 +177,8 @@ pub(crate) fn second_of(trees: &[Tree]) -> Option<&Tree>
     ensures { option_map (λ tree. expression tree.now) result
         ≡ second_of (expressions_of (map expression trees.now)) }
 {
-    match trees {
-        [] => None,
-        [_, rest @ ..] => first_of(rest),
-    }
+    let (_, rest) = trees.split_first()?;
+    first_of(rest)
 }
 
 // The first of some trees.
@@ -188,10 +186,8 @@ fn first_of(trees: &[Tree]) -> Option<&Tree>
     ensures { option_map (λ tree. expression tree.now) result
         ≡ first_of (expressions_of (map expression trees.now)) }
 {
-    match trees {
-        [] => None,
-        [first, ..] => Some(first),
-    }
+    let (first, _) = trees.split_first()?;
+    Some(first)
 }
 
 // What a function takes its second argument for.

@@ -1,5 +1,6 @@
 ghost use Rattle.std.specs.Prelude.{◌≡◌, ◌++◌, IfOk, OnOk, codes, false, slice_set};
 ghost use Rattle.perm_base.specs.LineEnds.{has_line_end};
+ghost use Rattle.file_lint.specs.Helps.Rows.{row_line};
 ghost use Rattle.file_lint.specs.RowWarnings.{has_other, is_behind_other, is_by_priority, order_warnings};
 
 use crate::finding::Finding;
@@ -21,7 +22,7 @@ pub(crate) fn push_order(
     found: &mut Vec<Finding>,
 ) -> Result<(), NoMemory>
     ensures { OnOk result (found.new.items ≡ found.old.items
-        ++ order_warnings effect seen.now.policy row.now rule.now column) }
+        ++ order_warnings effect seen.now.policy (row_line row.now) rule.now column) }
 {
     let Some(at) = column else {
         return Ok(());

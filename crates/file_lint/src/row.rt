@@ -1,5 +1,6 @@
 ghost use Rattle.std.specs.Prelude.{◌≡◌, ◌++◌, IfOk, OnOk, string_bytes};
 ghost use Rattle.model_conf.specs.ModelText.{ModelParts};
+ghost use Rattle.file_lint.specs.Helps.Rows.{row_line};
 ghost use Rattle.file_lint.specs.RowWarnings.{effect_warnings, field_of, is_effect, link_warnings, order_warnings, own_warnings, policy_warnings, rank_warnings, repeat_warnings, subject_warnings, warning_in};
 
 use crate::columns::field_column;
@@ -13,7 +14,6 @@ use perm_base::{RoleShape, Rule, Shapes, TableId, is_pattern};
 use policy_csv::Entry;
 use policy_table::Tables;
 use std::alloc::Global;
-use std::marker::Model;
 
 /// A line of a policy, by its number.
 #[derive(Drop)]
@@ -22,17 +22,9 @@ pub(crate) struct Row<'a> {
     pub(crate) text: &'a str,
 }
 
-impl<'a> Model for Row<'a> {
-    ghost use Rattle.text_parts.specs.Numbered.{Line, line};
-
-    ghost Value = { Line };
-
-    ghost view = { λ r. line r.number r.text.now };
-}
-
 /// A warning at the field of a line that has so many fields before it, the table's name among them.
 pub(crate) fn warning_in(row: &Row<'_>, before: u64, words: String) -> Finding
-    ensures { result ≡ warning_in row.now before (string_bytes words) }
+    ensures { result ≡ warning_in (row_line row.now) before (string_bytes words) }
 {
     Finding {
         line: row.number,
@@ -50,13 +42,14 @@ pub(crate) fn repeat_warnings(
     entry: &Entry,
 ) -> Result<Vec<Finding>, NoMemory>
     ensures { IfOk result (λ found. found.items
-        ≡ repeat_warnings seen.now.policy row.now entry.now) }
+        ≡ repeat_warnings seen.now.policy (row_line row.now) entry.now) }
 {
     let mut found = Vec::new(alloc);
-    if seen.has(entry.table, &entry.rule) {
-        let words = String::from_str(alloc, "this rule stands above already: it counts once")?;
-        found.push(warning_in(row, 0, words))?;
+    if !seen.has(entry.table, &entry.rule) {
+        return Ok(found);
     }
+    let words = String::from_str(alloc, "this rule stands above already: it counts once")?;
+    found.push(warning_in(row, 0, words))?;
     Ok(found)
 }
 
@@ -72,7 +65,7 @@ pub(crate) fn push_own_warnings(
 ) -> Result<(), NoMemory>
     ensures { (model : ModelParts) → model.effect ≡ effect → OnOk result (found.new.items
         ≡ found.old.items
-        ++ own_warnings model shapes.now seen.now.policy row.now entry.now entry.now.table) }
+        ++ own_warnings model shapes.now seen.now.policy (row_line row.now) entry.now entry.now.table) }
 {
     match entry.table {
         TableId::P => push_rule_warnings(alloc, effect, shapes, seen, row, &entry.rule, found),
@@ -90,8 +83,8 @@ fn push_rule_warnings(
     rule: &Rule,
     found: &mut Vec<Finding>,
 ) -> Result<(), NoMemory>
-    ensures { OnOk result (found.new.items ≡ found.old.items ++ (policy_warnings shapes.now row.now rule.now
-        ++ order_warnings effect seen.now.policy row.now rule.now shapes.now.effect_column)) }
+    ensures { OnOk result (found.new.items ≡ found.old.items ++ (policy_warnings shapes.now (row_line row.now) rule.now
+        ++ order_warnings effect seen.now.policy (row_line row.now) rule.now shapes.now.effect_column)) }
 {
     push_policy_warnings(alloc, shapes, row, rule, found)?;
     push_order(alloc, effect, seen, row, rule, shapes.effect_column, found)
@@ -106,7 +99,7 @@ fn push_policy_warnings(
     found: &mut Vec<Finding>,
 ) -> Result<(), NoMemory>
     ensures { OnOk result (found.new.items ≡ found.old.items
-        ++ policy_warnings shapes.now row.now rule.now) }
+        ++ policy_warnings shapes.now (row_line row.now) rule.now) }
 {
     push_effect(alloc, row, rule, shapes.effect_column, found)?;
     push_rank(alloc, row, rule, shapes.ranked, found)?;
@@ -118,10 +111,7 @@ fn push_policy_warnings(
 pub(crate) fn field(rule: &Rule, at: u32) -> &str
     ensures { result.now ≡ field_of rule.now at }
 {
-    if at >= rule.len() {
-        return "";
-    }
-    rule.text(at)
+    if at < rule.len() { rule.text(at) } else { "" }
 }
 
 fn push_effect(
@@ -132,7 +122,7 @@ fn push_effect(
     found: &mut Vec<Finding>,
 ) -> Result<(), NoMemory>
     ensures { OnOk result (found.new.items
-        ≡ found.old.items ++ effect_warnings row.now rule.now column) }
+        ≡ found.old.items ++ effect_warnings (row_line row.now) rule.now column) }
 {
     let Some(at) = column else {
         return Ok(());
@@ -164,7 +154,7 @@ fn push_rank(
     found: &mut Vec<Finding>,
 ) -> Result<(), NoMemory>
     ensures { OnOk result (found.new.items
-        ≡ found.old.items ++ rank_warnings row.now rule.now ranked) }
+        ≡ found.old.items ++ rank_warnings (row_line row.now) rule.now ranked) }
 {
     let text = field(rule, 0);
     if !ranked || integer_of(text).is_some() {
@@ -188,7 +178,7 @@ fn push_subject(
     found: &mut Vec<Finding>,
 ) -> Result<(), NoMemory>
     ensures { OnOk result (found.new.items
-        ≡ found.old.items ++ subject_warnings row.now rule.now at relation) }
+        ≡ found.old.items ++ subject_warnings (row_line row.now) rule.now at relation) }
 {
     let Some(shape) = relation else {
         return Ok(());
@@ -212,7 +202,7 @@ fn push_link(
     rule: &Rule,
     found: &mut Vec<Finding>,
 ) -> Result<(), NoMemory>
-    ensures { OnOk result (found.new.items ≡ found.old.items ++ link_warnings row.now rule.now) }
+    ensures { OnOk result (found.new.items ≡ found.old.items ++ link_warnings (row_line row.now) rule.now) }
 {
     let name = field(rule, 0);
     if name != field(rule, 1) {

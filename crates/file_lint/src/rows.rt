@@ -1,11 +1,10 @@
-ghost use Rattle.std.specs.Prelude.{◌≡◌, IfOk, MatchBool, OnOk, map};
+ghost use Rattle.std.specs.Prelude.{◌≡◌, IfOk, MatchBool, OnOk};
 ghost use Rattle.ip_match.specs.Blocks.{IsBlock};
 ghost use Rattle.ip_match.specs.declared.block.Block as ip;
 ghost use Rattle.matcher_read.specs.Expression.{Expression};
 ghost use Rattle.model_conf.specs.RuleText.{IsNoRuleText, IsRuleText};
 ghost use Rattle.model_conf.specs.ModelText.{ModelParts};
-ghost use Rattle.file_lint.specs.Helps.Rows.{AreFound, FindsMore};
-ghost use Rattle.file_lint.specs.Helps.Trees.{looked_seen};
+ghost use Rattle.file_lint.specs.Helps.Rows.{AreFound, FindsMore, row_line};
 ghost use Rattle.file_lint.specs.RowWarnings.{HeldFinds};
 ghost use Rattle.file_lint.specs.declared.nodes.Held.TheVariants as held;
 
@@ -31,11 +30,13 @@ pub(crate) fn push_looked(
     found: &mut Vec<Finding>,
 ) -> Result<(), NoMemory>
     ensures { OnOk result (FindsMore
-        (AreFound model.now row.now rule.now (map looked_seen looked.now))
+        (AreFound model.now (row_line row.now) rule.now looked.now)
         found.old.items found.new.items) }
 {
-    for look in looked {
+    let mut rest = looked;
+    while let Some((look, others)) = rest.split_first() {
         push_held(alloc, model, *look, row, field(rule, look.at), found)?;
+        rest = others;
     }
     Ok(())
 }
@@ -49,7 +50,7 @@ fn push_held(
     text: &str,
     found: &mut Vec<Finding>,
 ) -> Result<(), NoMemory>
-    ensures { OnOk result (FindsMore (HeldFinds model.now row.now look.at text.now look.held)
+    ensures { OnOk result (FindsMore (HeldFinds model.now (row_line row.now) look.at text.now look.held)
         found.old.items found.new.items) }
 {
     match look.held {
@@ -68,7 +69,7 @@ fn push_block(
     found: &mut Vec<Finding>,
 ) -> Result<(), NoMemory>
     ensures { (model : ModelParts) → OnOk result (FindsMore
-        (HeldFinds model row.now at text.now held.Block) found.old.items found.new.items) }
+        (HeldFinds model (row_line row.now) at text.now held.Block) found.old.items found.new.items) }
 {
     if is_block(text) {
         return Ok(());
@@ -91,7 +92,7 @@ fn push_key_pattern(
     found: &mut Vec<Finding>,
 ) -> Result<(), NoMemory>
     ensures { (model : ModelParts) → OnOk result (FindsMore
-        (HeldFinds model row.now at text.now held.KeyPattern) found.old.items found.new.items) }
+        (HeldFinds model (row_line row.now) at text.now held.KeyPattern) found.old.items found.new.items) }
 {
     if !has_byte(text, b'{') {
         return Ok(());
@@ -110,7 +111,7 @@ fn push_rule_text(
     text: &str,
     found: &mut Vec<Finding>,
 ) -> Result<(), NoMemory>
-    ensures { OnOk result (FindsMore (HeldFinds model.now row.now at text.now held.RuleText)
+    ensures { OnOk result (FindsMore (HeldFinds model.now (row_line row.now) at text.now held.RuleText)
         found.old.items found.new.items) }
 {
     let says = is_rule_text(alloc, model, text)?;

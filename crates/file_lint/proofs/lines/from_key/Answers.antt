@@ -11,7 +11,7 @@ returns-then-begins_with_key-clause-found c =
 
 pub loop-line-preserved : goal.loop-line-preserved
 loop-line-preserved c = record {
-  left = ap (λ on. from_key c.args.key.now on (numbered (c.loop-line.number + 1) (text_lines c.in-Some.after.now))) c.goes_on.ensures
+  left = ap (λ on. from_key c.args.key.now on (numbered (c.loop-line.number + 1) (text_lines c.in-Some.after.now))) c.goes_on-continued.ensures
       ∙ sym (from_key-next c.args.key.now c.loop-line.continued c.loop-line.number c.in-Some.line.now (numbered (c.loop-line.number + 1) (text_lines c.in-Some.after.now)) (sym c.begins_with_key.ensures ∙ c.if-begins_with_key.false))
       ∙ ap (from_key c.args.key.now c.loop-line.continued) (sym (numbered_first c.loop-line.number c.loop-line.rest.now c.in-Some.line.now c.in-Some.after.now c.in-Some.ensures.first)) ∙ c.loop-line.invariant.left;
   within = omega (arith, c.in-Some.ensures.shorter, c.loop-line.invariant.within);

@@ -1,6 +1,6 @@
-use Rattle.std.proofs.Common.{◌≡◌, ◌+◌, ◌-◌, true, false, sym, ap, ◌∙◌, arith, rules}
-use Rattle.text_parts.specs.Numbered.{Line, line, numbered, text_lines}
-use Rattle.file_lint.specs.Places.{open_length, place_in}
+use Rattle.std.proofs.Common.{◌+◌, sym, ap, ◌∙◌, arith, rules}
+use Rattle.text_parts.specs.Numbered.{line, numbered, text_lines}
+use Rattle.file_lint.specs.Places.{place_in}
 use Rattle.file_lint.proofs.PlaceLemmas.{numbered_first, numbered_none, place_in-here, place_in-last, place_in-next}
 use Rattle.file_lint.proofs.lines.place_in.Goals as goal
 
@@ -9,7 +9,7 @@ returns-then-not-goes_past c =
     let at = c.loop-next.at in
     let text = c.loop-next.text.now in
     let after = numbered (at + 1 + 1) (text_lines c.in-Some.after.now) in
-    c.spot.ensures ∙ sym (place_in-here at text (line (at + 1) c.in-Some.next.now) after c.loop-next.left (sym c.goes_past.ensures.past ∙ c.if-not-goes_past.true))
+    c.place_behind.ensures ∙ sym (place_in-here at text (line (at + 1) c.in-Some.next.now) after c.loop-next.left (sym c.goes_past.ensures ∙ c.if-not-goes_past.true))
     ∙ ap (λ l. place_in (line at text) l c.loop-next.left) (sym (numbered_first (at + 1) c.loop-next.rest.now c.in-Some.next.now c.in-Some.after.now c.in-Some.ensures.first)) ∙ c.loop-next.invariant.left
 
 pub loop-next-preserved : goal.loop-next-preserved
@@ -18,11 +18,11 @@ loop-next-preserved c =
     let text = c.loop-next.text.now in
     let after = numbered (at + 1 + 1) (text_lines c.in-Some.after.now) in
     record {
-      left = ap (λ n. place_in (line (at + 1) c.in-Some.next.now) after (c.loop-next.left - (n + 1))) c.open_length.ensures
-          ∙ sym (place_in-next at text (line (at + 1) c.in-Some.next.now) after c.loop-next.left (sym c.goes_past.ensures.past ∙ c.if-not-goes_past.false))
+      left = ap (place_in (line (at + 1) c.in-Some.next.now) after) c.behind_line-left.ensures
+          ∙ sym (place_in-next at text (line (at + 1) c.in-Some.next.now) after c.loop-next.left (sym c.goes_past.ensures ∙ c.if-not-goes_past.false))
           ∙ ap (λ l. place_in (line at text) l c.loop-next.left) (sym (numbered_first (at + 1) c.loop-next.rest.now c.in-Some.next.now c.in-Some.after.now c.in-Some.ensures.first)) ∙ c.loop-next.invariant.left;
       within = omega (arith, c.in-Some.ensures.shorter, c.loop-next.invariant.within);
-      few = omega (arith, c.loop-next.invariant.few);
+      few = omega (arith, c.behind_line-left.ensures, c.loop-next.invariant.few);
       utf8 = search rules;
     }
 
@@ -30,4 +30,4 @@ pub returns : goal.returns
 returns c =
     let at = c.loop-next.at in
     let text = c.loop-next.text.now in
-    c.spot-2.ensures ∙ sym (place_in-last at text c.loop-next.left) ∙ ap (λ l. place_in (line at text) l c.loop-next.left) (sym (numbered_none (at + 1) c.loop-next.rest.now c.in_default.ensures.none)) ∙ c.loop-next.invariant.left
+    c.place_behind-2.ensures ∙ sym (place_in-last at text c.loop-next.left) ∙ ap (λ l. place_in (line at text) l c.loop-next.left) (sym (numbered_none (at + 1) c.loop-next.rest.now c.in_default.ensures.none)) ∙ c.loop-next.invariant.left

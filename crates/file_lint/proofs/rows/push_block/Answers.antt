@@ -3,6 +3,7 @@ use Rattle.ip_match.specs.Blocks.{IsBlock}
 use Rattle.ip_match.specs.declared.block.Block.{Block as IpBlock}
 use Rattle.file_lint.specs.RowWarnings.{warning_in}
 use Rattle.file_lint.specs.Texts.{quoted}
+use Rattle.file_lint.specs.Helps.Rows.{row_line}
 use Rattle.file_lint.proofs.RowLemmas.{no_surprise, surprise}
 use Rattle.file_lint.proofs.rows.push_block.Goals as goal
 
@@ -14,6 +15,6 @@ returns-then-is_block c = λ model.
 pub returns : goal.returns
 returns c = λ model.
     let text = c.args.text.now in
-    let told = warning_in c.args.row.now (c.args.at + 1) (quoted text ++ codes " is no address and no block: ipMatch fails with it") in
+    let told = warning_in (row_line c.args.row.now) (c.args.at + 1) (quoted text ++ codes " is no address and no block: ipMatch fails with it") in
     let grown : c.push.new.self.items ≡ c.args.found.now.items ++ told ∷ [] = search rules in
     surprise ((block : IpBlock) × IsBlock text block) ((block : IpBlock) → ¬ (IsBlock text block)) told c.args.found.now.items c.push.new.self.items c.is_block.result c.is_block.ensures c.if-is_block.false grown

@@ -3,6 +3,7 @@ use Rattle.matcher_read.specs.Expression.{Expression}
 use Rattle.model_conf.specs.RuleText.{IsNoRuleText, IsRuleText}
 use Rattle.file_lint.specs.RowWarnings.{warning_in}
 use Rattle.file_lint.specs.Texts.{quoted}
+use Rattle.file_lint.specs.Helps.Rows.{row_line}
 use Rattle.file_lint.proofs.RowLemmas.{no_surprise, surprise}
 use Rattle.file_lint.proofs.rows.push_rule_text.Goals as goal
 
@@ -14,6 +15,6 @@ returns-then-says c =
 pub returns : goal.returns
 returns c =
     let text = c.args.text.now in
-    let told = warning_in c.args.row.now (c.args.at + 1) (quoted text ++ codes " says no rule: eval fails with it") in
+    let told = warning_in (row_line c.args.row.now) (c.args.at + 1) (quoted text ++ codes " says no rule: eval fails with it") in
     let grown : c.push.new.self.items ≡ c.args.found.now.items ++ told ∷ [] = search rules in
     surprise ((e : Expression) × IsRuleText c.args.model.now text e) (IsNoRuleText c.args.model.now text) told c.args.found.now.items c.push.new.self.items c.in_ok-says.says c.in_ok-says.ensures c.if-says.false grown
