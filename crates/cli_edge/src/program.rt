@@ -31,8 +31,8 @@ pub fn run_program<R: Threads + Wait + Sync>(rt: &R, host: &HostRuntime) -> Stat
         Err(stop) => return tell_stop(&mut err, stop),
     };
     if asks_for_lint(&words) {
-        let mut shelf = FileShelf::new(alloc, rt);
-        let mut out = WriteSink::new(rt.stdout());
+        let mut shelf = FileShelf::new(alloc, host);
+        let mut out = WriteSink::new(host.stdout());
         return run_lint(alloc, &words, &mut shelf, &mut out, &mut err);
     }
     let Ok(mut finders) = finders(alloc) else {

@@ -19,11 +19,12 @@ use Rattle.text_parts.specs.Full.{given_number}
 use Rattle.text_parts.specs.Numbered.{Line}
 use Rattle.file_lint.specs.Findings.{in_order}
 use Rattle.file_lint.specs.Nodes.{looked_in}
+use Rattle.file_lint.specs.PolicyErrors.{told_in}
 use Rattle.file_lint.specs.PolicyWords.{policy_error}
 use Rattle.file_lint.specs.RowWarnings.{AreLooked, IsLookedAt, LookedFinds, RowFinds, Surprises, own_warnings, repeat_warnings}
 use Rattle.file_lint.specs.declared.finding.Finding.{Finding}
 use Rattle.file_lint.specs.declared.nodes.Looked.{Looked}
-use Rattle.file_lint.specs.Helps.Rows.{AreFound, FindsMore, LineFinds}
+use Rattle.file_lint.specs.Helps.Rows.{AreFound, FindsMore, LineFinds, LineTells}
 
 -- no column
 pub found_none : (model : ModelParts) (line : Line) (rule : Fields) (looked : List Looked) (before : List Finding) → looked ≡ [] → FindsMore (AreFound model line rule looked) before before
@@ -64,6 +65,16 @@ pub fault_judged : (model : ModelParts) (shapes : Shapes) (line : Line) (before 
     → IsTextFault shapes (given_number line.number) line.text why → OnOk result (why ≢ NoMemory) → OnOk result (now ≡ findings ++ policy_error model why line ∷ []) → OnOk result (LineFinds model shapes line before before findings now)
 fault_judged model shapes line before findings now why (Err e) is known grown = tt
 fault_judged model shapes line before findings now why (Ok done) is known grown = inr (why, known, is, refl, grown)
+
+-- a line of which no fault is told, and one of which the told fault is pushed
+pub line_by_itself : (model : ModelParts) (shapes : Shapes) (first : Option PolicyFault) (line : Line) (before after : Policy) (findings now : List Finding) (number : ℕ) (result : Result (Unit {0}) NoMem) → number ≡ given_number line.number
+    → None ≡ told_in first number → OnOk result (LineFinds model shapes line before after findings now) → OnOk result (LineTells model shapes first line before after findings now)
+line_by_itself model shapes first line before after findings now number (Err e) same none finds = tt
+line_by_itself model shapes first line before after findings now number (Ok done) same none finds = inr (sym (none ∙ ap (told_in first) same), finds)
+
+pub line_at_fault : (model : ModelParts) (shapes : Shapes) (first : Option PolicyFault) (line : Line) (before after : Policy) (findings now : List Finding) (number : ℕ) (why : PolicyFault) → number ≡ given_number line.number → Some why ≡ told_in first number
+    → after ≡ before → now ≡ findings ++ policy_error model why line ∷ [] → LineTells model shapes first line before after findings now
+line_at_fault model shapes first line before after findings now number why same is kept grown = inl (why, sym (is ∙ ap (told_in first) same), kept, grown)
 
 -- a field that does not surprise, and one that does
 pub no_surprise : (good bad : Type 0) (found : Finding) (before : List Finding) (fine : Bool) → MatchBool fine good bad → fine ≡ true → FindsMore (Surprises good bad found) before before

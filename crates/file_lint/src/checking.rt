@@ -94,7 +94,8 @@ impl<'a> Judge<'a> {
             findings.old.items findings.new.items) }
     {
         self.push_rule(alloc, row, &entry, seen, findings)?;
-        keep(seen, entry)
+        keep(seen, entry)?;
+        Ok(())
     }
 
     // Pushes the own fault of a line, unless the line was not read for want of memory.

@@ -45,8 +45,11 @@ pub fn lint_policy(
 {
     let fault = first_fault(alloc, bytes, shapes)?;
     let Ok(text) = str::from_utf8(bytes) else {
-        let findings = only_error(alloc, model)?;
-        return Ok(PolicyLint { findings, fault });
+        let only = only_error(alloc, model)?;
+        return Ok(PolicyLint {
+            findings: only,
+            fault,
+        });
     };
     let findings = lines_found(alloc, text, model, shapes, fault)?;
     Ok(PolicyLint { findings, fault })
@@ -92,11 +95,12 @@ fn lines_found(
     ensures { IfOk result (λ found. LintsLines model.now shapes.now first
         (without_rules false) (policy_lines text.now) found.items) }
 {
-    let looked = looked_in(alloc, model)?;
+    let columns = looked_in(alloc, model)?;
+    let looked = columns.as_slice();
     let judge = Judge {
         model,
         shapes,
-        looked: &looked,
+        looked,
     };
     let mut seen = no_tables(alloc);
     let mut findings = Vec::new(alloc);

@@ -7,9 +7,9 @@ use Rattle.command_words.specs.declared.command.Command.{Command}
 use Rattle.command_words.specs.declared.command.Command.TheVariants as command
 use Rattle.command_words.specs.declared.command.Options.{Options}
 use Rattle.command_words.proofs.CallerLemmas.{HasRanges, command_of-ranges}
-use Rattle.file_lint.specs.Findings.{FindingParts}
 use Rattle.file_lint.specs.ModelErrors.{LintsModel}
 use Rattle.file_lint.specs.PolicyErrors.{LintsPolicy}
+use Rattle.file_lint.specs.declared.finding.Finding.{Finding}
 use Rattle.model_conf.specs.ModelText.{IsModel, ModelParts}
 use Rattle.model_conf.specs.declared.fault.ModelFault.{ModelFault}
 use Rattle.outside.specs.Files.{Files, Holds}
@@ -88,15 +88,15 @@ policy_unfetched files job model shelf NoMemory fits stops = tt
 policy_unfetched files job model shelf _ fits stops = absurd stops
 
 -- a file of which a model, or a fault, and these findings were told
-pub model_told : (files : Option Files) (name bytes : List ℕ) (read : Result ModelParts ModelFault) (found : List FindingParts) (model : ModelParts) → Holds files name bytes → length bytes ≤ limit_of Model → LintsModel bytes read found → read ≡ Ok model
+pub model_told : (files : Option Files) (name bytes : List ℕ) (read : Result ModelParts ModelFault) (found : List Finding) (model : ModelParts) → Holds files name bytes → length bytes ≤ limit_of Model → LintsModel bytes read found → read ≡ Ok model
     → FileIs files name Model (λ bytes. LintsModel bytes (Ok model) found)
 model_told files name bytes read found model holds within is same = (bytes, holds, within, subst (λ (r : Result ModelParts ModelFault). LintsModel bytes r found) same is)
 
-pub fault_told : (files : Option Files) (name bytes : List ℕ) (read : Result ModelParts ModelFault) (found : List FindingParts) (first : ModelFault) → Holds files name bytes → length bytes ≤ limit_of Model → LintsModel bytes read found → read ≡ Err first
+pub fault_told : (files : Option Files) (name bytes : List ℕ) (read : Result ModelParts ModelFault) (found : List Finding) (first : ModelFault) → Holds files name bytes → length bytes ≤ limit_of Model → LintsModel bytes read found → read ≡ Err first
     → FileIs files name Model (λ bytes. LintsModel bytes (Err first) found)
 fault_told files name bytes read found first holds within is same = (bytes, holds, within, subst (λ (r : Result ModelParts ModelFault). LintsModel bytes r found) same is)
 
-pub policy_told : (files : Option Files) (job : LintJob) (model : ModelParts) (shapes : Shapes) (bytes : List ℕ) (first : Option PolicyFault) (found : List FindingParts) → Holds files job.files.policy bytes → length bytes ≤ limit_of Policy → absent_in job.options model ≡ None
+pub policy_told : (files : Option Files) (job : LintJob) (model : ModelParts) (shapes : Shapes) (bytes : List ℕ) (first : Option PolicyFault) (found : List Finding) → Holds files job.files.policy bytes → length bytes ≤ limit_of Policy → absent_in job.options model ≡ None
     → shapes ≡ shapes_with job.options model → LintsPolicy model shapes bytes first found → IsPolicyLinted files job model first found
 policy_told files job model shapes bytes first found holds within fits same is = record {
   fits = fits;
@@ -104,18 +104,18 @@ policy_told files job model shapes bytes first found holds within fits same is =
 }
 
 -- what both files come to, the policy's by a shelf that tells the same files at a later moment
-pub linted_alone : (files : Option Files) (job : LintJob) (first : ModelFault) (found others : List FindingParts) (status : Status) → FileIs files job.files.model Model (λ bytes. LintsModel bytes (Err first) found) → others ≡ [] → status ≡ status_of (NoModel first)
+pub linted_alone : (files : Option Files) (job : LintJob) (first : ModelFault) (found others : List Finding) (status : Status) → FileIs files job.files.model Model (λ bytes. LintsModel bytes (Err first) found) → others ≡ [] → status ≡ status_of (NoModel first)
     → Lints files job (lint_text job found others) status
 linted_alone files job first found others status is none ends = model_alone first found is (ap (lint_text job found) none) ends
 
-pub linted_both : (files mid : Option Files) (job : LintJob) (model : ModelParts) (first : Option PolicyFault) (found others : List FindingParts) (status : Status) → mid ≡ files → FileIs files job.files.model Model (λ bytes. LintsModel bytes (Ok model) found)
+pub linted_both : (files mid : Option Files) (job : LintJob) (model : ModelParts) (first : Option PolicyFault) (found others : List Finding) (status : Status) → mid ≡ files → FileIs files job.files.model Model (λ bytes. LintsModel bytes (Ok model) found)
     → IsPolicyLinted mid job model first others → status ≡ policy_end first → Lints files job (lint_text job found others) status
 linted_both files mid job model first found others status same is linted ends =
     let later = subst (λ (f : Option Files). IsPolicyLinted f job model first others) same linted in
     both model first found others is later.fits later.finds refl ends
 
 -- a file that holds the findings of a model holds the model
-pub model_held : (files : Option Files) (name : List ℕ) (model : ModelParts) (found : List FindingParts) → FileIs files name Model (λ bytes. LintsModel bytes (Ok model) found) → FileIs files name Model (λ bytes. IsModel bytes model)
+pub model_held : (files : Option Files) (name : List ℕ) (model : ModelParts) (found : List Finding) → FileIs files name Model (λ bytes. LintsModel bytes (Ok model) found) → FileIs files name Model (λ bytes. IsModel bytes model)
 model_held files name model found (bytes, holds, within, is) = (bytes, holds, within, is.0)
 
 -- behind the model, by a shelf that tells the same files at a later moment

@@ -1,8 +1,8 @@
 -- What the steps of a lint come to; only private functions cite this.
 use Rattle.std.specs.Prelude.{◌≡◌, ◌⊎◌, ℕ, ◌<◌, ⊤, List, Option, Some, None, length}
 use Rattle.command_words.specs.declared.command.Options.{Options}
-use Rattle.file_lint.specs.Findings.{FindingParts}
 use Rattle.file_lint.specs.PolicyErrors.{LintsPolicy}
+use Rattle.file_lint.specs.declared.finding.Finding.{Finding}
 use Rattle.model_conf.specs.ModelText.{IsModel, ModelParts}
 use Rattle.outside.specs.Files.{Files, Lacks, OfFile}
 use Rattle.outside.specs.Told.{with_back}
@@ -44,7 +44,7 @@ abbrev pub AreLinted : Option Files → LintJob → Linted → Type 0
 AreLinted files job linted = Lints files job (lint_text job linted.model.items linted.policy.items) linted.status
 
 -- the model has what the options name, and these are the findings of the policy's file
-pub record IsPolicyLinted (files : Option Files) (job : LintJob) (model : ModelParts) (first : Option PolicyFault) (found : List FindingParts) : Type 0 where
+pub record IsPolicyLinted (files : Option Files) (job : LintJob) (model : ModelParts) (first : Option PolicyFault) (found : List Finding) : Type 0 where
   pub fits : absent_in job.options model ≡ None
   pub finds : FileIs files job.files.policy Policy (λ bytes. LintsPolicy model (shapes_with job.options model) bytes first found)
 

@@ -5,9 +5,10 @@ use Rattle.command_words.specs.Commands.{command_of}
 use Rattle.command_words.specs.declared.command.Command.{Command}
 use Rattle.command_words.specs.declared.command.Command.TheVariants as command
 use Rattle.command_words.specs.declared.command.Options.{Options}
-use Rattle.file_lint.specs.Findings.{FindingParts, count_line, count_of, finding_lines}
+use Rattle.file_lint.specs.Findings.{count_line, count_of, finding_lines}
 use Rattle.file_lint.specs.ModelErrors.{LintsModel}
 use Rattle.file_lint.specs.PolicyErrors.{LintsPolicy}
+use Rattle.file_lint.specs.declared.finding.Finding.{Finding}
 use Rattle.file_lint.specs.declared.finding.Level.TheVariants.{Error, Warning}
 use Rattle.model_conf.specs.ModelText.{ModelParts}
 use Rattle.model_conf.specs.Shapes.{first_absent, shapes_of}
@@ -49,7 +50,7 @@ abbrev pub FileIs : Option Files → List ℕ → Part → (List ℕ → Type 0)
 FileIs files name part fact = (bytes : List ℕ) × Holds files name bytes × (length bytes ≤ limit_of part) × fact bytes
 
 -- the line of each finding, those of the model first, and how many there are
-abbrev pub lint_text : LintJob → List FindingParts → List FindingParts → List ℕ
+abbrev pub lint_text : LintJob → List Finding → List Finding → List ℕ
 lint_text job model policy =
     finding_lines job.files.model model ++ finding_lines job.files.policy policy
     ++ count_line (count_of Error model + count_of Error policy) (count_of Warning model + count_of Warning policy)
@@ -61,8 +62,8 @@ policy_end (Some first) = status_of (NoPolicy first)
 
 -- what the files of a lint come to: the text that tells their findings, and the status, which is the one that `enforce` ends with for them
 pub data Lints (files : Option Files) (job : LintJob) (text : List ℕ) (status : Status) : Type 0 where
-  model_alone : (first : ModelFault) (found : List FindingParts) → FileIs files job.files.model Model (λ bytes. LintsModel bytes (Err first) found) → text ≡ lint_text job found []
+  model_alone : (first : ModelFault) (found : List Finding) → FileIs files job.files.model Model (λ bytes. LintsModel bytes (Err first) found) → text ≡ lint_text job found []
       → status ≡ status_of (NoModel first) → Lints files job text status
-  both : (model : ModelParts) (first : Option PolicyFault) (found others : List FindingParts) → FileIs files job.files.model Model (λ bytes. LintsModel bytes (Ok model) found)
+  both : (model : ModelParts) (first : Option PolicyFault) (found others : List Finding) → FileIs files job.files.model Model (λ bytes. LintsModel bytes (Ok model) found)
       → absent_in job.options model ≡ None → FileIs files job.files.policy Policy (λ bytes. LintsPolicy model (shapes_with job.options model) bytes first others)
       → text ≡ lint_text job found others → status ≡ policy_end first → Lints files job text status

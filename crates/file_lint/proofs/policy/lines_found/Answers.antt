@@ -1,4 +1,4 @@
-use Rattle.std.proofs.Common.{◌+◌, List, false, length, ap, arith, rules}
+use Rattle.std.proofs.Common.{◌+◌, List, false, length, ap, ◌∙◌, arith, rules}
 use Rattle.policy_csv.specs.Lines.{policy_lines}
 use Rattle.policy_table.specs.Tables.{Fields, without_rules}
 use Rattle.text_parts.specs.Full.{full_lines}
@@ -10,11 +10,14 @@ use Rattle.file_lint.proofs.policy.lines_found.Goals as goal
 
 pub loop-at-init : goal.loop-at-init
 loop-at-init c = record {
-  goes = lines_begin c.args.model.now c.args.shapes.now c.args.first c.no_tables-seen.result.policy (full_lines 1 c.args.text.now) _ c.no_tables-seen.ensures.policy (search rules);
+  goes = lines_begin c.args.model.now c.args.shapes.now c.args.first c.no_tables-seen.result.policy (full_lines 1 c.args.text.now) c.new-findings.result.items c.no_tables-seen.ensures.policy (search rules);
   few = λ table. let none = ap (λ (l : List Fields). length l) (c.no_tables-seen.ensures.rows table) in omega (arith, none);
   within = omega arith;
   utf8 = search rules;
 }
+
+pub push_findings-requires-clause-looked : goal.push_findings-requires-clause-looked
+push_findings-requires-clause-looked c = c.as_slice-looked.ensures.value ∙ c.in_ok-columns.ensures
 
 pub push_findings-requires-clause-few : goal.push_findings-requires-clause-few
 push_findings-requires-clause-few c = λ table. omega (arith, c.loop-at.invariant.few table, c.loop-at.invariant.within, c.in-Some.ensures.within, c.requires.short)

@@ -10,7 +10,7 @@ use Rattle.file_lint.proofs.rows.push_block.Goals as goal
 pub returns-then-is_block : goal.returns-then-is_block
 returns-then-is_block c = λ model.
     let text = c.args.text.now in
-    no_surprise ((block : IpBlock) × IsBlock text block) ((block : IpBlock) → ¬ (IsBlock text block)) _ c.args.found.now.items c.is_block.result c.is_block.ensures c.if-is_block.true
+    no_surprise ((block : IpBlock) × IsBlock text block) ((block : IpBlock) → ¬ (IsBlock text block)) (warning_in (row_line c.args.row.now) (c.args.at + 1) (quoted text ++ codes " is no address and no block: ipMatch fails with it")) c.args.found.now.items c.is_block.result c.is_block.ensures c.if-is_block.true
 
 pub returns : goal.returns
 returns c = λ model.

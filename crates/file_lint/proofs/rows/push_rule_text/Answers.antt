@@ -10,7 +10,7 @@ use Rattle.file_lint.proofs.rows.push_rule_text.Goals as goal
 pub returns-then-says : goal.returns-then-says
 returns-then-says c =
     let text = c.args.text.now in
-    no_surprise ((e : Expression) × IsRuleText c.args.model.now text e) (IsNoRuleText c.args.model.now text) _ c.args.found.now.items c.in_ok-says.says c.in_ok-says.ensures c.if-says.true
+    no_surprise ((e : Expression) × IsRuleText c.args.model.now text e) (IsNoRuleText c.args.model.now text) (warning_in (row_line c.args.row.now) (c.args.at + 1) (quoted text ++ codes " says no rule: eval fails with it")) c.args.found.now.items c.in_ok-says.says c.in_ok-says.ensures c.if-says.true
 
 pub returns : goal.returns
 returns c =

@@ -1,3 +1,5 @@
+use Rattle.std.proofs.Common.{ℕ, subst}
+use Rattle.policy_csv.specs.Faults.{IsTextFault}
 use Rattle.file_lint.specs.Helps.Rows.{row_line}
 use Rattle.file_lint.proofs.RowLemmas.{entry_judged, fault_judged}
 use Rattle.file_lint.proofs.checking.Judge.push_line.Goals as goal
@@ -10,5 +12,5 @@ returns-in-Ok c =
 
 pub returns-in-Err : goal.returns-in-Err
 returns-in-Err c =
-    fault_judged c.args.self.now.model.now c.args.self.now.shapes.now (row_line c.args.row.now) c.args.seen.now.policy c.args.findings.now.items c.push_fault.new.findings.items c.in-Err.why c.push_fault.result
-    c.in-Err.ensures.fault c.push_fault.ensures.known c.push_fault.ensures.grown
+    let own = subst (λ (number : ℕ). IsTextFault c.args.self.now.shapes.now number c.args.row.now.text.now c.in-Err.why) c.given_number.ensures c.in-Err.ensures.fault in
+    fault_judged c.args.self.now.model.now c.args.self.now.shapes.now (row_line c.args.row.now) c.args.seen.now.policy c.args.findings.now.items c.push_fault.new.findings.items c.in-Err.why c.push_fault.result own c.push_fault.ensures.known c.push_fault.ensures.grown
