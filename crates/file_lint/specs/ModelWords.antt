@@ -1,5 +1,5 @@
 -- The errors of a model's text: where each fault stands, and the words that tell it. They quote what stands there, and say what may.
-use Rattle.std.specs.Prelude.{ℕ, ◌-◌, Bool, false, List, [], ◌∷◌, ◌++◌, codes, decimal, drop, Option, Some, None, if◌then◌else◌}
+use Rattle.std.specs.Prelude.{ℕ, ◌-◌, ◌||◌, Bool, false, List, [], ◌∷◌, ◌++◌, codes, decimal, drop, Option, Some, None, if◌then◌else◌}
 use Rattle.std.specs.List.{after_first, list_any}
 use Rattle.std.specs.Str.{bytes_eq}
 use Rattle.matcher_read.specs.Calls.{arity, function_of}
@@ -25,17 +25,17 @@ use Rattle.file_lint.specs.declared.finding.Finding.{Finding}
 use Rattle.file_lint.specs.declared.finding.Level.TheVariants.{Error}
 use Rattle.file_lint.specs.declared.places.Place.{Place}
 
--- where a fault of a matcher stands in its text: so many bytes behind its front
-abbrev pub matcher_offset : MatcherFault → ℕ
-matcher_offset matcher.TooLong = 0
-matcher_offset (matcher.Unexpected at) = at - 1
-matcher_offset (matcher.OpenText at) = at - 1
-matcher_offset (matcher.NumberTooWide at) = at - 1
-matcher_offset (matcher.UnknownFunction at) = at - 1
-matcher_offset (matcher.WrongArguments at) = at - 1
-matcher_offset (matcher.TooDeep at) = at - 1
-matcher_offset matcher.TooManyNodes = 0
-matcher_offset matcher.NoMemory = 0
+-- the byte of a matcher's text at which its fault stands, counted from 1; 0 where it is the fault of all of it
+abbrev pub matcher_place : MatcherFault → ℕ
+matcher_place matcher.TooLong = 0
+matcher_place (matcher.Unexpected at) = at
+matcher_place (matcher.OpenText at) = at
+matcher_place (matcher.NumberTooWide at) = at
+matcher_place (matcher.UnknownFunction at) = at
+matcher_place (matcher.WrongArguments at) = at
+matcher_place (matcher.TooDeep at) = at
+matcher_place matcher.TooManyNodes = 0
+matcher_place matcher.NoMemory = 0
 
 -- where a fault of a model stands; a key that is missing stands nowhere, and is told at the front of the file
 abbrev pub place_of : ModelFault → List ℕ → Place
@@ -49,7 +49,7 @@ place_of (fault.Missing key) bytes = place 1 1
 place_of (fault.Columns key) bytes = place_of_value (key_text key) 0 bytes
 place_of (fault.RoleShape number) bytes = place_of_value (relation_key number) 0 bytes
 place_of fault.UnknownEffect bytes = place_of_value (codes "e") 0 bytes
-place_of (fault.Matcher inner) bytes = place_of_value (codes "m") (matcher_offset inner) bytes
+place_of (fault.Matcher inner) bytes = place_of_value (codes "m") (matcher_place inner - 1) bytes
 place_of (fault.UnknownColumn at) bytes = place_of_value (codes "m") (at - 1) bytes
 place_of (fault.RoleUse at) bytes = place_of_value (codes "m") (at - 1) bytes
 place_of fault.NoMemory bytes = place 1 1
@@ -79,8 +79,14 @@ section_words name =
     ++ or_near (codes ": the sections are request_definition, policy_definition, role_definition, policy_effect, matchers") (near_name name section_names)
 
 -- keys of models with several requests, policies, effects or matchers
+abbrev pub is_of_second : List ℕ → Bool
+is_of_second key = list_any (bytes_eq key) (codes "r2" ∷ codes "p2" ∷ codes "e2" ∷ codes "m2" ∷ [])
+
+abbrev pub is_of_third : List ℕ → Bool
+is_of_third key = list_any (bytes_eq key) (codes "r3" ∷ codes "p3" ∷ codes "e3" ∷ codes "m3" ∷ [])
+
 abbrev pub is_second : List ℕ → Bool
-is_second key = list_any (bytes_eq key) (codes "r2" ∷ codes "p2" ∷ codes "e2" ∷ codes "m2" ∷ codes "r3" ∷ codes "p3" ∷ codes "e3" ∷ codes "m3" ∷ [])
+is_second key = is_of_second key || is_of_third key
 
 abbrev pub case_words : List ℕ → Option (List ℕ) → List ℕ
 case_words key (Some lower) = codes "unknown key " ++ quoted key ++ codes ": keys are in lower case, write " ++ lower

@@ -1,8 +1,8 @@
-ghost use Rattle.std.specs.Prelude.{◌≡◌, ◌++◌, IfOk, OnOk, false, string_bytes};
+ghost use Rattle.std.specs.Prelude.{◌≡◌, ◌-◌, ◌++◌, IfOk, OnOk, codes, false, string_bytes};
 ghost use Rattle.matcher_read.specs.Calls.{function_of};
 ghost use Rattle.file_lint.specs.ModelNames.{key_and_rest, lower_of};
-ghost use Rattle.file_lint.specs.ModelWords.{arguments_words, case_words, column_words, columns_words, effect_words, error_at, error_of, fault_words, function_words, is_second, line_words, matcher_offset, matcher_words, missing_words, place_of, repeated_words, role_words, section_words, shape_words};
-ghost use Rattle.file_lint.specs.Places.{file_lines, from_key, front_at, line_at, rest_at};
+ghost use Rattle.file_lint.specs.ModelWords.{arguments_words, case_words, column_words, columns_words, effect_words, error_at, error_of, fault_words, function_words, is_of_second, is_of_third, is_second, line_words, matcher_place, matcher_words, missing_words, place_of, repeated_words, role_words, section_words, shape_words};
+ghost use Rattle.file_lint.specs.Places.{file_lines, from_key, front_at, line_at, place_of_value, rest_at};
 
 use crate::finding::{Finding, Level};
 use crate::hints::{begins_so, hint};
@@ -51,23 +51,29 @@ fn place_of(text: &str, why: ModelFault) -> Place
         | ModelFault::NotUtf8
         | ModelFault::Missing { .. }
         | ModelFault::NoMemory => Place { line: 1, column: 1 },
-        ModelFault::Line { line }
-        | ModelFault::UnknownSection { line }
-        | ModelFault::UnknownKey { line }
-        | ModelFault::RepeatedKey { line } => front_of(text, u64::from(line)),
+        ModelFault::Line { line } => front_of(text, u64::from(line)),
+        ModelFault::UnknownSection { line } => front_of(text, u64::from(line)),
+        ModelFault::UnknownKey { line } => front_of(text, u64::from(line)),
+        ModelFault::RepeatedKey { line } => front_of(text, u64::from(line)),
         ModelFault::Columns { key } => place_of_value(text, key_text(key), 0),
         ModelFault::RoleShape { relation } => place_of_value(text, relation_key(relation), 0),
         ModelFault::UnknownEffect => place_of_value(text, "e", 0),
-        ModelFault::Matcher(inner) => place_of_value(text, "m", matcher_offset(inner)),
-        ModelFault::UnknownColumn { at } | ModelFault::RoleUse { at } => {
-            place_of_value(text, "m", at.saturating_sub(1))
-        }
+        ModelFault::Matcher(inner) => in_matcher(text, matcher_place(inner)),
+        ModelFault::UnknownColumn { at } => in_matcher(text, at),
+        ModelFault::RoleUse { at } => in_matcher(text, at),
     }
 }
 
-// Where a fault of a matcher stands in its text.
-fn matcher_offset(why: MatcherFault) -> u32
-    ensures { result ≡ matcher_offset why }
+// Where a byte of the matcher stands, counted from 1.
+fn in_matcher(text: &str, at: u32) -> Place
+    ensures { result ≡ place_of_value (codes "m") (at - 1) text.now }
+{
+    place_of_value(text, "m", at.saturating_sub(1))
+}
+
+// Where a fault of a matcher stands in its text, counted from 1.
+fn matcher_place(why: MatcherFault) -> u32
+    ensures { result ≡ matcher_place why }
 {
     match why {
         MatcherFault::TooLong | MatcherFault::TooManyNodes | MatcherFault::NoMemory => 0,
@@ -76,7 +82,7 @@ fn matcher_offset(why: MatcherFault) -> u32
         | MatcherFault::NumberTooWide { at }
         | MatcherFault::UnknownFunction { at }
         | MatcherFault::WrongArguments { at }
-        | MatcherFault::TooDeep { at } => at.saturating_sub(1),
+        | MatcherFault::TooDeep { at } => at,
     }
 }
 
@@ -166,11 +172,19 @@ fn push_case_words(words: &mut String, key: &str) -> Result<(), NoMemory>
 fn is_second(key: &str) -> bool
     ensures { result ≡ is_second key.now }
 {
-    match key {
-        "r2" | "p2" | "e2" | "m2" => true,
-        "r3" | "p3" | "e3" | "m3" => true,
-        _ => false,
-    }
+    is_of_second(key) || is_of_third(key)
+}
+
+fn is_of_second(key: &str) -> bool
+    ensures { result ≡ is_of_second key.now }
+{
+    key == "r2" || key == "p2" || key == "e2" || key == "m2"
+}
+
+fn is_of_third(key: &str) -> bool
+    ensures { result ≡ is_of_third key.now }
+{
+    key == "r3" || key == "p3" || key == "e3" || key == "m3"
 }
 
 fn push_repeated_words(words: &mut String, key: &str) -> Result<(), NoMemory>

@@ -1,6 +1,6 @@
 -- What the words of a lint ask for, and why a lint stops.
 use Rattle.std.proofs.Common.{◌≡◌, ℕ, ◌<◌, ◌≤◌, List, [], Option, Some, None, Ok, inl, inr, ⊎_elim, length, refl, sym, ap, subst}
-use Rattle.std.specs.Prelude.{Err, IfSome, Result}
+use Rattle.std.specs.Prelude.{Err, IfErr, IfOk, IfSome, Result}
 use Rattle.std.proofs.lemmas.Option.{option_and_then_some}
 use Rattle.command_words.specs.Commands.{command_of}
 use Rattle.command_words.specs.declared.command.Command.{Command}
@@ -24,10 +24,11 @@ use Rattle.run_status.specs.declared.status.Status.{Status}
 use Rattle.run_status.specs.declared.stop.Stop.{Stop}
 use Rattle.run_status.specs.declared.stop.Stop.TheVariants.{NoModel, NoRelation, CannotRead, TooLong, NoMemory}
 use Rattle.lint_run.specs.Ends.{LintStops}
-use Rattle.lint_run.specs.Helps.{FetchStops, FilesStop, IsPolicyLinted, PolicyFileStops, ShapesStop}
+use Rattle.lint_run.specs.Helps.{AreLinted, FetchStops, FilesStop, IsPolicyLinted, IsPolicyTold, PolicyFileStops, ShapesStop}
 use Rattle.lint_run.specs.Linting.{FileIs, Lints, absent_in, lint_asked, lint_of, lint_text, policy_end, shapes_with}
 use Rattle.lint_run.specs.Linting.Lints.{both, model_alone}
 use Rattle.lint_run.specs.declared.job.LintJob.{LintJob}
+use Rattle.lint_run.specs.declared.linting.Linted.{Linted}
 
 -- a limit is one to 250
 abbrev LintHas : Option LintJob → Type 0
@@ -114,6 +115,18 @@ linted_both files mid job model first found others status same is linted ends =
     let later = subst (λ (f : Option Files). IsPolicyLinted f job model first others) same linted in
     both model first found others is later.fits later.finds refl ends
 
+-- the same of what is kept of both, and of the model alone
+pub both_linted : (files mid : Option Files) (job : LintJob) (model : ModelParts) (found : List Finding) (result : Result Linted Stop) → mid ≡ files → FileIs files job.files.model Model (λ bytes. LintsModel bytes (Ok model) found)
+    → IfOk result (λ linted. linted.model.items ≡ found) → IfOk result (IsPolicyTold mid job model) → IfOk result (AreLinted files job)
+both_linted files mid job model found (Err stop) same is kept told = tt
+both_linted files mid job model found (Ok linted) same is kept (first, finds, ends) =
+    subst (λ (l : List Finding). Lints files job (lint_text job l linted.policy.items) linted.status) (sym kept) (linted_both files mid job model first found linted.policy.items linted.status same is finds ends)
+
+pub alone_linted : (files : Option Files) (job : LintJob) (first : ModelFault) (found : List Finding) (linted : Linted) → FileIs files job.files.model Model (λ bytes. LintsModel bytes (Err first) found) → linted.model.items ≡ found → linted.policy.items ≡ []
+    → linted.status ≡ status_of (NoModel first) → AreLinted files job linted
+alone_linted files job first found linted is kept none ends =
+    subst (λ (l : List Finding). Lints files job (lint_text job l linted.policy.items) linted.status) (sym kept) (linted_alone files job first found linted.policy.items linted.status is none ends)
+
 -- a file that holds the findings of a model holds the model
 pub model_held : (files : Option Files) (name : List ℕ) (model : ModelParts) (found : List Finding) → FileIs files name Model (λ bytes. LintsModel bytes (Ok model) found) → FileIs files name Model (λ bytes. IsModel bytes model)
 model_held files name model found (bytes, holds, within, is) = (bytes, holds, within, is.0)
@@ -131,6 +144,11 @@ policy_unlinted files mid job model before faults now stop same earlier is stops
     by (TooLong _) stops = absurd stops
     by NoMemory stops = tt
     by _ stops = absurd stops
+
+pub both_unlinted : (files mid : Option Files) (job : LintJob) (model : ModelParts) (before faults now : ℕ) (result : Result Linted Stop) → mid ≡ files → before ≤ faults → FileIs files job.files.model Model (λ bytes. IsModel bytes model)
+    → IfErr result (PolicyFileStops mid job model (Rose faults now)) → IfErr result (FilesStop files job (Rose before now))
+both_unlinted files mid job model before faults now (Err stop) same earlier is stops = policy_unlinted files mid job model before faults now stop same earlier is stops
+both_unlinted files mid job model before faults now (Ok linted) same earlier is stops = tt
 
 -- files that were not linted end a lint
 pub files_end : (words : List (List ℕ)) (files : Option Files) (job : LintJob) (shelf out : Type 0) (before now : Option (List ℕ)) (stop : Stop) → lint_asked words ≡ Some job → now ≡ before → FilesStop files job shelf stop

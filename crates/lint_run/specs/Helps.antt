@@ -15,7 +15,7 @@ use Rattle.run_status.specs.declared.part.Part.TheVariants.{Model, Policy}
 use Rattle.run_status.specs.declared.status.Status.{Status}
 use Rattle.run_status.specs.declared.stop.Stop.{Stop}
 use Rattle.run_status.specs.declared.stop.Stop.TheVariants.{NoRelation, CannotRead, TooLong, NoMemory}
-use Rattle.lint_run.specs.Linting.{FileIs, Lints, absent_in, lint_asked, lint_text, shapes_with}
+use Rattle.lint_run.specs.Linting.{FileIs, Lints, absent_in, lint_asked, lint_text, policy_end, shapes_with}
 use Rattle.lint_run.specs.declared.job.LintJob.{LintJob}
 use Rattle.lint_run.specs.declared.linting.Linted.{Linted}
 
@@ -47,6 +47,10 @@ AreLinted files job linted = Lints files job (lint_text job linted.model.items l
 pub record IsPolicyLinted (files : Option Files) (job : LintJob) (model : ModelParts) (first : Option PolicyFault) (found : List Finding) : Type 0 where
   pub fits : absent_in job.options model ≡ None
   pub finds : FileIs files job.files.policy Policy (λ bytes. LintsPolicy model (shapes_with job.options model) bytes first found)
+
+-- so are those that are kept, and the status is by the first fault
+abbrev pub IsPolicyTold : Option Files → LintJob → ModelParts → Linted → Type 0
+IsPolicyTold files job model linted = (first : Option PolicyFault) × IsPolicyLinted files job model first linted.policy.items × (linted.status ≡ policy_end first)
 
 -- the policy's file was not linted
 abbrev pub PolicyFileStops : Option Files → LintJob → ModelParts → (shelf : Type 0) → Stop → Type 0

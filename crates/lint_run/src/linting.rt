@@ -1,18 +1,19 @@
-ghost use Rattle.std.specs.Prelude.{◌≡◌, ◌+◌, ◌<◌, ◌≤◌, IfErr, IfOk, string_bytes};
+ghost use Rattle.std.specs.Prelude.{◌≡◌, ◌+◌, ◌<◌, ◌≤◌, [], IfErr, IfOk, string_bytes};
 ghost use Rattle.command_words.specs.Items.{texts};
 ghost use Rattle.file_lint.specs.Findings.{count_of};
 ghost use Rattle.outside.specs.Faults.{Rose};
+ghost use Rattle.run_status.specs.Statuses.{status_of};
+ghost use Rattle.run_status.specs.declared.stop.Stop.TheVariants.{NoModel};
 ghost use Rattle.lint_run.specs.Ends.{LintEnds, LintStops};
 ghost use Rattle.lint_run.specs.Linting.{ask_for_lint, lint_text, policy_end};
-ghost use Rattle.lint_run.specs.Helps.{AreLinted, FilesStop, HasLinted, IsPolicyLinted, PolicyFileStops};
+ghost use Rattle.lint_run.specs.Helps.{AreLinted, FilesStop, HasLinted, IsPolicyLinted, IsPolicyTold, PolicyFileStops};
 
 use crate::files::{fetch, policy_shapes};
 use crate::job::{LintJob, read_lint};
 use file_lint::{
-    Finding, Level, ModelLint, PolicyLint, count_of, lint_model, lint_policy, push_counts,
-    push_findings,
+    Finding, Level, PolicyLint, count_of, lint_model, lint_policy, push_counts, push_findings,
 };
-use model_conf::Model;
+use model_conf::{Model, ModelFault};
 use outside::{NoMemory, Shelf, Sink, push_all};
 use policy_csv::PolicyFault;
 use run_status::{Part, Status, Stop, tell_stop};
@@ -90,22 +91,47 @@ fn lint_files<F: Shelf>(alloc: Global, shelf: &mut F, job: &LintJob<'_>) -> Resu
     ensures same_files { F.files shelf.new ≡ F.files shelf.old }
 {
     let bytes = fetch(alloc, shelf, job.files.model, Part::Model)?;
-    let ModelLint { findings, read } = lint_model(alloc, &bytes)?;
-    match read {
-        Ok(model) => {
-            let policy = lint_policy_file(alloc, shelf, job, &model)?;
-            Ok(Linted {
-                model: findings,
-                status: policy_end(policy.fault),
-                policy: policy.findings,
-            })
-        }
-        Err(first) => Ok(Linted {
-            model: findings,
-            policy: Vec::new(alloc),
-            status: Stop::NoModel(first).status(),
-        }),
+    let lint = lint_model(alloc, &bytes)?;
+    match lint.read {
+        Ok(model) => lint_both(alloc, shelf, job, lint.findings, &model),
+        Err(first) => Ok(model_alone(alloc, lint.findings, first)),
     }
+}
+
+// The findings of a model that is at fault.
+fn model_alone(alloc: Global, found: Vec<Finding>, first: ModelFault) -> Linted
+    ensures kept { result.model.items ≡ found.items }
+    ensures none { result.policy.items ≡ [] }
+    ensures ends { result.status ≡ status_of (NoModel first) }
+{
+    Linted {
+        model: found,
+        policy: Vec::new(alloc),
+        status: Stop::NoModel(first).status(),
+    }
+}
+
+// The findings of a model, and of its policy.
+fn lint_both<F: Shelf>(
+    alloc: Global,
+    shelf: &mut F,
+    job: &LintJob<'_>,
+    found: Vec<Finding>,
+    model: &Model,
+) -> Result<Linted, Stop>
+    requires { (0 < job.now.options.limit) × (job.now.options.limit ≤ 250) }
+    ensures kept { IfOk result (λ linted. linted.model.items ≡ found.items) }
+    ensures told { IfOk result (IsPolicyTold (F.files shelf.old) job.now model.now) }
+    ensures stopped { IfErr result (PolicyFileStops (F.files shelf.old) job.now model.now
+        (Rose (F.faults shelf.old) (F.faults shelf.new))) }
+    ensures same_files { F.files shelf.new ≡ F.files shelf.old }
+{
+    let policy = lint_policy_file(alloc, shelf, job, model)?;
+    Ok(Linted {
+        model: found,
+        status: policy_end(policy.fault),
+        policy: policy.findings,
+    })
 }
 
 // Fetches the policy and lints it, where the model has what the options name.

@@ -1,4 +1,4 @@
-use Rattle.std.proofs.Common.{◌≡◌, Err, Some, refl, subst, rules}
+use Rattle.std.proofs.Common.{◌≡◌, Err, Some, refl, sym, subst, rules}
 use Rattle.std.proofs.lemmas.Result.{err_from_is_err_and}
 use Rattle.command_words.specs.Items.{texts}
 use Rattle.outside.specs.Faults.{Rose}
@@ -6,6 +6,9 @@ use Rattle.outside.specs.Told.{TookFront}
 use Rattle.lint_run.specs.Linting.{lint_asked, lint_text}
 use Rattle.lint_run.proofs.LintLemmas.{files_end}
 use Rattle.lint_run.proofs.linting.lint.Goals as goal
+
+pub returns-in_default-clause-stopped : goal.returns-in_default-clause-stopped
+returns-in_default-clause-stopped g c = (sym c.in_default.ensures.asked, refl)
 
 pub returns-in_err-linted-clause-stopped : goal.returns-in_err-linted-clause-stopped
 returns-in_err-linted-clause-stopped g c =

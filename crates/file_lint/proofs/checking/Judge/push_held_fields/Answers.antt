@@ -11,4 +11,4 @@ returns-in-G c =
 
 pub returns-in-P : goal.returns-in-P
 returns-in-P c =
-    looked_told c.args.self.now.model.now (row_line c.args.row.now) c.args.entry.now.rule c.args.entry.now.table _ c.args.found.now.items c.push_looked.new.found.items c.push_looked.result c.in-P.is c.requires c.push_looked.ensures
+    looked_told c.args.self.now.model.now (row_line c.args.row.now) c.args.entry.now.rule c.args.entry.now.table c.args.self.now.looked.now c.args.found.now.items c.push_looked.new.found.items c.push_looked.result c.in-P.is c.requires c.push_looked.ensures
