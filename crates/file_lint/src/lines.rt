@@ -136,7 +136,7 @@ fn goes_on(line: &str, continued: bool) -> bool
 
 /// The byte that has so many before it in a line with those that continue it.
 pub(crate) fn place_in(number: u64, first: &str, behind: &str, before: usize) -> Place
-    requires number { number + length behind.now < 2 ^ 64 }
+    requires numbers { number + length behind.now < 2 ^ 64 }
     requires few { before + 1 < 2 ^ 64 }
     ensures { result ≡ place_in (line number first.now)
         (numbered (number + 1) (text_lines behind.now)) before }

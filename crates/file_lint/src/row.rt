@@ -5,7 +5,7 @@ ghost use Rattle.file_lint.specs.RowWarnings.{effect_warnings, field_of, is_effe
 
 use crate::columns::field_column;
 use crate::finding::{Finding, Level};
-use crate::numbers::integer_of;
+use crate::numbers::rank;
 use crate::others::push_order;
 use crate::texts::{push, push_quoted, quoted_and};
 use effect_fold::Effect;
@@ -156,13 +156,15 @@ fn push_rank(
     ensures { OnOk result (found.new.items
         ≡ found.old.items ++ rank_warnings (row_line row.now) rule.now ranked) }
 {
-    let text = field(rule, 0);
-    if !ranked || integer_of(text).is_some() {
+    if !ranked {
         return Ok(());
     }
+    let None = rank(rule) else {
+        return Ok(());
+    };
     let words = quoted_and(
         alloc,
-        text,
+        field(rule, 0),
         " is no number: the rule ranks behind every number",
     )?;
     found.push(warning_in(row, 1, words))?;

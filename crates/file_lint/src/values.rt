@@ -33,8 +33,8 @@ fn value_offset(line: &str) -> usize
 // The byte of a value that has so many bytes of the value before it. The value stands behind so many bytes of a line, or behind
 // blanks of the lines that continue it.
 fn value_in(offset: usize, number: u64, first: &str, behind: &str, before: u32) -> Place
-    requires offset { offset ≤ length first.now + 1 }
-    requires number { number + length behind.now < 2 ^ 64 }
+    requires front { offset ≤ length first.now + 1 }
+    requires numbers { number + length behind.now < 2 ^ 64 }
     ensures { result ≡ value_in offset (line number first.now)
         (numbered (number + 1) (text_lines behind.now)) before }
 {
@@ -65,8 +65,8 @@ fn is_blank_front(text: &str, skipped: usize) -> bool
 
 // The byte that has so many bytes before it behind the blanks at a place of a line.
 fn behind_front(skipped: usize, number: u64, text: &str, rest: &str, before: u32) -> Place
-    requires skipped { skipped ≤ length text.now + 1 }
-    requires number { number + length rest.now < 2 ^ 64 }
+    requires front { skipped ≤ length text.now + 1 }
+    requires numbers { number + length rest.now < 2 ^ 64 }
     ensures { result ≡ place_in (line number text.now)
         (numbered (number + 1) (text_lines rest.now)) (behind_blanks_at skipped text.now + before) }
 {
