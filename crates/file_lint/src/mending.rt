@@ -1,12 +1,14 @@
-ghost use Rattle.std.specs.Prelude.{◌≡◌, ◌-◌, ◌≤◌, ◌++◌, IfOk, OnOk, false, length, option_map, string_bytes};
-ghost use Rattle.std.specs.List.{prefix_len};
+ghost use Rattle.std.specs.Prelude.{◌≡◌, ◌-◌, ◌≤◌, ◌++◌, [], IfOk, OnOk, codes, false, length, option_map, string_bytes, true};
+ghost use Rattle.std.specs.List.{after_first, prefix_len};
 ghost use Rattle.text_parts.specs.Names.{is_word};
 ghost use Rattle.text_parts.specs.Numbered.{line};
 ghost use Rattle.model_conf.specs.Faults.{key_text};
-ghost use Rattle.file_lint.specs.Mended.{if_short, is_emptied, is_guess, key_number, matcher_at, mended, piece, piece_within, reach_behind, relation_key, usual_lines, usual_value, with_column, with_declared, with_key, with_line, with_more, with_relation, with_section, with_value, without_line, without_mark, word_front};
+ghost use Rattle.model_conf.specs.declared.key.Key.TheVariants as keys;
+ghost use Rattle.file_lint.specs.Mended.{if_short, is_emptied, is_guess, key_number, matcher_at, mended, piece, piece_within, reach_behind, relation_key, usual_lines, usual_value, with_column, with_declared, with_key, with_left, with_line, with_more, with_relation, with_section, with_value, without_line, without_mark, word_front};
 ghost use Rattle.file_lint.specs.ModelNames.{header_in, lower_of};
 ghost use Rattle.file_lint.specs.Near.{near_name, section_names};
-ghost use Rattle.file_lint.specs.Places.{file_lines, is_open, key_in, line_at};
+ghost use Rattle.file_lint.specs.Places.{file_lines, from_key, is_equals, is_open, key_in, line_at};
+ghost use Rattle.file_lint.specs.declared.mending.Extent.TheVariants as extents;
 ghost use Rattle.file_lint.specs.declared.mending.Reach.TheVariants as reaches;
 ghost use Rattle.file_lint.specs.Helps.Steps.{mended_seen};
 
@@ -57,60 +59,39 @@ pub(crate) fn mend(alloc: Global, text: &str, fault: ModelFault) -> Result<Optio
     match fault {
         ModelFault::TooLong | ModelFault::NotUtf8 | ModelFault::Matcher(_) | ModelFault::NoMemory =>
             Ok(None),
-        ModelFault::Line { line } => without_line(alloc, text, u64::from(line)),
-        ModelFault::UnknownSection { line } => with_section(alloc, text, u64::from(line)),
-        ModelFault::UnknownKey { line } => with_key(alloc, text, u64::from(line)),
-        ModelFault::RepeatedKey { line } => {
-            with_short_line(alloc, text, Extent::Continued, u64::from(line), "")
-        }
+        ModelFault::Line { line } => without_line(alloc, text, line),
+        ModelFault::UnknownSection { line } => with_section(alloc, text, line),
+        ModelFault::UnknownKey { line } => with_key(alloc, text, line),
+        ModelFault::RepeatedKey { line } => without_key(alloc, text, line),
         ModelFault::Missing { key } => with_missing(alloc, text, key),
-        ModelFault::Columns { key } => {
-            with_value(alloc, text, key_text(key), usual_value(key), true)
-        }
-        ModelFault::RoleShape { relation } => {
-            with_value(alloc, text, relation_key(relation), "_, _", true)
-        }
-        ModelFault::UnknownEffect => with_value(alloc, text, "e", usual_value(Key::E), false),
-        ModelFault::UnknownColumn { at } => with_declared(alloc, text, matcher_at(text, at)),
-        ModelFault::RoleUse { at } => with_relation(alloc, text, word_front(matcher_at(text, at))),
+        ModelFault::Columns { key } => with_columns(alloc, text, key),
+        ModelFault::RoleShape { relation } => with_shape(alloc, text, relation),
+        ModelFault::UnknownEffect => with_effect(alloc, text),
+        ModelFault::UnknownColumn { at } => with_column_at(alloc, text, at),
+        ModelFault::RoleUse { at } => with_relation_at(alloc, text, at),
     }
 }
 
 // A text that is not longer than a model may be.
-fn if_short(guessed: bool, text: String) -> Result<Option<Mended>, NoMemory>
-    ensures { IfOk result (λ made.
-        option_map mended_seen made ≡ if_short guessed (string_bytes text)) }
+fn if_short(guessed: bool, text: String) -> Option<Mended>
+    ensures { option_map mended_seen result ≡ if_short guessed (string_bytes text) }
 {
-    if text.len() > MOST_BYTES {
-        return Ok(None);
+    let shown = text.as_str();
+    if shown.len() > MOST_BYTES {
+        return None;
     }
-    Ok(Some(Mended { text, guessed }))
-}
-
-// A text with a line replaced, unless it gets too long.
-fn with_short_line(
-    alloc: Global,
-    text: &str,
-    extent: Extent,
-    at: u64,
-    by: &str,
-) -> Result<Option<Mended>, NoMemory>
-    ensures { IfOk result (λ made. option_map mended_seen made
-        ≡ if_short false (with_line extent at by.now text.now)) }
-{
-    let made = with_line(alloc, text, extent, at, by)?;
-    if_short(false, made)
+    Some(Mended { text, guessed })
 }
 
 // A text without the byte-order mark of a line, or without the line where it has none.
-fn without_line(alloc: Global, text: &str, number: u64) -> Result<Option<Mended>, NoMemory>
+fn without_line(alloc: Global, text: &str, at: u32) -> Result<Option<Mended>, NoMemory>
     ensures { IfOk result (λ made. option_map mended_seen made ≡ if_short false
-        (without_line number (line_at number (file_lines text.now)) text.now)) }
+        (without_line at (line_at at (file_lines text.now)) text.now)) }
 {
-    let Some(left) = without_mark(line_at(text, number)) else {
-        return with_short_line(alloc, text, Extent::Continued, number, "");
-    };
-    with_short_line(alloc, text, Extent::Alone, number, left)
+    let number = u64::from(at);
+    let left = without_mark(line_at(text, number));
+    let made = with_left(alloc, text, number, left)?;
+    Ok(if_short(false, made))
 }
 
 // A line without its byte-order mark, where it has one.
@@ -123,30 +104,113 @@ fn without_mark(line: &str) -> Option<&str>
     Some(&line[3..])
 }
 
-// A text with the section that a line nearly names, or without the lines of the section.
-fn with_section(alloc: Global, text: &str, number: u64) -> Result<Option<Mended>, NoMemory>
-    ensures { IfOk result (λ made. option_map mended_seen made ≡ if_short false (with_section number
-        (near_name (header_in (line_at number (file_lines text.now))) section_names) text.now)) }
+// A text with a line replaced by what is left of it, or without the line.
+fn with_left(
+    alloc: Global,
+    text: &str,
+    number: u64,
+    left: Option<&str>,
+) -> Result<String, NoMemory>
+    ensures { IfOk result (λ made. string_bytes made
+        ≡ with_left number text.now (option_map (λ rest. rest.now) left.entry)) }
 {
-    let Some(name) = near_section(header_in(line_at(text, number))) else {
-        return with_short_line(alloc, text, Extent::Section, number, "");
-    };
+    match left {
+        None => with_line(alloc, text, Extent::Continued, number, ""),
+        Some(left) => with_line(alloc, text, Extent::Alone, number, left),
+    }
+}
+
+// A text with the section that a line nearly names, or without the lines of the section.
+fn with_section(alloc: Global, text: &str, at: u32) -> Result<Option<Mended>, NoMemory>
+    ensures { IfOk result (λ made. option_map mended_seen made ≡ if_short false (with_section at
+        (near_name (header_in (line_at at (file_lines text.now))) section_names) text.now)) }
+{
+    let number = u64::from(at);
+    let name = near_section(header_in(line_at(text, number)));
+    let made = with_named(alloc, text, number, name)?;
+    Ok(if_short(false, made))
+}
+
+// A text with the header of a section in place of a line, or without the lines of the section.
+fn with_named(
+    alloc: Global,
+    text: &str,
+    number: u64,
+    name: Option<&str>,
+) -> Result<String, NoMemory>
+    ensures { IfOk result (λ made. string_bytes made
+        ≡ with_section number (option_map (λ named. named.now) name.entry) text.now) }
+{
+    match name {
+        None => with_line(alloc, text, Extent::Section, number, ""),
+        Some(name) => with_header(alloc, text, number, name),
+    }
+}
+
+// A text with the header of a section in place of a line.
+fn with_header(alloc: Global, text: &str, number: u64, name: &str) -> Result<String, NoMemory>
+    ensures { IfOk result (λ made. string_bytes made
+        ≡ with_line extents.Alone number (codes "[" ++ name.now ++ codes "]") text.now) }
+{
     let by = joined(alloc, "[", name, "]")?;
-    with_short_line(alloc, text, Extent::Alone, number, by.as_str())
+    let made = with_line(alloc, text, Extent::Alone, number, by.as_str())?;
+    Ok(made)
 }
 
 // A text with the key of a line in lower case, or without the line.
-fn with_key(alloc: Global, text: &str, number: u64) -> Result<Option<Mended>, NoMemory>
-    ensures { IfOk result (λ made. option_map mended_seen made ≡ if_short false (with_key number
-        (lower_of (key_in (line_at number (file_lines text.now))))
-        (line_at number (file_lines text.now)) text.now)) }
+fn with_key(alloc: Global, text: &str, at: u32) -> Result<Option<Mended>, NoMemory>
+    ensures { IfOk result (λ made. option_map mended_seen made ≡ if_short false (with_key at
+        (lower_of (key_in (line_at at (file_lines text.now))))
+        (line_at at (file_lines text.now)) text.now)) }
 {
-    let line = line_at(text, number);
-    let Some(key) = lower_of(key_in(line)) else {
-        return with_short_line(alloc, text, Extent::Continued, number, "");
-    };
+    let number = u64::from(at);
+    let whole = line_at(text, number);
+    let key = lower_of(key_in(whole));
+    let made = with_lower(alloc, text, number, key, whole)?;
+    Ok(if_short(false, made))
+}
+
+// A text with this key in place of that of a line, or without the line.
+fn with_lower(
+    alloc: Global,
+    text: &str,
+    number: u64,
+    key: Option<&str>,
+    line: &str,
+) -> Result<String, NoMemory>
+    ensures { IfOk result (λ made. string_bytes made
+        ≡ with_key number (option_map (λ lower. lower.now) key.entry) line.now text.now) }
+{
+    match key {
+        None => with_line(alloc, text, Extent::Continued, number, ""),
+        Some(key) => with_other_key(alloc, text, number, key, line),
+    }
+}
+
+// A text with this key in place of that of a line.
+fn with_other_key(
+    alloc: Global,
+    text: &str,
+    number: u64,
+    key: &str,
+    line: &str,
+) -> Result<String, NoMemory>
+    ensures { IfOk result (λ made. string_bytes made ≡ with_line extents.Alone number
+        (key.now ++ codes " =" ++ after_first is_equals line.now) text.now) }
+{
     let by = joined(alloc, key, " =", cut_at_equals(line).1)?;
-    with_short_line(alloc, text, Extent::Alone, number, by.as_str())
+    let made = with_line(alloc, text, Extent::Alone, number, by.as_str())?;
+    Ok(made)
+}
+
+// A text without the line of a key.
+fn without_key(alloc: Global, text: &str, at: u32) -> Result<Option<Mended>, NoMemory>
+    ensures { IfOk result (λ made. option_map mended_seen made
+        ≡ if_short false (with_line extents.Continued at [] text.now)) }
+{
+    let number = u64::from(at);
+    let made = with_line(alloc, text, Extent::Continued, number, "")?;
+    Ok(if_short(false, made))
 }
 
 // A text with a key that is missing, and its section.
@@ -155,7 +219,38 @@ fn with_missing(alloc: Global, text: &str, key: Key) -> Result<Option<Mended>, N
         ≡ if_short (is_guess key) (with_more (usual_lines key) text.now)) }
 {
     let made = with_more(alloc, text, usual_lines(key))?;
-    if_short(is_guess(key), made)
+    Ok(if_short(is_guess(key), made))
+}
+
+// A text with the usual columns of a key.
+fn with_columns(alloc: Global, text: &str, key: Key) -> Result<Option<Mended>, NoMemory>
+    ensures { IfOk result (λ made. option_map mended_seen made ≡ with_value (key_text key)
+        (usual_value key) true (key_number (key_text key) text.now) text.now) }
+{
+    let name = key_text(key);
+    let value = usual_value(key);
+    let made = with_value(alloc, text, name, value, true)?;
+    Ok(made)
+}
+
+// A text with the shape of a relation without domains.
+fn with_shape(alloc: Global, text: &str, relation: u8) -> Result<Option<Mended>, NoMemory>
+    ensures { IfOk result (λ made. option_map mended_seen made ≡ with_value (relation_key relation)
+        (codes "_, _") true (key_number (relation_key relation) text.now) text.now) }
+{
+    let name = relation_key(relation);
+    let made = with_value(alloc, text, name, "_, _", true)?;
+    Ok(made)
+}
+
+// A text with the usual effect.
+fn with_effect(alloc: Global, text: &str) -> Result<Option<Mended>, NoMemory>
+    ensures { IfOk result (λ made. option_map mended_seen made ≡ with_value (codes "e")
+        (usual_value keys.E) false (key_number (codes "e") text.now) text.now) }
+{
+    let value = usual_value(Key::E);
+    let made = with_value(alloc, text, "e", value, false)?;
+    Ok(made)
 }
 
 // A text with another value of a key.
@@ -174,7 +269,27 @@ fn with_value(
     };
     let by = joined(alloc, key, " = ", value)?;
     let made = with_line(alloc, text, Extent::Continued, number, by.as_str())?;
-    if_short(guessed, made)
+    Ok(if_short(guessed, made))
+}
+
+// A text in which the column that stands at a byte of the matcher, counted from 1, is declared.
+fn with_column_at(alloc: Global, text: &str, at: u32) -> Result<Option<Mended>, NoMemory>
+    ensures { IfOk result (λ made. option_map mended_seen made
+        ≡ with_declared (matcher_at (at - 1) text.now) text.now) }
+{
+    let name = matcher_at(text, at);
+    let made = with_declared(alloc, text, name)?;
+    Ok(made)
+}
+
+// A text in which the relation that is asked at a byte of the matcher, counted from 1, is declared.
+fn with_relation_at(alloc: Global, text: &str, at: u32) -> Result<Option<Mended>, NoMemory>
+    ensures { IfOk result (λ made. let name = word_front (matcher_at (at - 1) text.now) in
+        option_map mended_seen made ≡ with_relation name (key_number name text.now) text.now) }
+{
+    let name = word_front(matcher_at(text, at));
+    let made = with_relation(alloc, text, name)?;
+    Ok(made)
 }
 
 // A text in which the column of `r.column` or `p.column` at the front of a text is declared.
@@ -184,7 +299,10 @@ fn with_declared(alloc: Global, text: &str, name: &[u8]) -> Result<Option<Mended
     let Some((key, rest)) = key_and_rest(name) else {
         return Ok(None);
     };
-    with_column_of(alloc, text, key_text(key), word_front(rest))
+    let column = word_front(rest);
+    let named = key_text(key);
+    let made = with_column_of(alloc, text, named, column)?;
+    Ok(made)
 }
 
 // A text in which a column stands in front of those of a key.
@@ -202,7 +320,8 @@ fn with_column_of(
     };
     let front = joined(alloc, key, " = ", column)?;
     let by = joined(alloc, front.as_str(), ",", cut_at_equals(line).1)?;
-    with_short_line(alloc, text, Extent::Alone, number, by.as_str())
+    let made = with_line(alloc, text, Extent::Alone, number, by.as_str())?;
+    Ok(if_short(false, made))
 }
 
 // A text in which a relation of a name is declared, where none is.
@@ -215,7 +334,7 @@ fn with_relation(alloc: Global, text: &str, name: &str) -> Result<Option<Mended>
     };
     let more = joined(alloc, "[role_definition]\n", name, " = _, _\n")?;
     let made = with_more(alloc, text, more.as_str())?;
-    if_short(true, made)
+    Ok(if_short(true, made))
 }
 
 // What stands at a byte of the matcher, counted from 1, and behind it in its line.
