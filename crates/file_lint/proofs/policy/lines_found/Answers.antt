@@ -10,7 +10,7 @@ use Rattle.file_lint.proofs.policy.lines_found.Goals as goal
 
 pub loop-at-init : goal.loop-at-init
 loop-at-init c = record {
-  goes = lines_begin c.args.model.now c.args.shapes.now c.args.first c.no_tables-seen.result.policy (full_lines 1 c.args.text.now) c.new-findings.result.items c.no_tables-seen.ensures.policy (search rules);
+  goes = lines_begin c.args.model.now c.args.shapes.now c.args.first c.no_tables-seen.result.policy (full_lines 1 c.args.text.now) c.new-findings.result.items c.no_tables-seen.ensures.policy c.new-findings.ensures.items;
   few = λ table. let none = ap (λ (l : List Fields). length l) (c.no_tables-seen.ensures.rows table) in omega (arith, none);
   within = omega arith;
   utf8 = search rules;
