@@ -20,7 +20,7 @@ pub push_findings-requires-clause-looked : goal.push_findings-requires-clause-lo
 push_findings-requires-clause-looked c = c.as_slice-looked.ensures.value ∙ c.in_ok-columns.ensures
 
 pub push_findings-requires-clause-few : goal.push_findings-requires-clause-few
-push_findings-requires-clause-few c = λ table. omega (arith, c.loop-at.invariant.few table, c.loop-at.invariant.within, c.in-Some.ensures.within, c.requires.short)
+push_findings-requires-clause-few c = λ table. omega (arith, c.loop-at.invariant.few table, c.in-Some.ensures.shorter, c.requires.short)
 
 pub loop-at-preserved : goal.loop-at-preserved
 loop-at-preserved c =
@@ -28,7 +28,7 @@ loop-at-preserved c =
     record {
       goes = line_goes c.args.model.now c.args.shapes.now c.args.first c.loop-at.seen.policy c.push_findings.new.seen.policy next (full_lines (c.in-Some.at + 1) c.in-Some.after.now) (full_lines c.loop-at.number c.loop-at.rest.now) c.loop-at.findings.items c.push_findings.new.findings.items
           (LintsLines c.args.model.now c.args.shapes.now c.args.first (without_rules false) (policy_lines c.args.text.now)) c.in-Some.ensures.first c.in_ok-push_findings.ensures c.loop-at.invariant.goes;
-      few = λ table. omega (arith, few_after c.args.model.now c.args.shapes.now c.args.first next c.loop-at.seen.policy c.push_findings.new.seen.policy c.loop-at.findings.items c.push_findings.new.findings.items c.requires.valid.roles c.in_ok-push_findings.ensures table, c.loop-at.invariant.few table, c.in-Some.ensures.within);
+      few = λ table. omega (arith, few_after c.args.model.now c.args.shapes.now c.args.first next c.loop-at.seen.policy c.push_findings.new.seen.policy c.loop-at.findings.items c.push_findings.new.findings.items c.requires.valid.roles c.in_ok-push_findings.ensures table, c.loop-at.invariant.few table, c.in-Some.ensures.shorter);
       within = omega (arith, c.in-Some.ensures.within, c.loop-at.invariant.within);
       utf8 = search rules;
     }
