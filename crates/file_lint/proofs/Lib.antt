@@ -10,4 +10,5 @@ pub mod RowLemmas
 pub mod LineLemmas
 pub mod OtherLemmas
 pub mod KeptLemmas
+pub mod ToldLemmas
 pub mod WarningLemmas

@@ -87,8 +87,11 @@ order_warnings effect before line rule (Some at) =
     if is_by_priority effect && is_behind_other before rule at then warning_in line (at + 1) (codes "a rule above differs in its effect alone: it decides first, and this one is never reached") ∷ [] else []
 
 -- a link from a name to itself
+abbrev pub link_words : List ℕ → List ℕ
+link_words name = codes "a link from " ++ quoted name ++ codes " to itself"
+
 abbrev pub link_warnings : Line → Fields → List Finding
-link_warnings line rule = if bytes_eq (field_of rule 0) (field_of rule 1) then warning_in line 2 (codes "a link from " ++ quoted (field_of rule 0) ++ codes " to itself") ∷ [] else []
+link_warnings line rule = if bytes_eq (field_of rule 0) (field_of rule 1) then warning_in line 2 (link_words (field_of rule 0)) ∷ [] else []
 
 -- what the fields of a rule of p surprise by
 abbrev pub policy_warnings : Shapes → Line → Fields → List Finding

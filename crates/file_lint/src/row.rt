@@ -1,7 +1,8 @@
 ghost use Rattle.std.specs.Prelude.{◌≡◌, ◌++◌, IfOk, OnOk, string_bytes};
+ghost use Rattle.std.specs.Str.{bytes_eq};
 ghost use Rattle.model_conf.specs.ModelText.{ModelParts};
 ghost use Rattle.file_lint.specs.Helps.Rows.{row_line};
-ghost use Rattle.file_lint.specs.RowWarnings.{effect_warnings, field_of, is_effect, link_warnings, order_warnings, own_warnings, policy_warnings, rank_warnings, repeat_warnings, subject_warnings, warning_in};
+ghost use Rattle.file_lint.specs.RowWarnings.{effect_warnings, field_of, is_effect, link_warnings, link_words, order_warnings, own_warnings, policy_warnings, rank_warnings, repeat_warnings, subject_warnings, warning_in};
 
 use crate::columns::field_column;
 use crate::finding::{Finding, Level};
@@ -87,7 +88,8 @@ fn push_rule_warnings(
         ++ order_warnings effect seen.now.policy (row_line row.now) rule.now shapes.now.effect_column)) }
 {
     push_policy_warnings(alloc, shapes, row, rule, found)?;
-    push_order(alloc, effect, seen, row, rule, shapes.effect_column, found)
+    push_order(alloc, effect, seen, row, rule, shapes.effect_column, found)?;
+    Ok(())
 }
 
 // Pushes what the fields of a rule of p surprise by.
@@ -104,7 +106,8 @@ fn push_policy_warnings(
     push_effect(alloc, row, rule, shapes.effect_column, found)?;
     push_rank(alloc, row, rule, shapes.ranked, found)?;
     let relation = shapes.roles.find(1);
-    push_subject(alloc, row, rule, shapes.subject_column, relation, found)
+    push_subject(alloc, row, rule, shapes.subject_column, relation, found)?;
+    Ok(())
 }
 
 /// The field of a rule at a place; empty where it has none there.
@@ -207,12 +210,27 @@ fn push_link(
     ensures { OnOk result (found.new.items ≡ found.old.items ++ link_warnings (row_line row.now) rule.now) }
 {
     let name = field(rule, 0);
-    if name != field(rule, 1) {
+    let role = field(rule, 1);
+    if !is_same(name, role) {
         return Ok(());
     }
+    let words = link_words(alloc, name)?;
+    found.push(warning_in(row, 2, words))?;
+    Ok(())
+}
+
+fn is_same(name: &str, role: &str) -> bool
+    ensures { result ≡ bytes_eq name.now role.now }
+{
+    name == role
+}
+
+// The words of a link from a name to itself.
+fn link_words(alloc: Global, name: &str) -> Result<String, NoMemory>
+    ensures { IfOk result (λ words. string_bytes words ≡ link_words name.now) }
+{
     let mut words = String::from_str(alloc, "a link from ")?;
     push_quoted(&mut words, name)?;
     push(&mut words, " to itself")?;
-    found.push(warning_in(row, 2, words))?;
-    Ok(())
+    Ok(words)
 }

@@ -1,4 +1,4 @@
-use Rattle.std.proofs.Common.{◌≡◌, ◌≤◌, Err, None, length, rules}
+use Rattle.std.proofs.Common.{◌≡◌, ◌≤◌, Err, None, length, arith, rules}
 use Rattle.outside.specs.Faults.{Rose}
 use Rattle.outside.specs.Files.{Holds}
 use Rattle.run_status.specs.Parts.{limit_of}
@@ -6,6 +6,9 @@ use Rattle.run_status.specs.declared.part.Part.TheVariants.{Policy}
 use Rattle.lint_run.specs.Linting.{absent_in}
 use Rattle.lint_run.proofs.LintLemmas.{options_unfit, policy_told, policy_unfetched}
 use Rattle.lint_run.proofs.linting.lint_policy_file.Goals as goal
+
+pub lint_policy-requires-clause-short : goal.lint_policy-requires-clause-short
+lint_policy-requires-clause-short g c = let within : length c.deref.result.now ≤ limit_of Policy = search rules in omega (arith, within)
 
 pub returns-in_err-shapes-clause-stopped : goal.returns-in_err-shapes-clause-stopped
 returns-in_err-shapes-clause-stopped g c =
