@@ -70,8 +70,8 @@ fn behind_front(skipped: usize, number: u64, text: &str, rest: &str, before: u32
     ensures { result ≡ place_in (line number text.now)
         (numbered (number + 1) (text_lines rest.now)) (behind_blanks_at skipped text.now + before) }
 {
-    let offset = behind_blanks_at(text, skipped) + before as usize;
-    place_in(number, text, rest, offset)
+    let front = behind_blanks_at(text, skipped);
+    place_in(number, text, rest, front + before as usize)
 }
 
 /// The first byte of a line that is no blank.

@@ -12,9 +12,9 @@ loop-byte-init c = record {
 
 pub loop-byte-preserved : goal.loop-byte-preserved
 loop-byte-preserved c = record {
-  counted = rw (c.ended.ensures.value, c.ends_field.ensures, c.behind_byte-within.ensures)
+  counted = rw (c.ended-count.ensures.value, c.ends_field.ensures, c.behind_byte-within.ensures)
       (count_step c.loop-byte.rest.now c.in-Some.behind.now c.in-Some.byte.now c.loop-byte.count c.loop-byte.within (1 + field_count Front c.args.line.now) c.in-Some.ensures.cases.0 c.loop-byte.invariant.counted);
-  few = omega (arith, c.ended.ensures.few, c.in-Some.ensures.cases.1, c.loop-byte.invariant.few);
+  few = omega (arith, c.ended-count.ensures.few, c.in-Some.ensures.cases.1, c.loop-byte.invariant.few);
 }
 
 pub returns : goal.returns
