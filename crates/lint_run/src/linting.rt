@@ -11,7 +11,8 @@ ghost use Rattle.lint_run.specs.Helps.{AreLinted, FilesStop, HasLinted, IsPolicy
 use crate::files::{fetch, policy_shapes};
 use crate::job::{LintJob, read_lint};
 use file_lint::{
-    Finding, Level, PolicyLint, count_of, lint_model, lint_policy, push_counts, push_findings,
+    Finding, Level, ModelLint, PolicyLint, count_of, lint_model, lint_policy, push_counts,
+    push_findings,
 };
 use model_conf::{Model, ModelFault};
 use outside::{NoMemory, Shelf, Sink, push_all};
@@ -92,9 +93,10 @@ fn lint_files<F: Shelf>(alloc: Global, shelf: &mut F, job: &LintJob<'_>) -> Resu
 {
     let bytes = fetch(alloc, shelf, job.files.model, Part::Model)?;
     let lint = lint_model(alloc, &bytes)?;
-    match lint.read {
-        Ok(model) => lint_both(alloc, shelf, job, lint.findings, &model),
-        Err(first) => Ok(model_alone(alloc, lint.findings, first)),
+    let ModelLint { read, findings } = lint;
+    match read {
+        Ok(model) => lint_both(alloc, shelf, job, findings, &model),
+        Err(first) => Ok(model_alone(alloc, findings, first)),
     }
 }
 
