@@ -29,7 +29,7 @@ pub whole_front : (sign : ℕ) (text : List ℕ) → IsSplitOnceResult sign text
 whole_front sign text is ascii = let end = split_once_first sign text None is ascii in sym (take_all (position_or_len (λ byte. byte == sign) text) text (omega (arith, end)))
 
 pub none_back : (sign : ℕ) (text : List ℕ) → IsSplitOnceResult sign text None → sign < 128 → [] ≡ after_first (λ byte. byte == sign) text
-none_back sign text is ascii = let end = split_once_first sign text None is ascii in sym (drop_all (position_or_len (λ byte. byte == sign) text) text (omega (arith, end)))
+none_back sign text is ascii = let end = split_once_first sign text None is ascii in sym (drop_all (position_or_len (λ byte. byte == sign) text + 1) text (omega (arith, end)))
 
 -- a line that is cut behind its end, and within it
 pub front_past : (bytes whole : List ℕ) (before column : ℕ) → bytes ≡ whole → before ≡ column → length bytes ≤ before → bytes ≡ take column whole
@@ -53,6 +53,7 @@ word_utf8 text =
 
 -- behind the mark the text may be cut
 pub mark_boundary : (text : List ℕ) → IsUtf8 text → begins_so order_mark text ≡ true → IsCharBoundary text 3
+unfolding lib.Utf8.encode
 mark_boundary text utf8 begins =
     let cut : text ≡ order_mark ++ drop 3 text = (starts_is Decides-eqb text order_mark true (sym begins)).0 refl in
     IsCharBoundary-past_char text (drop 3 text) 0 65279 (omega arith) utf8 cut

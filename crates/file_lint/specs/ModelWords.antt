@@ -137,10 +137,17 @@ matcher_words (matcher.TooDeep at) before rest = codes "more than 64 levels encl
 matcher_words matcher.TooManyNodes before rest = codes "the matcher has more than 1024 parts"
 matcher_words matcher.NoMemory before rest = []
 
+-- a column behind its key, by what stands behind its `.`
+abbrev pub column_text : Key → List ℕ → List ℕ
+column_text key rest = key_text key ++ codes "." ++ word_front rest
+
+abbrev pub undeclared_words : Key → List ℕ → List ℕ
+undeclared_words key rest = codes "\"" ++ column_text key rest ++ codes "\" is not declared in [" ++ section_of key ++ codes "]"
+
 -- a column that is not declared, by the key before it and what stands behind its `.`; `eval` names its column itself
 abbrev pub column_words : Option (Key × List ℕ) → List ℕ
 column_words None = codes "the column that eval reads is not declared in [policy_definition]"
-column_words (Some cut) = codes "\"" ++ key_text cut.0 ++ codes "." ++ word_front cut.1 ++ codes "\" is not declared in [" ++ section_of cut.0 ++ codes "]"
+column_words (Some cut) = undeclared_words cut.0 cut.1
 
 -- a role relation that is not declared, or asked with another number of names, by the lines from its key on
 abbrev pub role_words : List ℕ → List Line → List ℕ

@@ -1,7 +1,7 @@
 ghost use Rattle.std.specs.Prelude.{◌≡◌, ◌-◌, ◌++◌, IfOk, OnOk, codes, false, string_bytes};
 ghost use Rattle.matcher_read.specs.Calls.{function_of};
 ghost use Rattle.file_lint.specs.ModelNames.{key_and_rest, lower_of};
-ghost use Rattle.file_lint.specs.ModelWords.{arguments_words, case_words, column_words, columns_words, effect_words, error_at, error_of, fault_words, function_words, is_of_second, is_of_third, is_second, line_words, matcher_place, matcher_words, missing_words, place_of, repeated_words, role_words, section_words, shape_words};
+ghost use Rattle.file_lint.specs.ModelWords.{arguments_words, case_words, column_text, column_words, columns_words, effect_words, error_at, error_of, fault_words, function_words, is_of_second, is_of_third, is_second, line_words, matcher_place, matcher_words, missing_words, place_of, repeated_words, role_words, section_words, shape_words, undeclared_words};
 ghost use Rattle.file_lint.specs.Places.{file_lines, from_key, front_at, line_at, place_of_value, rest_at};
 
 use crate::finding::{Finding, Level};
@@ -292,13 +292,29 @@ fn push_column_words(words: &mut String, rest: &[u8]) -> Result<(), NoMemory>
             "the column that eval reads is not declared in [policy_definition]",
         );
     };
+    push_undeclared(words, key, name)
+}
+
+// Appends the words of a column that is not declared, by its key and what stands behind the `.`.
+fn push_undeclared(words: &mut String, key: Key, name: &[u8]) -> Result<(), NoMemory>
+    ensures { OnOk result (string_bytes words.new
+        ≡ string_bytes words.old ++ undeclared_words key name.now) }
+{
     push(words, "\"")?;
-    push(words, key_text(key))?;
-    push(words, ".")?;
-    push(words, word_front(name))?;
+    push_column(words, key, name)?;
     push(words, "\" is not declared in [")?;
     push(words, section_of(key))?;
     push(words, "]")
+}
+
+// Appends a column behind its key.
+fn push_column(words: &mut String, key: Key, name: &[u8]) -> Result<(), NoMemory>
+    ensures { OnOk result (string_bytes words.new
+        ≡ string_bytes words.old ++ column_text key name.now) }
+{
+    push(words, key_text(key))?;
+    push(words, ".")?;
+    push(words, word_front(name))
 }
 
 // Appends the words of another number of arguments than a function, `eval` or a role relation takes.

@@ -1,5 +1,5 @@
 ghost use Rattle.std.specs.Prelude.{◌≡◌, ◌≤◌, ◌++◌, OnOk, length, string_bytes};
-ghost use Rattle.file_lint.specs.Findings.{count_line, count_of, finding_line, finding_lines, is_error, is_same, level_text};
+ghost use Rattle.file_lint.specs.Findings.{count_line, count_of, finding_line, finding_lines, is_error, is_same, level_text, place_text, told_text};
 
 use crate::finding::{Finding, Level};
 use crate::texts::push_number;
@@ -49,11 +49,28 @@ fn push_finding(text: &mut String, file: &str, found: &Finding) -> Result<(), No
     ensures { OnOk result (string_bytes text.new
         ≡ string_bytes text.old ++ finding_line file.now found.now) }
 {
+    push_place(text, file, found)?;
+    push_told(text, found)?;
+    Ok(())
+}
+
+// Appends the file of a finding, and its place.
+fn push_place(text: &mut String, file: &str, found: &Finding) -> Result<(), NoMemory>
+    ensures { OnOk result (string_bytes text.new
+        ≡ string_bytes text.old ++ place_text file.now found.now) }
+{
     text.push_str(file)?;
     text.push_str(":")?;
     push_number(text, found.line)?;
     text.push_str(":")?;
     push_number(text, found.column)?;
+    Ok(())
+}
+
+// Appends the level of a finding, and its words.
+fn push_told(text: &mut String, found: &Finding) -> Result<(), NoMemory>
+    ensures { OnOk result (string_bytes text.new ≡ string_bytes text.old ++ told_text found.now) }
+{
     text.push_str(": ")?;
     text.push_str(level_text(found.level))?;
     text.push_str(": ")?;

@@ -24,6 +24,7 @@ loop-next-preserved c =
       within = omega (arith, c.in-Some.ensures.shorter, c.loop-next.invariant.within);
       few = omega (arith, c.behind_line-left.ensures, c.loop-next.invariant.few);
       utf8 = search rules;
+      text_utf8 = search rules;
     }
 
 pub returns : goal.returns

@@ -26,6 +26,7 @@ loop-next-preserved c =
       within = omega (arith, c.in-Some.ensures.shorter, c.loop-next.invariant.within);
       skipped = omega arith;
       utf8 = search rules;
+      text_utf8 = search rules;
     }
 
 pub returns : goal.returns

@@ -10,6 +10,7 @@ invariant-loop-next l = record {
   within : l.at + length l.rest ≤ l.number + length l.behind;
   skipped : l.skipped ≤ length l.text + 1;
   utf8 : IsUtf8 l.rest;
+  text_utf8 : IsUtf8 l.text;
 }
 
 abbrev pub decreases-loop-next : goal.decreases-loop-next
