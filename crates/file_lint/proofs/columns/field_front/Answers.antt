@@ -6,8 +6,8 @@ use Rattle.file_lint.proofs.columns.field_front.Goals as goal
 
 pub loop-left-init : goal.loop-left-init
 loop-left-init c = record {
-  front = ap (field_front c.args.before Front) c.as_bytes-rest.ensures.value;
-  all = ap (λ text. length text) c.as_bytes-rest.ensures.value;
+  front = omega (arith, ap (field_front c.args.before Front) c.as_bytes-rest.ensures.value);
+  all = omega (arith, ap (λ text. length text) c.as_bytes-rest.ensures.value);
 }
 
 pub loop-left-preserved : goal.loop-left-preserved
