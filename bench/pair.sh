@@ -99,7 +99,7 @@ compare("1000 rules looked at", "paths", [f"user, /data{RULES - 1}/7, {'write' i
 PYTHON
 }
 
-[ "$part" = entries ] || requests "${2:-400000}"
+[ "$part" = entries ] || requests "${2:-120000}"
 [ "$part" != requests ] || exit 0
 
 make_program pair_costs edit_calls live_pair perm_base policy_desk policy_state policy_table

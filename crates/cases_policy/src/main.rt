@@ -18,12 +18,12 @@ fn main(rt: HostRuntime) -> Result<()> {
     })
 }
 
-// A case has questions of one role relation below `roles`, a script below `script`, and edits as text below each `edit`. The
-// shapes of its tables stand behind the other keys.
+// A case has questions of one role relation below `roles`, a script below `script`, and edits as text below each `edit` and
+// `cut`. The shapes of its tables stand behind the other keys.
 fn answer(alloc: Global, case: &Case, out: &mut impl Write) -> Result<()> {
     case.check_keys(
         &["tables", "names", "domains", "limit", "ranked"],
-        &["roles", "script", "edit"],
+        &["roles", "script", "edit", "cut"],
     )?;
     writeln!(out, "case {}", case.name)?;
     roles::answer(alloc, case, out)?;

@@ -4,7 +4,7 @@ use crate::shapes::desk_of;
 use answer_lines::{Answer, Line, print_line};
 use anyhow::{Context, Result, bail, ensure};
 use case_list::Case;
-use edit_calls::Call;
+use edit_calls::{Call, CallRefused};
 use perm_base::Text;
 use policy_desk::Desk;
 use policy_state::{PolicyState, QueryRefused};
@@ -48,10 +48,7 @@ fn line_of(alloc: Global, desk: &mut Desk, number: u32, item: Item) -> Result<Te
 fn answer_item(alloc: Global, desk: &mut Desk, item: Item) -> Result<Answer> {
     match item {
         Item::Edit(call) => Ok(answer_call(alloc, desk, &call)),
-        Item::Publish => {
-            let version = desk.publish(alloc).ok().context("memory ran out")?;
-            Ok(Answer::Published(version))
-        }
+        Item::Publish => Ok(Answer::Published(publish(alloc, desk)?)),
         Item::Sync => Ok(Answer::Synced(desk.state().version())),
         Item::Keep(count) => {
             desk.keep(count);
@@ -65,10 +62,26 @@ fn answer_item(alloc: Global, desk: &mut Desk, item: Item) -> Result<Answer> {
     }
 }
 
+// Publishes; where memory is refused, once more.
+fn publish(alloc: Global, desk: &mut Desk) -> Result<u32> {
+    if let Ok(version) = desk.publish(alloc) {
+        return Ok(version);
+    }
+    desk.publish(alloc).ok().context("memory ran out")
+}
+
 fn answer_call(alloc: Global, desk: &mut Desk, call: &Call) -> Answer {
-    match desk.call(alloc, call) {
+    match call_again(alloc, desk, call) {
         Ok(changed) => Answer::Truth(changed),
         Err(refused) => Answer::Call(refused),
+    }
+}
+
+// Makes a call; where memory is refused, once more.
+fn call_again(alloc: Global, desk: &mut Desk, call: &Call) -> Result<bool, CallRefused> {
+    match desk.call(alloc, call) {
+        Err(CallRefused::NoMemory) => desk.call(alloc, call),
+        answered => answered,
     }
 }
 

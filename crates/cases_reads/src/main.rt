@@ -1,8 +1,10 @@
 //! Reads the texts of the cases on standard input, and prints each as it was read, or its fault.
 #![tactic(auto)]
 
+mod fronts;
 mod matchers;
 mod models;
+mod plain;
 mod policies;
 mod read;
 mod requests;

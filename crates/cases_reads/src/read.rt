@@ -1,3 +1,4 @@
+use crate::fronts::fronts;
 use crate::matchers::{matcher, nodes, rule_text};
 use crate::models::{model, parts};
 use crate::policies::{policy, rules};
@@ -26,6 +27,7 @@ pub(crate) fn push_read(
         "shapes" => shapes(alloc, answer, &field.text, field.rest.as_str()),
         "script" => script(alloc, answer, field),
         "requests" => requests(alloc, answer, field),
+        "fronts" => fronts(alloc, answer, &model_of(alloc, case)?, field),
         "different" => different(alloc, answer, field),
         "texts" => texts(answer, field.bytes()),
         "rule" => rule(alloc, answer, field.bytes()),

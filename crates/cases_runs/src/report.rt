@@ -1,3 +1,4 @@
+use crate::pieces::Pieces;
 use crate::sure::run_sure;
 use crate::truth::truth;
 use anyhow::{Context, Result, ensure};
@@ -12,14 +13,16 @@ use std::io::Write;
 use std::sync::Wait;
 use std::thread::Threads;
 
-// The fields of a case. Those that end in `-fails` have the numbers of the calls that fail, counted from 1.
-const KEYS: [&str; 12] = [
+// The fields of a case. Those that end in `-fails` have the numbers of the calls that fail, counted from 1, and those that end in
+// `-most` how many bytes a call takes at most.
+const KEYS: [&str; 13] = [
     "words",
     "sure",
     "rule",
     "request",
     "shelf-fails",
     "input-fails",
+    "input-most",
     "out-fails",
     "out-most",
     "err-fails",
@@ -128,7 +131,7 @@ fn run_over<R: Threads + Wait + Sync>(
     alloc: Global,
     words: &[String],
     shelf: &mut ListShelf,
-    input: &mut ListSource,
+    input: &mut Pieces,
     out: &mut ListSink,
     err: &mut ListSink,
     finders: &mut Vec<ListFinder>,
@@ -142,9 +145,16 @@ fn run_over<R: Threads + Wait + Sync>(
 }
 
 // The input of a case.
-fn input(alloc: Global, case: &Case) -> Result<ListSource> {
+fn input(alloc: Global, case: &Case) -> Result<Pieces> {
+    let most = most(alloc, case, "input-most")?;
     let fails = case.numbers(alloc, "input-fails")?;
-    Ok(ListSource::new(case.text(alloc, "input")?, fails))
+    let source = ListSource::new(case.text(alloc, "input")?, fails);
+    Ok(Pieces::new(source, most as usize))
+}
+
+// How many bytes a call takes at most.
+fn most(alloc: Global, case: &Case, key: &str) -> Result<u32> {
+    Ok(case.numbers(alloc, key)?.first().copied().unwrap_or(ROOM))
 }
 
 // Puts the files of a case on a shelf.
@@ -171,8 +181,8 @@ pub(crate) fn file_of(alloc: Global, field: &Field, matcher: &[u8]) -> Result<(T
 }
 
 // A sink that takes at most so many bytes at a call, where the case says how many.
-fn sink(alloc: Global, case: &Case, most: &str, fails: &str) -> Result<ListSink> {
-    let most = case.numbers(alloc, most)?.first().copied().unwrap_or(ROOM);
+fn sink(alloc: Global, case: &Case, taken: &str, fails: &str) -> Result<ListSink> {
+    let most = most(alloc, case, taken)?;
     ensure!(most > 0, "a sink takes a byte at least");
     let fails = case.numbers(alloc, fails)?;
     let sink = ListSink::new(alloc, ROOM, most, fails);

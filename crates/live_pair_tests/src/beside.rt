@@ -6,6 +6,7 @@ use crate::trial::{Trial, tried};
 use edit_calls::Call;
 use live_pair::{Admin, Front, Naming, PairPlaces, Seat};
 use perm_base::{NoMemory, TableId};
+use policy_desk::Desk;
 use std::alloc::Global;
 use std::process::Abort;
 use std::sync::{Mutex, Wait};
@@ -93,8 +94,23 @@ pub(crate) fn publishes_again<J: Naming + Send + Sync, R: Threads + Wait + Abort
     }
     assert!(rt; failed <= 1);
     assert_eq!(rt; admin.desk().state().tables().len(TableId::P), 12);
+    let standing = standing(alloc, admin.desk(), 12)?;
+    assert_eq!(rt; standing, 12);
     assert_eq!(rt; seat.refused(), 0);
     Ok(())
+}
+
+// How many of so many numbered rules are published.
+fn standing(alloc: Global, desk: &Desk, count: u64) -> Result<u32, NoMemory> {
+    let tables = desk.state().tables();
+    let mut standing = 0u32;
+    for number in 0..count {
+        let rule = numbered(alloc, number)?;
+        if tables.has(TableId::P, &rule) {
+            standing = standing.saturating_add(1);
+        }
+    }
+    Ok(standing)
 }
 
 // Tries to add the rule with this number and to publish it, each at most three times, and says how often that failed.
