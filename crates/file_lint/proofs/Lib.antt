@@ -11,4 +11,5 @@ pub mod LineLemmas
 pub mod OtherLemmas
 pub mod KeptLemmas
 pub mod ToldLemmas
+pub mod PushLemmas
 pub mod WarningLemmas

@@ -1,7 +1,7 @@
-ghost use Rattle.std.specs.Prelude.{◌≡◌, ◌-◌, ◌++◌, IfOk, OnOk, codes, false, string_bytes};
+ghost use Rattle.std.specs.Prelude.{◌≡◌, ◌-◌, ◌++◌, IfOk, OnOk, codes, false, option_map, string_bytes};
 ghost use Rattle.matcher_read.specs.Calls.{function_of};
 ghost use Rattle.file_lint.specs.ModelNames.{key_and_rest, lower_of};
-ghost use Rattle.file_lint.specs.ModelWords.{arguments_words, case_words, column_text, column_words, columns_words, effect_words, error_at, error_of, fault_words, function_words, is_of_second, is_of_third, is_second, line_words, matcher_place, matcher_words, missing_words, place_of, repeated_words, role_words, section_words, shape_words, undeclared_words};
+ghost use Rattle.file_lint.specs.ModelWords.{arguments_words, case_words, column_text, column_words, columns_words, effect_words, error_at, error_of, fault_words, function_words, is_of_second, is_of_third, is_second, line_words, matcher_place, matcher_words, missing_words, or_near, place_of, repeated_words, role_words, section_words, shape_words, undeclared_words};
 ghost use Rattle.file_lint.specs.Places.{file_lines, from_key, front_at, line_at, place_of_value, rest_at};
 
 use crate::finding::{Finding, Level};
@@ -140,14 +140,26 @@ fn push_section_words(words: &mut String, name: &str) -> Result<(), NoMemory>
 {
     push(words, "unknown section ")?;
     push_quoted(words, name)?;
-    let Some(near) = near_section(name) else {
-        return push(
-            words,
-            ": the sections are request_definition, policy_definition, role_definition, policy_effect, matchers",
-        );
+    push_near(
+        words,
+        ": the sections are request_definition, policy_definition, role_definition, policy_effect, matchers",
+        near_section(name),
+    )?;
+    Ok(())
+}
+
+// Appends the name that was nearly written, or all that may stand there.
+fn push_near(words: &mut String, all: &str, near: Option<&str>) -> Result<(), NoMemory>
+    ensures { OnOk result (string_bytes words.new ≡ string_bytes words.old
+        ++ or_near all.now (option_map (λ name. name.now) near)) }
+{
+    let Some(name) = near else {
+        push(words, all)?;
+        return Ok(());
     };
     push(words, ": did you mean ")?;
-    push(words, near)
+    push(words, name)?;
+    Ok(())
 }
 
 fn push_case_words(words: &mut String, key: &str) -> Result<(), NoMemory>
@@ -158,15 +170,18 @@ fn push_case_words(words: &mut String, key: &str) -> Result<(), NoMemory>
     push_quoted(words, key)?;
     if let Some(lower) = lower_of(key) {
         push(words, ": keys are in lower case, write ")?;
-        return push(words, lower);
+        push(words, lower)?;
+        return Ok(());
     }
     if is_second(key) {
-        return push(words, ": a model has one r, one p, one e and one m");
+        push(words, ": a model has one r, one p, one e and one m")?;
+        return Ok(());
     }
     push(
         words,
         ": r stands in [request_definition], p in [policy_definition], g to g8 in [role_definition], e in [policy_effect], m in [matchers]",
-    )
+    )?;
+    Ok(())
 }
 
 fn is_second(key: &str) -> bool
@@ -217,7 +232,8 @@ fn push_columns_words(words: &mut String, key: Key) -> Result<(), NoMemory>
     push(
         words,
         " are 1 to 32 different names of letters, digits and `_`, joined by commas",
-    )
+    )?;
+    Ok(())
 }
 
 fn push_shape_words(words: &mut String, relation: u8) -> Result<(), NoMemory>
@@ -272,14 +288,12 @@ fn push_function_words(words: &mut String, name: &str) -> Result<(), NoMemory>
 {
     push(words, "unknown function ")?;
     push_quoted(words, name)?;
-    let Some(near) = near_function(name) else {
-        return push(
-            words,
-            ": the functions are keyMatch to keyMatch5, regexMatch, ipMatch, globMatch, keyGet to keyGet3",
-        );
-    };
-    push(words, ": did you mean ")?;
-    push(words, near)
+    push_near(
+        words,
+        ": the functions are keyMatch to keyMatch5, regexMatch, ipMatch, globMatch, keyGet to keyGet3",
+        near_function(name),
+    )?;
+    Ok(())
 }
 
 fn push_column_words(words: &mut String, rest: &[u8]) -> Result<(), NoMemory>
@@ -304,7 +318,8 @@ fn push_undeclared(words: &mut String, key: Key, name: &[u8]) -> Result<(), NoMe
     push_column(words, key, name)?;
     push(words, "\" is not declared in [")?;
     push(words, section_of(key))?;
-    push(words, "]")
+    push(words, "]")?;
+    Ok(())
 }
 
 // Appends a column behind its key.

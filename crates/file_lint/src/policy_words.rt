@@ -3,6 +3,7 @@ ghost use Rattle.std.specs.Option.{option_map_or};
 ghost use Rattle.perm_base.specs.Fields.{joined};
 ghost use Rattle.perm_base.specs.RoleShapes.{shape_of};
 ghost use Rattle.text_parts.specs.Numbered.{line};
+ghost use Rattle.file_lint.specs.Texts.{quoted};
 ghost use Rattle.file_lint.specs.PolicyWords.{count_words, fault_column, name_in, policy_error, policy_words, role_names, table_words, tables_text, wanted_text};
 
 use crate::columns::{field_column, field_count};
@@ -92,10 +93,19 @@ fn push_table_words(words: &mut String, model: &Model, line: &str) -> Result<(),
     if begins_so(front, b"//") {
         return push(words, "a comment begins with `#`");
     }
+    push_unknown_table(words, model, name_in(line))
+}
+
+// Appends the words of a name that is no table's.
+fn push_unknown_table(words: &mut String, model: &Model, name: &str) -> Result<(), NoMemory>
+    ensures { OnOk result (string_bytes words.new ≡ string_bytes words.old
+        ++ (codes "unknown table " ++ quoted name.now ++ codes ": the model has " ++ tables_text model.now)) }
+{
     push(words, "unknown table ")?;
-    push_quoted(words, name_in(line))?;
+    push_quoted(words, name)?;
     push(words, ": the model has ")?;
-    push_tables(words, model)
+    push_tables(words, model)?;
+    Ok(())
 }
 
 // What stands in front of the first comma.
@@ -124,8 +134,9 @@ fn push_count_words(words: &mut String, model: &Model, line: &str) -> Result<(),
         ≡ string_bytes words.old ++ count_words model.now line.now) }
 {
     push_number(words, field_count(line).saturating_sub(1))?;
-    words.push_str(" fields, ")?;
-    push_wanted(words, model, TableId::named(name_in(line)))
+    push(words, " fields, ")?;
+    push_wanted(words, model, TableId::named(name_in(line)))?;
+    Ok(())
 }
 
 // Appends the columns of a table.
@@ -178,8 +189,8 @@ fn push_columns(words: &mut String, columns: &Rule) -> Result<(), NoMemory>
         ++ (decimal (length columns.now) ++ codes " wanted (" ++ joined columns.now ++ codes ")")) }
 {
     push_number(words, u64::from(columns.len()))?;
-    words.push_str(" wanted (")?;
+    push(words, " wanted (")?;
     push_texts(words, columns)?;
-    words.push_str(")")?;
+    push(words, ")")?;
     Ok(())
 }
