@@ -28,6 +28,7 @@ answers_of() {
 compared=0
 for file in examples/*/*; do
   [ "${file##*/}" = README.md ] && continue
+  case "$file" in *.py | *__pycache__) continue ;; esac
   folder="${file%/*}"
   if [ "${file##*/}" = answers.txt ]; then
     copy="$(answers_of "$folder"; echo .)"

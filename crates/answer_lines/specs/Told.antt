@@ -6,17 +6,10 @@ use Rattle.edit_calls.specs.declared.refused.CallRefused.{CallRefused}
 use Rattle.edit_calls.specs.declared.refused.CallRefused.TheVariants as call
 use Rattle.effect_fold.specs.declared.verdict.Verdict.{Verdict}
 use Rattle.effect_fold.specs.declared.verdict.Verdict.TheVariants.{Allow, Deny, Fault}
-use Rattle.perm_base.specs.TableNames.{name_of}
-use Rattle.perm_base.specs.declared.shapes.TableId.{TableId}
-use Rattle.perm_value.specs.declared.request.RequestFault.{RequestFault}
-use Rattle.perm_value.specs.declared.request.RequestFault.TheVariants as request
 use Rattle.policy_query.specs.declared.refused.QueryRefused.{QueryRefused}
 use Rattle.policy_query.specs.declared.refused.QueryRefused.TheVariants as query
 use Rattle.policy_table.specs.Tables.{Fields}
-
--- a table has a name
-abbrev pub has_name : TableId → Bool
-has_name table = is_some (name_of table)
+pub use Rattle.script_read.specs.Named.{has_name, is_request_told}
 
 -- where there is a row, there is its rule
 abbrev pub row_has_rule : Option ℕ → Option Fields → Bool
@@ -28,11 +21,6 @@ abbrev pub comes_with_rule : Verdict → Option Fields → Bool
 comes_with_rule (Allow row) rule = row_has_rule row rule
 comes_with_rule (Deny row) rule = row_has_rule row rule
 comes_with_rule (Fault row failed) rule = true
-
--- why a line is no request is told, but for want of memory
-abbrev pub is_request_told : RequestFault → Bool
-is_request_told request.NoMemory = false
-is_request_told _ = true
 
 -- why a call is refused
 abbrev pub is_call_told : CallRefused → Bool

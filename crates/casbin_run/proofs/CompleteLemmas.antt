@@ -16,9 +16,8 @@ use Rattle.casbin_run.specs.Given.{Given, IsInOrder}
 use Rattle.casbin_run.specs.Reached.{Reached, at_words, at_model, at_options, at_policy, at_task}
 use Rattle.casbin_run.specs.Worlds.{InputRose, OutRose, ShelfRose, World}
 use Rattle.loaded_work.specs.Sinks.{Taken}
-use Rattle.casbin_run.specs.Finders.{Logs}
+use Rattle.casbin_run.specs.Finders.{FirstHasRefused, HaveRefusedUnreadable, Logs}
 use Rattle.casbin_run.specs.Jobs.{ask_for_workers}
-use Rattle.casbin_run.proofs.FinderLemmas.{none_refused}
 use Rattle.casbin_run.proofs.OneEnd.{has_none}
 
 -- what is given has one end
@@ -82,10 +81,12 @@ module _ (law : HasOneEnd) (g : Given) (files : IsSome g.files) (input : IsSome 
     complete statuses.Done ends order shelf source out = inl refl
     complete other ends order shelf source out = inr (complete_stopped other ends order shelf source out)
 
-    -- where the finders refused nothing, the text is the one that answers
-    pub text_is : (text : List ℕ) → Ends g before now err err_now statuses.Done → ask_for_workers g.words ≡ false → now.finders ≡ before.finders → IsCalmlyAnswered g text → now.out.bytes ≡ with_back before.out.bytes text
+    -- where the finders refused nothing but patterns that cannot be read, the text is the one that answers
+    pub text_is : (text : List ℕ) → Ends g before now err err_now statuses.Done → ask_for_workers g.words ≡ false → HaveRefusedUnreadable before.finders now.finders → IsCalmlyAnswered g text → now.out.bytes ≡ with_back before.out.bytes text
     text_is text ends alone still is =
         let done = ends.done in
         let answers = done.all.answers in
-        let calm : IsCalmlyAnswered g answers.text = record { refused = answers.refused; answered = answers.answered; none = none_refused before.finders now.finders (all_refused answers.refused) still (subst (λ (shared : Bool). Logs shared before.finders now.finders (all_refused answers.refused)) (has_none g.words answers.answered.in_order.job answers.answered.in_order.asked alone) answers.logged) } in
+        let order = answers.answered.in_order in
+        let first : FirstHasRefused before.finders now.finders (all_refused answers.refused) = subst (λ (shared : Bool). Logs shared before.finders now.finders (all_refused answers.refused)) (has_none g.words order.job order.asked alone) answers.logged in
+        let calm : IsCalmlyAnswered g answers.text = record { refused = answers.refused; answered = answers.answered; unread = still (all_refused answers.refused) first } in
         done.all.took ∙ ap (with_back before.out.bytes) (law.one_text g answers.text text files input alone calm is)

@@ -11,6 +11,7 @@ use Rattle.command_words.specs.declared.command.Command.TheVariants as command
 use Rattle.command_words.proofs.CallerLemmas.{HasRanges, command_of-ranges}
 use Rattle.regex_gate.specs.Refusals.{IsUsed, Refusals}
 use Rattle.demo_run.specs.Demo.{IsDemo}
+use Rattle.outside.proofs.CallerLemmas.{adds_none}
 use Rattle.outside.specs.Faults.{Rose}
 use Rattle.run_status.specs.Messages.{line_of}
 use Rattle.run_status.specs.Statuses.{status_of}
@@ -28,7 +29,15 @@ use Rattle.loaded_work.specs.Helps.Working.{Showed, TextStops}
 use Rattle.casbin_run.specs.Jobs.{ask_for_input, ask_for_workers, has_workers, job_of, reads_input}
 use Rattle.loaded_work.specs.Sinks.{Taken}
 use Rattle.casbin_run.specs.Worlds.{World}
+use Rattle.casbin_run.proofs.EndLemmas.{memory_end}
 use Rattle.casbin_run.specs.declared.job.Job.{Job}
+
+-- what was read of words, where they are a command and where they are none
+pub demo_read : (words : List (List ℕ)) (found : Option Command) (asked : Command) (result : Option (ℕ × ℕ)) → found ≡ command_of words → found ≡ Some asked → result ≡ demo_of asked → result ≡ demo_asked words
+demo_read words found asked result is some made = made ∙ ap (λ (o : Option Command). option_and_then demo_of o) (sym some ∙ is)
+
+pub no_demo_read : (words : List (List ℕ)) (found : Option Command) → found ≡ command_of words → found ≡ None → None ≡ demo_asked words
+no_demo_read words found is none = ap (λ (o : Option Command). option_and_then demo_of o) (sym none ∙ is)
 
 or_none : (test : Bool) → (test || false) ≡ test
 or_none true = refl
@@ -98,6 +107,14 @@ maps_alike {P = P} refusals befores nows same = dropped nows ∙ ap (map refusal
     dropped (x ∷ list) = refl
 
 -- ---- how it ends
+
+-- memory ran out at the words: nothing was asked of anything
+pub memory_ends : (g : Given) (before : World) (err err_now : Taken) (status : Status) → status ≡ status_of stops.NoMemory → IsTold err.bytes err_now.bytes err.faults err_now.faults (line_of stops.NoMemory) → EndsAs g before before err err_now status
+memory_ends g before err err_now status is told = subst (λ (s : Status). EndsAs g before before err err_now s) (sym is) (by (demo_asked g.words))
+  where
+    by : (demo : Option (ℕ × ℕ)) → MatchOption demo (Ends g before before err err_now statuses.NoMemory) (λ (d : ℕ × ℕ). (before.shelf ≡ before.shelf) × EndsDemo d.0 d.1 before before err err_now statuses.NoMemory)
+    by None = record { stop = stops.NoMemory; status_is = refl; cause = memory_end g before before refl (adds_none before.shelf.calls) refl; told = told }
+    by (Some demo) = (refl, (refl, told))
 
 -- words that ask for no demonstration, and those that ask for one
 module _ (g : Given) (before now : World) (err err_now : Taken) (status : Status) where

@@ -1,5 +1,5 @@
 -- How the stops of the parts of a run are stops of the run.
-use Rattle.std.proofs.Common.{◌≡◌, ℕ, ◌≤◌, Bool, true, false, List, [], ◌∷◌, inl, inr, ⊎_elim, refl, sym, ap, subst, arith}
+use Rattle.std.proofs.Common.{◌≡◌, ℕ, ◌≤◌, Bool, true, false, true≢false, List, [], ◌∷◌, inl, inr, ⊎_elim, refl, sym, ap, subst, ◌∙◌, arith}
 use Rattle.std.specs.Prelude.{◌⊎◌, Some, None, Result, Ok, Err, OnOk}
 use Rattle.outside.specs.Files.{Lacks}
 use Rattle.outside.specs.Log.{Adds, call}
@@ -16,7 +16,7 @@ use Rattle.run_status.specs.declared.stop.Stop.{Stop}
 use Rattle.run_status.specs.declared.stop.Stop.TheVariants.{Words, NoModel, NoRelation, NoPolicy, NoScript, NoPackets, CannotRead, CannotWrite, TooLong, NoMemory}
 use Rattle.casbin_run.specs.Answered.{Answers, TookAll, TookFirst, TookSome}
 use Rattle.casbin_run.specs.Causes.{EndsBy, FailsAt, StopsAt, is_of_shelf}
-use Rattle.casbin_run.specs.Ends.{Ends, IsDone}
+use Rattle.casbin_run.specs.Ends.{Ends, IsDone, has_read}
 use Rattle.casbin_run.specs.Finders.{AreUsed, Logs}
 use Rattle.casbin_run.specs.Given.{Given}
 use Rattle.casbin_run.specs.Helps.Loading.{IsLoaded, LoadStops}
@@ -30,6 +30,7 @@ use Rattle.loaded_work.specs.Sinks.{Taken}
 use Rattle.casbin_run.specs.Written.{HasRoom, IsTooLong, Tells, Writes}
 use Rattle.loaded_work.specs.declared.loaded.Loaded.{Loaded}
 use Rattle.casbin_run.specs.declared.job.Job.{Job}
+use Rattle.casbin_run.proofs.EarlyLemmas.{load_early}
 use Rattle.casbin_run.proofs.FinderLemmas.{finders_same}
 
 module _ (g : Given) (before now : World) where
@@ -45,6 +46,10 @@ module _ (g : Given) (before now : World) where
 
 pub words_end : (g : Given) (before now : World) → job_asked g.words ≡ None → Adds before.shelf.calls now.shelf.calls [] → now.input ≡ before.input → EndsBy g before now Words
 words_end g before now none told still = given_stops g before now Words at_words tt none (asked_early g before now at_words false told still)
+
+-- memory ran out at the words
+pub memory_end : (g : Given) (before now : World) → now.out.bytes ≡ before.out.bytes → Adds before.shelf.calls now.shelf.calls [] → now.input ≡ before.input → EndsBy g before now NoMemory
+memory_end g before now same told still = outside_stops g before now NoMemory at_words tt same (asked_early g before now at_words false told still)
 
 module _ (g : Given) (before now : World) (job : Job) (asked : job_asked g.words ≡ Some job) where
   module _ (same : now.out.bytes ≡ before.out.bytes) (still : now.input ≡ before.input) where
@@ -150,15 +155,15 @@ on_both A B (Ok u) one other = (one, other)
 on_both A B (Err e) one other = tt
 
 -- a stop before the task: the input was not read, nothing went to `out`, and no finder was asked
-pub nothing_done : (g : Given) (before now : World) (err : Taken) (stop : Stop) → EndsBy g before now stop → before.shelf.faults ≤ now.shelf.faults → now.input ≡ before.input → now.out ≡ before.out → now.finders ≡ before.finders → ComesTo g before now err err (Err stop)
-nothing_done g before now err stop ends counted same-input same-out same-finders = record {
+pub nothing_done : (g : Given) (before now : World) (err : Taken) (stop : Stop) → has_read (status_of stop) ≡ false → EndsBy g before now stop → before.shelf.faults ≤ now.shelf.faults → now.input ≡ before.input → now.out ≡ before.out → now.finders ≡ before.finders → ComesTo g before now err err (Err stop)
+nothing_done g before now err stop early ends counted same-input same-out same-finders = record {
   silent = refl;
   err_counted = omega arith;
   done = tt;
   stopped = ends;
   quiet = λ quiet. ap (λ (out : Taken). out.bytes) same-out;
-  read_to_end = tt;
-  ended = tt;
+  read_to_end = λ past asks. absurd (true≢false (sym past ∙ early));
+  ended = λ past asks. absurd (true≢false (sym past ∙ early));
   no_further = inl (ap (λ (input : Pulled). input.ends) same-input);
   unread = λ none. same-input;
   shelf_counted = counted;
@@ -166,3 +171,10 @@ nothing_done g before now err stop ends counted same-input same-out same-finders
   out_counted = omega (arith, ap (λ (out : Taken). out.faults) same-out);
   finders = subst (λ (finders : List Refusals). AreUsed (ask_for_workers g.words) before.finders finders) (sym same-finders) (finders_same (ask_for_workers g.words) before.finders);
 }
+
+-- one at a file
+pub load_done : (g : Given) (before now : World) (err : Taken) (job : Job) → job_asked g.words ≡ Some job → now.out ≡ before.out → now.input ≡ before.input → (stop : Stop)
+    → LoadStops g.files job (Adds before.shelf.calls now.shelf.calls) (ShelfRose before now) stop → before.shelf.faults ≤ now.shelf.faults → now.finders ≡ before.finders → ComesTo g before now err err (Err stop)
+load_done g before now err job asked same-out same-input stop stops counted same-finders =
+    nothing_done g before now err stop (load_early g.files job (Adds before.shelf.calls now.shelf.calls) (ShelfRose before now) stop stops) (load_ends g before now job asked (ap (λ (out : Taken). out.bytes) same-out) same-input stop stops)
+    counted same-input same-out same-finders

@@ -2,6 +2,7 @@
 use Rattle.std.proofs.Common.{◌≡◌, ℕ, ◌==◌, Bool, true, false, List, [], ◌∷◌, ◌++◌, Ok, length, inl, inr, ⊎_elim, refl, sym, ap, subst, ◌∙◌}
 use Rattle.std.specs.Prelude.{MatchBool, Option}
 use Rattle.std.specs.List.{Contains}
+use Rattle.refusal_meaning.specs.Unread.{AreUnreadable}
 use Rattle.answer_lines.specs.LineText.{line_text}
 use Rattle.answer_lines.specs.declared.answer.Line.{Line}
 use Rattle.model_conf.specs.ModelText.{ModelParts}
@@ -13,6 +14,7 @@ use Rattle.perm_base.specs.declared.shapes.Shapes.{Shapes}
 use Rattle.perm_base.specs.declared.shapes.TableId.TheVariants.{P}
 use Rattle.perm_value.specs.Datum.{Datum}
 use Rattle.policy_table.specs.Tables as table
+use Rattle.refusal_meaning.proofs.CallerLemmas.{unread_left, unread_right}
 use Rattle.regex_gate.specs.Refusals.{Refusals}
 use Rattle.run_status.specs.declared.stop.Stop.{Stop}
 use Rattle.run_status.specs.declared.stop.Stop.TheVariants.{CannotWrite, NoMemory}
@@ -76,61 +78,49 @@ explain_not_quiet IsSaid most model shapes policy before now out out_now out_ros
 -- what the laws of the crates below say
 pub record ExplainsOnce : Type 0 where
   pub parts : (model : ModelParts) (first second : List ModelParts) → AreParts model first → AreParts model second → first ≡ second
-  pub misses : (shapes : Shapes) (policy : table.Policy) (request : List Datum) (parts : List ModelParts) (most : ℕ) (first second : List NearMiss) → AreNearMisses shapes policy request (Contains []) parts most first → AreNearMisses shapes policy request (Contains []) parts most second → first ≡ second
+  pub misses : (shapes : Shapes) (policy : table.Policy) (request : List Datum) (parts : List ModelParts) (most : ℕ) (refused others : List (List ℕ)) (first second : List NearMiss) → AreUnreadable refused → AreUnreadable others
+      → AreNearMisses shapes policy request (Contains refused) parts most first → AreNearMisses shapes policy request (Contains others) parts most second → first ≡ second
   pub lines : (model : ModelParts) (shapes : Shapes) (opening : table.Policy) (items : List Said) (refused others : List (List (List ℕ))) (first second : List Line) → IsPlain model shapes opening items refused first → IsPlain model shapes opening items others second
-      → all_refused refused ≡ [] → all_refused others ≡ [] → first ≡ second
-
--- where nothing is in both, nothing is in either
-none_in : {X : Type 0} (xs ys : List X) → xs ++ ys ≡ [] → (xs ≡ []) × (ys ≡ [])
-none_in [] ys none = (refl, none)
-none_in (x ∷ xs) ys none = absurd cc
+      → AreUnreadable (all_refused refused) → AreUnreadable (all_refused others) → first ≡ second
 
 module _ (once : ExplainsOnce) (parts : List ModelParts) (most : ℕ) (model : ModelParts) (shapes : Shapes) (policy : table.Policy) where
-  below_once : (item : Said) (first second : List ℕ) → IsBelow parts most model shapes policy item [] first → IsBelow parts most model shapes policy item [] second → first ≡ second
-  below_once (asks (Ok values)) first second p q = by (length values == length model.request) p q
-    where
-      by : (fits : Bool) → MatchBool fits (TellsMisses parts most shapes policy values [] first) (first ≡ []) → MatchBool fits (TellsMisses parts most shapes policy values [] second) (second ≡ []) → first ≡ second
-      by true one other = one.told ∙ ap (λ (misses : List NearMiss). miss_lines parts (table.rows policy P) misses) (once.misses shapes policy values parts most one.misses other.misses one.are other.are) ∙ sym other.told
-      by false none nothing = none ∙ sym nothing
-  below_once _ first second p q = p ∙ sym q
+  module _ (few many : List (List ℕ)) (unread : AreUnreadable few) (no_other : AreUnreadable many) where
+    below_once : (item : Said) (first second : List ℕ) → IsBelow parts most model shapes policy item few first → IsBelow parts most model shapes policy item many second → first ≡ second
+    below_once (asks (Ok values)) first second p q = by (length values == length model.request) p q
+      where
+        by : (fits : Bool) → MatchBool fits (TellsMisses parts most shapes policy values few first) (first ≡ []) → MatchBool fits (TellsMisses parts most shapes policy values many second) (second ≡ []) → first ≡ second
+        by true one other = one.told ∙ ap (λ (misses : List NearMiss). miss_lines parts (table.rows policy P) misses) (once.misses shapes policy values parts most few many one.misses other.misses unread no_other one.are other.are) ∙ sym other.told
+        by false none nothing = none ∙ sym nothing
+    below_once _ first second p q = p ∙ sym q
 
-  piece_once : (item : Said) (line : Line) (first second : List ℕ) → IsPiece parts most model shapes policy item [] line first → IsPiece parts most model shapes policy item [] line second → first ≡ second
-  piece_once item line first second (below, is, piece) (other, as_well, same) = piece ∙ ap (λ (text : List ℕ). line_text line ++ text) (below_once item below other is as_well) ∙ sym same
+    piece_once : (item : Said) (line : Line) (first second : List ℕ) → IsPiece parts most model shapes policy item few line first → IsPiece parts most model shapes policy item many line second → first ≡ second
+    piece_once item line first second (below, is, piece) (other, as_well, same) = piece ∙ ap (λ (text : List ℕ). line_text line ++ text) (below_once item below other is as_well) ∙ sym same
 
-  -- pieces where nothing was refused
-  abbrev AreCalm : List Said → List Line → List (List ℕ) → Type 0
-  AreCalm [] [] [] = Unit {0}
-  AreCalm (item ∷ items) (line ∷ lines) (piece ∷ pieces) = IsPiece parts most model shapes policy item [] line piece × AreCalm items lines pieces
-  AreCalm _ _ _ = ⊥
-
-  are_calm : (items : List Said) (refused : List (List (List ℕ))) (lines : List Line) (pieces : List (List ℕ)) → ArePieces parts most model shapes policy items refused lines pieces → all_refused refused ≡ [] → AreCalm items lines pieces
-  are_calm [] [] [] [] are none = tt
-  are_calm (item ∷ items) (patterns ∷ refused) (line ∷ lines) (piece ∷ pieces) are none =
-      let both = none_in patterns (all_refused refused) none in
-      (subst (λ (l : List (List ℕ)). IsPiece parts most model shapes policy item l line piece) both.0 are.0, are_calm items refused lines pieces are.1 both.1)
-  are_calm _ _ _ _ are none = absurd are
-
-  calm_once : (items : List Said) (lines : List Line) (first second : List (List ℕ)) → AreCalm items lines first → AreCalm items lines second → first ≡ second
-  calm_once [] [] [] [] p q = refl
-  calm_once [] [] [] (y ∷ ys) p q = absurd q
-  calm_once [] [] (x ∷ xs) second p q = absurd p
-  calm_once [] (line ∷ lines) first second p q = absurd p
-  calm_once (item ∷ items) [] first second p q = absurd p
-  calm_once (item ∷ items) (line ∷ lines) [] second p q = absurd p
-  calm_once (item ∷ items) (line ∷ lines) (x ∷ xs) [] p q = absurd q
-  calm_once (item ∷ items) (line ∷ lines) (x ∷ xs) (y ∷ ys) p q =
-      let head : x ≡ y = piece_once item line x y p.0 q.0 in
-      let rest : xs ≡ ys = calm_once items lines xs ys p.1 q.1 in
+  pieces_once : (items : List Said) (refused others : List (List (List ℕ))) (lines : List Line) (first second : List (List ℕ)) → AreUnreadable (all_refused refused) → AreUnreadable (all_refused others)
+      → ArePieces parts most model shapes policy items refused lines first → ArePieces parts most model shapes policy items others lines second → first ≡ second
+  pieces_once [] [] [] [] [] [] unread no_other p q = refl
+  pieces_once (item ∷ items) (patterns ∷ refused) (more ∷ others) (line ∷ lines) (x ∷ xs) (y ∷ ys) unread no_other p q =
+      let head : x ≡ y = piece_once patterns more (unread_left patterns (all_refused refused) unread) (unread_left more (all_refused others) no_other) item line x y p.0 q.0 in
+      let rest : xs ≡ ys = pieces_once items refused others lines xs ys (unread_right patterns (all_refused refused) unread) (unread_right more (all_refused others) no_other) p.1 q.1 in
       λ j. head j ∷ rest j
+  pieces_once [] [] [] [] [] (y ∷ ys) unread no_other p q = absurd q
+  pieces_once [] [] (more ∷ others) [] [] second unread no_other p q = absurd q
+  pieces_once [] [] others [] (x ∷ xs) second unread no_other p q = absurd p
+  pieces_once [] [] others (line ∷ lines) first second unread no_other p q = absurd p
+  pieces_once [] (patterns ∷ refused) others lines first second unread no_other p q = absurd p
+  pieces_once (item ∷ items) [] others lines first second unread no_other p q = absurd p
+  pieces_once (item ∷ items) (patterns ∷ refused) others [] first second unread no_other p q = absurd p
+  pieces_once (item ∷ items) (patterns ∷ refused) others (line ∷ lines) [] second unread no_other p q = absurd p
+  pieces_once (item ∷ items) (patterns ∷ refused) [] (line ∷ lines) (x ∷ xs) second unread no_other p q = absurd q
+  pieces_once (item ∷ items) (patterns ∷ refused) (more ∷ others) (line ∷ lines) (x ∷ xs) [] unread no_other p q = absurd q
 
--- requests are explained by one text, where nothing is refused
+-- requests are explained by one text, where nothing is refused but searches for patterns that cannot be read
 pub explained_once : ExplainsOnce → (most : ℕ) (model : ModelParts) (shapes : Shapes) (policy : table.Policy) (items : List Said) (refused others : List (List (List ℕ))) (pieces more : List (List ℕ)) (text written : List ℕ) → IsExplained most model shapes policy items refused pieces text
-    → IsExplained most model shapes policy items others more written → all_refused refused ≡ [] → all_refused others ≡ [] → text ≡ written
-explained_once once most model shapes policy items refused others pieces more text written p q none nothing =
+    → IsExplained most model shapes policy items others more written → AreUnreadable (all_refused refused) → AreUnreadable (all_refused others) → text ≡ written
+explained_once once most model shapes policy items refused others pieces more text written p q unread no_other =
     let parts_same : q.parts ≡ p.parts = once.parts model q.parts p.parts q.parts_are p.parts_are in
-    let lines_same : q.lines ≡ p.lines = once.lines model shapes policy items others refused q.lines p.lines q.plain p.plain nothing none in
+    let lines_same : q.lines ≡ p.lines = once.lines model shapes policy items others refused q.lines p.lines q.plain p.plain no_other unread in
     let here : ArePieces p.parts most model shapes policy items others q.lines more = subst (λ (parts : List ModelParts). ArePieces parts most model shapes policy items others q.lines more) parts_same q.below in
     let there : ArePieces p.parts most model shapes policy items others p.lines more = subst (λ (lines : List Line). ArePieces p.parts most model shapes policy items others lines more) lines_same here in
-    let same : pieces ≡ more = calm_once once p.parts most model shapes policy items p.lines pieces more
-    (are_calm once p.parts most model shapes policy items refused p.lines pieces p.below none) (are_calm once p.parts most model shapes policy items others p.lines more there nothing) in
+    let same : pieces ≡ more = pieces_once once p.parts most model shapes policy items refused others p.lines pieces more unread no_other p.below there in
     p.text_is ∙ ap joined same ∙ sym q.text_is

@@ -1,12 +1,10 @@
 -- What finders refused, of which the first is asked.
-use Rattle.std.proofs.Common.{◌≡◌, ℕ, ◌<◌, Bool, true, false, List, [], ◌∷◌, append-nil, length, get_or, slice_set, refl, sym, ap, subst, ◌∙◌, arith}
+use Rattle.std.proofs.Common.{◌≡◌, ℕ, ◌<◌, Bool, true, false, List, [], ◌∷◌, length, get_or, slice_set, refl, sym, ap, subst, ◌∙◌, arith}
 use Rattle.std.specs.Prelude.{map}
 use Rattle.std.specs.List.{AllZip}
-use Rattle.std.proofs.lemmas.List.{append_cancel_left}
-use Rattle.live_round.proofs.CallerLemmas.{logs_more}
 use Rattle.regex_gate.proofs.CallerLemmas.{used_none}
 use Rattle.regex_gate.specs.Refusals.{IsUsed, Refusals, after_refusals}
-use Rattle.casbin_run.specs.Finders.{AreUsed, HaveRefused, IsFirstUsed, Logs}
+use Rattle.casbin_run.specs.Finders.{AreUsed, FirstHasRefused, IsFirstUsed, Logs}
 use Rattle.loaded_work.specs.Finders.{HasRefused}
 
 -- finders that were not asked
@@ -19,18 +17,9 @@ finders_same true all = none_used all
 finders_same false [] = ([], refl)
 finders_same false (first ∷ others) = ([], (refl, refl))
 
--- finders that are as they were refused nothing
-pub none_refused : (before now : List Refusals) (patterns : List (List ℕ)) → now ≡ before → HaveRefused before now patterns → patterns ≡ []
-none_refused before now patterns same is = by before patterns (subst (λ (finders : List Refusals). HaveRefused before finders patterns) same is)
-  where
-    by : (all : List Refusals) (patterns : List (List ℕ)) → HaveRefused all all patterns → patterns ≡ []
-    by [] patterns is = is
-    by (first ∷ others) patterns is =
-        append_cancel_left first.patterns patterns [] (sym (ap (λ (r : Refusals). r.patterns) is.0 ∙ logs_more first patterns) ∙ sym (append-nil first.patterns))
-
 module _ {P : Type 0} (refusals : P → Refusals) (last : P) where
   -- the first one was asked
-  pub first_refused : (fs : List P) (first : P) → 0 < length fs → first ≡ get_or fs 0 first → (patterns : List (List ℕ)) → HasRefused (refusals first) (refusals last) patterns → HaveRefused (map refusals fs) (map refusals (slice_set fs 0 last)) patterns
+  pub first_refused : (fs : List P) (first : P) → 0 < length fs → first ≡ get_or fs 0 first → (patterns : List (List ℕ)) → HasRefused (refusals first) (refusals last) patterns → FirstHasRefused (map refusals fs) (map refusals (slice_set fs 0 last)) patterns
   first_refused [] first some here patterns is = absurd (omega (arith, some))
   first_refused (f ∷ fs) first some here patterns is = (is ∙ ap (λ (x : P). after_refusals (refusals x) patterns) here, refl)
 

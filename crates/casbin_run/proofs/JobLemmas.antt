@@ -1,8 +1,9 @@
 -- The limit of links that words ask for.
-use Rattle.std.proofs.Common.{◌≡◌, ℕ, zero, suc, ◌<◌, ◌≤◌, Bool, true, false, List, Option, Some, None, refl, sym, subst, arith}
+use Rattle.std.proofs.Common.{◌≡◌, ℕ, zero, suc, ◌<◌, ◌≤◌, Bool, true, false, List, Option, Some, None, refl, sym, ap, subst, ◌∙◌, arith}
 use Rattle.std.specs.Prelude.{◌==◌, IfSome, if◌then◌else◌}
 use Rattle.std.proofs.lemmas.Bool.{eqb-false}
 use Rattle.std.proofs.lemmas.Option.{option_and_then_some}
+use Rattle.std.specs.Option.{option_and_then}
 use Rattle.command_words.specs.Commands.{command_of}
 use Rattle.command_words.specs.declared.command.Command.{Command}
 use Rattle.command_words.specs.declared.command.Command.TheVariants as command
@@ -10,6 +11,13 @@ use Rattle.command_words.proofs.CallerLemmas.{HasRanges, command_of-ranges}
 use Rattle.casbin_run.specs.Jobs.{HasSize, job_asked, job_of, limit_in}
 use Rattle.casbin_run.specs.declared.job.Job.{Job}
 use Rattle.casbin_run.specs.declared.job.Task.TheVariants.{Serve, Share}
+
+-- what was read of words, where they are a command and where they are none
+pub job_read : (words : List (List ℕ)) (found : Option Command) (asked : Command) (result : Option Job) → found ≡ command_of words → found ≡ Some asked → result ≡ job_of asked → result ≡ job_asked words
+job_read words found asked result is some made = made ∙ ap (λ (o : Option Command). option_and_then job_of o) (sym some ∙ is)
+
+pub no_job_read : (words : List (List ℕ)) (found : Option Command) → found ≡ command_of words → found ≡ None → None ≡ job_asked words
+no_job_read words found is none = ap (λ (o : Option Command). option_and_then job_of o) (sym none ∙ is)
 
 -- a limit is one to 250
 abbrev IsLimit : ℕ → Type 0

@@ -1,7 +1,7 @@
 pub mod JobLemmas
 pub mod FinderLemmas
-pub mod LoadLemmas
 pub mod WorkLemmas
+pub mod EarlyLemmas
 pub mod CachedWork
 pub mod ExplainWork
 pub mod EndLemmas

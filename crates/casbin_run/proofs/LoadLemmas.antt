@@ -18,7 +18,7 @@ use Rattle.run_status.specs.declared.part.Part.{Part}
 use Rattle.run_status.specs.declared.part.Part.TheVariants.{Model, Policy, Input, Report}
 use Rattle.run_status.specs.declared.stop.Stop.{Stop}
 use Rattle.run_status.specs.declared.stop.Stop.TheVariants.{NoModel, NoRelation, NoPolicy, CannotRead, TooLong, NoMemory}
-use Rattle.casbin_run.specs.Given.{FileIs, Fits, ModelIs}
+use Rattle.casbin_run.specs.Given.{FileIs, ModelIs, ModelSuits}
 use Rattle.casbin_run.specs.Helps.Loading.{FetchStops, LoadStops, ModelStops, PolicyStops, ShapesStop, fetch_stop}
 use Rattle.casbin_run.specs.Jobs.{shapes_with}
 use Rattle.casbin_run.specs.declared.job.Job.{Job}
@@ -73,7 +73,7 @@ tells calls now name failed = Adds calls now (call name failed ∷ [])
 
 -- by a shelf that tells the same files, at a later moment
 pub policy_load : (files mid : Option Files) (job : Job) (model : ModelParts) (shapes : Shapes) (calls calls_mid calls_now : Option (List FetchCall)) (before faults now : ℕ) (stop : Stop) → mid ≡ files → shapes ≡ shapes_with job.options model
-    → Adds calls calls_mid (call job.files.model false ∷ []) → before ≤ faults → Fits files job model
+    → Adds calls calls_mid (call job.files.model false ∷ []) → before ≤ faults → ModelSuits files job model
     → PolicyStops mid job.files.policy shapes (λ failed. Adds calls_mid calls_now (call job.files.policy failed ∷ [])) (Rose faults now) stop → LoadStops files job (Adds calls calls_now) (Rose before now) stop
 policy_load files mid job model shapes calls calls_mid calls_now before faults now stop same is first earlier fits stops =
     later stop (subst (λ (f : Option Files). PolicyStops f job.files.policy (shapes_with job.options model) (tells calls_mid calls_now job.files.policy) (Rose faults now) stop) same (subst (λ (s : Shapes). PolicyStops mid job.files.policy s (tells calls_mid calls_now job.files.policy) (Rose faults now) stop) is stops))

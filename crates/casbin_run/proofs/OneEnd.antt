@@ -1,5 +1,5 @@
 -- What is given has one end: what is read comes to one state at each part, and the states to one end.
-use Rattle.std.proofs.Common.{◌≡◌, ℕ, ◌<◌, ◌≤◌, Bool, true, false, List, [], inl, inr, length, refl, sym, ap, subst, ◌∙◌, arith}
+use Rattle.std.proofs.Common.{◌≡◌, ℕ, ◌<◌, ◌≤◌, Bool, true, false, List, inl, inr, length, refl, sym, ap, subst, ◌∙◌, arith}
 use Rattle.std.specs.Option.{option_map_or}
 use Rattle.std.specs.Prelude.{◌⊎◌, IsSome, Option, Some, None}
 use Rattle.answer_lines.specs.declared.answer.Line.{Line}
@@ -9,6 +9,7 @@ use Rattle.log_ship.specs.declared.packet.Packet.{Packet}
 use Rattle.log_ship.specs.declared.packet_fault.PacketFault.{PacketFault}
 use Rattle.outside.specs.Files.{Files}
 use Rattle.model_conf.specs.Faults.{IsModelFault}
+use Rattle.refusal_meaning.specs.Unread.{AreUnreadable}
 use Rattle.model_conf.specs.ModelText.{ModelParts, IsModel}
 use Rattle.model_conf.specs.declared.fault.ModelFault.{ModelFault}
 use Rattle.perm_base.specs.declared.shapes.Shapes.{Shapes}
@@ -29,7 +30,7 @@ use Rattle.casbin_run.specs.Answered.{IsCalmlyAnswered}
 use Rattle.casbin_run.specs.Causes.{Cause, HasFault, HasPacketFault, StopsAt}
 use Rattle.loaded_work.specs.Explaining.{IsExplained}
 use Rattle.loaded_work.specs.Following.{IsFollowed}
-use Rattle.casbin_run.specs.Given.{AreFiles, FileIs, Fits, Given, IsInOrder, ModelIs, SaysItems, SaysPackets}
+use Rattle.casbin_run.specs.Given.{AreFiles, FileIs, Given, IsInOrder, ModelIs, ModelSuits, SaysItems, SaysPackets}
 use Rattle.casbin_run.specs.Jobs.{absent_in, ask_for_workers, has_workers, job_asked, reads_input, shapes_with}
 use Rattle.casbin_run.specs.Reached.{IsReached, Reached, at_words, at_model, at_options, at_policy, at_task}
 use Rattle.loaded_work.specs.Roles.{IsImplied, IsLong, IsReported, IsShort}
@@ -206,9 +207,9 @@ pub record SaysOnce : Type 0 where
   pub packet_fault : (bytes : List ℕ) (first second : PacketFault) → IsPacketFault bytes first → IsPacketFault bytes second → first ≡ second
   pub packet_either : (bytes : List ℕ) (fault : PacketFault) (packets : List Packet) → IsPacketFault bytes fault → ¬ (ArePackets bytes packets)
   pub lines : (model : ModelParts) (shapes : Shapes) (opening : table.Policy) (items : List Said) (refused others : List (List (List ℕ))) (first second : List Line) → IsPlain model shapes opening items refused first → IsPlain model shapes opening items others second
-      → all_refused refused ≡ [] → all_refused others ≡ [] → first ≡ second
+      → AreUnreadable (all_refused refused) → AreUnreadable (all_refused others) → first ≡ second
   pub explained : (most : ℕ) (model : ModelParts) (shapes : Shapes) (opening : table.Policy) (items : List Said) (refused others : List (List (List ℕ))) (pieces more : List (List ℕ)) (first second : List ℕ) → IsExplained most model shapes opening items refused pieces first
-      → IsExplained most model shapes opening items others more second → all_refused refused ≡ [] → all_refused others ≡ [] → first ≡ second
+      → IsExplained most model shapes opening items others more second → AreUnreadable (all_refused refused) → AreUnreadable (all_refused others) → first ≡ second
   pub implied : (model : ModelParts) (shapes : Shapes) (policy : table.Policy) (subject : SubjectName) (first second : List ℕ) → IsImplied model shapes policy subject first → IsImplied model shapes policy subject second → first ≡ second
   pub followed : (shapes : Shapes) (policy : table.Policy) (packets : List Packet) (first second : List ℕ) → IsFollowed shapes policy packets first → IsFollowed shapes policy packets second → first ≡ second
   pub reported : (shapes : Shapes) (policy : table.Policy) (first second : List ℕ) → IsReported shapes policy first → IsReported shapes policy second → first ≡ second
@@ -306,9 +307,9 @@ told words files input = record { words = words; files = Some files; input = Som
 
 -- behind the policy
 policy_behind : (words : List (List ℕ)) (files : Files) (input : List ℕ) (job : Job) (model : ModelParts) (policy : table.Policy) (end : Option Stop) → job_asked words ≡ Some job → AreFiles (Some files) job model policy → TaskEnds (Some input) job.task (shapes_with job.options model) policy end → EndsIn words files (Some input) end
-policy_behind words files input job model policy end asked are ends = (Some job, asked, (good model, are.fits.is_model, (None, are.fits.none_absent, (good policy, are.is_policy, ends))))
+policy_behind words files input job model policy end asked are ends = (Some job, asked, (good model, are.suits.is_model, (None, are.suits.none_absent, (good policy, are.is_policy, ends))))
 
-options_behind : (words : List (List ℕ)) (files : Files) (input : List ℕ) (job : Job) (model : ModelParts) (end : Option Stop) → job_asked words ≡ Some job → Fits (Some files) job model → PolicyEnds files (Some input) job model end → EndsIn words files (Some input) end
+options_behind : (words : List (List ℕ)) (files : Files) (input : List ℕ) (job : Job) (model : ModelParts) (end : Option Stop) → job_asked words ≡ Some job → ModelSuits (Some files) job model → PolicyEnds files (Some input) job model end → EndsIn words files (Some input) end
 options_behind words files input job model end asked fits ends = (Some job, asked, (good model, fits.is_model, (None, fits.none_absent, ends)))
 
 module _ (shapes : Shapes) (policy : table.Policy) where
@@ -409,24 +410,24 @@ no_cause once g stop told-files told-input is cause = by g.files g.input told-fi
 
 -- ---- one text
 
--- where nothing is refused, one text is written over what is read
+-- where nothing is refused but searches for patterns that cannot be read, one text is written over what is read
 module _ (once : SaysOnce) (model : ModelParts) (shapes : Shapes) (policy : table.Policy) (items : List Said) where
-  lines_once : (refused others : List (List (List ℕ))) (pieces more : List (List ℕ)) (text written : List ℕ) → IsOfLines model shapes policy items refused pieces text → IsOfLines model shapes policy items others more written → all_refused refused ≡ [] → all_refused others ≡ [] → text ≡ written
-  lines_once refused others pieces more text written p q none nothing = p.text_is ∙ ap text_of_lines (once.lines model shapes policy items refused others p.lines q.lines p.plain q.plain none nothing) ∙ sym q.text_is
+  lines_once : (refused others : List (List (List ℕ))) (pieces more : List (List ℕ)) (text written : List ℕ) → IsOfLines model shapes policy items refused pieces text → IsOfLines model shapes policy items others more written → AreUnreadable (all_refused refused) → AreUnreadable (all_refused others) → text ≡ written
+  lines_once refused others pieces more text written p q unread no_other = p.text_is ∙ ap text_of_lines (once.lines model shapes policy items refused others p.lines q.lines p.plain q.plain unread no_other) ∙ sym q.text_is
 
   written_once : (task : Task) (packets : List Packet) (refused others : List (List (List ℕ))) (pieces more : List (List ℕ)) (text written : List ℕ) → Writes task model shapes policy items packets refused pieces text → Writes task model shapes policy items packets others more written
-      → all_refused refused ≡ [] → all_refused others ≡ [] → has_workers task ≡ false → text ≡ written
-  written_once (Enforce json) packets refused others pieces more text written p q none nothing alone = lines_once refused others pieces more text written p q none nothing
-  written_once (Cached json capacity) packets refused others pieces more text written p q none nothing alone = lines_once refused others pieces more text written p q none nothing
-  written_once (Explain json most) packets refused others pieces more text written p q none nothing alone = once.explained most model shapes policy items refused others pieces more text written p q none nothing
-  written_once (Serve json) packets refused others pieces more text written p q none nothing alone = lines_once refused others pieces more text written p q none nothing
-  written_once (Share json workers) packets refused others pieces more text written p q none nothing alone = absurd cc
-  written_once Check packets refused others pieces more text written p q none nothing alone = p.is ∙ sym q.is
-  written_once Format packets refused others pieces more text written p q none nothing alone = p.is ∙ sym q.is
-  written_once (Implicit subject) packets refused others pieces more text written p q none nothing alone = once.implied model shapes policy subject text written p.is q.is
-  written_once Report packets refused others pieces more text written p q none nothing alone = once.reported shapes policy text written p.is q.is
-  written_once Ship packets refused others pieces more text written p q none nothing alone = p.is ∙ sym q.is
-  written_once Follow packets refused others pieces more text written p q none nothing alone = once.followed shapes policy packets text written p.is q.is
+      → AreUnreadable (all_refused refused) → AreUnreadable (all_refused others) → has_workers task ≡ false → text ≡ written
+  written_once (Enforce json) packets refused others pieces more text written p q unread no_other alone = lines_once refused others pieces more text written p q unread no_other
+  written_once (Cached json capacity) packets refused others pieces more text written p q unread no_other alone = lines_once refused others pieces more text written p q unread no_other
+  written_once (Explain json most) packets refused others pieces more text written p q unread no_other alone = once.explained most model shapes policy items refused others pieces more text written p q unread no_other
+  written_once (Serve json) packets refused others pieces more text written p q unread no_other alone = lines_once refused others pieces more text written p q unread no_other
+  written_once (Share json workers) packets refused others pieces more text written p q unread no_other alone = absurd cc
+  written_once Check packets refused others pieces more text written p q unread no_other alone = p.is ∙ sym q.is
+  written_once Format packets refused others pieces more text written p q unread no_other alone = p.is ∙ sym q.is
+  written_once (Implicit subject) packets refused others pieces more text written p q unread no_other alone = once.implied model shapes policy subject text written p.is q.is
+  written_once Report packets refused others pieces more text written p q unread no_other alone = once.reported shapes policy text written p.is q.is
+  written_once Ship packets refused others pieces more text written p q unread no_other alone = p.is ∙ sym q.is
+  written_once Follow packets refused others pieces more text written p q unread no_other alone = once.followed shapes policy packets text written p.is q.is
 
 -- the words ask for workers where their job has some
 pub workers_asked : (words : List (List ℕ)) (job : Job) → job_asked words ≡ Some job → ask_for_workers words ≡ has_workers job.task
@@ -470,12 +471,12 @@ module _ (once : SaysOnce) (files : Files) (input : List ℕ) where
     refused : List (List (List ℕ))
     pieces : List (List ℕ)
     writes : Writes job.task model (shapes_with job.options model) policy items packets refused pieces text
-    none : all_refused refused ≡ []
+    unread : AreUnreadable (all_refused refused)
 
   texts_same : (job : Job) (model : ModelParts) (policy : table.Policy) (items : List Said) (packets : List Packet) (text : List ℕ) (other : ModelParts) (second : table.Policy) (said : List Said) (sent : List Packet) (written : List ℕ) → Reads job model policy items packets text → Reads job other second said sent written
       → has_workers job.task ≡ false → text ≡ written
   texts_same job model policy items packets text other second said sent written p q alone =
-      let same_model : other ≡ model = model_same job other model q.are_files.fits.is_model p.are_files.fits.is_model in
+      let same_model : other ≡ model = model_same job other model q.are_files.suits.is_model p.are_files.suits.is_model in
       let at_model : Reads job model second said sent written = subst (λ (m : ModelParts). Reads job m second said sent written) same_model q in
       let same_policy : second ≡ policy = policy_same job (shapes_with job.options model) second policy at_model.are_files.is_policy p.are_files.is_policy in
       let at_policy : Reads job model policy said sent written = subst (λ (t : table.Policy). Reads job model t said sent written) same_policy at_model in
@@ -483,15 +484,15 @@ module _ (once : SaysOnce) (files : Files) (input : List ℕ) where
       let at_items : Reads job model policy items sent written = subst (λ (i : List Said). Reads job model policy i sent written) same_items at_policy in
       let same_packets : sent ≡ packets = packets_same job.task sent packets at_items.carries p.carries in
       let at_packets : Reads job model policy items packets written = subst (λ (l : List Packet). Reads job model policy items l written) same_packets at_items in
-      written_once once model (shapes_with job.options model) policy items job.task packets p.refused at_packets.refused p.pieces at_packets.pieces text written p.writes at_packets.writes p.none at_packets.none alone
+      written_once once model (shapes_with job.options model) policy items job.task packets p.refused at_packets.refused p.pieces at_packets.pieces text written p.writes at_packets.writes p.unread at_packets.unread alone
 
   told_one_text : (words : List (List ℕ)) (first second : List ℕ) → ask_for_workers words ≡ false → IsCalmlyAnswered (told words files input) first → IsCalmlyAnswered (told words files input) second → first ≡ second
   told_one_text words first second alone p q =
       let x = p.answered.in_order in
       let y = q.answered.in_order in
       let job : y.job ≡ x.job = same_job (sym y.asked ∙ x.asked) in
-      let reads : Reads y.job y.model y.policy y.items y.packets second = record { are_files = y.are_files; says = y.says; carries = y.carries; refused = q.refused; pieces = q.answered.pieces; writes = q.answered.writes; none = q.none } in
-      texts_same x.job x.model x.policy x.items x.packets first y.model y.policy y.items y.packets second (record { are_files = x.are_files; says = x.says; carries = x.carries; refused = p.refused; pieces = p.answered.pieces; writes = p.answered.writes; none = p.none })
+      let reads : Reads y.job y.model y.policy y.items y.packets second = record { are_files = y.are_files; says = y.says; carries = y.carries; refused = q.refused; pieces = q.answered.pieces; writes = q.answered.writes; unread = q.unread } in
+      texts_same x.job x.model x.policy x.items x.packets first y.model y.policy y.items y.packets second (record { are_files = x.are_files; says = x.says; carries = x.carries; refused = p.refused; pieces = p.answered.pieces; writes = p.answered.writes; unread = p.unread })
       (subst (λ (j : Job). Reads j y.model y.policy y.items y.packets second) job reads) (has_none words x.job x.asked alone)
     where
       same_job : {job other : Job} → Some job ≡ Some other → job ≡ other

@@ -21,7 +21,7 @@ use Rattle.script_read.specs.Script.{IsRequests, IsScript, IsScriptFault}
 use Rattle.script_read.specs.declared.fault.ScriptFault.{ScriptFault}
 use Rattle.script_read.specs.declared.fault.ScriptFault.TheVariants.{NotUtf8}
 use Rattle.casbin_run.specs.Causes.{Cause}
-use Rattle.casbin_run.specs.Given.{AreFiles, Fits, Given, IsInOrder, ModelIs}
+use Rattle.casbin_run.specs.Given.{AreFiles, Given, IsInOrder, ModelIs, ModelSuits}
 use Rattle.casbin_run.specs.Jobs.{absent_in, job_asked, shapes_with}
 use Rattle.casbin_run.specs.Reached.{at_words, at_model, at_options, at_policy, at_task}
 use Rattle.loaded_work.specs.Roles.{IsLong, IsShort}
@@ -113,10 +113,10 @@ module _ (law : SaysSome) (words : List (List ℕ)) (files : Files) (input : Lis
         by_input Follow task (inr within) = by_packets task within (law.packets input)
         by_input Report task size = by_report task (law.report (shapes_with job.options model) policy)
 
-      module _ (fits : Fits (Some files) job model) where
+      module _ (fits : ModelSuits (Some files) job model) where
         by_policy : (bytes : List ℕ) → files job.files.policy ≡ Some bytes → length bytes ≤ limit_of Policy
             → ((policy : table.Policy) × IsPolicy (shapes_with job.options model) bytes policy) ⊎ ((f : PolicyFault) × IsPolicyFault (shapes_with job.options model) bytes f) → Ended told
-        by_policy bytes held within (inl is) = by_input is.0 (record { fits = fits; is_policy = (bytes, held, within, is.1) }) job.task refl (sized input (limit_of Input))
+        by_policy bytes held within (inl is) = by_input is.0 (record { suits = fits; is_policy = (bytes, held, within, is.1) }) job.task refl (sized input (limit_of Input))
         by_policy bytes held within (inr bad) = inr (NoPolicy bad.0, (at_policy job model, (asked, fits), (bytes, held, within, bad.1)))
 
         by_policy_size : (bytes : List ℕ) → files job.files.policy ≡ Some bytes → Sized bytes (limit_of Policy) → Ended told

@@ -1,6 +1,7 @@
 -- What a run answers, and what of it was taken.
-use Rattle.std.specs.Prelude.{◌≡◌, ℕ, List, [], take}
+use Rattle.std.specs.Prelude.{◌≡◌, ℕ, List, take}
 use Rattle.outside.specs.Told.{TookFront, with_back}
+use Rattle.refusal_meaning.specs.Unread.{AreUnreadable}
 use Rattle.session_meaning.specs.Plain.{all_refused}
 use Rattle.casbin_run.specs.Finders.{Logs}
 use Rattle.casbin_run.specs.Given.{Given, IsInOrder}
@@ -15,11 +16,11 @@ pub record IsAnswered (g : Given) (refused : List (List (List ℕ))) (text : Lis
   pub pieces : List (List ℕ)
   pub writes : Writes in_order.job.task in_order.model (shapes_with in_order.job.options in_order.model) in_order.policy in_order.items in_order.packets refused pieces text
 
--- such a text, where nothing was refused
+-- such a text, where nothing was refused but searches for patterns that cannot be read
 pub record IsCalmlyAnswered (g : Given) (text : List ℕ) : Type 0 where
   pub refused : List (List (List ℕ))
   pub answered : IsAnswered g refused text
-  pub none : all_refused refused ≡ []
+  pub unread : AreUnreadable (all_refused refused)
 
 -- such a text, and what was refused for one item after the other is what the finders refused
 pub record Answers (g : Given) (before now : World) : Type 0 where

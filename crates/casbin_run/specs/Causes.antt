@@ -68,7 +68,6 @@ FailsAt g before now (at_policy job model) (CannotRead Policy) = ShelfRose befor
 FailsAt g before now (at_task job model policy) (CannotRead Input) = OfInput job.task (InputRose before now)
 FailsAt g before now (at_task job model policy) CannotWrite = TookSome g before now × OutRose before now
 FailsAt g before now (at_task job model policy) NoMemory = (now.out.bytes ≡ before.out.bytes) ⊎ TookFirst g before now
-FailsAt g before now at_words NoMemory = ⊥
 FailsAt g before now _ NoMemory = now.out.bytes ≡ before.out.bytes
 FailsAt g before now _ _ = ⊥
 

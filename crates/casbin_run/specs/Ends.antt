@@ -4,7 +4,7 @@ use Rattle.run_status.specs.Messages.{line_of}
 use Rattle.run_status.specs.Statuses.{status_of}
 use Rattle.run_status.specs.Told.{IsTold}
 use Rattle.run_status.specs.declared.status.Status.{Status}
-use Rattle.run_status.specs.declared.status.Status.TheVariants.{Done, Words, Model, Policy, WriteFault, NoMemory}
+use Rattle.run_status.specs.declared.status.Status.TheVariants.{Done, Words, Model, Policy, Script, WriteFault, NoMemory}
 use Rattle.run_status.specs.declared.stop.Stop.{Stop}
 use Rattle.casbin_run.specs.Answered.{TookAll}
 use Rattle.casbin_run.specs.Causes.{EndsBy}
@@ -46,6 +46,13 @@ may_write Done = true
 may_write WriteFault = true
 may_write NoMemory = true
 may_write _ = false
+
+-- with such a status a command that reads the input has read it to its end: the run was done, or what the input says is at fault, or `out` failed
+abbrev pub has_read : Status → Bool
+has_read Done = true
+has_read Script = true
+has_read WriteFault = true
+has_read _ = false
 
 -- with such a status the run stopped at its words, at a file's text or at an option
 abbrev pub is_of_files : Status → Bool

@@ -3,19 +3,19 @@
 use Rattle.std.specs.Prelude.{◌≡◌, ℕ, ◌≤◌, false, List, [], Option, Some, None, length, ⊤}
 use Rattle.log_ship.specs.PacketText.{ArePackets}
 use Rattle.log_ship.specs.declared.packet.Packet.{Packet}
-use Rattle.outside.specs.Files.{Files, Holds}
-use Rattle.model_conf.specs.ModelText.{IsModel, ModelParts}
-use Rattle.policy_csv.specs.Policy.{IsPolicy}
+use Rattle.outside.specs.Files.{Files}
+use Rattle.model_conf.specs.ModelText.{ModelParts}
 use Rattle.policy_table.specs.Tables as table
 use Rattle.run_status.specs.Parts.{limit_of}
-use Rattle.run_status.specs.declared.part.Part.{Part}
-use Rattle.run_status.specs.declared.part.Part.TheVariants.{Model, Policy, Input}
+use Rattle.run_status.specs.declared.part.Part.TheVariants.{Policy, Input}
+pub use Rattle.run_files.specs.Files.{FileIs}
+use Rattle.run_files.specs.Files as run
 use Rattle.script_read.specs.Said.{Said}
 use Rattle.script_read.specs.Script.{IsRequests, IsScript}
 use Rattle.casbin_run.specs.declared.job.Job.{Job}
 use Rattle.casbin_run.specs.declared.job.Task.{Task}
 use Rattle.casbin_run.specs.declared.job.Task.TheVariants.{Enforce, Cached, Explain, Serve, Share, Check, Format, Implicit, Report, Ship, Follow}
-use Rattle.casbin_run.specs.Jobs.{absent_in, job_asked, shapes_with}
+use Rattle.casbin_run.specs.Jobs.{job_asked, shapes_with}
 use Rattle.casbin_run.specs.Written.{HasRoom}
 
 -- the words, and the files and the input where they are told
@@ -27,32 +27,24 @@ pub record Given : Type 0 where
 abbrev pub given : List (List ℕ) → Option Files → Option (List ℕ) → Given
 given words files input = record { words = words; files = files; input = input }
 
--- the file of that name has at most as many bytes as the part may have, and the fact holds of them
-abbrev pub FileIs : Option Files → List ℕ → Part → (List ℕ → Type 0) → Type 0
-FileIs files name part fact = (bytes : List ℕ) × Holds files name bytes × (length bytes ≤ limit_of part) × fact bytes
-
 -- the bytes are those that are told
-abbrev pub Tells : Option (List ℕ) → List ℕ → Type 0
-Tells None bytes = ⊤
-Tells (Some told) bytes = told ≡ bytes
+abbrev pub AreTold : Option (List ℕ) → List ℕ → Type 0
+AreTold None bytes = ⊤
+AreTold (Some told) bytes = told ≡ bytes
 
 -- the input has at most as many bytes as it may have, and the fact holds of them
 abbrev pub InputIs : Option (List ℕ) → (List ℕ → Type 0) → Type 0
-InputIs input fact = (bytes : List ℕ) × Tells input bytes × (length bytes ≤ limit_of Input) × fact bytes
+InputIs input fact = (bytes : List ℕ) × AreTold input bytes × (length bytes ≤ limit_of Input) × fact bytes
 
--- the model's file is this model
+-- the files of a job are this model, which has all that the options name, and this policy
 abbrev pub ModelIs : Option Files → Job → ModelParts → Type 0
-ModelIs files job model = FileIs files job.files.model Model (λ bytes. IsModel bytes model)
+ModelIs files job model = run.ModelIs files job.files model
 
--- besides, it has all that the options name
-pub record Fits (files : Option Files) (job : Job) (model : ModelParts) : Type 0 where
-  pub is_model : ModelIs files job model
-  pub none_absent : absent_in job.options model ≡ None
+abbrev pub ModelSuits : Option Files → Job → ModelParts → Type 0
+ModelSuits files job model = run.ModelSuits files job.files job.options model
 
--- besides, the policy's file is this policy
-pub record AreFiles (files : Option Files) (job : Job) (model : ModelParts) (policy : table.Policy) : Type 0 where
-  pub fits : Fits files job model
-  pub is_policy : FileIs files job.files.policy Policy (λ bytes. IsPolicy (shapes_with job.options model) bytes policy)
+abbrev pub AreFiles : Option Files → Job → ModelParts → table.Policy → Type 0
+AreFiles files job model policy = run.AreFiles files job.files job.options model policy
 
 -- the input says these items: requests alone, or a script; none where it is not read
 abbrev pub SaysItems : Task → Option (List ℕ) → List Said → Type 0

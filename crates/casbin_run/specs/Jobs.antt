@@ -1,14 +1,10 @@
 -- What a command is done on. A demonstration is none of these: it has no files. Nor is a lint, which stands beside a run.
-use Rattle.std.specs.Prelude.{ℕ, ◌<◌, ◌≤◌, ⊤, ◌==◌, Bool, true, false, List, [], Option, Some, None, if◌then◌else◌}
+use Rattle.std.specs.Prelude.{ℕ, ◌<◌, ◌≤◌, ⊤, ◌==◌, Bool, true, false, List, Option, Some, None, if◌then◌else◌}
 use Rattle.std.specs.Option.{option_and_then, option_map_or}
 use Rattle.command_words.specs.Commands.{command_of}
 use Rattle.command_words.specs.declared.command.Command.{Command}
 use Rattle.command_words.specs.declared.command.Command.TheVariants as command
-use Rattle.command_words.specs.declared.command.Options.{Options}
-use Rattle.model_conf.specs.ModelText.{ModelParts}
-use Rattle.model_conf.specs.Shapes.{first_absent, shapes_of}
-use Rattle.perm_base.specs.declared.shapes.Fit.{Fit}
-use Rattle.perm_base.specs.declared.shapes.Shapes.{Shapes}
+pub use Rattle.run_files.specs.Files.{absent_in, domains_in, limit_in, names_in, shapes_with}
 use Rattle.casbin_run.specs.declared.job.Job.{Job}
 use Rattle.casbin_run.specs.declared.job.Task.{Task}
 use Rattle.casbin_run.specs.declared.job.Task.TheVariants.{Enforce, Cached, Explain, Serve, Share, Check, Format, Implicit, Report, Ship, Follow}
@@ -72,24 +68,3 @@ ask_for_workers words = option_map_or (λ (job : Job). has_workers job.task) (jo
 -- the words ask for a command that reads the input
 abbrev pub ask_for_input : List (List ℕ) → Bool
 ask_for_input words = option_map_or (λ (job : Job). reads_input job.task) (job_asked words) false
-
--- the relations whose names are compared by a function, those whose domains are, and the limit of links, which is 10 unless it is told
-abbrev pub names_in : Option Options → List (ℕ × Fit)
-names_in None = []
-names_in (Some options) = options.names
-
-abbrev pub domains_in : Option Options → List (ℕ × Fit)
-domains_in None = []
-domains_in (Some options) = options.domains
-
-abbrev pub limit_in : Option Options → ℕ
-limit_in None = 10
-limit_in (Some options) = options.limit
-
--- the shapes of the model's policies with these options
-abbrev pub shapes_with : Option Options → ModelParts → Shapes
-shapes_with options model = shapes_of model (names_in options) (domains_in options) (limit_in options)
-
--- the first relation or domain column that options name and the model lacks
-abbrev pub absent_in : Option Options → ModelParts → Option ℕ
-absent_in options model = first_absent model.relations (names_in options) (domains_in options)

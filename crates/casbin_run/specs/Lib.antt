@@ -10,4 +10,5 @@ pub mod Shown
 pub mod Causes
 pub mod Ends
 pub mod Demos
+pub mod Runs
 pub mod Helps

@@ -5,7 +5,7 @@ use Rattle.outside.specs.declared.fetch_log.FetchCall.{FetchCall}
 use Rattle.model_conf.specs.ModelText.{ModelParts}
 use Rattle.policy_table.specs.Tables as table
 use Rattle.casbin_run.specs.declared.job.Job.{Job}
-use Rattle.casbin_run.specs.Given.{AreFiles, Fits, Given, ModelIs}
+use Rattle.casbin_run.specs.Given.{AreFiles, Given, ModelIs, ModelSuits}
 use Rattle.casbin_run.specs.Jobs.{job_asked, reads_input}
 use Rattle.casbin_run.specs.Worlds.{World}
 
@@ -22,7 +22,7 @@ abbrev pub IsReached : Given → Reached → Type 0
 IsReached g at_words = ⊤
 IsReached g (at_model job) = job_asked g.words ≡ Some job
 IsReached g (at_options job model) = (job_asked g.words ≡ Some job) × ModelIs g.files job model
-IsReached g (at_policy job model) = (job_asked g.words ≡ Some job) × Fits g.files job model
+IsReached g (at_policy job model) = (job_asked g.words ≡ Some job) × ModelSuits g.files job model
 IsReached g (at_task job model policy) = (job_asked g.words ≡ Some job) × AreFiles g.files job model policy
 
 -- the fetches so far: each file once, the model's first; `failed` says whether the last of them failed

@@ -1,4 +1,4 @@
-ghost use Rattle.std.specs.Prelude.{◌≡◌, ◌≤◌, IfErr, IfSome, OnOk, drop, length, map};
+ghost use Rattle.std.specs.Prelude.{◌≡◌, ◌≤◌, IfErr, IfOk, IfSome, OnOk, drop, length, map};
 ghost use Rattle.std.specs.List.{AllZip};
 ghost use Rattle.command_words.specs.Items.{texts};
 ghost use Rattle.demo_run.specs.Demo.{IsDemo};
@@ -13,7 +13,7 @@ use command_words::{Command, read_words};
 use demo_run::summarize;
 use live_pair::Places;
 use live_rounds::Gate;
-use perm_base::{Sink, push_all};
+use perm_base::{NoMemory, Sink, push_all};
 use regex_gate::Finder;
 use run_status::{Status, Stop, tell_stop};
 use std::alloc::Global;
@@ -21,11 +21,14 @@ use std::sync::Wait;
 use std::thread::Threads;
 
 /// The size of the demonstration that words ask for, and how many workers it has.
-pub(crate) fn read_demo(words: &[String]) -> Option<(u32, u32)>
-    ensures asked { result ≡ demo_asked (texts words.now) }
-    ensures few { IfSome result (λ demo. demo.1 ≤ 8) }
+pub(crate) fn read_demo(alloc: Global, words: &[String]) -> Result<Option<(u32, u32)>, NoMemory>
+    ensures asked { IfOk result (λ found. found ≡ demo_asked (texts words.now)) }
+    ensures few { IfOk result (λ found. IfSome found (λ demo. demo.1 ≤ 8)) }
 {
-    demo_of(read_words(words)?)
+    let Some(command) = read_words(alloc, words)? else {
+        return Ok(None);
+    };
+    Ok(demo_of(command))
 }
 
 // Those that a command asks for.

@@ -6,6 +6,7 @@ ghost use Rattle.script_read.specs.Said.{seen};
 ghost use Rattle.casbin_run.specs.Causes.{HasFault};
 ghost use Rattle.casbin_run.specs.Given.{InputIs, SaysItems, SaysPackets};
 ghost use Rattle.casbin_run.specs.Helps.Loading.{BytesStop, InputStops};
+ghost use Rattle.casbin_run.specs.Helps.Tasks.{is_past};
 ghost use Rattle.casbin_run.specs.declared.job.Task.TheVariants.{Enforce, Serve, Follow};
 
 use log_ship::{Packets, read_packets};
@@ -18,8 +19,8 @@ use std::alloc::Global;
 pub(crate) fn read_text<S: Source>(alloc: Global, input: &mut S, json: bool) -> Result<String, Stop>
     ensures read { IfOk result (λ text. InputIs (S.left input.old)
         (λ bytes. bytes ≡ string_bytes text)) }
-    ensures read_to_end { OnOk result (IfSome (S.left input.new) (λ rest. rest ≡ [])) }
-    ensures ended { OnOk result (S.ends input.new ≡ ends_after (S.ends input.old) true) }
+    ensures read_to_end { is_past result ≡ true → IfSome (S.left input.new) (λ rest. rest ≡ []) }
+    ensures ended { is_past result ≡ true → S.ends input.new ≡ ends_after (S.ends input.old) true }
     ensures no_further { IsEndedOnce (S.ends input.old) (S.ends input.new) }
     ensures stopped { IfErr result (InputStops (Enforce json) (S.left input.old)
         (Rose (S.faults input.old) (S.faults input.new))) }
@@ -42,8 +43,8 @@ pub(crate) fn read_items<S: Source>(
         (map seen script)) }
     ensures have_names { IfOk result (λ script.
         All (λ item. is_named item ≡ true) (map seen script)) }
-    ensures read_to_end { OnOk result (IfSome (S.left input.new) (λ rest. rest ≡ [])) }
-    ensures ended { OnOk result (S.ends input.new ≡ ends_after (S.ends input.old) true) }
+    ensures read_to_end { is_past result ≡ true → IfSome (S.left input.new) (λ rest. rest ≡ []) }
+    ensures ended { is_past result ≡ true → S.ends input.new ≡ ends_after (S.ends input.old) true }
     ensures no_further { IsEndedOnce (S.ends input.old) (S.ends input.new) }
     ensures stopped { IfErr result (InputStops (Serve json) (S.left input.old)
         (Rose (S.faults input.old) (S.faults input.new))) }
@@ -57,8 +58,8 @@ pub(crate) fn read_items<S: Source>(
 /// Reads an input to its end as packets.
 pub(crate) fn read_shipped<S: Source>(alloc: Global, input: &mut S) -> Result<Packets, Stop>
     ensures read { IfOk result (λ packets. SaysPackets Follow (S.left input.old) packets) }
-    ensures read_to_end { OnOk result (IfSome (S.left input.new) (λ rest. rest ≡ [])) }
-    ensures ended { OnOk result (S.ends input.new ≡ ends_after (S.ends input.old) true) }
+    ensures read_to_end { is_past result ≡ true → IfSome (S.left input.new) (λ rest. rest ≡ []) }
+    ensures ended { is_past result ≡ true → S.ends input.new ≡ ends_after (S.ends input.old) true }
     ensures no_further { IsEndedOnce (S.ends input.old) (S.ends input.new) }
     ensures stopped { IfErr result (InputStops Follow (S.left input.old)
         (Rose (S.faults input.old) (S.faults input.new))) }

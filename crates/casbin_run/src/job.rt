@@ -1,10 +1,12 @@
-ghost use Rattle.std.specs.Prelude.{◌≡◌, ◌<◌, ◌≤◌, IfSome, MatchOption, false};
+ghost use Rattle.std.specs.Prelude.{◌≡◌, ◌<◌, ◌≤◌, IfOk, IfSome, MatchOption, false};
 ghost use Rattle.command_words.specs.Items.{texts};
 ghost use Rattle.casbin_run.specs.Helps.Running.{job_on};
 ghost use Rattle.casbin_run.specs.Jobs.{HasSize, enforcing, has_workers, job_asked, job_of, limit_in, serving};
 ghost use Rattle.casbin_run.specs.declared.job.Task.TheVariants.{Share};
 
 use command_words::{Command, Files, Options, Subject, read_words};
+use perm_base::NoMemory;
+use std::alloc::Global;
 
 /// What is done with the model, the policy and the input.
 #[derive(Drop)]
@@ -41,14 +43,17 @@ pub(crate) struct Job<'a> {
     pub task: Task<'a>,
 }
 
-/// What the words ask for, where they are a command that is done. It takes no memory.
-pub(crate) fn read_job(words: &[String]) -> Option<Job<'_>>
-    ensures asked { result ≡ job_asked (texts words.now) }
-    ensures sized { IfSome result (λ job. HasSize job.task) }
-    ensures limit { IfSome result (λ job.
-        (0 < limit_in job.options) × (limit_in job.options ≤ 250)) }
+/// What the words ask for, where they are a command that is done.
+pub(crate) fn read_job(alloc: Global, words: &[String]) -> Result<Option<Job<'_>>, NoMemory>
+    ensures asked { IfOk result (λ found. found ≡ job_asked (texts words.now)) }
+    ensures sized { IfOk result (λ found. IfSome found (λ job. HasSize job.task)) }
+    ensures limit { IfOk result (λ found. IfSome found (λ job.
+        (0 < limit_in job.options) × (limit_in job.options ≤ 250))) }
 {
-    job_of(read_words(words)?)
+    let Some(command) = read_words(alloc, words)? else {
+        return Ok(None);
+    };
+    Ok(job_of(command))
 }
 
 // What a command is done on.

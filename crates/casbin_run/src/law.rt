@@ -6,6 +6,7 @@ ghost use Rattle.run_status.specs.declared.status.Status.TheVariants as statuses
 ghost use Rattle.run_status.specs.declared.stop.Stop.{Stop};
 ghost use Rattle.casbin_run.specs.Answered.{IsCalmlyAnswered};
 ghost use Rattle.casbin_run.specs.Causes.{Cause};
+ghost use Rattle.casbin_run.specs.Finders.{HaveRefusedUnreadable};
 ghost use Rattle.casbin_run.specs.Ends.{Ends, is_of_files};
 ghost use Rattle.casbin_run.specs.Given.{Given, IsInOrder};
 ghost use Rattle.casbin_run.specs.Jobs.{ask_for_workers, job_asked};
@@ -33,7 +34,8 @@ use script_read::{
 use session_meaning::lines_are_one;
 
 /// The law that what is given, where it is told, has one end: all is in order, or there is a cause of a stop, and one at most,
-/// and not both; and where no workers answer, one text at most answers it where nothing is refused.
+/// and not both; and where no workers answer, one text at most answers it where nothing is refused but searches for patterns that
+/// cannot be read.
 pub fn one_end()
     ensures there { (g : Given) → IsSome g.files → IsSome g.input
         → IsInOrder g ⊎ ((stop : Stop) × Cause g stop) }
@@ -73,7 +75,8 @@ pub fn one_end()
 
 /// The law that a run ends as what is given says, where it is told. A cause gives its own status, unless memory ran out or a
 /// file or the input could not be read. Where all is in order and no count rises, the run is done, or memory ran out. Where the
-/// finders refuse nothing and no workers answer, what is taken is the one text that answers what is given.
+/// finders refuse nothing but patterns that cannot be read, and no workers answer, what is taken is the one text that answers what
+/// is given.
 pub fn runs_end_as_given()
     ensures exact { (g : Given) (before now : World) (err err_now : Taken)
         (status : declared.Status) (stop : Stop) → IsSome g.files → IsSome g.input
@@ -89,7 +92,7 @@ pub fn runs_end_as_given()
         → IsSome g.files → IsSome g.input
         → Ends g before now err err_now statuses.Done
         → ask_for_workers g.words ≡ false
-        → now.finders ≡ before.finders → IsCalmlyAnswered g text
+        → HaveRefusedUnreadable before.finders now.finders → IsCalmlyAnswered g text
         → now.out.bytes ≡ with_back before.out.bytes text }
 {
     one_end();

@@ -2,7 +2,6 @@
 #![tactic(auto)]
 
 mod demo;
-mod files;
 mod input;
 mod job;
 mod law;

@@ -3,21 +3,20 @@ ghost use Rattle.command_words.specs.Items.{texts};
 ghost use Rattle.outside.specs.Ends.{IsEndedOnce, ends_after};
 ghost use Rattle.outside.specs.Faults.{Rose};
 ghost use Rattle.regex_gate.specs.Refusals.{IsUsed};
-ghost use Rattle.casbin_run.specs.Demos.{EndsAs, some_workers};
-ghost use Rattle.casbin_run.specs.Ends.{Ends, may_write};
+ghost use Rattle.casbin_run.specs.Ends.{Ends, has_read, may_write};
 ghost use Rattle.casbin_run.specs.Finders.{AreUsed, Logs};
 ghost use Rattle.loaded_work.specs.Finders.{HasRefused};
 ghost use Rattle.casbin_run.specs.Given.{given};
 ghost use Rattle.casbin_run.specs.Helps.Running.{ComesTo};
-ghost use Rattle.casbin_run.specs.Helps.Tasks.{DidAll, IsQuiet, WorkStops, ground};
+ghost use Rattle.casbin_run.specs.Helps.Tasks.{DidAll, IsQuiet, WorkStops, ground, is_past};
 ghost use Rattle.loaded_work.specs.Helps.Working.{IsReady};
 ghost use Rattle.casbin_run.specs.Jobs.{HasSize, ask_for_input, ask_for_workers, has_workers, reads_input};
+ghost use Rattle.casbin_run.specs.Runs.{Runs, moment};
 ghost use Rattle.casbin_run.specs.Shown.{ReadsBack};
 ghost use Rattle.casbin_run.specs.Worlds.{fetched, pulled, world};
 ghost use Rattle.loaded_work.specs.Sinks.{taken};
 
 use crate::demo::{read_demo, run_demo};
-use crate::files::load;
 use crate::input::{read_items, read_shipped, read_text};
 use crate::job::{Task, read_job, sharing};
 use crate::shared::share_items;
@@ -29,6 +28,7 @@ use loaded_work::{
 };
 use perm_base::{Shelf, Sink, Source};
 use regex_gate::Finder;
+use run_files::load_files;
 use run_status::{Status, Stop, tell_stop};
 use std::alloc::Global;
 use std::sync::Wait;
@@ -78,47 +78,23 @@ pub fn run_casbin<
 ) -> Status
     requires nine { length finders.old.items ≡ 9 }
 
-    // How the run ends, by its status: with Done `out` took the text that answers what was given, and `err` nothing but, with a
-    // cache, the line of its hits; with another it had its cause, and `err` took its line. Each file is fetched once at most, the
-    // model's first; where the run stops before its task, nothing was asked of the input.
-    ensures ends { EndsAs (given (texts words.now) (F.files shelf.old) (S.left input.old))
-        (world (fetched (F.calls shelf.old) (F.faults shelf.old))
+    // What the run makes of the outside, seen whole before and behind: `Runs` says it part by part.
+    ensures { Runs (texts words.now)
+        (moment (world (fetched (F.calls shelf.old) (F.faults shelf.old))
         (pulled (S.left input.old) (S.ends input.old) (S.faults input.old))
         (taken (K.taken out.old) (K.faults out.old)) (map P.refusals finders.old.items))
-        (world (fetched (F.calls shelf.new) (F.faults shelf.new))
+        (F.files shelf.old) (taken (E.taken err.old) (E.faults err.old))
+        finders.old.items (H.faults places.old))
+        (moment (world (fetched (F.calls shelf.new) (F.faults shelf.new))
         (pulled (S.left input.new) (S.ends input.new) (S.faults input.new))
         (taken (K.taken out.new) (K.faults out.new)) (map P.refusals finders.new.items))
-        (taken (E.taken err.old) (E.faults err.old))
-        (taken (E.taken err.new) (E.faults err.new)) result }
-    ensures quiet { may_write result ≡ false → K.taken out.new ≡ K.taken out.old }
-
-    // The input is read to its end and no further, or not at all.
-    ensures read_to_end { result ≡ Status.Done → ask_for_input (texts words.now) ≡ true
-        → IfSome (S.left input.new) (λ rest. rest ≡ []) }
-    ensures ended { result ≡ Status.Done → ask_for_input (texts words.now) ≡ true
-        → S.ends input.new ≡ ends_after (S.ends input.old) true }
-    ensures no_further { IsEndedOnce (S.ends input.old) (S.ends input.new) }
-    ensures unread { ask_for_input (texts words.now) ≡ false
-        → pulled (S.left input.new) (S.ends input.new) (S.faults input.new)
-        ≡ pulled (S.left input.old) (S.ends input.old) (S.faults input.old) }
-
-    // What stays: the files, and each count at least.
-    ensures same_files { F.files shelf.new ≡ F.files shelf.old }
-    ensures shelf_counted { F.faults shelf.old ≤ F.faults shelf.new }
-    ensures input_counted { S.faults input.old ≤ S.faults input.new }
-    ensures out_counted { K.faults out.old ≤ K.faults out.new }
-    ensures err_counted { E.faults err.old ≤ E.faults err.new }
-
-    ensures places_counted { H.faults places.old ≤ H.faults places.new }
-
-    // Where no workers answer, the first finder alone is asked, and none where nothing may go to `out`.
-    ensures finders { AreUsed (some_workers (texts words.now))
-        (map P.refusals finders.old.items) (map P.refusals finders.new.items) }
-    ensures others { some_workers (texts words.now) ≡ false
-        → drop 1 finders.new.items ≡ drop 1 finders.old.items }
-    ensures idle { may_write result ≡ false → finders.new.items ≡ finders.old.items }
+        (F.files shelf.new) (taken (E.taken err.new) (E.faults err.new))
+        finders.new.items (H.faults places.new)) result }
 {
-    let Some((count, workers)) = read_demo(words) else {
+    let Ok(demo) = read_demo(alloc, words) else {
+        return tell_stop(err, Stop::NoMemory);
+    };
+    let Some((count, workers)) = demo else {
         return run_files(
             rt, alloc, words, shelf, input, out, err, finders, gate, places,
         );
@@ -159,9 +135,9 @@ fn run_files<
         (taken (E.taken err.old) (E.faults err.old))
         (taken (E.taken err.new) (E.faults err.new)) result }
     ensures quiet { may_write result ≡ false → K.taken out.new ≡ K.taken out.old }
-    ensures read_to_end { result ≡ Status.Done → ask_for_input (texts words.now) ≡ true
+    ensures read_to_end { has_read result ≡ true → ask_for_input (texts words.now) ≡ true
         → IfSome (S.left input.new) (λ rest. rest ≡ []) }
-    ensures ended { result ≡ Status.Done → ask_for_input (texts words.now) ≡ true
+    ensures ended { has_read result ≡ true → ask_for_input (texts words.now) ≡ true
         → S.ends input.new ≡ ends_after (S.ends input.old) true }
     ensures no_further { IsEndedOnce (S.ends input.old) (S.ends input.new) }
     ensures unread { ask_for_input (texts words.now) ≡ false
@@ -226,10 +202,10 @@ fn answer<
     ensures idle { IfErr result (λ stop. IsQuiet stop
         → finders.new.items ≡ finders.old.items) }
 {
-    let Some(job) = read_job(words) else {
+    let Some(job) = read_job(alloc, words)? else {
         return Err(Stop::Words);
     };
-    let loaded = load(alloc, shelf, &job)?;
+    let loaded = load_files(alloc, shelf, &job.files, &job.options)?;
     do_any(
         rt, alloc, job.task, loaded, input, out, err, finders, gate, places,
     )
@@ -268,10 +244,10 @@ fn do_any<R: Threads + Wait + Sync, S: Source, K: Sink, E: Sink, P: Finder, G: G
         (Rose (S.faults input.old) (S.faults input.new))
         (Rose (K.faults out.old) (K.faults out.new))) }
     ensures quiet { IfErr result (λ stop. IsQuiet stop → K.taken out.new ≡ K.taken out.old) }
-    ensures read_to_end { OnOk result (reads_input task.entry ≡ true
-        → IfSome (S.left input.new) (λ rest. rest ≡ [])) }
-    ensures ended { OnOk result (reads_input task.entry ≡ true
-        → S.ends input.new ≡ ends_after (S.ends input.old) true) }
+    ensures read_to_end { is_past result ≡ true → reads_input task.entry ≡ true
+        → IfSome (S.left input.new) (λ rest. rest ≡ []) }
+    ensures ended { is_past result ≡ true → reads_input task.entry ≡ true
+        → S.ends input.new ≡ ends_after (S.ends input.old) true }
     ensures no_further { IsEndedOnce (S.ends input.old) (S.ends input.new) }
     ensures unread { reads_input task.entry ≡ false
         → pulled (S.left input.new) (S.ends input.new) (S.faults input.new)
@@ -322,10 +298,10 @@ fn do_task<S: Source, K: Sink, E: Sink, P: Finder>(
         (Rose (S.faults input.old) (S.faults input.new))
         (Rose (K.faults out.old) (K.faults out.new))) }
     ensures quiet { IfErr result (λ stop. IsQuiet stop → K.taken out.new ≡ K.taken out.old) }
-    ensures read_to_end { OnOk result (reads_input task.entry ≡ true
-        → IfSome (S.left input.new) (λ rest. rest ≡ [])) }
-    ensures ended { OnOk result (reads_input task.entry ≡ true
-        → S.ends input.new ≡ ends_after (S.ends input.old) true) }
+    ensures read_to_end { is_past result ≡ true → reads_input task.entry ≡ true
+        → IfSome (S.left input.new) (λ rest. rest ≡ []) }
+    ensures ended { is_past result ≡ true → reads_input task.entry ≡ true
+        → S.ends input.new ≡ ends_after (S.ends input.old) true }
     ensures no_further { IsEndedOnce (S.ends input.old) (S.ends input.new) }
     ensures unread { reads_input task.entry ≡ false
         → pulled (S.left input.new) (S.ends input.new) (S.faults input.new)

@@ -6,7 +6,7 @@ ghost use Rattle.regex_gate.specs.Refusals.{IsUsed};
 ghost use Rattle.script_read.specs.Named.{is_named};
 ghost use Rattle.script_read.specs.Said.{seen};
 ghost use Rattle.casbin_run.specs.Finders.{HaveRefusedAll};
-ghost use Rattle.casbin_run.specs.Helps.Tasks.{DidWrite, IsQuiet, WorkStops, ground};
+ghost use Rattle.casbin_run.specs.Helps.Tasks.{DidWrite, IsQuiet, WorkStops, ground, is_past};
 ghost use Rattle.casbin_run.specs.Helps.Sharing.{AreAnsweredShared};
 ghost use Rattle.loaded_work.specs.Helps.Working.{IsReady};
 ghost use Rattle.loaded_work.specs.Sinks.{taken};
@@ -59,8 +59,8 @@ pub(crate) fn share_items<
         (Rose (S.faults input.old) (S.faults input.new))
         (Rose (K.faults out.old) (K.faults out.new))) }
     ensures quiet { IfErr result (λ stop. IsQuiet stop → K.taken out.new ≡ K.taken out.old) }
-    ensures read_to_end { OnOk result (IfSome (S.left input.new) (λ rest. rest ≡ [])) }
-    ensures ended { OnOk result (S.ends input.new ≡ ends_after (S.ends input.old) true) }
+    ensures read_to_end { is_past result ≡ true → IfSome (S.left input.new) (λ rest. rest ≡ []) }
+    ensures ended { is_past result ≡ true → S.ends input.new ≡ ends_after (S.ends input.old) true }
     ensures no_further { IsEndedOnce (S.ends input.old) (S.ends input.new) }
     ensures input_counted { S.faults input.old ≤ S.faults input.new }
     ensures out_counted { K.faults out.old ≤ K.faults out.new }

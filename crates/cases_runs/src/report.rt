@@ -8,6 +8,7 @@ use live_pair::ListPlaces;
 use live_rounds::FreeGate;
 use outside::{ListShelf, ListSink, ListSource, Text};
 use regex_gate::ListFinder;
+use serve_run::{asks_to_serve, serve_casbin};
 use std::alloc::Global;
 use std::io::Write;
 use std::sync::Wait;
@@ -125,7 +126,7 @@ fn run<R: Threads + Wait + Sync>(
     )
 }
 
-// Runs the program. What its contract says is of no use here, so this function keeps it from the others.
+// Runs the program, or serves the input where the words ask for it. What its contract says is of no use here, so this function keeps it from the others.
 fn run_over<R: Threads + Wait + Sync>(
     rt: &R,
     alloc: Global,
@@ -138,6 +139,10 @@ fn run_over<R: Threads + Wait + Sync>(
     places: &mut ListPlaces,
 ) -> Result<u8> {
     ensure!(finders.len() == 9, "a run has nine finders");
+    if asks_to_serve(words) {
+        let finder = &mut finders[0];
+        return Ok(serve_casbin(alloc, words, shelf, input, out, err, finder).code());
+    }
     let status = run_casbin(
         rt, alloc, words, shelf, input, out, err, finders, &FreeGate, places,
     );

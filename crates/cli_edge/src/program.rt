@@ -12,6 +12,7 @@ use live_rounds::FreeGate;
 use outside::NoMemory;
 use regex_keep::KeepingFinder;
 use run_status::{Status, Stop, tell_stop};
+use serve_run::{asks_to_serve, serve_casbin};
 use std::alloc::Global;
 use std::process::ExitCode;
 use std::sync::Wait;
@@ -38,13 +39,22 @@ pub fn run_program<R: Threads + Wait + Sync>(rt: &R, host: &HostRuntime) -> Stat
     let Ok(mut finders) = finders(alloc) else {
         return tell_stop(&mut err, Stop::NoMemory);
     };
+    let mut shelf = FileShelf::new(alloc, host);
+    let mut input = ReadSource::new(host.stdin());
+    let mut out = WriteSink::new(host.stdout());
+    if asks_to_serve(&words) {
+        let finder = &mut finders[0];
+        return serve_casbin(
+            alloc, &words, &mut shelf, &mut input, &mut out, &mut err, finder,
+        );
+    }
     run_casbin(
         rt,
         alloc,
         &words,
-        &mut FileShelf::new(alloc, host),
-        &mut ReadSource::new(host.stdin()),
-        &mut WriteSink::new(host.stdout()),
+        &mut shelf,
+        &mut input,
+        &mut out,
         &mut err,
         &mut finders,
         &FreeGate,

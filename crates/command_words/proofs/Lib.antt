@@ -1,3 +1,12 @@
+pub mod TextLemmas
+pub mod FormLemmas
+pub mod AppLemmas
+pub mod MetItems
+pub mod MeetLemmas
+pub mod RowLemmas
+pub mod ItemLemmas
+pub mod CutLemmas
+pub mod ReadLemmas
 pub mod WordLemmas
 pub mod FitLemmas
 pub mod NumberLemmas

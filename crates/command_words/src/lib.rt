@@ -2,11 +2,12 @@
 #![tactic(auto)]
 
 mod command;
+mod described;
 mod fits;
-mod items;
 mod kind;
 mod lists;
 mod numbers;
+mod operands;
 mod options;
 mod words;
 

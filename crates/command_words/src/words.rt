@@ -1,21 +1,25 @@
-ghost use Rattle.std.specs.Prelude.{◌≡◌, ◌≤◌, ◌++◌, ◌+◌, ◌&&◌, drop, length};
-ghost use Rattle.std.specs.List.{list_all, position_or_len};
-ghost use Rattle.command_words.specs.Commands.{command_from, command_of, command_with, count_of, files_of, first_files, subject_of, takes};
-ghost use Rattle.command_words.specs.Items.{are_different, is_dashes, items, operands, texts};
+ghost use Rattle.std.specs.Prelude.{◌≡◌, IfOk, MatchOption, None, false};
+ghost use Rattle.std.specs.List.{after_first, before_first};
+ghost use Rattle.clap.specs.Words.{found_of};
+ghost use Rattle.command_words.specs.Commands.{command_from, command_of};
+ghost use Rattle.command_words.specs.Helps.Matched.{command_told};
+ghost use Rattle.command_words.specs.Items.{is_dashes, items, texts};
 
-use crate::command::{Command, Files, Subject};
-use crate::items::{Item, first_item, operand, stands};
+use crate::command::Command;
+use crate::described::parsed;
 use crate::kind::Kind;
-use crate::numbers::number_between;
+use crate::operands::{count_of, files_of, first_files, subject_of};
 use crate::options::{cache_in, most_in, options_in, workers_in};
+use clap::ArgMatches;
+use perm_base::NoMemory;
+use std::alloc::Global;
 
-const MOST_COUNT: u32 = 100_000;
-
-/// What the words behind the program's name ask for, or `None` where they are no command. It takes no memory.
+/// What the words behind the program's name ask for, or `None` where they are no command.
 ///
-/// The first word names the command. Up to the first `--` an option is `--name VALUE` or `--name=VALUE`, the flag is `--json`,
-/// and an operand is `-` or a word that does not begin with `-`; behind it all words are operands. They come in any order, and
-/// neither the flag nor an option stands twice. A value in a word of its own does not begin with `-`.
+/// The first word names the command, and `clap` reads the others. Up to the first `--` an option is `--name VALUE` or
+/// `--name=VALUE`, the flag is `--json`, and an operand is `-` or a word that does not begin with `-`; behind it all words are
+/// operands. They come in any order, and neither the flag nor an option stands twice. A value in a word of its own does not
+/// begin with `-`.
 ///
 /// - `enforce MODEL POLICY [--limit L] [--match LIST] [--domain-match LIST] [--cache C] [--json]`
 /// - `explain MODEL POLICY [--most K] [--limit L] [--match LIST] [--domain-match LIST] [--json]`
@@ -32,123 +36,112 @@ const MOST_COUNT: u32 = 100_000;
 /// `L` is a number from 1 to 250 and `W` one from 0 to 8, each in one to three decimal digits; `C` is one from 1 to 10,000, in one
 /// to five, `K` one from 1 to 1,000, in one to four, and `N` one from 1 to 100,000, in one to six. `LIST` is one `RELATION=FUNCTION` or more, joined by `,`, where the relations are `g` and `g2` to `g8`, none of
 /// them twice, and the functions are Casbin's `keyMatch`, `keyMatch2`, `keyMatch3` and `globMatch`.
-pub fn read_words(words: &[String]) -> Option<Command<'_>>
-    ensures { result ≡ command_of (texts words.now) }
+pub fn read_words(alloc: Global, words: &[String]) -> Result<Option<Command<'_>>, NoMemory>
+    ensures { IfOk result (λ command. command ≡ command_of (texts words.now)) }
+{
+    let Some((kind, others)) = kind_of(words) else {
+        return Ok(None);
+    };
+    let Some(matches) = parsed(alloc, kind, others)? else {
+        return Ok(None);
+    };
+    let json = matches.get_flag("json");
+    Ok(command_in(kind, json, &matches))
+}
+
+// The command that the first word names, and the words behind it.
+fn kind_of(words: &[String]) -> Option<(Kind, &[String])>
+    ensures { MatchOption result (command_of (texts words.now) ≡ None)
+        (λ found. command_of (texts words.now) ≡ command_from found.0
+        (items (before_first is_dashes (texts found.1.now)))
+        (after_first is_dashes (texts found.1.now))) }
 {
     let (name, others) = words.split_first()?;
     let kind = Kind::named(name)?;
-    let end = end_of_options(others);
-    command_from(kind, &others[..end], words_behind(others, end))
+    Some((kind, others))
 }
 
-// What the words before the first `--` and those behind it ask for.
-fn command_from<'a>(kind: Kind, before: &'a [String], behind: &'a [String]) -> Option<Command<'a>>
-    ensures { result ≡ command_from kind (items (texts before.now)) (texts behind.now) }
+// What the matches ask for.
+fn command_in<'a>(kind: Kind, json: bool, matches: &ArgMatches<'a>) -> Option<Command<'a>>
+    ensures { result ≡ command_told kind json (found_of matches.now) }
 {
-    if !are_taken(kind, before) {
-        return None;
-    }
     match kind {
-        Kind::Enforce => enforce(before, behind),
-        Kind::Explain => explain(before, behind),
-        Kind::Session => session(before, behind),
-        Kind::Check => check(before, behind),
-        Kind::Format => format(before, behind),
-        Kind::Implicit => implicit(before, behind),
-        Kind::Report => report(before, behind),
-        Kind::Ship => ship(before, behind),
-        Kind::Follow => follow(before, behind),
-        Kind::Lint => lint(before, behind),
-        Kind::Demo => demo(before, behind),
+        Kind::Enforce => enforce(json, matches),
+        Kind::Explain => explain(json, matches),
+        Kind::Session => session(json, matches),
+        Kind::Check => check(matches),
+        Kind::Format => format(matches),
+        Kind::Implicit => implicit(matches),
+        Kind::Report => report(matches),
+        Kind::Ship => ship(matches),
+        Kind::Follow => follow(matches),
+        Kind::Lint => lint(matches),
+        Kind::Demo => demo(matches),
     }
 }
 
-// The command takes each item, and none stands twice.
-fn are_taken(kind: Kind, words: &[String]) -> bool
-    ensures { result ≡ (list_all (takes kind) (items (texts words.now))
-        && are_different (items (texts words.now))) }
+fn enforce<'a>(json: bool, matches: &ArgMatches<'a>) -> Option<Command<'a>>
+    ensures { result ≡ command_told Kind.Enforce json (found_of matches.now) }
 {
-    let mut rest = words;
-    while let Some((item, behind)) = first_item(rest) {
-        if !kind.takes(&item) {
-            return false;
-        }
-        if stands(&item, behind) {
-            return false;
-        }
-        rest = behind;
-    }
-    true
-}
-
-fn enforce<'a>(before: &'a [String], behind: &'a [String]) -> Option<Command<'a>>
-    ensures { let given = items (texts before.now) in
-        result ≡ command_with Kind.Enforce given (operands given ++ texts behind.now) }
-{
-    let files = files_of(before, behind)?;
-    let options = options_in(before)?;
-    let cache = cache_in(before)?;
+    let files = files_of(matches)?;
+    let options = options_in(matches)?;
+    let cache = cache_in(matches)?;
     Some(Command::Enforce {
         files,
         options,
-        json: stands(&Item::Flag, before),
+        json,
         cache,
     })
 }
 
-fn explain<'a>(before: &'a [String], behind: &'a [String]) -> Option<Command<'a>>
-    ensures { let given = items (texts before.now) in
-        result ≡ command_with Kind.Explain given (operands given ++ texts behind.now) }
+fn explain<'a>(json: bool, matches: &ArgMatches<'a>) -> Option<Command<'a>>
+    ensures { result ≡ command_told Kind.Explain json (found_of matches.now) }
 {
-    let files = files_of(before, behind)?;
-    let options = options_in(before)?;
-    let most = most_in(before)?;
+    let files = files_of(matches)?;
+    let options = options_in(matches)?;
+    let most = most_in(matches)?;
     Some(Command::Explain {
         files,
         options,
-        json: stands(&Item::Flag, before),
+        json,
         most,
     })
 }
 
-fn session<'a>(before: &'a [String], behind: &'a [String]) -> Option<Command<'a>>
-    ensures { let given = items (texts before.now) in
-        result ≡ command_with Kind.Session given (operands given ++ texts behind.now) }
+fn session<'a>(json: bool, matches: &ArgMatches<'a>) -> Option<Command<'a>>
+    ensures { result ≡ command_told Kind.Session json (found_of matches.now) }
 {
-    let files = files_of(before, behind)?;
-    let options = options_in(before)?;
-    let workers = workers_in(before)?;
+    let files = files_of(matches)?;
+    let options = options_in(matches)?;
+    let workers = workers_in(matches)?;
     Some(Command::Session {
         files,
         options,
-        json: stands(&Item::Flag, before),
+        json,
         workers,
     })
 }
 
-fn check<'a>(before: &'a [String], behind: &'a [String]) -> Option<Command<'a>>
-    ensures { let given = items (texts before.now) in
-        result ≡ command_with Kind.Check given (operands given ++ texts behind.now) }
+fn check<'a>(matches: &ArgMatches<'a>) -> Option<Command<'a>>
+    ensures { result ≡ command_told Kind.Check false (found_of matches.now) }
 {
-    let files = files_of(before, behind)?;
+    let files = files_of(matches)?;
     Some(Command::Check(files))
 }
 
-fn format<'a>(before: &'a [String], behind: &'a [String]) -> Option<Command<'a>>
-    ensures { let given = items (texts before.now) in
-        result ≡ command_with Kind.Format given (operands given ++ texts behind.now) }
+fn format<'a>(matches: &ArgMatches<'a>) -> Option<Command<'a>>
+    ensures { result ≡ command_told Kind.Format false (found_of matches.now) }
 {
-    let files = files_of(before, behind)?;
+    let files = files_of(matches)?;
     Some(Command::Format(files))
 }
 
-fn implicit<'a>(before: &'a [String], behind: &'a [String]) -> Option<Command<'a>>
-    ensures { let given = items (texts before.now) in
-        result ≡ command_with Kind.Implicit given (operands given ++ texts behind.now) }
+fn implicit<'a>(matches: &ArgMatches<'a>) -> Option<Command<'a>>
+    ensures { result ≡ command_told Kind.Implicit false (found_of matches.now) }
 {
-    let files = first_files(before, behind)?;
-    let subject = subject_of(before, behind)?;
-    let options = options_in(before)?;
+    let files = first_files(matches)?;
+    let subject = subject_of(matches)?;
+    let options = options_in(matches)?;
     Some(Command::Implicit {
         files,
         subject,
@@ -156,113 +149,42 @@ fn implicit<'a>(before: &'a [String], behind: &'a [String]) -> Option<Command<'a
     })
 }
 
-fn report<'a>(before: &'a [String], behind: &'a [String]) -> Option<Command<'a>>
-    ensures { let given = items (texts before.now) in
-        result ≡ command_with Kind.Report given (operands given ++ texts behind.now) }
+fn report<'a>(matches: &ArgMatches<'a>) -> Option<Command<'a>>
+    ensures { result ≡ command_told Kind.Report false (found_of matches.now) }
 {
-    let files = files_of(before, behind)?;
-    let options = options_in(before)?;
+    let files = files_of(matches)?;
+    let options = options_in(matches)?;
     Some(Command::Report { files, options })
 }
 
-fn ship<'a>(before: &'a [String], behind: &'a [String]) -> Option<Command<'a>>
-    ensures { let given = items (texts before.now) in
-        result ≡ command_with Kind.Ship given (operands given ++ texts behind.now) }
+fn ship<'a>(matches: &ArgMatches<'a>) -> Option<Command<'a>>
+    ensures { result ≡ command_told Kind.Ship false (found_of matches.now) }
 {
-    let files = files_of(before, behind)?;
-    let options = options_in(before)?;
+    let files = files_of(matches)?;
+    let options = options_in(matches)?;
     Some(Command::Ship { files, options })
 }
 
-fn follow<'a>(before: &'a [String], behind: &'a [String]) -> Option<Command<'a>>
-    ensures { let given = items (texts before.now) in
-        result ≡ command_with Kind.Follow given (operands given ++ texts behind.now) }
+fn follow<'a>(matches: &ArgMatches<'a>) -> Option<Command<'a>>
+    ensures { result ≡ command_told Kind.Follow false (found_of matches.now) }
 {
-    let files = files_of(before, behind)?;
-    let options = options_in(before)?;
+    let files = files_of(matches)?;
+    let options = options_in(matches)?;
     Some(Command::Follow { files, options })
 }
 
-fn lint<'a>(before: &'a [String], behind: &'a [String]) -> Option<Command<'a>>
-    ensures { let given = items (texts before.now) in
-        result ≡ command_with Kind.Lint given (operands given ++ texts behind.now) }
+fn lint<'a>(matches: &ArgMatches<'a>) -> Option<Command<'a>>
+    ensures { result ≡ command_told Kind.Lint false (found_of matches.now) }
 {
-    let files = files_of(before, behind)?;
-    let options = options_in(before)?;
+    let files = files_of(matches)?;
+    let options = options_in(matches)?;
     Some(Command::Lint { files, options })
 }
 
-fn demo<'a>(before: &'a [String], behind: &'a [String]) -> Option<Command<'a>>
-    ensures { let given = items (texts before.now) in
-        result ≡ command_with Kind.Demo given (operands given ++ texts behind.now) }
+fn demo<'a>(matches: &ArgMatches<'a>) -> Option<Command<'a>>
+    ensures { result ≡ command_told Kind.Demo false (found_of matches.now) }
 {
-    let count = count_of(before, behind)?;
-    let workers = workers_in(before)?;
+    let count = count_of(matches)?;
+    let workers = workers_in(matches)?;
     Some(Command::Demo { count, workers })
-}
-
-// The files that two operands name.
-fn files_of<'a>(before: &'a [String], behind: &'a [String]) -> Option<Files<'a>>
-    ensures { result ≡ files_of (operands (items (texts before.now)) ++ texts behind.now) }
-{
-    let model = operand(before, behind, 0)?;
-    let policy = operand(before, behind, 1)?;
-    let None = operand(before, behind, 2) else {
-        return None;
-    };
-    Some(Files { model, policy })
-}
-
-// The files that the first two operands name.
-fn first_files<'a>(before: &'a [String], behind: &'a [String]) -> Option<Files<'a>>
-    ensures { result ≡ first_files (operands (items (texts before.now)) ++ texts behind.now) }
-{
-    let model = operand(before, behind, 0)?;
-    let policy = operand(before, behind, 1)?;
-    Some(Files { model, policy })
-}
-
-// The name that the third operand is, with the fourth as its domain.
-fn subject_of<'a>(before: &'a [String], behind: &'a [String]) -> Option<Subject<'a>>
-    ensures { result ≡ subject_of (operands (items (texts before.now)) ++ texts behind.now) }
-{
-    let name = operand(before, behind, 2)?;
-    let domain = operand(before, behind, 3);
-    let None = operand(before, behind, 4) else {
-        return None;
-    };
-    Some(Subject { name, domain })
-}
-
-// The number that one operand is.
-fn count_of(before: &[String], behind: &[String]) -> Option<u32>
-    ensures { result ≡ count_of (operands (items (texts before.now)) ++ texts behind.now) }
-{
-    let count = operand(before, behind, 0)?;
-    let None = operand(before, behind, 1) else {
-        return None;
-    };
-    number_between(count, 6, 1, MOST_COUNT)
-}
-
-// The place of the first `--`, or the end.
-fn end_of_options(words: &[String]) -> usize
-    ensures place { result ≡ position_or_len is_dashes (texts words.now) }
-    ensures within { result ≤ length words.now }
-{
-    words
-        .iter()
-        .position(|word| word.as_str() == "--")
-        .unwrap_or(words.len())
-}
-
-// The words behind the one at a place, if there is one.
-fn words_behind(words: &[String], at: usize) -> &[String]
-    ensures { texts result.now ≡ drop (at + 1) (texts words.now) }
-{
-    if at < words.len() {
-        &words[at + 1..]
-    } else {
-        &[]
-    }
 }

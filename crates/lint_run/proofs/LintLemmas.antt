@@ -1,8 +1,11 @@
 -- What the words of a lint ask for, and why a lint stops.
-use Rattle.std.proofs.Common.{◌≡◌, ℕ, ◌<◌, ◌≤◌, List, [], Option, Some, None, Ok, inl, inr, ⊎_elim, length, refl, sym, ap, subst}
-use Rattle.std.specs.Prelude.{Err, IfErr, IfOk, IfSome, Result}
+use Rattle.std.proofs.Common.{◌≡◌, ℕ, ◌<◌, ◌≤◌, ◌∙◌, false, List, [], ◌∷◌, Option, Some, None, Ok, inl, inr, ⊎_elim, length, refl, sym, ap, subst}
+use Rattle.std.specs.Prelude.{Err, IfErr, IfOk, IfSome, Result, String, bytes_eq, codes, string_bytes}
+use Rattle.std.specs.Option.{option_and_then}
+use Rattle.std.specs.declared.alloc.Global.{Global}
 use Rattle.std.proofs.lemmas.Option.{option_and_then_some}
 use Rattle.command_words.specs.Commands.{command_of}
+use Rattle.command_words.specs.Items.{texts}
 use Rattle.command_words.specs.declared.command.Command.{Command}
 use Rattle.command_words.specs.declared.command.Command.TheVariants as command
 use Rattle.command_words.specs.declared.command.Options.{Options}
@@ -25,10 +28,24 @@ use Rattle.run_status.specs.declared.stop.Stop.{Stop}
 use Rattle.run_status.specs.declared.stop.Stop.TheVariants.{NoModel, NoRelation, CannotRead, TooLong, NoMemory}
 use Rattle.lint_run.specs.Ends.{LintStops}
 use Rattle.lint_run.specs.Helps.{AreLinted, FetchStops, FilesStop, IsPolicyLinted, IsPolicyTold, PolicyFileStops, ShapesStop}
-use Rattle.lint_run.specs.Linting.{FileIs, Lints, absent_in, lint_asked, lint_of, lint_text, policy_end, shapes_with}
+use Rattle.lint_run.specs.Linting.{FileIs, Lints, absent_in, is_to_lint, lint_asked, lint_of, lint_text, policy_end, shapes_with}
 use Rattle.lint_run.specs.Linting.Lints.{both, model_alone}
 use Rattle.lint_run.specs.declared.job.LintJob.{LintJob}
 use Rattle.lint_run.specs.declared.linting.Linted.{Linted}
+
+-- a first word, or none
+pub named_none : (words : List (String Global)) → words ≡ [] → false ≡ is_to_lint (texts words)
+named_none words none = ap (λ (w : List (String Global)). is_to_lint (texts w)) (sym none)
+
+pub named_so : (words others : List (String Global)) (name : String Global) → words ≡ name ∷ others → bytes_eq (string_bytes name) (codes "lint") ≡ is_to_lint (texts words)
+named_so words others name is = ap (λ (w : List (String Global)). is_to_lint (texts w)) (sym is)
+
+-- what the words ask for, by the command that they are
+pub no_lint_read : (words : List (List ℕ)) (command : Option Command) → command ≡ command_of words → command ≡ None → None ≡ lint_asked words
+no_lint_read words command is none = ap (λ (o : Option Command). option_and_then lint_of o) (sym none ∙ is)
+
+pub lint_read : (words : List (List ℕ)) (found : Option Command) (command : Command) (job : Option LintJob) → found ≡ command_of words → found ≡ Some command → job ≡ lint_of command → job ≡ lint_asked words
+lint_read words found command job is some told = told ∙ ap (λ (o : Option Command). option_and_then lint_of o) (sym some ∙ is)
 
 -- a limit is one to 250
 abbrev LintHas : Option LintJob → Type 0

@@ -1,6 +1,7 @@
 -- What a lint is done on, what it writes, and the status that its findings give.
-use Rattle.std.specs.Prelude.{◌≡◌, ℕ, ◌+◌, ◌≤◌, Bool, List, [], ◌++◌, Option, Some, None, Ok, Err, is_some, length}
+use Rattle.std.specs.Prelude.{◌≡◌, ℕ, ◌+◌, ◌≤◌, Bool, false, List, [], ◌∷◌, ◌++◌, Option, Some, None, Ok, Err, codes, length}
 use Rattle.std.specs.Option.{option_and_then}
+use Rattle.std.specs.Str.{bytes_eq}
 use Rattle.command_words.specs.Commands.{command_of}
 use Rattle.command_words.specs.declared.command.Command.{Command}
 use Rattle.command_words.specs.declared.command.Command.TheVariants as command
@@ -34,8 +35,10 @@ lint_of _ = None
 abbrev pub lint_asked : List (List ℕ) → Option LintJob
 lint_asked words = option_and_then lint_of (command_of words)
 
-abbrev pub ask_for_lint : List (List ℕ) → Bool
-ask_for_lint words = is_some (lint_asked words)
+-- the words ask for a lint, in order or not: the first is the name of the command
+abbrev pub is_to_lint : List (List ℕ) → Bool
+is_to_lint [] = false
+is_to_lint (name ∷ others) = bytes_eq name (codes "lint")
 
 -- the shapes of the model's policies with these options
 abbrev pub shapes_with : Options → ModelParts → Shapes

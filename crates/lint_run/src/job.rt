@@ -1,8 +1,10 @@
-ghost use Rattle.std.specs.Prelude.{◌≡◌, ◌<◌, ◌≤◌, IfSome};
+ghost use Rattle.std.specs.Prelude.{◌≡◌, ◌<◌, ◌≤◌, IfOk, IfSome, bytes_eq, codes};
 ghost use Rattle.command_words.specs.Items.{texts};
-ghost use Rattle.lint_run.specs.Linting.{lint_asked, lint_of};
+ghost use Rattle.lint_run.specs.Linting.{is_to_lint, lint_asked, lint_of};
 
 use command_words::{Command, Files, Options, read_words};
+use outside::NoMemory;
+use std::alloc::Global;
 
 /// What a lint is done on: its files, and what is said of roles.
 #[derive(Drop)]
@@ -11,12 +13,33 @@ pub(crate) struct LintJob<'a> {
     pub options: Options,
 }
 
-/// What the words ask for, where they ask for a lint. It takes no memory.
-pub(crate) fn read_lint(words: &[String]) -> Option<LintJob<'_>>
-    ensures asked { result ≡ lint_asked (texts words.now) }
-    ensures limit { IfSome result (λ job. (0 < job.options.limit) × (job.options.limit ≤ 250)) }
+/// Whether the words ask for a lint, in order or not: the first is `lint`.
+pub fn asks_for_lint(words: &[String]) -> bool
+    ensures { result ≡ is_to_lint (texts words.now) }
 {
-    lint_of(read_words(words)?)
+    let Some((name, _others)) = words.split_first() else {
+        return false;
+    };
+    is_lint(name.as_str())
+}
+
+// The name of the command.
+fn is_lint(name: &str) -> bool
+    ensures { result ≡ bytes_eq name.now (codes "lint") }
+{
+    name == "lint"
+}
+
+/// What the words ask for, where they ask for a lint.
+pub(crate) fn read_lint(alloc: Global, words: &[String]) -> Result<Option<LintJob<'_>>, NoMemory>
+    ensures asked { IfOk result (λ found. found ≡ lint_asked (texts words.now)) }
+    ensures limit { IfOk result (λ found. IfSome found (λ job.
+        (0 < job.options.limit) × (job.options.limit ≤ 250))) }
+{
+    let Some(command) = read_words(alloc, words)? else {
+        return Ok(None);
+    };
+    Ok(lint_of(command))
 }
 
 // What a lint is done on.

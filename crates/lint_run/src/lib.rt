@@ -5,5 +5,6 @@ mod files;
 mod job;
 mod linting;
 
-pub use linting::{asks_for_lint, run_lint};
+pub use job::asks_for_lint;
+pub use linting::run_lint;
 pub use run_status::Status;

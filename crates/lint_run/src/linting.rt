@@ -5,7 +5,7 @@ ghost use Rattle.outside.specs.Faults.{Rose};
 ghost use Rattle.run_status.specs.Statuses.{status_of};
 ghost use Rattle.run_status.specs.declared.stop.Stop.TheVariants.{NoModel};
 ghost use Rattle.lint_run.specs.Ends.{LintEnds, LintStops};
-ghost use Rattle.lint_run.specs.Linting.{ask_for_lint, lint_text, policy_end};
+ghost use Rattle.lint_run.specs.Linting.{lint_text, policy_end};
 ghost use Rattle.lint_run.specs.Helps.{AreLinted, FilesStop, HasLinted, IsPolicyLinted, IsPolicyTold, PolicyFileStops};
 
 use crate::files::{fetch, policy_shapes};
@@ -26,13 +26,6 @@ pub(crate) struct Linted {
     model: Vec<Finding>,
     policy: Vec<Finding>,
     status: Status,
-}
-
-/// Whether the words ask for a lint. It takes no memory.
-pub fn asks_for_lint(words: &[String]) -> bool
-    ensures { result ≡ ask_for_lint (texts words.now) }
-{
-    read_lint(words).is_some()
 }
 
 /// Tells on `out` what is wrong with the files that the words name, and what loads and then surprises: a line for each finding, those of
@@ -74,7 +67,7 @@ fn lint<F: Shelf, K: Sink>(
     ensures same_files { F.files shelf.new ≡ F.files shelf.old }
     ensures counted { K.faults out.old ≤ K.faults out.new }
 {
-    let Some(job) = read_lint(words) else {
+    let Some(job) = read_lint(alloc, words)? else {
         return Err(Stop::Words);
     };
     let linted = lint_files(alloc, shelf, &job)?;

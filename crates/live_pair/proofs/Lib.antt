@@ -1,6 +1,7 @@
 mod FrontLemmas
 mod AddingLemmas
 mod StoryLemmas
+mod StartLemmas
 mod ShownLemmas
 mod SideLemmas
 mod LineLemmas

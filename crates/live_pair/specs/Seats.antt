@@ -1,5 +1,5 @@
 -- What contracts see of a seat, of its way in, and of what an entry leaves.
-use Rattle.std.specs.Prelude.{◌≡◌, ℕ, ◌+◌, List, length, min}
+use Rattle.std.specs.Prelude.{◌≡◌, ℕ, ◌+◌, List, [], ◌∷◌, length, min}
 use mathlib.Core.List.{IsPrefix}
 use Rattle.live_pair.specs.Story.{edits_in}
 use Rattle.outside.specs.Faults.{most_faults}
@@ -20,6 +20,18 @@ pub record SeatSeen : Type 0 where
 -- the version of a published history: how many edits it has
 abbrev pub version_of : List (List (List Change)) → ℕ
 version_of front = length (edits_in front)
+
+-- how many edits publishes have before the last of them
+abbrev pub before_last : List (List (List Change)) → ℕ
+before_last [] = 0
+before_last (publish ∷ []) = 0
+before_last (publish ∷ next ∷ publishes) = length publish + before_last (next ∷ publishes)
+
+-- the version at which the log of an entered policy starts: it has the edits of the last publish, and none of those of the
+-- policy that was opened
+abbrev pub start_of : List (List (List Change)) → ℕ
+start_of [] = 0
+start_of (opened ∷ publishes) = length opened + before_last publishes
 
 -- a count with one more; it stands still at its greatest number
 abbrev pub raised : ℕ → ℕ

@@ -1,7 +1,8 @@
 //! The ways into a pair.
-ghost use Rattle.std.specs.Prelude.{◌≡◌, ◌≤◌, ◌⊎◌, [], IfErr, IfOk, IfSome};
+ghost use Rattle.std.specs.Prelude.{◌≡◌, ◌⊎◌, [], IfErr, IfOk, IfSome, true};
 ghost use mathlib.Core.List.{IsPrefix};
-ghost use Rattle.live_pair.specs.Seats.{raised, version_of};
+ghost use Rattle.live_pair.specs.Helps.Sides.{is_published};
+ghost use Rattle.live_pair.specs.Seats.{raised, start_of, version_of};
 ghost use Rattle.live_pair.specs.Story.{edits_in, publishes, unpublished};
 ghost use Rattle.policy_state.specs.States.{StandsFor};
 ghost use Rattle.version_log.specs.Log.{versions};
@@ -43,7 +44,8 @@ pub struct Inside<J: Naming> {
 }
 
 impl<J: Naming> Model for Inside<J> {
-    ghost use Rattle.std.specs.Prelude.{◌≡◌, []};
+    ghost use Rattle.std.specs.Prelude.{◌≡◌, [], true};
+    ghost use Rattle.live_pair.specs.Helps.Sides.{is_published};
     ghost use Rattle.live_pair.specs.Seats.{Way};
     ghost use Rattle.live_pair.specs.Story.{publishes, unpublished};
 
@@ -52,7 +54,8 @@ impl<J: Naming> Model for Inside<J> {
     ghost view = { λ i. record { front = i.front; refused = i.refused } };
 
     ghost invariant = { λ i. (i.front ≡ publishes J.first i.reading.part.value)
-        × (unpublished J.first i.reading.part.value ≡ []) };
+        × (unpublished J.first i.reading.part.value ≡ [])
+        × (is_published i.reading.part.value ≡ true) };
 }
 
 impl<J: Naming> Entrance<J> {
@@ -141,6 +144,7 @@ impl<J: Naming> Entrance<J> {
 fn newer<J: Naming>(front: &Front<J>, side: &Side<J>) -> Option<Front<J>>
     ensures front { IfSome result (λ new. new ≡ publishes J.first side.now) }
     ensures whole { IfSome result (λ _. unpublished J.first side.now ≡ []) }
+    ensures published { IfSome result (λ _. is_published side.now ≡ true) }
     ensures begun { IfSome result (λ new. IsPrefix front.now new) }
 {
     let new = side.front()?;
@@ -148,11 +152,11 @@ fn newer<J: Naming>(front: &Front<J>, side: &Side<J>) -> Option<Front<J>>
 }
 
 impl<J: Naming> Inside<J> {
-    /// The policy after the front.
+    /// The policy after the front. Its log has the edits of the last publish.
     pub(crate) fn state(&self) -> &PolicyState
         ensures shapes { result.now.shapes ≡ J.shapes }
         ensures stands { StandsFor result.now J.opening (edits_in self.now.front) }
-        ensures start { result.now.log.start ≤ version_of self.now.front }
+        ensures start { result.now.log.start ≡ start_of self.now.front }
         ensures version { versions result.now.log ≡ version_of self.now.front }
     {
         self.reading.get().state()

@@ -118,7 +118,7 @@ impl<J: Naming> Line<J> {
             return Err(NoMemory);
         }
         self.told = told.again();
-        if let Err(operation) = append(copies, Op::new(edits, told, desk.floor())) {
+        if let Err(operation) = append(copies, Op::new(edits, told)) {
             self.parked = Some(operation);
             return Err(NoMemory);
         }

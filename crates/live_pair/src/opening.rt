@@ -1,5 +1,4 @@
 ghost use Rattle.std.specs.Prelude.{◌≡◌, ◌∷◌, ◌<◌, ◌≤◌, [], All, IfOk, length, vec_capacity};
-ghost use Rattle.live_pair.specs.Helps.Sides.{IsUpTo};
 ghost use Rattle.live_pair.specs.Seats.{IsNew};
 ghost use Rattle.outside.specs.Faults.{Rose};
 ghost use Rattle.policy_state.specs.States.{StandsFor};
@@ -12,7 +11,7 @@ use crate::line::{Line, SideWriter};
 use crate::naming::Naming;
 use crate::places::Places;
 use crate::seat::Seat;
-use crate::side::Side;
+use crate::side::{Side, make};
 use crate::told::Told;
 use left_right::writer::Writer;
 use perm_base::NoMemory;
@@ -102,7 +101,9 @@ fn copies<J: Naming>(
     head: &Arc<Head<J>>,
     seats: u8,
 ) -> Result<SideWriter<J>, NoMemory>
-    requires up_to { IsUpTo J.shapes J.opening J.first told.now desk.now.state }
+    requires none { told.now ≡ [] }
+    requires shapes { desk.now.state.shapes ≡ J.shapes }
+    requires stands { StandsFor desk.now.state J.opening J.first }
     requires some { 0 < seats }
     ensures { IfOk result (λ writer. writer.desk.shown.value ≡ told.now) }
 {
@@ -111,17 +112,21 @@ fn copies<J: Naming>(
     Ok(Writer::new(alloc, first, second, seats as usize)?)
 }
 
-// A copy of the desk's policy.
+// A copy of the desk's policy, whose log keeps none of its edits.
 fn copy_of<J: Naming>(
     alloc: Global,
     desk: &Desk,
     told: &Told<J>,
     head: &Arc<Head<J>>,
 ) -> Result<Side<J>, NoMemory>
-    requires { IsUpTo J.shapes J.opening J.first told.now desk.now.state }
+    requires none { told.now ≡ [] }
+    requires shapes { desk.now.state.shapes ≡ J.shapes }
+    requires stands { StandsFor desk.now.state J.opening J.first }
     ensures { IfOk result (λ side. side ≡ told.now) }
 {
-    let state = desk.state().copy(alloc)?;
+    let mut state = desk.state().copy(alloc)?;
+    let start = state.version();
+    make(&mut state, alloc, &[], start)?;
     let head = Arc::try_clone(head)?;
     Ok(Side::new(alloc, state, told.again(), head))
 }

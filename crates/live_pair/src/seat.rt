@@ -1,7 +1,7 @@
 //! Seats, from which readers enter.
-ghost use Rattle.std.specs.Prelude.{◌≡◌, ◌≤◌, ◌⊎◌, IfErr, IfOk};
+ghost use Rattle.std.specs.Prelude.{◌≡◌, ◌⊎◌, IfErr, IfOk};
 ghost use mathlib.Core.List.{IsPrefix};
-ghost use Rattle.live_pair.specs.Seats.{IsEntered, IsNew, IsShut, version_of};
+ghost use Rattle.live_pair.specs.Seats.{IsEntered, IsNew, IsShut, start_of, version_of};
 ghost use Rattle.live_pair.specs.Story.{edits_in};
 ghost use Rattle.policy_state.specs.States.{StandsFor};
 ghost use Rattle.version_log.specs.Log.{versions};
@@ -140,11 +140,11 @@ impl<J: Naming> Seat<J> {
 
 impl<J: Naming> Entered<J> {
     /// The policy that was entered: it has the shapes of the policy that was opened, and stands for the edits of the front. Its
-    /// log starts at a version that is at most the front's, and goes up to that; how many edits it keeps is not said.
+    /// log has the edits of the last publish, and none where nothing was published since the opening.
     pub fn state(&self) -> &PolicyState
         ensures shapes { result.now.shapes ≡ J.shapes }
         ensures stands { StandsFor result.now J.opening (edits_in self.now.front) }
-        ensures start { result.now.log.start ≤ version_of self.now.front }
+        ensures start { result.now.log.start ≡ start_of self.now.front }
         ensures version { versions result.now.log ≡ version_of self.now.front }
     {
         self.inside.state()

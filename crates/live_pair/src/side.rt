@@ -1,6 +1,6 @@
 //! The value of which there are two copies.
-ghost use Rattle.std.specs.Prelude.{◌≡◌, ◌+◌, ◌≤◌, ◌++◌, ◌∷◌, [], IfSome, List, MatchBool, OnErr, OnOk, Some, length};
-ghost use Rattle.live_pair.specs.Helps.Sides.{IsUpTo, ending};
+ghost use Rattle.std.specs.Prelude.{◌≡◌, ◌+◌, ◌≤◌, ◌++◌, ◌∷◌, [], IfSome, List, MatchBool, OnErr, OnOk, Some, length, true};
+ghost use Rattle.live_pair.specs.Helps.Sides.{IsUpTo, ending, is_published};
 ghost use Rattle.live_pair.specs.Story.{edits_in, publishes, unpublished};
 ghost use Rattle.live_pair.specs.declared.edits.Event.TheVariants.{Publish, Staged};
 ghost use Rattle.edit_calls.specs.Admitted.{AreAdmitted};
@@ -22,12 +22,11 @@ use std::alloc::{AllocError, Global};
 use std::marker::Model;
 use std::sync::Arc;
 
-/// What goes to a copy: some further edits, the history up to them, and the version at which the copy's log may start.
+/// What goes to a copy: some further edits, and the history up to them.
 #[derive(Drop)]
 pub struct Op<J: Naming> {
     edits: Edits,
     told: Told<J>,
-    start: u32,
     ghost last: { ending told ≡ Some (Staged edits) },
 }
 
@@ -38,18 +37,21 @@ pub struct Side<J: Naming> {
     state: PolicyState,
     told: Told<J>,
     head: Arc<Head<J>>,
+    // Nothing was handed over since the last publish.
+    published: bool,
 }
 
 impl<J: Naming> Model for Side<J> {
-    ghost use Rattle.std.specs.Prelude.{List};
+    ghost use Rattle.std.specs.Prelude.{◌≡◌, List};
     ghost use Rattle.live_pair.specs.declared.edits.Event.{Event};
-    ghost use Rattle.live_pair.specs.Helps.Sides.{IsUpTo};
+    ghost use Rattle.live_pair.specs.Helps.Sides.{IsUpTo, is_published};
 
     ghost Value = { List Event };
 
     ghost view = { λ s. s.told };
 
-    ghost invariant = { λ s. IsUpTo J.shapes J.opening J.first s.told s.state };
+    ghost invariant = { λ s. IsUpTo J.shapes J.opening J.first s.told s.state
+        × (s.published ≡ is_published s.told) };
 }
 
 impl<J: Naming> Absorb<Op<J>> for Side<J> {
@@ -82,11 +84,11 @@ impl<J: Naming> Absorb<Op<J>> for Side<J> {
 }
 
 impl<J: Naming> Op<J> {
-    pub(crate) fn new(edits: Edits, told: Told<J>, start: u32) -> Op<J>
+    pub(crate) fn new(edits: Edits, told: Told<J>) -> Op<J>
         requires { ending told ≡ Some (Staged edits) }
         ensures { result.told ≡ told }
     {
-        Op { edits, told, start }
+        Op { edits, told }
     }
 }
 
@@ -97,7 +99,8 @@ impl<J: Naming> Side<J> {
         told: Told<J>,
         head: Arc<Head<J>>,
     ) -> Side<J>
-        requires { IsUpTo J.shapes J.opening J.first told state }
+        requires up_to { IsUpTo J.shapes J.opening J.first told state }
+        requires published { true ≡ is_published told }
         ensures { result ≡ told }
     {
         Side {
@@ -105,6 +108,7 @@ impl<J: Naming> Side<J> {
             state,
             told,
             head,
+            published: true,
         }
     }
 
@@ -122,18 +126,19 @@ impl<J: Naming> Side<J> {
         &self.state
     }
 
-    /// The front that it stands for, if each edit of it is in a publish.
+    /// The front that it stands for, if nothing was handed over since the last publish.
     pub(crate) fn front(&self) -> Option<Front<J>>
         ensures front { IfSome result (λ front. front ≡ publishes J.first self.now) }
         ensures whole { IfSome result (λ _. unpublished J.first self.now ≡ []) }
+        ensures published { IfSome result (λ _. is_published self.now ≡ true) }
     {
-        if self.told.waiting() > 0 {
+        if !self.published {
             return None;
         }
         Some(Front::new(self.told.again()))
     }
 
-    // Makes the edits, which are the next ones.
+    // Makes the edits, which are the next ones. The log keeps those that are in no publish yet.
     fn take(&mut self, operation: &Op<J>) -> Result<(), AllocError>
         ensures taken { OnOk result (self.new ≡ operation.now.told) }
         ensures refused { OnErr result (self.new ≡ self.old) }
@@ -143,10 +148,12 @@ impl<J: Naming> Side<J> {
         }
         operation.told.kept();
         let edits = operation.edits.as_slice();
-        let Ok(()) = make(&mut self.state, self.alloc, edits, operation.start) else {
+        let start = self.told.version();
+        let Ok(()) = make(&mut self.state, self.alloc, edits, start) else {
             return Err(AllocError);
         };
         self.told = operation.told.again();
+        self.published = false;
         Ok(())
     }
 
@@ -154,26 +161,44 @@ impl<J: Naming> Side<J> {
     fn publish(&mut self) -> bool
         ensures { MatchBool result (self.new ≡ self.old ++ Publish ∷ []) (self.new ≡ self.old) }
     {
-        self.told.publish(&self.head)
+        if self.published {
+            return false;
+        }
+        let done = self.told.publish(&self.head);
+        self.published = done;
+        done
     }
 
     // Takes the publish that the other made, if it made one there, and says whether it did.
     fn follow(&mut self, other: &Side<J>) -> bool
         ensures { MatchBool result (self.new ≡ self.old ++ Publish ∷ []) (self.new ≡ self.old) }
     {
+        if self.published {
+            return false;
+        }
         if !self.told.is_published_in(&other.told) {
             return false;
         }
         self.told = other.told.again();
+        self.published = true;
         true
     }
 }
 
-// Makes edits in a policy, all or none, and lets its log start at a version, as far as it can.
-fn make(state: &mut PolicyState, alloc: Global, edits: &[Edit], start: u32) -> Result<(), NoMemory>
+/// Makes edits in a policy, all or none, and starts its log at a version.
+pub(crate) fn make(
+    state: &mut PolicyState,
+    alloc: Global,
+    edits: &[Edit],
+    start: u32,
+) -> Result<(), NoMemory>
     requires admitted { AreAdmitted state.old.shapes (tables state.old) edits.now }
     requires few { versions state.old.log + length edits.now ≤ most_versions }
+    requires from { state.old.log.start ≤ start }
+    requires until { start ≤ versions state.old.log }
     ensures shapes { state.new.shapes ≡ state.old.shapes }
+    ensures start { OnOk result (state.new.log.start ≡ start) }
+    ensures start_kept { OnErr result (state.new.log.start ≡ state.old.log.start) }
     ensures stands { OnOk result ((opening : Policy) (history : List (List Change))
         → StandsFor state.old opening history
         → StandsFor state.new opening (history ++ edits.now)) }
@@ -181,7 +206,6 @@ fn make(state: &mut PolicyState, alloc: Global, edits: &[Edit], start: u32) -> R
         → StandsFor state.old opening history
         → StandsFor state.new opening history) }
 {
-    let start = start.min(state.version()).max(state.start());
     let prepared = state.prepare(alloc, edits, start)?;
     state.commit(prepared);
     Ok(())

@@ -3,7 +3,7 @@ use Rattle.std.specs.Prelude.{◌≡◌, ⊤, ℕ, ◌+◌, List, [], ◌∷◌,
 use Rattle.std.specs.List.{AllByRecursion}
 use Rattle.answer_lines.specs.LineText.{numbered}
 use Rattle.log_ship.specs.Followers.{Following, version_of}
-use Rattle.log_ship.specs.Taking.{Answer, TakesAll}
+use Rattle.log_ship.specs.Taking.{TakeAnswer, TakesAll}
 use Rattle.log_ship.specs.declared.packet.Packet.{Packet}
 use Rattle.log_ship.specs.declared.taken.TakeRefused.{TakeRefused}
 use Rattle.log_ship.specs.declared.taken.TakeRefused.TheVariants.{TooFar, Malformed, Misfit, NoMemory}
@@ -30,12 +30,12 @@ refused_text Misfit = codes "refused: misfit"
 refused_text NoMemory = []
 
 -- one or the other
-abbrev pub taken_text : Answer → List ℕ
+abbrev pub taken_text : TakeAnswer → List ℕ
 taken_text (Ok taken) = done_text taken
 taken_text (Err refused) = refused_text refused
 
 -- memory did not run out
-abbrev pub IsKnown : Answer → Type 0
+abbrev pub IsKnown : TakeAnswer → Type 0
 IsKnown (Ok taken) = ⊤
 IsKnown (Err (TooFar version)) = ⊤
 IsKnown (Err (Malformed line)) = ⊤
@@ -43,7 +43,7 @@ IsKnown (Err Misfit) = ⊤
 IsKnown (Err NoMemory) = ⊥
 
 -- a line for each of these, behind so many others
-abbrev pub taken_lines : ℕ → List Answer → List ℕ
+abbrev pub taken_lines : ℕ → List TakeAnswer → List ℕ
 taken_lines count [] = []
 taken_lines count (result ∷ results) = numbered (number_behind count) (taken_text result) ++ taken_lines (count + 1) results
 
@@ -62,7 +62,7 @@ pub record Opens (shapes : Shapes) (policy : Policy) (follower : Following) : Ty
 pub record IsFollowed (shapes : Shapes) (policy : Policy) (packets : List Packet) (text : List ℕ) : Type 0 where
   pub opening : Following
   pub now : Following
-  pub results : List Answer
+  pub results : List TakeAnswer
   pub opens : Opens shapes policy opening
   pub takes : TakesAll opening packets results now
   pub known : AllByRecursion IsKnown results

@@ -1,4 +1,4 @@
-ghost use Rattle.std.specs.Prelude.{◌≡◌, ◌≤◌, IfErr, OnOk, [], map};
+ghost use Rattle.std.specs.Prelude.{◌≡◌, ◌≤◌, IfErr, IfOk, OnOk, [], map};
 ghost use Rattle.outside.specs.Faults.{Rose};
 ghost use Rattle.outside.specs.Told.{with_back};
 ghost use Rattle.policy_state.specs.States.{tables};
@@ -8,14 +8,16 @@ ghost use Rattle.live_round.specs.Desks.{StandsBehind};
 ghost use Rattle.loaded_work.specs.Helps.Shipping.{GoesBehind};
 ghost use Rattle.loaded_work.specs.Helps.Working.{IsReady, ShowStops};
 ghost use Rattle.loaded_work.specs.Shipping.{is_done, ship_text};
+ghost use Rattle.version_log.specs.Log.{versions};
 
 use crate::loaded::Loaded;
-use crate::opening::open_loaded;
+use crate::opening::{Opened, open_loaded};
 use decision::{Program, Scratch};
 use live_round::answer_item;
 use log_ship::print_packets;
-use perm_base::{NoMemory, Sink, push_all};
+use perm_base::{NoMemory, Sink, Text, push_all};
 use policy_desk::{Desk, open_desk};
+use policy_state::PolicyState;
 use regex_gate::Finder;
 use run_status::Stop;
 use script_read::{Item, Script};
@@ -38,12 +40,44 @@ pub fn ship<K: Sink, P: Finder>(
     ensures counted { K.faults out.old ≤ K.faults out.new }
     ensures unasked { P.refusals finder.new ≡ P.refusals finder.old }
 {
-    let opened = open_loaded(alloc, loaded)?;
-    let mut desk = open_desk(alloc, opened.state)?;
-    do_items(alloc, &mut desk, &opened.program, script, finder)?;
-    let text = print_packets(alloc, desk.state())?;
+    let text = shipped_text(alloc, loaded, script, finder)?;
     push_all(out, text.bytes())?;
     Ok(())
+}
+
+// The packets of the edits that are kept once a script was done over what was loaded.
+fn shipped_text<P: Finder>(
+    alloc: Global,
+    loaded: Loaded,
+    script: &Script,
+    finder: &mut P,
+) -> Result<Text, NoMemory>
+    requires { IsReady loaded }
+    ensures shown { IfOk result (λ text. text
+        ≡ ship_text loaded.shapes loaded.tables.policy (map seen script.now)) }
+    ensures unasked { P.refusals finder.new ≡ P.refusals finder.old }
+{
+    let Opened { program, state } = open_loaded(alloc, loaded)?;
+    text_behind(alloc, &program, state, script, finder)
+}
+
+// The same over a state without edits.
+fn text_behind<P: Finder>(
+    alloc: Global,
+    program: &Program,
+    state: PolicyState,
+    script: &Script,
+    finder: &mut P,
+) -> Result<Text, NoMemory>
+    requires suits { Suits program.now state.shapes }
+    requires opening { versions state.log ≡ 0 }
+    ensures shown { IfOk result (λ text. text
+        ≡ ship_text state.shapes (tables state) (map seen script.now)) }
+    ensures unasked { P.refusals finder.new ≡ P.refusals finder.old }
+{
+    let mut desk = open_desk(alloc, state)?;
+    do_items(alloc, &mut desk, program, script, finder)?;
+    print_packets(alloc, desk.state())
 }
 
 // Does these items at a desk, one after the other.

@@ -8,7 +8,7 @@ use Rattle.std.proofs.lemmas.Bool.Decides.{Decides-eqb}
 use Rattle.std.proofs.lemmas.List.Elements.{All-cons, All-head, All-nil, All-tail}
 use Rattle.std.proofs.lemmas.Option.{same_Some}
 use Rattle.edit_calls.specs.Admitted.{AreAdmitted, admits, is_fitting, may_stand}
-use Rattle.log_ship.specs.Taking.{fits}
+use Rattle.log_ship.specs.Taking.{rules_may_stand}
 use Rattle.perm_base.specs.declared.shapes.Shapes.{Shapes}
 use Rattle.perm_base.specs.declared.shapes.TableId.{TableId}
 use Rattle.policy_table.specs.Changes.{applies, changed, edited, is_possible, replay, suits}
@@ -69,7 +69,7 @@ unfolding edited
 may_changed shapes policy change put all = all_edited (MayStand shapes) (change ∷ []) policy (put, tt) all
 
 -- each rule that an edit names may stand, where those that it puts in may and it applies
-pub fits_edit : (shapes : Shapes) (changes : List Change) (policy : Policy) → AllMay shapes policy → list_all (is_fitting shapes) changes ≡ true → applies changes policy ≡ true → list_all (fits shapes) changes ≡ true
+pub fits_edit : (shapes : Shapes) (changes : List Change) (policy : Policy) → AllMay shapes policy → list_all (is_fitting shapes) changes ≡ true → applies changes policy ≡ true → list_all (rules_may_stand shapes) changes ≡ true
 unfolding applies
 fits_edit shapes [] policy all fit possible = refl
 fits_edit shapes (Insert table rule ∷ changes) policy all fit possible =
@@ -93,7 +93,7 @@ fits_edit shapes (Replace table old new ∷ changes) policy all fit possible =
 
 pub record IsAt (shapes : Shapes) (policy : Policy) (edit : List Change) : Type 0 where
   pub admitted : admits shapes policy edit ≡ true
-  pub fit : list_all (fits shapes) edit ≡ true
+  pub fit : list_all (rules_may_stand shapes) edit ≡ true
 
 pub edit_at : (shapes : Shapes) (policy : Policy) (history : List (List Change)) (place : ℕ) (edit : List Change) → AllMay shapes policy → AreAdmitted shapes policy history → slice_get history place ≡ Some edit → IsAt shapes (replay (take place history) policy) edit
 edit_at shapes policy [] zero edit all are there = absurd cc

@@ -12,7 +12,7 @@ use Rattle.log_ship.proofs.AppendLemmas.{all_admitted, same_stands, same_version
 use Rattle.log_ship.proofs.HistoryLemmas.{AllMay, drop_at, edit_at, sound_may, within_at}
 use Rattle.log_ship.specs.Followers.{Following, Held, IsSame, Rises, version_of}
 use Rattle.log_ship.specs.Honest.{Follows, IsHistory, IsNumbered}
-use Rattle.log_ship.specs.Taking.{Answer, appended, behind_next, edit_answer, is_repeated, may_come, most_ahead, run_from, take_answer, with_edits}
+use Rattle.log_ship.specs.Taking.{TakeAnswer, appended, behind_next, edit_answer, is_repeated, may_come, most_ahead, run_from, take_answer, with_edits}
 use Rattle.log_ship.specs.declared.taken.Taken.TheVariants.{Repeated, Waiting, Applied}
 use Rattle.log_ship.specs.declared.taken.TakeRefused.TheVariants.{TooFar, Malformed, Misfit, NoMemory}
 use Rattle.perm_base.specs.declared.shapes.Shapes.{Shapes}
@@ -38,7 +38,7 @@ pub record IsLater (follower : Following) (number : ℕ) (edit : List Change) : 
   pub comes : may_come follower.state.shapes number edit ≡ true
   pub apart : number ≢ version_of follower + 1
 
-abbrev pub SaysOf : Following → ℕ → List Change → Answer → Type 0
+abbrev pub SaysOf : Following → ℕ → List Change → TakeAnswer → Type 0
 SaysOf follower number edit (Ok Repeated) = is_repeated follower number ≡ true
 SaysOf follower number edit (Ok Waiting) = IsLater follower number edit
 SaysOf follower number edit (Ok (Applied version)) = IsNext follower number edit version
@@ -74,7 +74,7 @@ says_of follower number edit = by_repeated (is_repeated follower number) refl
     by_repeated false e = by_far (nat_lt (version_of follower + most_ahead) number) e
 
 -- what is said of the answer is said of a result
-pub told_of : (follower : Following) (number : ℕ) (edit : List Change) (result : Answer) → take_answer follower number (Ok edit) ≡ result → SaysOf follower number edit result
+pub told_of : (follower : Following) (number : ℕ) (edit : List Change) (result : TakeAnswer) → take_answer follower number (Ok edit) ≡ result → SaysOf follower number edit result
 told_of follower number edit result e = subst (SaysOf follower number edit) e (says_of follower number edit)
 
 -- ---- a follower of a history

@@ -9,7 +9,7 @@ use Rattle.log_ship.proofs.TakeLemmas.{advanced_kept, fresh_is, waiting_kept}
 use Rattle.log_ship.proofs.WaitLemmas.{all_drop, all_put, gap_missing, run_waits}
 use Rattle.log_ship.specs.Followers.{Following, Held, IsSame, version_of}
 use Rattle.log_ship.specs.Honest.{AppliesLeast, Follows, IsFair, IsHistory, IsHonest, IsLeastLeft, IsNumbered, has_come}
-use Rattle.log_ship.specs.Taking.{Answer, IsAnswer, Takes, TakesAll, after_answer, appended, behind_next, left_behind, may_come, put, run_from, take_answer, waits, with_edits}
+use Rattle.log_ship.specs.Taking.{IsAnswer, TakeAnswer, Takes, TakesAll, after_answer, appended, behind_next, left_behind, may_come, put, run_from, take_answer, waits, with_edits}
 use Rattle.log_ship.specs.declared.packet.Packet.{Packet}
 use Rattle.log_ship.specs.declared.taken.Taken.TheVariants.{Repeated, Waiting, Applied}
 use Rattle.log_ship.specs.declared.taken.TakeRefused.TheVariants.{TooFar, Malformed, Misfit, NoMemory}
@@ -40,7 +40,7 @@ module _ (opening : Policy) (history : List (List Change)) (before now : Followi
         waiting = all_drop (λ (held : Held). IsNumbered history held.number held.edit) _ before.waiting holds.waiting;
       }
 
-  stepped : (result : Answer) → take_answer before packet.number (Ok honest.edit) ≡ result → IsSame (after_answer result (record { number = packet.number; edit = honest.edit }) before) now → Follows opening history now × IsFair result
+  stepped : (result : TakeAnswer) → take_answer before packet.number (Ok honest.edit) ≡ result → IsSame (after_answer result (record { number = packet.number; edit = honest.edit }) before) now → Follows opening history now × IsFair result
   stepped (Ok Repeated) told after = (follows_same opening history before now after holds, tt)
   stepped (Ok Waiting) told after = (follows_same opening history _ now after (waits_more (told_of before packet.number honest.edit (Ok Waiting) told)), tt)
   stepped (Ok (Applied version)) told after = (follows_same opening history _ now after (holds_more version (told_of before packet.number honest.edit (Ok (Applied version)) told)), tt)
@@ -53,20 +53,20 @@ module _ (opening : Policy) (history : List (List Change)) (before now : Followi
       by (inr next) = absurd (true≢false (sym (next_admitted before.state.shapes opening history are before refl holds packet.number honest.edit honest.is next.0) ∙ next.1))
   stepped (Err NoMemory) told after = (follows_same opening history before now after holds, tt)
 
-  pub step : (result : Answer) → Takes before packet result now → Follows opening history now × IsFair result
+  pub step : (result : TakeAnswer) → Takes before packet result now → Follows opening history now × IsFair result
   step result takes = by result (takes.answer (Ok honest.edit) honest.text) (takes.after (Ok honest.edit) honest.text)
     where
-      by : (r : Answer) → IsAnswer (take_answer before packet.number (Ok honest.edit)) r → IsSame (after_answer r (record { number = packet.number; edit = honest.edit }) before) now → Follows opening history now × IsFair r
+      by : (r : TakeAnswer) → IsAnswer (take_answer before packet.number (Ok honest.edit)) r → IsSame (after_answer r (record { number = packet.number; edit = honest.edit }) before) now → Follows opening history now × IsFair r
       by (Ok taken) told after = stepped (Ok taken) told after
       by (Err (TooFar version)) told after = stepped (Err (TooFar version)) told after
       by (Err (Malformed line)) told after = stepped (Err (Malformed line)) told after
       by (Err Misfit) told after = stepped (Err Misfit) told after
       by (Err NoMemory) told after = (follows_same opening history before now after holds, tt)
 
-  pub shapes_stay : (result : Answer) → Takes before packet result now → now.state.shapes ≡ before.state.shapes
+  pub shapes_stay : (result : TakeAnswer) → Takes before packet result now → now.state.shapes ≡ before.state.shapes
   shapes_stay result takes = by result (takes.after (Ok honest.edit) honest.text)
     where
-      by : (r : Answer) → IsSame (after_answer r (record { number = packet.number; edit = honest.edit }) before) now → now.state.shapes ≡ before.state.shapes
+      by : (r : TakeAnswer) → IsSame (after_answer r (record { number = packet.number; edit = honest.edit }) before) now → now.state.shapes ≡ before.state.shapes
       by (Ok Repeated) after = after.state.shapes
       by (Ok Waiting) after = after.state.shapes
       by (Ok (Applied version)) after = after.state.shapes
@@ -98,10 +98,10 @@ module _ (opening : Policy) (history : List (List Change)) (before now : Followi
           let apart = eqb-false packet.number (other + 1) e in
           run_waits (version_of before + 2) before.waiting (other + 1) (omega (arith, apart, next.next, from)) (omega (arith, until, count))
 
-  pub applies_least : (result : Answer) → Takes before packet result now → AppliesLeast before packet result now
+  pub applies_least : (result : TakeAnswer) → Takes before packet result now → AppliesLeast before packet result now
   applies_least result takes = by result (takes.answer (Ok honest.edit) honest.text) (takes.after (Ok honest.edit) honest.text)
     where
-      by : (r : Answer) → IsAnswer (take_answer before packet.number (Ok honest.edit)) r → IsSame (after_answer r (record { number = packet.number; edit = honest.edit }) before) now → AppliesLeast before packet r now
+      by : (r : TakeAnswer) → IsAnswer (take_answer before packet.number (Ok honest.edit)) r → IsSame (after_answer r (record { number = packet.number; edit = honest.edit }) before) now → AppliesLeast before packet r now
       by (Ok Repeated) told after = tt
       by (Ok Waiting) told after = tt
       by (Ok (Applied version)) told after =
@@ -112,7 +112,7 @@ module _ (opening : Policy) (history : List (List Change)) (before now : Followi
       by (Err refused) told after = tt
 
 -- all packets of a list
-pub all_steps : (opening : Policy) (history : List (List Change)) (before now : Following) (packets : List Packet) (results : List Answer) → IsHistory before.state.shapes opening history → Follows opening history before
+pub all_steps : (opening : Policy) (history : List (List Change)) (before now : Following) (packets : List Packet) (results : List TakeAnswer) → IsHistory before.state.shapes opening history → Follows opening history before
     → AllByRecursion (IsHonest history) packets → TakesAll before packets results now → Follows opening history now × AllByRecursion IsFair results
 all_steps opening history before now [] [] are holds honest taken = (follows_same opening history before now taken holds, tt)
 all_steps opening history before now [] (result ∷ results) are holds honest taken = absurd taken

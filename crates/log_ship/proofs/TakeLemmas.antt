@@ -11,7 +11,7 @@ use Rattle.log_ship.proofs.WaitLemmas.{all_drop, all_put, put_first, rises_gap, 
 use Rattle.log_ship.specs.Followers.{Following, Held, IsFollowing, IsSame, IsSameState, Rises, version_of}
 use Rattle.log_ship.specs.Helps.Looks.{IsLook, IsNew}
 use Rattle.log_ship.specs.Helps.Waits.{next_front, next_run}
-use Rattle.log_ship.specs.Taking.{Answer, IsAnswer, Reading, Reads, Takes, admitted, after_answer, appended, behind_next, edit_answer, edit_read, fits, is_repeated, left_behind, may_come, most_ahead, put, run_from, take_answer, text_answer, waits, with_edits}
+use Rattle.log_ship.specs.Taking.{IsAnswer, Reads, TakeAnswer, Takes, TextReading, admitted, after_answer, appended, behind_next, edit_answer, edit_read, is_repeated, left_behind, may_come, most_ahead, put, rules_may_stand, run_from, take_answer, text_answer, waits, with_edits}
 use Rattle.log_ship.specs.declared.packet.Packet.{Packet}
 use Rattle.log_ship.specs.declared.taken.Taken.TheVariants.{Repeated, Waiting, Applied}
 use Rattle.log_ship.specs.declared.taken.TakeRefused.{TakeRefused}
@@ -27,31 +27,31 @@ use Rattle.version_log.proofs.CallerLemmas.{edit_once, no_edit, one_fault}
 
 -- ---- one reading of a text
 
-pub reading_once : (text : List ℕ) (one other : Reading) → Reads text one → Reads text other → one ≡ other
+pub reading_once : (text : List ℕ) (one other : TextReading) → Reads text one → Reads text other → one ≡ other
 reading_once text (Ok edit) (Ok other) a b = ap (λ (e : List Change). Ok e) (edit_once text edit other a b)
 reading_once text (Ok edit) (Err line) a b = absurd (no_edit text (fault.Malformed line) edit b a)
 reading_once text (Err line) (Ok edit) a b = absurd (no_edit text (fault.Malformed line) edit a b)
 reading_once text (Err line) (Err other) a b = let same : fault.Malformed line ≡ fault.Malformed other = one_fault text (fault.Malformed line) (fault.Malformed other) a b in let lines : line ≡ other = cc in ap (λ (n : ℕ). Err n) lines
 
-pub some_reading : (text : List ℕ) → ((changes : List Change) × IsEditText text changes) ⊎ ((told : EditFault) × IsEditFault text told) → (reading : Reading) × Reads text reading
+pub some_reading : (text : List ℕ) → ((changes : List Change) × IsEditText text changes) ⊎ ((told : EditFault) × IsEditFault text told) → (reading : TextReading) × Reads text reading
 some_reading text (inl is) = (Ok is.0, is.1)
 some_reading text (inr bad) = by bad.0 bad.1
   where
-    by : (told : EditFault) → IsEditFault text told → (reading : Reading) × Reads text reading
+    by : (told : EditFault) → IsEditFault text told → (reading : TextReading) × Reads text reading
     by (fault.Malformed line) is = (Err line, is)
     by fault.NoMemory is = absurd is
 
 -- ---- answers where nothing is taken
 
-pub repeated_answer : (follower : Following) (number : ℕ) (reading : Reading) → is_repeated follower number ≡ true → take_answer follower number reading ≡ Ok Repeated
+pub repeated_answer : (follower : Following) (number : ℕ) (reading : TextReading) → is_repeated follower number ≡ true → take_answer follower number reading ≡ Ok Repeated
 repeated_answer follower number reading is = rw is refl
 
 -- not repeated, and not too far
 module _ (follower : Following) (number : ℕ) (fresh : is_repeated follower number ≡ false) where
-  pub far_answer : (reading : Reading) → version_of follower + most_ahead < number → take_answer follower number reading ≡ Err (TooFar (version_of follower))
+  pub far_answer : (reading : TextReading) → version_of follower + most_ahead < number → take_answer follower number reading ≡ Err (TooFar (version_of follower))
   far_answer reading far = rw (fresh, lt-ltb (version_of follower + most_ahead) number far) refl
 
-  pub near_answer : (reading : Reading) → number ≤ version_of follower + most_ahead → take_answer follower number reading ≡ text_answer follower number reading
+  pub near_answer : (reading : TextReading) → number ≤ version_of follower + most_ahead → take_answer follower number reading ≡ text_answer follower number reading
   near_answer reading near = rw (fresh, near_test) refl
     where
       near_test : nat_lt (version_of follower + most_ahead) number ≡ false
@@ -89,14 +89,14 @@ takes_repeated follower packet is = record { answer = λ reading reads. repeated
 pub takes_refused : (follower : Following) (packet : Packet) (refused : TakeRefused) → IsLook follower packet (Err refused) → Takes follower packet (Err refused) follower
 takes_refused follower packet refused look = record { answer = look; after = λ reading reads. itself follower }
 
-pub takes_new : (before now : Following) (packet : Packet) (edit : List Change) (result : Answer) → IsNew before packet edit → IsAnswer (edit_answer before packet.number edit) result
+pub takes_new : (before now : Following) (packet : Packet) (edit : List Change) (result : TakeAnswer) → IsNew before packet edit → IsAnswer (edit_answer before packet.number edit) result
     → IsSame (after_answer result (record { number = packet.number; edit = edit }) before) now → Takes before packet result now
 takes_new before now packet edit result new answer after = record {
-  answer = λ reading reads. subst (λ (a : Answer). IsAnswer a result) (sym (near_answer before packet.number new.fresh reading new.near ∙ ap (text_answer before packet.number) (same reading reads))) answer;
-  after = λ reading reads. subst (λ (r : Reading). IsSame (after_answer result (record { number = packet.number; edit = edit_read r }) before) now) (sym (same reading reads)) after;
+  answer = λ reading reads. subst (λ (a : TakeAnswer). IsAnswer a result) (sym (near_answer before packet.number new.fresh reading new.near ∙ ap (text_answer before packet.number) (same reading reads))) answer;
+  after = λ reading reads. subst (λ (r : TextReading). IsSame (after_answer result (record { number = packet.number; edit = edit_read r }) before) now) (sym (same reading reads)) after;
 }
   where
-    same : (reading : Reading) → Reads packet.text reading → reading ≡ Ok edit
+    same : (reading : TextReading) → Reads packet.text reading → reading ≡ Ok edit
     same reading reads = reading_once packet.text reading (Ok edit) reads new.text
 
 -- ---- an edit that is new
@@ -112,7 +112,7 @@ fresh_is follower number edit fresh comes =
     record {
       above = leb-false number (version_of follower) parts.0;
       apart = parts.1;
-      few = leb-true number most_versions (and_parts (nat_le number most_versions) (list_all (fits follower.state.shapes) edit) comes).0;
+      few = leb-true number most_versions (and_parts (nat_le number most_versions) (list_all (rules_may_stand follower.state.shapes) edit) comes).0;
     }
 
 -- it waits
@@ -265,7 +265,7 @@ module _ (before : Following) (edit : List Change) (count : ℕ) (state : State)
   pub applied_told : (number version : ℕ) → number ≡ version_of before + 1 → may_come before.state.shapes number edit ≡ true → 0 < count → version ≡ versions state.log → edit_answer before number edit ≡ Ok (Applied version)
   applied_told number version next comes some is = by (admits before.state.shapes (tables before.state) edit) refl
     where
-      pick : Bool → Answer
+      pick : Bool → TakeAnswer
       pick b = cond b (Ok (Applied (version_of before + length (appended before edit)))) (Err Misfit)
 
       by : (b : Bool) → admits before.state.shapes (tables before.state) edit ≡ b → edit_answer before number edit ≡ Ok (Applied version)

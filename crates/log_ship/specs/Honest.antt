@@ -3,7 +3,7 @@ use Rattle.std.specs.Prelude.{◌≡◌, ℕ, ◌+◌, ◌-◌, ◌<◌, ◌≤�
 use Rattle.std.specs.List.{AllByRecursion}
 use Rattle.edit_calls.specs.Admitted.{AreAdmitted}
 use Rattle.log_ship.specs.Followers.{Following, Held, IsFollowing, version_of}
-use Rattle.log_ship.specs.Taking.{Answer, waits}
+use Rattle.log_ship.specs.Taking.{TakeAnswer, waits}
 use Rattle.log_ship.specs.declared.packet.Packet.{Packet}
 use Rattle.log_ship.specs.declared.taken.Taken.TheVariants.{Repeated, Waiting, Applied}
 use Rattle.log_ship.specs.declared.taken.TakeRefused.TheVariants.{TooFar, Malformed, Misfit, NoMemory}
@@ -41,7 +41,7 @@ pub record Follows (opening : Policy) (history : List (List Change)) (follower :
   pub waiting : AllByRecursion (λ (held : Held). IsNumbered history held.number held.edit) follower.waiting
 
 -- the answer is neither that the text is no edit nor that it does not fit
-abbrev pub IsFair : Answer → Type 0
+abbrev pub IsFair : TakeAnswer → Type 0
 IsFair (Ok taken) = ⊤
 IsFair (Err (TooFar version)) = ⊤
 IsFair (Err (Malformed line)) = ⊥
@@ -59,7 +59,7 @@ pub record IsLeastLeft (before : Following) (packet version : ℕ) : Type 0 wher
   pub least : (other : ℕ) → version_of before ≤ other → other < version → has_come before packet (other + 1) ≡ true
 
 -- that is the version where the packet is applied
-abbrev pub AppliesLeast : Following → Packet → Answer → Following → Type 0
+abbrev pub AppliesLeast : Following → Packet → TakeAnswer → Following → Type 0
 AppliesLeast before packet (Ok (Applied version)) now = (version_of now ≡ version) × IsLeastLeft before packet.number version
 AppliesLeast before packet (Ok Repeated) now = ⊤
 AppliesLeast before packet (Ok Waiting) now = ⊤

@@ -1,6 +1,6 @@
 -- Texts of packets that are read: packets one after the other, each a line `edit NUMBER` and lines up to the first `.`, an LF
 -- after every line.
-use Rattle.std.specs.Prelude.{◌≡◌, ℕ, ◌+◌, ◌<◌, ◌≤◌, Bool, false, List, [], ◌∷◌, ◌++◌, codes, flat_map, length, min, IsUtf8}
+use Rattle.std.specs.Prelude.{◌≡◌, ℕ, ◌<◌, ◌≤◌, Bool, false, List, [], ◌∷◌, ◌++◌, codes, flat_map, length, IsUtf8}
 use Rattle.std.specs.List.{AllByRecursion}
 use Rattle.std.specs.Str.{bytes_eq}
 use Rattle.log_ship.specs.Packets.{head_line, printed}
@@ -8,6 +8,7 @@ use Rattle.log_ship.specs.declared.packet.Packet.{Packet}
 use Rattle.log_ship.specs.declared.packet_fault.PacketFault.{PacketFault}
 use Rattle.log_ship.specs.declared.packet_fault.PacketFault.TheVariants.{NotUtf8, Line, NoMemory}
 use Rattle.text_parts.specs.Lines.{has_byte, lines_of, with_ends}
+pub use Rattle.version_log.specs.EditText.{number_at}
 use Rattle.version_log.specs.Log.{most_versions}
 
 -- the line is `.`
@@ -52,10 +53,6 @@ pub record AreFront (lines : List (List ℕ)) : Type 0 where
   pub rest : List (List ℕ)
   pub each : AllByRecursion IsPart parts
   pub all : flat_map part_lines parts ≡ lines ++ rest
-
--- the number, from 1, of the line behind so many, as it is given
-abbrev pub number_at : ℕ → ℕ
-number_at count = min (count + 1) 4294967295
 
 -- the line of this number does not belong: the lines before it are a front, and with it they are none
 pub record IsStray (bytes : List ℕ) (number : ℕ) : Type 0 where

@@ -19,15 +19,15 @@ use Rattle.version_log.specs.Log.{most_versions}
 use Rattle.version_log.specs.declared.edit_fault.EditFault.TheVariants as fault
 
 -- what a text is read as: an edit, or the line at which it is none
-abbrev pub Reading : Type 0
-Reading = Result (List Change) ℕ
+abbrev pub TextReading : Type 0
+TextReading = Result (List Change) ℕ
 
-abbrev pub Reads : List ℕ → Reading → Type 0
+abbrev pub Reads : List ℕ → TextReading → Type 0
 Reads text (Ok edit) = IsEditText text edit
 Reads text (Err line) = IsEditFault text (fault.Malformed line)
 
-abbrev pub Answer : Type 0
-Answer = Result Taken TakeRefused
+abbrev pub TakeAnswer : Type 0
+TakeAnswer = Result Taken TakeRefused
 
 -- by how much a number may be above the version
 abbrev pub most_ahead : ℕ
@@ -42,14 +42,14 @@ abbrev pub is_repeated : Following → ℕ → Bool
 is_repeated follower number = nat_le number (version_of follower) || waits number follower.waiting
 
 -- each rule that a change names may stand in its table
-abbrev pub fits : Shapes → Change → Bool
-fits shapes (Insert table rule) = may_stand shapes table rule
-fits shapes (Remove table rule) = may_stand shapes table rule
-fits shapes (Replace table old new) = may_stand shapes table old && may_stand shapes table new
+abbrev pub rules_may_stand : Shapes → Change → Bool
+rules_may_stand shapes (Insert table rule) = may_stand shapes table rule
+rules_may_stand shapes (Remove table rule) = may_stand shapes table rule
+rules_may_stand shapes (Replace table old new) = may_stand shapes table old && may_stand shapes table new
 
 -- the edit may be one of this number: its rules may stand in their tables, and a version may have the number
 abbrev pub may_come : Shapes → ℕ → List Change → Bool
-may_come shapes number edit = nat_le number most_versions && list_all (fits shapes) edit
+may_come shapes number edit = nat_le number most_versions && list_all (rules_may_stand shapes) edit
 
 -- the edits that wait and have this number and those that follow without a gap
 abbrev pub run_from : ℕ → List Held → List (List Change)
@@ -70,19 +70,19 @@ abbrev pub appended : Following → List Change → List (List Change)
 appended follower edit = admitted follower.state.shapes (tables follower.state) (edit ∷ behind_next follower)
 
 -- the answer where the text is an edit
-abbrev pub edit_answer : Following → ℕ → List Change → Answer
+abbrev pub edit_answer : Following → ℕ → List Change → TakeAnswer
 edit_answer follower number edit =
     if not (may_come follower.state.shapes number edit) then Err Misfit
     else if not (number == version_of follower + 1) then Ok Waiting
     else if admits follower.state.shapes (tables follower.state) edit then Ok (Applied (version_of follower + length (appended follower edit)))
     else Err Misfit
 
-abbrev pub text_answer : Following → ℕ → Reading → Answer
+abbrev pub text_answer : Following → ℕ → TextReading → TakeAnswer
 text_answer follower number (Ok edit) = edit_answer follower number edit
 text_answer follower number (Err line) = Err (Malformed line)
 
 -- the answer to a packet of this number, whose text is read so
-abbrev pub take_answer : Following → ℕ → Reading → Answer
+abbrev pub take_answer : Following → ℕ → TextReading → TakeAnswer
 take_answer follower number reading =
     if is_repeated follower number then Ok Repeated
     else if nat_lt (version_of follower + most_ahead) number then Err (TooFar (version_of follower))
@@ -107,19 +107,19 @@ with_edits edits state = record state {
 
 -- the follower after an answer to the packet with this edit: one that waits is kept, one that is applied is appended, with those
 -- behind it
-abbrev pub after_answer : Answer → Held → Following → Following
+abbrev pub after_answer : TakeAnswer → Held → Following → Following
 after_answer (Ok Repeated) held follower = follower
 after_answer (Ok Waiting) held follower = record follower { waiting = put held follower.waiting }
 after_answer (Ok (Applied version)) held follower = record { state = with_edits (appended follower held.edit) follower.state; waiting = left_behind follower held.edit }
 after_answer (Err refused) held follower = follower
 
 -- the edit that is read, or none
-abbrev pub edit_read : Reading → List Change
+abbrev pub edit_read : TextReading → List Change
 edit_read (Ok edit) = edit
 edit_read (Err line) = []
 
 -- the result is the answer; want of memory may come at any time
-abbrev pub IsAnswer : Answer → Answer → Type 0
+abbrev pub IsAnswer : TakeAnswer → TakeAnswer → Type 0
 IsAnswer answer (Ok taken) = answer ≡ Ok taken
 IsAnswer answer (Err NoMemory) = ⊤
 IsAnswer answer (Err (TooFar version)) = answer ≡ Err (TooFar version)
@@ -127,12 +127,12 @@ IsAnswer answer (Err (Malformed line)) = answer ≡ Err (Malformed line)
 IsAnswer answer (Err Misfit) = answer ≡ Err Misfit
 
 -- a packet is taken: its answer is given, and the follower is then what this answer leaves of it
-pub record Takes (before : Following) (packet : Packet) (result : Answer) (now : Following) : Type 0 where
-  pub answer : (reading : Reading) → Reads packet.text reading → IsAnswer (take_answer before packet.number reading) result
-  pub after : (reading : Reading) → Reads packet.text reading → IsSame (after_answer result (record { number = packet.number; edit = edit_read reading }) before) now
+pub record Takes (before : Following) (packet : Packet) (result : TakeAnswer) (now : Following) : Type 0 where
+  pub answer : (reading : TextReading) → Reads packet.text reading → IsAnswer (take_answer before packet.number reading) result
+  pub after : (reading : TextReading) → Reads packet.text reading → IsSame (after_answer result (record { number = packet.number; edit = edit_read reading }) before) now
 
 -- packets are taken one after the other, with these answers
-abbrev pub TakesAll : Following → List Packet → List Answer → Following → Type 0
+abbrev pub TakesAll : Following → List Packet → List TakeAnswer → Following → Type 0
 TakesAll before [] [] now = IsSame before now
 TakesAll before (packet ∷ packets) (result ∷ results) now = (next : Following) × Takes before packet result next × TakesAll next packets results now
 TakesAll before [] (result ∷ results) now = ⊥

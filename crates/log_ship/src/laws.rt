@@ -3,7 +3,7 @@ ghost use Rattle.std.specs.List.{AllByRecursion};
 ghost use Rattle.log_ship.specs.Followers.{Following};
 ghost use Rattle.log_ship.specs.Honest.{AppliesLeast, Follows, IsFair, IsHistory, IsHonest};
 ghost use Rattle.log_ship.specs.PacketText.{ArePackets, IsPacketFault};
-ghost use Rattle.log_ship.specs.Taking.{Answer, Reading, Reads, Takes, TakesAll};
+ghost use Rattle.log_ship.specs.Taking.{Reads, TakeAnswer, Takes, TakesAll, TextReading};
 ghost use Rattle.log_ship.specs.declared.packet.Packet.{Packet};
 ghost use Rattle.log_ship.specs.declared.packet_fault.PacketFault.{PacketFault};
 ghost use Rattle.policy_table.specs.Tables.{Policy};
@@ -15,14 +15,14 @@ use version_log::every_text_is_an_edit_or_at_fault;
 /// repeated or in any order, and that none of them is answered as malformed or as a misfit.
 pub fn followers_hold_a_front()
     ensures one { (opening : Policy) (history : List (List Change)) (before now : Following)
-        (packet : Packet) (result : Answer)
+        (packet : Packet) (result : TakeAnswer)
         → IsHistory before.state.shapes opening history
         → Follows opening history before
         → IsHonest history packet
         → Takes before packet result now
         → Follows opening history now × IsFair result }
     ensures all { (opening : Policy) (history : List (List Change)) (before now : Following)
-        (packets : List Packet) (results : List Answer)
+        (packets : List Packet) (results : List TakeAnswer)
         → IsHistory before.state.shapes opening history
         → Follows opening history before
         → AllByRecursion (IsHonest history) packets
@@ -34,7 +34,7 @@ pub fn followers_hold_a_front()
 /// number neither was the packet's nor waited.
 pub fn packets_are_applied_to_the_least_gap()
     ensures { (opening : Policy) (history : List (List Change)) (before now : Following)
-        (packet : Packet) (result : Answer)
+        (packet : Packet) (result : TakeAnswer)
         → IsHistory before.state.shapes opening history
         → Follows opening history before
         → IsHonest history packet
@@ -44,8 +44,8 @@ pub fn packets_are_applied_to_the_least_gap()
 
 /// The law that every text is read in one way.
 pub fn texts_read_in_one_way()
-    ensures some { (text : List ℕ) → (reading : Reading) × Reads text reading }
-    ensures once { (text : List ℕ) (first second : Reading)
+    ensures some { (text : List ℕ) → (reading : TextReading) × Reads text reading }
+    ensures once { (text : List ℕ) (first second : TextReading)
         → Reads text first → Reads text second → first ≡ second }
 {
     every_text_is_an_edit_or_at_fault();

@@ -128,11 +128,11 @@ fn head_number(line: &str) -> Option<u32>
     ensures { MatchOption result ((number : ℕ) → ¬ (IsHead line.now number)) (IsHead line.now) }
 {
     let digits = line.strip_prefix(HEAD)?;
-    number_of(digits)
+    parsed_number(digits)
 }
 
 // The number from 1 to 4,000,000,000 that the digits write, without zeros in front.
-fn number_of(digits: &str) -> Option<u32>
+fn parsed_number(digits: &str) -> Option<u32>
     ensures { MatchOption result ((number : ℕ) → ¬ (IsNumber digits.now number)) (IsNumber digits.now) }
 {
     let Ok(number) = digits.parse::<u32>() else {

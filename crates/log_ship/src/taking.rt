@@ -2,7 +2,7 @@ ghost use Rattle.std.specs.Prelude.{◌≡◌, ◌+◌, ◌≤◌, false, true};
 ghost use Rattle.std.specs.List.{list_all};
 ghost use Rattle.log_ship.specs.Followers.{Held, IsSame, version_of};
 ghost use Rattle.log_ship.specs.Helps.Looks.{IsLook};
-ghost use Rattle.log_ship.specs.Taking.{IsAnswer, Takes, after_answer, edit_answer, fits, is_repeated, may_come};
+ghost use Rattle.log_ship.specs.Taking.{IsAnswer, Takes, after_answer, edit_answer, is_repeated, may_come, rules_may_stand};
 
 use crate::appending::advance;
 use crate::follower::Follower;
@@ -90,18 +90,20 @@ impl Follower {
 fn may_come(shapes: &Shapes, number: u32, edit: &Edit) -> bool
     ensures { result ≡ may_come shapes.now number edit.now }
 {
-    number <= MOST_VERSIONS && all_fit(shapes, edit)
+    number <= MOST_VERSIONS && edit_may_stand(shapes, edit)
 }
 
 // Whether each rule that an edit names may stand in its table.
-fn all_fit(shapes: &Shapes, edit: &Edit) -> bool
-    ensures { result ≡ list_all (fits shapes.now) edit.now }
+fn edit_may_stand(shapes: &Shapes, edit: &Edit) -> bool
+    ensures { result ≡ list_all (rules_may_stand shapes.now) edit.now }
 {
-    edit.as_slice().iter().all(|change| fits(shapes, change))
+    edit.as_slice()
+        .iter()
+        .all(|change| rules_may_stand(shapes, change))
 }
 
-fn fits(shapes: &Shapes, change: &Change) -> bool
-    ensures { result ≡ fits shapes.now change.now }
+fn rules_may_stand(shapes: &Shapes, change: &Change) -> bool
+    ensures { result ≡ rules_may_stand shapes.now change.now }
 {
     match change {
         Change::Insert { table, rule } => may_stand(shapes, *table, rule),

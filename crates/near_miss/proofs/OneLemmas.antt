@@ -1,5 +1,5 @@
 -- Near misses are there and one list, and stay where more patterns count as refused; the models of parts are one list.
-use Rattle.std.proofs.Common.{◌≡◌, inl, inr, ℕ, zero, suc, ◌<◌, Bool, List, [], ◌∷◌, length, take, Option, None, Result, Ok, Err, refl, sym, ap, ◌∙◌, subst, arith}
+use Rattle.std.proofs.Common.{◌≡◌, inl, inr, ℕ, zero, suc, ◌<◌, Bool, false, List, [], ◌∷◌, length, take, Option, Some, None, Result, Ok, Err, refl, sym, ap, ◌∙◌, subst, arith}
 use Rattle.std.specs.Prelude.{Any}
 use Rattle.std.specs.List.{AllZip, slice_index_or}
 use Rattle.effect_fold.specs.declared.fault.Fault.{Fault}
@@ -11,6 +11,7 @@ use Rattle.perm_value.specs.Datum.{Datum}
 use Rattle.policy_table.specs.Tables.{Fields, Policy, rows}
 use Rattle.matcher_meaning.specs.Cases.{Case, where_refused}
 use Rattle.matcher_meaning.specs.Comes.{TruthIs}
+use Rattle.regex_gate.specs.Found.{is_readable}
 use Rattle.near_miss.specs.Misses.{AreNearMisses, Lacks, case_at, lacking, misses_from}
 use Rattle.near_miss.specs.Parts.{AreParts, HasNoModel, IsPart, part_text, parts_of, with_matcher}
 use Rattle.near_miss.specs.Helps.Rows.{IsTruthGiven}
@@ -22,15 +23,15 @@ use Rattle.near_miss.proofs.RowLemmas.{SomeTruth, lacks_for_more, lacks_there}
 
 -- ---- one thing at each place
 
-zip_one : {X Y : Type 0} (R : X → Y → Type 0) → ((x : X) (y z : Y) → R x y → R x z → y ≡ z) → (xs : List X) (ys zs : List Y) → AllZip R xs ys → AllZip R xs zs → ys ≡ zs
-zip_one R one [] [] [] p q = refl
-zip_one R one [] [] (z ∷ zs) p q = absurd q
-zip_one R one [] (y ∷ ys) zs p q = absurd p
-zip_one R one (x ∷ xs) [] zs p q = absurd p
-zip_one R one (x ∷ xs) (y ∷ ys) [] p q = absurd q
-zip_one R one (x ∷ xs) (y ∷ ys) (z ∷ zs) p q =
+zip_two : {X Y : Type 0} (R S : X → Y → Type 0) → ((x : X) (y z : Y) → R x y → S x z → y ≡ z) → (xs : List X) (ys zs : List Y) → AllZip R xs ys → AllZip S xs zs → ys ≡ zs
+zip_two R S one [] [] [] p q = refl
+zip_two R S one [] [] (z ∷ zs) p q = absurd q
+zip_two R S one [] (y ∷ ys) zs p q = absurd p
+zip_two R S one (x ∷ xs) [] zs p q = absurd p
+zip_two R S one (x ∷ xs) (y ∷ ys) [] p q = absurd q
+zip_two R S one (x ∷ xs) (y ∷ ys) (z ∷ zs) p q =
     let head : y ≡ z = one x y z p.0 q.0 in
-    let rest : ys ≡ zs = zip_one R one xs ys zs p.1 q.1 in
+    let rest : ys ≡ zs = zip_two R S one xs ys zs p.1 q.1 in
     λ j. head j ∷ rest j
 
 -- ---- near misses
@@ -39,14 +40,30 @@ zip_one R one (x ∷ xs) (y ∷ ys) (z ∷ zs) p q =
 abbrev pub OneTruth : Type 0
 OneTruth = (case : Case) (e : Expression) (first second : Result Bool Fault) → TruthIs case e first → TruthIs case e second → first ≡ second
 
--- where no pattern counts as refused, what is given is the truth
-truth_by_none : (case : Case) (IsBad : List ℕ → Type 0) (t : Result Bool Fault) → ((pattern : List ℕ) → IsBad pattern → ⊥) → IsTruthGiven case IsBad t → TruthIs (where_refused case None) case.model.matcher t
-truth_by_none case IsBad (Ok v) none (b, same, is) = subst (λ (c : Bool). TruthIs (where_refused case None) case.model.matcher (Ok c)) (sym same) is
-truth_by_none case IsBad (Err failed) none (inl is) = is
-truth_by_none case IsBad (Err failed) none (inr (pattern, bad, cause, is)) = absurd (none pattern bad)
+-- a refused search for a pattern that cannot be read changes no truth
+abbrev pub UnreadTruth : Type 0
+UnreadTruth = (case : Case) (e : Expression) (at : ℕ) (pattern : List ℕ) (t : Result Bool Fault) → is_readable pattern ≡ false → TruthIs (where_refused case (Some (at, pattern))) e t → TruthIs (where_refused case None) e t
 
-truth_given_one : OneTruth → (case : Case) (IsBad : List ℕ → Type 0) → ((pattern : List ℕ) → IsBad pattern → ⊥) → (t u : Result Bool Fault) → IsTruthGiven case IsBad t → IsTruthGiven case IsBad u → t ≡ u
-truth_given_one one case IsBad none t u is as_well = one (where_refused case None) case.model.matcher t u (truth_by_none case IsBad t none is) (truth_by_none case IsBad u none as_well)
+-- no pattern that counts as refused can be read
+abbrev pub CannotBeRead : (List ℕ → Type 0) → Type 0
+CannotBeRead IsBad = (pattern : List ℕ) → IsBad pattern → is_readable pattern ≡ false
+
+-- then what is given is the truth
+truth_by_unread : UnreadTruth → (case : Case) (IsBad : List ℕ → Type 0) (t : Result Bool Fault) → CannotBeRead IsBad → IsTruthGiven case IsBad t → TruthIs (where_refused case None) case.model.matcher t
+truth_by_unread same case IsBad (Ok v) unread (b, is_same, is) = subst (λ (c : Bool). TruthIs (where_refused case None) case.model.matcher (Ok c)) (sym is_same) is
+truth_by_unread same case IsBad (Err failed) unread (inl is) = is
+truth_by_unread same case IsBad (Err failed) unread (inr (pattern, bad, cause, is)) = same case case.model.matcher failed.at pattern (Err failed) (unread pattern bad) is
+
+-- two lists of patterns that count as refused, none of which can be read
+pub record AreBothUnread (IsBad IsBadToo : List ℕ → Type 0) : Type 0 where
+  pub one : OneTruth
+  pub same : UnreadTruth
+  pub unread : CannotBeRead IsBad
+  pub unread_too : CannotBeRead IsBadToo
+
+truth_given_one : (IsBad IsBadToo : List ℕ → Type 0) → AreBothUnread IsBad IsBadToo → (case : Case) (t u : Result Bool Fault) → IsTruthGiven case IsBad t → IsTruthGiven case IsBadToo u → t ≡ u
+truth_given_one IsBad IsBadToo both case t u is as_well =
+    both.one (where_refused case None) case.model.matcher t u (truth_by_unread both.same case IsBad t both.unread is) (truth_by_unread both.same case IsBadToo u both.unread_too as_well)
 
 module _ (shapes : Shapes) (policy : Policy) (request : List Datum) where
   pub misses_there : SomeTruth → (IsBad : List ℕ → Type 0) (parts : List ModelParts) (most : ℕ) → (misses : List NearMiss) × AreNearMisses shapes policy request IsBad parts most misses
@@ -59,15 +76,15 @@ module _ (shapes : Shapes) (policy : Policy) (request : List Datum) where
   misses_for_more IsBad IsBadToo parts most misses more (lacks, have, is) =
       (lacks, zip_weaker (Lacks shapes policy request IsBad parts) (Lacks shapes policy request IsBadToo parts) (rows policy P) lacks (λ fields lack. lacks_for_more shapes policy request IsBad IsBadToo parts fields lack more) have, is)
 
-  module _ (one : OneTruth) (IsBad : List ℕ → Type 0) (none : (pattern : List ℕ) → IsBad pattern → ⊥) (parts : List ModelParts) where
-    lack_one : (fields : Fields) (first second : Option ℕ) → Lacks shapes policy request IsBad parts fields first → Lacks shapes policy request IsBad parts fields second → first ≡ second
+  module _ (IsBad IsBadToo : List ℕ → Type 0) (both : AreBothUnread IsBad IsBadToo) (parts : List ModelParts) where
+    lack_one : (fields : Fields) (first second : Option ℕ) → Lacks shapes policy request IsBad parts fields first → Lacks shapes policy request IsBadToo parts fields second → first ≡ second
     lack_one fields first second (truths, have, is) (others, own, as_well) =
-        is ∙ ap lacking (zip_one (λ (part : ModelParts) (truth : Result Bool Fault). IsTruthGiven (case_at shapes policy request fields part) IsBad truth)
-        (λ part t u. truth_given_one one (case_at shapes policy request fields part) IsBad none t u) parts truths others have own) ∙ sym as_well
+        is ∙ ap lacking (zip_two (λ (part : ModelParts) (truth : Result Bool Fault). IsTruthGiven (case_at shapes policy request fields part) IsBad truth) (λ (part : ModelParts) (truth : Result Bool Fault). IsTruthGiven (case_at shapes policy request fields part) IsBadToo truth)
+        (λ part t u. truth_given_one IsBad IsBadToo both (case_at shapes policy request fields part) t u) parts truths others have own) ∙ sym as_well
 
-    pub misses_one : (most : ℕ) (first second : List NearMiss) → AreNearMisses shapes policy request IsBad parts most first → AreNearMisses shapes policy request IsBad parts most second → first ≡ second
+    pub misses_one : (most : ℕ) (first second : List NearMiss) → AreNearMisses shapes policy request IsBad parts most first → AreNearMisses shapes policy request IsBadToo parts most second → first ≡ second
     misses_one most first second (lacks, have, is) (others, own, as_well) =
-        is ∙ ap (λ (l : List (Option ℕ)). take most (misses_from 1 l)) (zip_one (Lacks shapes policy request IsBad parts) lack_one (rows policy P) lacks others have own) ∙ sym as_well
+        is ∙ ap (λ (l : List (Option ℕ)). take most (misses_from 1 l)) (zip_two (Lacks shapes policy request IsBad parts) (Lacks shapes policy request IsBadToo parts) lack_one (rows policy P) lacks others have own) ∙ sym as_well
 
 -- ---- the models of parts
 
@@ -84,7 +101,7 @@ parts_clash : (model : ModelParts) (es : List Expression) (own : List ModelParts
 parts_clash model es own each (at, e, within, there, none) = clash_at model es own at e within there each none
 
 pub parts_one : OneModel → (model : ModelParts) (first second : List ModelParts) → AreParts model first → AreParts model second → first ≡ second
-parts_one one model first second (inl is) (inl as_well) = zip_one (IsPart model) (part_one one model) (parts_of model.matcher) first second is as_well
+parts_one one model first second (inl is) (inl as_well) = zip_two (IsPart model) (IsPart model) (part_one one model) (parts_of model.matcher) first second is as_well
 parts_one one model first second (inl is) (inr none) = absurd (parts_clash model (parts_of model.matcher) first is none.0)
 parts_one one model first second (inr none) (inl is) = absurd (parts_clash model (parts_of model.matcher) second is none.0)
 parts_one one model first second (inr none) (inr nothing) = none.1 ∙ sym nothing.1

@@ -2,9 +2,11 @@
 use Rattle.std.proofs.Common.{◌≡◌, ℕ, suc, true, false, List, [], ◌∷◌, ◌++◌, append_assoc, append-nil, length, refl, sym, ap, subst, ◌∙◌}
 use Rattle.std.proofs.lemmas.List.Concat.{flat_map-append}
 use Rattle.answer_lines.specs.declared.answer.Line.{Line}
+use Rattle.refusal_meaning.specs.Unread.{AreUnreadable}
 use Rattle.model_conf.specs.ModelText.{ModelParts}
 use Rattle.perm_base.specs.declared.shapes.Shapes.{Shapes}
 use Rattle.policy_table.specs.Tables.{Policy}
+use Rattle.refusal_meaning.proofs.CallerLemmas.{unread_left, unread_right}
 use Rattle.script_read.specs.Said.{Said}
 use Rattle.session_meaning.specs.Plain.{AreLines, IsLine, IsPlain, all_refused, none_refused, number_behind}
 use Rattle.session_meaning.specs.Replies.{is_decided}
@@ -15,28 +17,25 @@ use Rattle.session_meaning.proofs.ReplyLemmas.{OneJudged, SomeJudged, StaysJudge
 pub all_more : (refused : List (List (List ℕ))) (more : List (List ℕ)) → all_refused (refused ++ more ∷ []) ≡ all_refused refused ++ more
 all_more refused more = flat_map-append (λ (patterns : List (List ℕ)). patterns) refused (more ∷ []) ∙ ap (λ (l : List (List ℕ)). all_refused refused ++ l) (append-nil more)
 
--- where nothing is in both, nothing is in either
-none_in : {X : Type 0} (xs ys : List X) → xs ++ ys ≡ [] → (xs ≡ []) × (ys ≡ [])
-none_in [] ys none = (refl, none)
-none_in (x ∷ xs) ys none = absurd cc
+-- what is judged is one verdict, where no pattern that was refused can be read
+abbrev pub OneUnread : ModelParts → Shapes → Type 0
+OneUnread model shapes = (few many : List (List ℕ)) → AreUnreadable few → AreUnreadable many → OneJudged model shapes few many
 
 module _ (model : ModelParts) (shapes : Shapes) (opening : Policy) where
-  -- ---- one list, where nothing was refused
+  -- ---- one list, where no pattern that was refused can be read
 
-  line_one : OneJudged model shapes [] → (before : List Said) (item : Said) (first second : Line) → IsLine model shapes opening before item [] first → IsLine model shapes opening before item [] second → first ≡ second
-  line_one one before item first second p q =
+  line_one : (few many : List (List ℕ)) → OneJudged model shapes few many → (before : List Said) (item : Said) (first second : Line) → IsLine model shapes opening before item few first → IsLine model shapes opening before item many second → first ≡ second
+  line_one few many one before item first second p q =
       let number : first.number ≡ second.number = p.number ∙ sym q.number in
-      let same : first.answer ≡ second.answer = reply_one model shapes opening before (out shapes opening before) (published shapes opening before) [] one item first.answer second.answer p.answer q.answer in
+      let same : first.answer ≡ second.answer = reply_one model shapes opening before (out shapes opening before) (published shapes opening before) few many one item first.answer second.answer p.answer q.answer in
       λ j. record { number = number j; answer = same j }
 
-  lines_one : OneJudged model shapes [] → (before items : List Said) (refused others : List (List (List ℕ))) (first second : List Line) → AreLines model shapes opening before items refused first → AreLines model shapes opening before items others second
-      → all_refused refused ≡ [] → all_refused others ≡ [] → first ≡ second
+  lines_one : OneUnread model shapes → (before items : List Said) (refused others : List (List (List ℕ))) (first second : List Line) → AreLines model shapes opening before items refused first → AreLines model shapes opening before items others second
+      → AreUnreadable (all_refused refused) → AreUnreadable (all_refused others) → first ≡ second
   lines_one one before [] [] [] [] [] p q none no_others = refl
   lines_one one before (item ∷ items) (patterns ∷ refused) (more ∷ others) (y ∷ ys) (z ∷ zs) p q none no_others =
-      let no_first = none_in patterns (all_refused refused) none in
-      let no_second = none_in more (all_refused others) no_others in
-      let line = line_one one before item y z (subst (λ (l : List (List ℕ)). IsLine model shapes opening before item l y) no_first.0 p.0) (subst (λ (l : List (List ℕ)). IsLine model shapes opening before item l z) no_second.0 q.0) in
-      let rest = lines_one one (before ++ item ∷ []) items refused others ys zs p.1 q.1 no_first.1 no_second.1 in
+      let line = line_one patterns more (one patterns more (unread_left patterns (all_refused refused) none) (unread_left more (all_refused others) no_others)) before item y z p.0 q.0 in
+      let rest = lines_one one (before ++ item ∷ []) items refused others ys zs p.1 q.1 (unread_right patterns (all_refused refused) none) (unread_right more (all_refused others) no_others) in
       λ j. line j ∷ rest j
   lines_one one before [] (patterns ∷ refused) others first second p q none no_others = absurd p
   lines_one one before [] [] others (y ∷ ys) second p q none no_others = absurd p
@@ -47,8 +46,8 @@ module _ (model : ModelParts) (shapes : Shapes) (opening : Policy) where
   lines_one one before (item ∷ items) (patterns ∷ refused) [] (y ∷ ys) second p q none no_others = absurd q
   lines_one one before (item ∷ items) (patterns ∷ refused) (more ∷ others) (y ∷ ys) [] p q none no_others = absurd q
 
-  pub plain_one : OneJudged model shapes [] → (items : List Said) (refused others : List (List (List ℕ))) (first second : List Line) → IsPlain model shapes opening items refused first → IsPlain model shapes opening items others second
-      → all_refused refused ≡ [] → all_refused others ≡ [] → first ≡ second
+  pub plain_one : OneUnread model shapes → (items : List Said) (refused others : List (List (List ℕ))) (first second : List Line) → IsPlain model shapes opening items refused first → IsPlain model shapes opening items others second
+      → AreUnreadable (all_refused refused) → AreUnreadable (all_refused others) → first ≡ second
   unfolding IsPlain
   plain_one one items refused others first second p q none no_others = lines_one one [] items refused others first second p q none no_others
 

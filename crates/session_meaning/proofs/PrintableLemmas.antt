@@ -6,7 +6,7 @@ use Rattle.std.specs.List.Sorted.{IsPermutation}
 use Rattle.std.specs.Option.{option_map_or, option_or}
 use Rattle.std.proofs.lemmas.List.Elements.{All-from_recursion, recursion_from_All}
 use Rattle.std.proofs.lemmas.List.Sorted.{All-permutation}
-use Rattle.answer_lines.specs.Told.{comes_with_rule, has_name, is_call_told, is_printable, is_query_told, is_request_told, row_has_rule}
+use Rattle.answer_lines.specs.Told.{comes_with_rule, has_name, is_call_told, is_printable, is_query_told, row_has_rule}
 use Rattle.answer_lines.specs.declared.answer.Answer.{Answer}
 use Rattle.answer_lines.specs.declared.answer.Answer.TheVariants as answer
 use Rattle.answer_lines.specs.declared.answer.Line.{Line}
@@ -45,9 +45,7 @@ use Rattle.policy_table.specs.Tables.{Fields, Policy, rows}
 use Rattle.policy_table.specs.declared.change.Change.{Change}
 use Rattle.policy_table.specs.declared.limit.Limit.{Limit}
 use Rattle.policy_table.specs.declared.limit.Limit.TheVariants.{Edits}
-use Rattle.perm_value.specs.declared.request.RequestFault.{RequestFault}
-use Rattle.perm_value.specs.declared.request.RequestFault.TheVariants as request
-use Rattle.script_read.specs.Named.{is_named, is_request_told as is_told}
+use Rattle.script_read.specs.Named.{is_named}
 use Rattle.script_read.specs.Said.{Said}
 use Rattle.script_read.specs.Said as said
 use Rattle.version_log.specs.Log.{most_versions}
@@ -285,16 +283,6 @@ recall_told version start number = by (number == 0 || nat_lt version number) (na
 
 -- ---- what an item is answered
 
--- why a line is no request is told alike
-same_told : (fault : RequestFault) → is_told fault ≡ is_request_told fault
-same_told request.NoMemory = refl
-same_told (request.Quote column) = refl
-same_told request.TooMany = refl
-same_told request.Syntax = refl
-same_told request.NotAnArray = refl
-same_told (request.TooDeep field) = refl
-same_told (request.NotWhole field) = refl
-
 module _ (moved : RowsAreMoved) (model : ModelParts) (shapes : Shapes) (opening : Policy) where
   module _ (refused : List (List ℕ)) (before : List Said) (at : ℕ) (over : Policy) where
     decided_printable : (values : List Datum) (reply : Answer) → IsDecided model shapes refused at over values reply → is_printable reply ≡ true
@@ -306,7 +294,7 @@ module _ (moved : RowsAreMoved) (model : ModelParts) (shapes : Shapes) (opening 
         by : (fits : Bool) → MatchBool fits (IsDecided model shapes refused at over values reply) (reply ≡ answer.Arity (length values) (length model.request)) → is_printable reply ≡ true
         by true decided = decided_printable values reply decided
         by false told = ap is_printable told
-    reply_printable (said.asks (Err fault)) reply named is = ap is_printable is ∙ sym (same_told fault) ∙ named
+    reply_printable (said.asks (Err fault)) reply named is = ap is_printable is ∙ named
     reply_printable (said.edits called) reply named is =
         ap is_printable is ∙ few_told (length (given shapes opening before)) (answer_in shapes (replay (given shapes opening before) opening) called) (answer_told shapes (replay (given shapes opening before) opening) called named)
     reply_printable said.publishes reply named is = ap is_printable is

@@ -17,9 +17,9 @@ use Rattle.session_meaning.specs.Given.{call_answer, given}
 use Rattle.session_meaning.specs.Replies.{IsAnswerTo, IsDecided, IsReplyAt, call_reply, is_decided, query_reply, recalled, rule_of}
 use Rattle.session_meaning.specs.Versions.{out, published}
 
--- what is judged for a request on tables is one verdict
-abbrev pub OneJudged : ModelParts → Shapes → List (List ℕ) → Type 0
-OneJudged model shapes refused = (policy : Policy) (values : List Datum) (first second : Verdict) → IsJudged model shapes policy values (Contains refused) first → IsJudged model shapes policy values (Contains refused) second → first ≡ second
+-- what is judged for a request on tables is one verdict, whether these patterns were refused or those
+abbrev pub OneJudged : ModelParts → Shapes → List (List ℕ) → List (List ℕ) → Type 0
+OneJudged model shapes few many = (policy : Policy) (values : List Datum) (first second : Verdict) → IsJudged model shapes policy values (Contains few) first → IsJudged model shapes policy values (Contains many) second → first ≡ second
 
 -- something is
 abbrev pub SomeJudged : ModelParts → Shapes → List (List ℕ) → Type 0
@@ -32,22 +32,23 @@ StaysJudged model shapes few many = (policy : Policy) (values : List Datum) (v :
 -- ---- requests
 
 module _ (model : ModelParts) (shapes : Shapes) (version : ℕ) (policy : Policy) where
-  module _ (refused : List (List ℕ)) where
-    decided_one : OneJudged model shapes refused → (values : List Datum) (first second : Answer) → IsDecided model shapes refused version policy values first → IsDecided model shapes refused version policy values second → first ≡ second
+  module _ (few many : List (List ℕ)) where
+    decided_one : OneJudged model shapes few many → (values : List Datum) (first second : Answer) → IsDecided model shapes few version policy values first → IsDecided model shapes many version policy values second → first ≡ second
     decided_one one values first second p q =
         p.told
         ∙ ap (λ (v : Verdict). answer.Decided version v (rule_of policy v)) (one policy values p.verdict q.verdict p.judged q.judged)
         ∙ sym q.told
 
-    answer_one : OneJudged model shapes refused → (reading : Reading) (first second : Answer) → IsAnswerTo model shapes refused version policy reading first → IsAnswerTo model shapes refused version policy reading second → first ≡ second
+    answer_one : OneJudged model shapes few many → (reading : Reading) (first second : Answer) → IsAnswerTo model shapes few version policy reading first → IsAnswerTo model shapes many version policy reading second → first ≡ second
     answer_one one (Err fault) first second p q = p ∙ sym q
     answer_one one (Ok values) first second p q = by (eqb (length values) (length model.request)) p q
       where
-        by : (fits : Bool) → MatchBool fits (IsDecided model shapes refused version policy values first) (first ≡ answer.Arity (length values) (length model.request))
-            → MatchBool fits (IsDecided model shapes refused version policy values second) (second ≡ answer.Arity (length values) (length model.request)) → first ≡ second
+        by : (fits : Bool) → MatchBool fits (IsDecided model shapes few version policy values first) (first ≡ answer.Arity (length values) (length model.request))
+            → MatchBool fits (IsDecided model shapes many version policy values second) (second ≡ answer.Arity (length values) (length model.request)) → first ≡ second
         by true is same = decided_one one values first second is same
         by false is same = is ∙ sym same
 
+  module _ (refused : List (List ℕ)) where
     answer_some : SomeJudged model shapes refused → (reading : Reading) → (reply : Answer) × IsAnswerTo model shapes refused version policy reading reply
     answer_some some (Err fault) = (answer.Request fault, refl)
     answer_some some (Ok values) = by (eqb (length values) (length model.request))
@@ -69,17 +70,17 @@ module _ (model : ModelParts) (shapes : Shapes) (version : ℕ) (policy : Policy
 -- ---- items
 
 module _ (model : ModelParts) (shapes : Shapes) (opening : Policy) (before : List Said) (at : ℕ) (over : Policy) where
-  pub reply_one : (refused : List (List ℕ)) → OneJudged model shapes refused → (item : Said) (first second : Answer) → IsReplyAt model shapes opening refused before at over item first → IsReplyAt model shapes opening refused before at over item second → first ≡ second
-  reply_one refused one (said.asks reading) first second p q = answer_one model shapes at over refused one reading first second p q
-  reply_one refused one (said.edits call) first second p q = p ∙ sym q
-  reply_one refused one said.publishes first second p q = p ∙ sym q
-  reply_one refused one said.syncs first second p q = p ∙ sym q
-  reply_one refused one (said.has table rule) first second p q = p ∙ sym q
-  reply_one refused one (said.rows table place values) first second p q = p ∙ sym q
-  reply_one refused one (said.roles relation name domain) first second p q = p ∙ sym q
-  reply_one refused one (said.users relation name domain) first second p q = p ∙ sym q
-  reply_one refused one (said.keeps count) first second p q = p ∙ sym q
-  reply_one refused one (said.recalls number) first second p q = p ∙ sym q
+  pub reply_one : (few many : List (List ℕ)) → OneJudged model shapes few many → (item : Said) (first second : Answer) → IsReplyAt model shapes opening few before at over item first → IsReplyAt model shapes opening many before at over item second → first ≡ second
+  reply_one few many one (said.asks reading) first second p q = answer_one model shapes at over few many one reading first second p q
+  reply_one few many one (said.edits call) first second p q = p ∙ sym q
+  reply_one few many one said.publishes first second p q = p ∙ sym q
+  reply_one few many one said.syncs first second p q = p ∙ sym q
+  reply_one few many one (said.has table rule) first second p q = p ∙ sym q
+  reply_one few many one (said.rows table place values) first second p q = p ∙ sym q
+  reply_one few many one (said.roles relation name domain) first second p q = p ∙ sym q
+  reply_one few many one (said.users relation name domain) first second p q = p ∙ sym q
+  reply_one few many one (said.keeps count) first second p q = p ∙ sym q
+  reply_one few many one (said.recalls number) first second p q = p ∙ sym q
 
   pub reply_some : (refused : List (List ℕ)) → SomeJudged model shapes refused → (item : Said) → (reply : Answer) × IsReplyAt model shapes opening refused before at over item reply
   reply_some refused some (said.asks reading) = answer_some model shapes at over refused some reading

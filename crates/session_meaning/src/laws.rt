@@ -1,9 +1,10 @@
-ghost use Rattle.std.specs.Prelude.{◌≡◌, ◌++◌, ◌≤◌, ℕ, All, List, [], Some, false, length, slice_get, true};
+ghost use Rattle.std.specs.Prelude.{◌≡◌, ◌++◌, ◌≤◌, ℕ, All, List, Some, false, length, slice_get, true};
 ghost use Rattle.std.specs.List.{Contains};
 ghost use Rattle.answer_lines.specs.Told.{is_printable};
 ghost use Rattle.answer_lines.specs.declared.answer.Answer as answer;
 ghost use Rattle.answer_lines.specs.declared.answer.Line.{Line};
 ghost use Rattle.edit_calls.specs.Admitted.{admits};
+ghost use Rattle.refusal_meaning.specs.Unread.{AreUnreadable};
 ghost use Rattle.model_conf.specs.ModelText.{ModelParts};
 ghost use Rattle.perm_base.specs.Shapes.{AreValid};
 ghost use Rattle.perm_base.specs.declared.shapes.Shapes.{Shapes};
@@ -23,6 +24,7 @@ use edit_calls::{admitted_edits_keep_sound, edits_apply, edits_are_admitted};
 use matcher_meaning::{
     case_verdict_is_there, case_verdict_is_unique, judged_is_the_verdict, order_of_rows_is_one,
 };
+use refusal_meaning::unreadable_patterns_are_refused_without_effect;
 
 /// The law that each script has lines, one for each item.
 pub fn lines_are_there()
@@ -36,17 +38,17 @@ pub fn lines_are_there()
     case_verdict_is_there();
 }
 
-/// The law that a script has the same lines each time, where nothing is refused.
+/// The law that a script has the same lines each time, where nothing is refused but searches for patterns that cannot be read.
 pub fn lines_are_one()
     ensures { (model : ModelParts) (shapes : Shapes) (opening : Policy) (items : List Said)
         (refused others : List (List (List ℕ))) (first second : List Line)
         → IsPlain model shapes opening items refused first
         → IsPlain model shapes opening items others second
-        → all_refused refused ≡ [] → all_refused others ≡ []
+        → AreUnreadable (all_refused refused) → AreUnreadable (all_refused others)
         → first ≡ second }
 {
     case_verdict_is_unique();
-    judged_is_the_verdict();
+    unreadable_patterns_are_refused_without_effect();
 }
 
 /// The law that the line of a request that is decided stays its line where more patterns were refused for it.

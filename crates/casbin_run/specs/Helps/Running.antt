@@ -10,7 +10,7 @@ use Rattle.casbin_run.specs.Causes.{EndsBy}
 use Rattle.casbin_run.specs.Ends.{IsDone}
 use Rattle.casbin_run.specs.Finders.{AreUsed}
 use Rattle.casbin_run.specs.Given.{Given}
-use Rattle.casbin_run.specs.Helps.Tasks.{IsQuiet}
+use Rattle.casbin_run.specs.Helps.Tasks.{IsQuiet, is_past}
 use Rattle.casbin_run.specs.Jobs.{ask_for_input, ask_for_workers}
 use Rattle.loaded_work.specs.Sinks.{Taken}
 use Rattle.casbin_run.specs.Worlds.{World}
@@ -26,8 +26,8 @@ pub record ComesTo (g : Given) (before now : World) (err err_now : Taken) (resul
   pub silent : OnErr result (err_now ≡ err)
   pub err_counted : err.faults ≤ err_now.faults
   pub quiet : IfErr result (λ (stop : Stop). IsQuiet stop → now.out.bytes ≡ before.out.bytes)
-  pub read_to_end : OnOk result (ask_for_input g.words ≡ true → IfSome now.input.left (λ (rest : List ℕ). rest ≡ []))
-  pub ended : OnOk result (ask_for_input g.words ≡ true → now.input.ends ≡ ends_after before.input.ends true)
+  pub read_to_end : is_past result ≡ true → ask_for_input g.words ≡ true → IfSome now.input.left (λ (rest : List ℕ). rest ≡ [])
+  pub ended : is_past result ≡ true → ask_for_input g.words ≡ true → now.input.ends ≡ ends_after before.input.ends true
   pub no_further : IsEndedOnce before.input.ends now.input.ends
   pub unread : ask_for_input g.words ≡ false → now.input ≡ before.input
   pub shelf_counted : before.shelf.faults ≤ now.shelf.faults

@@ -1,5 +1,5 @@
 -- What a task comes to over what was read of its files, with one finder or with all.
-use Rattle.std.specs.Prelude.{◌≡◌, ◌⊎◌, ℕ, ◌<◌, false, List, Option, IfSome, length, take}
+use Rattle.std.specs.Prelude.{◌≡◌, ◌⊎◌, ℕ, ◌<◌, Bool, true, false, List, Option, Result, Ok, Err, IfSome, length, take}
 use Rattle.log_ship.specs.declared.packet.Packet.{Packet}
 use Rattle.model_conf.specs.ModelText.{ModelParts}
 use Rattle.outside.specs.Told.{TookFront, with_back}
@@ -15,7 +15,7 @@ use Rattle.session_meaning.specs.Plain.{all_refused}
 use Rattle.loaded_work.specs.declared.loaded.Loaded.{Loaded}
 use Rattle.casbin_run.specs.declared.job.Task.{Task}
 use Rattle.casbin_run.specs.Causes.{HasFault, HasPacketFault, OfInput}
-use Rattle.casbin_run.specs.Ends.{may_write}
+use Rattle.casbin_run.specs.Ends.{has_read, may_write}
 use Rattle.casbin_run.specs.Given.{InputIs, SaysItems, SaysPackets}
 use Rattle.loaded_work.specs.Texts.{joined}
 use Rattle.loaded_work.specs.Sinks.{Taken}
@@ -79,3 +79,8 @@ WorkStops on IsLogged out out_now input_rose out_rose _ = ⊥
 -- with such a stop nothing goes to `out`, and no finder is asked
 abbrev pub IsQuiet : Stop → Type 0
 IsQuiet stop = may_write (status_of stop) ≡ false
+
+-- behind such a result an input that is read was read to its end
+abbrev pub is_past : {X : Type 0} → Result X Stop → Bool
+is_past (Ok x) = true
+is_past (Err stop) = has_read (status_of stop)

@@ -1,5 +1,6 @@
 -- What a copy stands for, and what is known of every beginning of the history.
-use Rattle.std.specs.Prelude.{◌≡◌, ℕ, ◌≤◌, List, [], ◌∷◌, ◌++◌, length, fold, Option, Some, None}
+use Rattle.std.specs.Prelude.{◌≡◌, ℕ, ◌≤◌, Bool, true, false, List, [], ◌∷◌, ◌++◌, length, fold, Option, Some, None}
+use Rattle.live_pair.specs.Seats.{start_of, version_of}
 use Rattle.live_pair.specs.Story.{edits_in, publishes, unpublished}
 use Rattle.live_pair.specs.declared.edits.Event.{Event}
 use Rattle.live_pair.specs.declared.edits.Event.TheVariants.{Staged, Publish}
@@ -24,6 +25,20 @@ closed_by None log = log
 abbrev pub closed : List Event → List Event
 closed log = closed_by (ending log) log
 
+-- nothing was handed over since the last publish
+abbrev pub is_published_by : Option Event → Bool
+is_published_by (Some (Staged edits)) = false
+is_published_by (Some Publish) = true
+is_published_by None = true
+
+abbrev pub is_published : List Event → Bool
+is_published log = is_published_by (ending log)
+
+-- where the log of a copy starts, by its publishes: where something was handed over since the last of them, at their version
+abbrev pub start_by : Bool → List (List (List Change)) → ℕ
+start_by true publishes = start_of publishes
+start_by false publishes = version_of publishes
+
 -- the edits that were handed over, in publishes or not
 abbrev pub handed : List Event → List (List Change)
 handed [] = []
@@ -46,7 +61,8 @@ pub record AreCounted (first : List (List Change)) (log : List Event) (entries p
   pub waiting_is : waiting ≡ length (unpublished first log)
   pub version_is : version ≡ length (edits_in (publishes first log))
 
--- a policy has these shapes, and stands for all edits of a history
+-- a policy has these shapes, stands for all edits of a history, and keeps the last of them
 pub record IsUpTo (shapes : Shapes) (opening : Policy) (first : List (List Change)) (log : List Event) (state : State) : Type 0 where
   pub shapes_are : state.shapes ≡ shapes
   pub stands : StandsFor state opening (history first log)
+  pub start : state.log.start ≡ start_by (is_published log) (publishes first log)

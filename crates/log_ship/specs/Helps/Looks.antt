@@ -1,7 +1,7 @@
 -- What is found where a packet is looked at before anything changes.
 use Rattle.std.specs.Prelude.{◌≡◌, ◌+◌, ◌≤◌, true, false, List, Option, Some, None, Result, Ok, Err}
 use Rattle.log_ship.specs.Followers.{Following, version_of}
-use Rattle.log_ship.specs.Taking.{IsAnswer, Reading, Reads, is_repeated, may_come, most_ahead, take_answer}
+use Rattle.log_ship.specs.Taking.{IsAnswer, Reads, TextReading, is_repeated, may_come, most_ahead, take_answer}
 use Rattle.log_ship.specs.declared.packet.Packet.{Packet}
 use Rattle.log_ship.specs.declared.taken.TakeRefused.{TakeRefused}
 use Rattle.policy_table.specs.declared.change.Change.{Change}
@@ -18,4 +18,4 @@ pub record IsNew (follower : Following) (packet : Packet) (edit : List Change) :
 abbrev pub IsLook : Following → Packet → Result (Option (List Change)) TakeRefused → Type 0
 IsLook follower packet (Ok None) = is_repeated follower packet.number ≡ true
 IsLook follower packet (Ok (Some edit)) = IsNew follower packet edit
-IsLook follower packet (Err refused) = (reading : Reading) → Reads packet.text reading → IsAnswer (take_answer follower packet.number reading) (Err refused)
+IsLook follower packet (Err refused) = (reading : TextReading) → Reads packet.text reading → IsAnswer (take_answer follower packet.number reading) (Err refused)

@@ -1,7 +1,7 @@
 use Rattle.std.proofs.Common.{◌≡◌, [], ◌∷◌, Err, false, rules}
 use Rattle.outside.specs.Faults.{Rose}
 use Rattle.outside.specs.Log.{Adds, call}
-use Rattle.casbin_run.specs.Given.{Fits}
+use Rattle.casbin_run.specs.Given.{ModelSuits}
 use Rattle.casbin_run.specs.Helps.Loading.{PolicyStops}
 use Rattle.casbin_run.proofs.LoadLemmas.{both_told, policy_load}
 use Rattle.casbin_run.proofs.files.load.Goals as goal
@@ -15,7 +15,7 @@ returns-in_err-tables-clause-stopped g c =
     let reason = c.in_err-tables.field-0.0 in
     let stop : c.from_residual-in_err-tables.result ≡ Err reason = search rules in
     let first : Adds (g.F.Shelf.calls old) (g.F.Shelf.calls mid) (call job.files.model false ∷ []) = search rules in
-    let fits : Fits (g.F.Shelf.files old) job c.in_ok-model.model = record { is_model = search rules; none_absent = search rules } in
+    let fits : ModelSuits (g.F.Shelf.files old) job c.in_ok-model.model = record { is_model = search rules; none_absent = search rules } in
     let stops : PolicyStops (g.F.Shelf.files mid) job.files.policy c.in_ok-shapes.shapes (λ failed. Adds (g.F.Shelf.calls mid) (g.F.Shelf.calls new) (call job.files.policy failed ∷ [])) (Rose (g.F.Shelf.faults mid) (g.F.Shelf.faults new)) reason = search rules in
     rw stop (policy_load (g.F.Shelf.files old) (g.F.Shelf.files mid) job c.in_ok-model.model c.in_ok-shapes.shapes (g.F.Shelf.calls old) (g.F.Shelf.calls mid) (g.F.Shelf.calls new) (g.F.Shelf.faults old) (g.F.Shelf.faults mid) (g.F.Shelf.faults new) reason
     (search rules) (search rules) first (search rules) fits stops)

@@ -46,10 +46,10 @@ pub returns-clause-reads_back : goal.returns-clause-reads_back
 returns-clause-reads_back g c = rw c.in-Some.ensures (on_ok_any c.share_items.result tt)
 
 pub returns-clause-read_to_end : goal.returns-clause-read_to_end
-returns-clause-read_to_end g c = on_ok_weaker c.share_items.result (λ is reads. is) c.share_items.ensures.read_to_end
+returns-clause-read_to_end g c = λ past reads. c.share_items.ensures.read_to_end past
 
 pub returns-clause-ended : goal.returns-clause-ended
-returns-clause-ended g c = on_ok_weaker c.share_items.result (λ is reads. is) c.share_items.ensures.ended
+returns-clause-ended g c = λ past reads. c.share_items.ensures.ended past
 
 pub returns-clause-unread : goal.returns-clause-unread
 returns-clause-unread g c none = let both : true ≡ false = sym (ap (λ (task : Task). reads_input task) c.in-Some.ensures) ∙ none in absurd cc

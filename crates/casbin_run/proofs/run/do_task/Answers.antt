@@ -214,3 +214,101 @@ returns-in_ok-text-in-Explain-clause-quiet g c = IfErr-weaker c.explain.result _
 
 pub returns-in_ok-text-in-Explain-clause-idle : goal.returns-in_ok-text-in-Explain-clause-idle
 returns-in_ok-text-in-Explain-clause-idle g c = IfErr-weaker c.explain.result _ _ (explain_not_quiet _ _ _ _ _ _ _ _ _ _) c.explain.ensures.stopped
+
+-- the input is read to its end, but where its bytes were not read
+
+pub returns-in_err-text-in-Enforce-clause-read_to_end : goal.returns-in_err-text-in-Enforce-clause-read_to_end
+returns-in_err-text-in-Enforce-clause-read_to_end g c =
+    let stop : c.from_residual.result ≡ Err c.in_err-text-in-Enforce.field-0.0 = search rules in
+    rw stop (λ past reads. c.in_err-text-in-Enforce.ensures.read_to_end past)
+
+pub returns-in_ok-text-in-Enforce-clause-read_to_end : goal.returns-in_ok-text-in-Enforce-clause-read_to_end
+returns-in_ok-text-in-Enforce-clause-read_to_end g c = λ past reads. c.in_ok-text-in-Enforce.ensures.read_to_end refl
+
+pub returns-in_err-text-in-Enforce-clause-ended : goal.returns-in_err-text-in-Enforce-clause-ended
+returns-in_err-text-in-Enforce-clause-ended g c =
+    let stop : c.from_residual.result ≡ Err c.in_err-text-in-Enforce.field-0.0 = search rules in
+    rw stop (λ past reads. c.in_err-text-in-Enforce.ensures.ended past)
+
+pub returns-in_ok-text-in-Enforce-clause-ended : goal.returns-in_ok-text-in-Enforce-clause-ended
+returns-in_ok-text-in-Enforce-clause-ended g c = λ past reads. c.in_ok-text-in-Enforce.ensures.ended refl
+
+pub returns-in_err-script-in-Serve-clause-read_to_end : goal.returns-in_err-script-in-Serve-clause-read_to_end
+returns-in_err-script-in-Serve-clause-read_to_end g c =
+    let stop : c.from_residual-in_err-script-in-Serve.result ≡ Err c.in_err-script-in-Serve.field-0.0 = search rules in
+    rw stop (λ past reads. c.in_err-script-in-Serve.ensures.read_to_end past)
+
+pub returns-in_ok-script-in-Serve-clause-read_to_end : goal.returns-in_ok-script-in-Serve-clause-read_to_end
+returns-in_ok-script-in-Serve-clause-read_to_end g c = λ past reads. c.in_ok-script-in-Serve.ensures.read_to_end refl
+
+pub returns-in_err-script-in-Serve-clause-ended : goal.returns-in_err-script-in-Serve-clause-ended
+returns-in_err-script-in-Serve-clause-ended g c =
+    let stop : c.from_residual-in_err-script-in-Serve.result ≡ Err c.in_err-script-in-Serve.field-0.0 = search rules in
+    rw stop (λ past reads. c.in_err-script-in-Serve.ensures.ended past)
+
+pub returns-in_ok-script-in-Serve-clause-ended : goal.returns-in_ok-script-in-Serve-clause-ended
+returns-in_ok-script-in-Serve-clause-ended g c = λ past reads. c.in_ok-script-in-Serve.ensures.ended refl
+
+pub returns-in_err-text-in-Cached-clause-read_to_end : goal.returns-in_err-text-in-Cached-clause-read_to_end
+returns-in_err-text-in-Cached-clause-read_to_end g c =
+    let stop : c.from_residual-in_err-text-in-Cached.result ≡ Err c.in_err-text-in-Cached.field-0.0 = search rules in
+    rw stop (λ past reads. c.in_err-text-in-Cached.ensures.read_to_end past)
+
+pub returns-in_ok-text-in-Cached-clause-read_to_end : goal.returns-in_ok-text-in-Cached-clause-read_to_end
+returns-in_ok-text-in-Cached-clause-read_to_end g c = λ past reads. c.in_ok-text-in-Cached.ensures.read_to_end refl
+
+pub returns-in_err-text-in-Cached-clause-ended : goal.returns-in_err-text-in-Cached-clause-ended
+returns-in_err-text-in-Cached-clause-ended g c =
+    let stop : c.from_residual-in_err-text-in-Cached.result ≡ Err c.in_err-text-in-Cached.field-0.0 = search rules in
+    rw stop (λ past reads. c.in_err-text-in-Cached.ensures.ended past)
+
+pub returns-in_ok-text-in-Cached-clause-ended : goal.returns-in_ok-text-in-Cached-clause-ended
+returns-in_ok-text-in-Cached-clause-ended g c = λ past reads. c.in_ok-text-in-Cached.ensures.ended refl
+
+pub returns-in_err-script-in-Ship-clause-read_to_end : goal.returns-in_err-script-in-Ship-clause-read_to_end
+returns-in_err-script-in-Ship-clause-read_to_end g c =
+    let stop : c.from_residual-in_err-script-in-Ship.result ≡ Err c.in_err-script-in-Ship.field-0.0 = search rules in
+    rw stop (λ past reads. c.in_err-script-in-Ship.ensures.read_to_end past)
+
+pub returns-in_ok-script-in-Ship-clause-read_to_end : goal.returns-in_ok-script-in-Ship-clause-read_to_end
+returns-in_ok-script-in-Ship-clause-read_to_end g c = λ past reads. c.in_ok-script-in-Ship.ensures.read_to_end refl
+
+pub returns-in_err-script-in-Ship-clause-ended : goal.returns-in_err-script-in-Ship-clause-ended
+returns-in_err-script-in-Ship-clause-ended g c =
+    let stop : c.from_residual-in_err-script-in-Ship.result ≡ Err c.in_err-script-in-Ship.field-0.0 = search rules in
+    rw stop (λ past reads. c.in_err-script-in-Ship.ensures.ended past)
+
+pub returns-in_ok-script-in-Ship-clause-ended : goal.returns-in_ok-script-in-Ship-clause-ended
+returns-in_ok-script-in-Ship-clause-ended g c = λ past reads. c.in_ok-script-in-Ship.ensures.ended refl
+
+pub returns-in_err-packets-in-Follow-clause-read_to_end : goal.returns-in_err-packets-in-Follow-clause-read_to_end
+returns-in_err-packets-in-Follow-clause-read_to_end g c =
+    let stop : c.from_residual-in_err-packets-in-Follow.result ≡ Err c.in_err-packets-in-Follow.field-0.0 = search rules in
+    rw stop (λ past reads. c.in_err-packets-in-Follow.ensures.read_to_end past)
+
+pub returns-in_ok-packets-in-Follow-clause-read_to_end : goal.returns-in_ok-packets-in-Follow-clause-read_to_end
+returns-in_ok-packets-in-Follow-clause-read_to_end g c = λ past reads. c.in_ok-packets-in-Follow.ensures.read_to_end refl
+
+pub returns-in_err-packets-in-Follow-clause-ended : goal.returns-in_err-packets-in-Follow-clause-ended
+returns-in_err-packets-in-Follow-clause-ended g c =
+    let stop : c.from_residual-in_err-packets-in-Follow.result ≡ Err c.in_err-packets-in-Follow.field-0.0 = search rules in
+    rw stop (λ past reads. c.in_err-packets-in-Follow.ensures.ended past)
+
+pub returns-in_ok-packets-in-Follow-clause-ended : goal.returns-in_ok-packets-in-Follow-clause-ended
+returns-in_ok-packets-in-Follow-clause-ended g c = λ past reads. c.in_ok-packets-in-Follow.ensures.ended refl
+
+pub returns-in_err-text-in-Explain-clause-read_to_end : goal.returns-in_err-text-in-Explain-clause-read_to_end
+returns-in_err-text-in-Explain-clause-read_to_end g c =
+    let stop : c.from_residual-in_err-text-in-Explain.result ≡ Err c.in_err-text-in-Explain.field-0.0 = search rules in
+    rw stop (λ past reads. c.in_err-text-in-Explain.ensures.read_to_end past)
+
+pub returns-in_ok-text-in-Explain-clause-read_to_end : goal.returns-in_ok-text-in-Explain-clause-read_to_end
+returns-in_ok-text-in-Explain-clause-read_to_end g c = λ past reads. c.in_ok-text-in-Explain.ensures.read_to_end refl
+
+pub returns-in_err-text-in-Explain-clause-ended : goal.returns-in_err-text-in-Explain-clause-ended
+returns-in_err-text-in-Explain-clause-ended g c =
+    let stop : c.from_residual-in_err-text-in-Explain.result ≡ Err c.in_err-text-in-Explain.field-0.0 = search rules in
+    rw stop (λ past reads. c.in_err-text-in-Explain.ensures.ended past)
+
+pub returns-in_ok-text-in-Explain-clause-ended : goal.returns-in_ok-text-in-Explain-clause-ended
+returns-in_ok-text-in-Explain-clause-ended g c = λ past reads. c.in_ok-text-in-Explain.ensures.ended refl

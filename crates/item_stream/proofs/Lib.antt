@@ -1,0 +1,6 @@
+pub mod KindLemmas
+pub mod KeepLemmas
+pub mod HeldLemmas
+pub mod CutLemmas
+pub mod LineLemmas
+pub mod CallerLemmas

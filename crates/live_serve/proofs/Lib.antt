@@ -1,0 +1,10 @@
+pub mod TextLemmas
+pub mod NumberLemmas
+pub mod SayLemmas
+pub mod ItemLemmas
+pub mod ServeLemmas
+pub mod PieceLemmas
+pub mod StreamLemmas
+pub mod LawLemmas
+pub mod PartLemmas
+pub mod ScriptLemmas

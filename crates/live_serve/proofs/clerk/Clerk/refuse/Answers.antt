@@ -1,0 +1,26 @@
+use Rattle.std.proofs.Common.{◌≡◌, ◌++◌, [], List, ℕ, refl, ap, ◌∙◌, rules, subst}
+use Rattle.std.specs.Prelude.{string_bytes}
+use Rattle.std.proofs.lemmas.Result.{err_from_is_err_and}
+use Rattle.outside.specs.Told.{TookFront, with_back}
+use Rattle.live_serve.specs.Lines.{next_number, refused_text}
+use Rattle.live_serve.proofs.clerk.Clerk.refuse.Goals as goal
+
+pub returns-in_err-push_refused-clause-stopped : goal.returns-in_err-push_refused-clause-stopped
+returns-in_err-push_refused-clause-stopped g c =
+    let p = err_from_is_err_and c.from_residual.result c.from_residual.ensures.1 in
+    rw (p.1, p.2) refl
+
+pub returns-in_err-push_all-clause-stopped : goal.returns-in_err-push_all-clause-stopped
+returns-in_err-push_all-clause-stopped g c =
+    let p = err_from_is_err_and c.from_residual-in_err-push_all.result c.from_residual-in_err-push_all.ensures.1 in
+    let empty : string_bytes c.clear.new.self ≡ [] = search rules in
+    let text : c.as_bytes.result.now ≡ refused_text (next_number c.args.self.now.number) c.args.cause.now
+    = c.as_bytes.ensures.value ∙ c.in_ok-push_refused.ensures ∙ ap (λ (t : List ℕ). t ++ refused_text c.saturating_add-number.result c.args.cause.now) empty ∙ ap (λ (n : ℕ). refused_text n c.args.cause.now) c.saturating_add-number.ensures in
+    rw (p.1, p.2) (subst (λ (t : List ℕ). TookFront (g.K.Sink.taken c.args.out.now) (g.K.Sink.taken c.push_all.new.sink) t) text c.in_err-push_all.ensures.stopped, c.in_err-push_all.ensures.failed)
+
+pub returns-clause-told : goal.returns-clause-told
+returns-clause-told g c =
+    let empty : string_bytes c.clear.new.self ≡ [] = search rules in
+    let text : c.as_bytes.result.now ≡ refused_text (next_number c.args.self.now.number) c.args.cause.now
+    = c.as_bytes.ensures.value ∙ c.in_ok-push_refused.ensures ∙ ap (λ (t : List ℕ). t ++ refused_text c.saturating_add-number.result c.args.cause.now) empty ∙ ap (λ (n : ℕ). refused_text n c.args.cause.now) c.saturating_add-number.ensures in
+    c.in_ok-push_all.ensures.took ∙ ap (with_back (g.K.Sink.taken c.args.out.now)) text

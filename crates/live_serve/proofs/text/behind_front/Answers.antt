@@ -1,0 +1,6 @@
+use Rattle.std.proofs.Common.{arith}
+use Rattle.std.proofs.lemmas.Str.{IsCharBoundary-after_ascii}
+use Rattle.live_serve.proofs.text.behind_front.Goals as goal
+
+pub range_from-requires : goal.range_from-requires
+range_from-requires c = λ _. IsCharBoundary-after_ascii c.args.text.now 1 c.utf8.text c.requires.long c.requires.ascii

@@ -1,0 +1,3 @@
+-- What only private functions and proofs say.
+pub mod Telling
+pub mod Ending

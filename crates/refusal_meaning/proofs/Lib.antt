@@ -1,0 +1,2 @@
+mod UnreadLemmas
+pub mod CallerLemmas

@@ -1,0 +1,3 @@
+pub mod WordLemmas
+pub mod ServeLemmas
+pub mod OpenLemmas

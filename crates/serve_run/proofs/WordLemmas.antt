@@ -1,0 +1,111 @@
+-- Words that are read as those of a session.
+use Rattle.std.proofs.Common.{◌≡◌, ℕ, suc, ◌+◌, ◌<◌, ◌≤◌, ◌||◌, Bool, true, false, not, List, [], ◌∷◌, ◌++◌, length, take, drop, drop-cons, sym, ap, subst, ◌∙◌, arith}
+use Rattle.std.specs.Prelude.{Option, Some, None, IfSome, String, bytes_eq, codes, get_or, if◌then◌else◌, option_map, string_bytes}
+use Rattle.std.specs.Global.{Vec}
+use Rattle.std.specs.Option.{option_and_then}
+use Rattle.std.specs.declared.alloc.Global.{Global}
+use Rattle.std.proofs.lemmas.Bool.{cond-false, cond-true}
+use Rattle.std.proofs.lemmas.List.{drop_all, map_push, take_all, take_more}
+use Rattle.std.proofs.lemmas.Option.{option_and_then_some}
+use Rattle.command_words.proofs.CallerLemmas.{HasRanges, command_of-ranges}
+use Rattle.command_words.specs.Commands.{command_of}
+use Rattle.command_words.specs.Items.{is_dashes, texts}
+use Rattle.command_words.specs.declared.command.Command.{Command}
+use Rattle.command_words.specs.declared.command.Command.TheVariants as command
+use Rattle.run_files.specs.Files.{limit_in}
+use Rattle.serve_run.specs.Helps.Reading.{all_texts}
+use Rattle.serve_run.specs.Words.{has_workers, is_to_serve, is_workers, job_asked, job_of, session_of}
+use Rattle.serve_run.specs.declared.words.Job.{Job}
+
+-- a word that was pushed
+pub texts_pushed : (made now : List (String Global)) (copy : String Global) (text : List ℕ) → now ≡ made ++ copy ∷ [] → string_bytes copy ≡ text → texts now ≡ texts made ++ text ∷ []
+texts_pushed made now copy text pushed same =
+    ap texts pushed ∙ map_push (λ (w : String Global). string_bytes w) made copy ∙ ap (λ (b : List ℕ). texts made ++ b ∷ []) same
+
+-- a word more
+pub texts_more : (first : List ℕ) (made now : List (List ℕ)) (others : List (String Global)) (n : ℕ) (word : String Global) (text : List ℕ) → n < length others → word ≡ get_or others n word → text ≡ string_bytes word → made ≡ first ∷ texts (take n others) → now ≡ made ++ text ∷ [] → now ≡ first ∷ texts (take (n + 1) others)
+texts_more first made now others n word text within is same before pushed =
+    pushed ∙ ap (λ (b : List ℕ). made ++ b ∷ []) same ∙ ap (λ (t : List (List ℕ)). t ++ string_bytes word ∷ []) before
+    ∙ sym (ap (λ (l : List (String Global)). first ∷ texts l) (take_more others n word within ∙ ap (λ (w : String Global). take n others ++ w ∷ []) (sym is)) ∙ ap (λ (t : List (List ℕ)). first ∷ t) (map_push (λ (w : String Global). string_bytes w) (take n others) word))
+
+pub texts_all : (first : List ℕ) (made : List (List ℕ)) (others : List (String Global)) (n : ℕ) → length others ≤ n → made ≡ first ∷ texts (take n others) → made ≡ first ∷ texts others
+texts_all first made others n past before = before ∙ ap (λ (l : List (String Global)). first ∷ texts l) (take_all n others past)
+
+-- ---- the first word
+
+pub serve_none : (words : List (String Global)) → words ≡ [] → false ≡ is_to_serve (texts words)
+serve_none words none = ap (λ (w : List (String Global)). is_to_serve (texts w)) (sym none)
+
+pub serve_some : (words others : List (String Global)) (name : String Global) → words ≡ name ∷ others → bytes_eq (string_bytes name) (codes "serve") ≡ is_to_serve (texts words)
+serve_some words others name is = ap (λ (w : List (String Global)). is_to_serve (texts w)) (sym is)
+
+-- ---- the words of a session
+
+pub session_none : (words : List (String Global)) → words ≡ [] → None ≡ session_of (texts words)
+session_none words none = ap (λ (w : List (String Global)). session_of (texts w)) (sym none)
+
+-- by the tests of the first word and of the others
+pub session_by : (words others : List (String Global)) (name : String Global) (serve workers : Bool) → words ≡ name ∷ others → bytes_eq (string_bytes name) (codes "serve") ≡ serve → has_workers (texts others) ≡ workers
+    → (if not serve then None else if workers then None else Some (codes "session" ∷ texts others)) ≡ session_of (texts words)
+session_by words others name serve workers is serves tells =
+    ap (λ (test : Bool). if not test then None else if workers then None else Some (codes "session" ∷ texts others)) (sym serves)
+    ∙ ap (λ (test : Bool). if not (bytes_eq (string_bytes name) (codes "serve")) then None else if test then None else Some (codes "session" ∷ texts others)) (sym tells)
+    ∙ ap (λ (w : List (String Global)). session_of (texts w)) (sym is)
+
+-- ---- workers, from a word on
+
+module _ (words : List (String Global)) (n : ℕ) (word : String Global) (whole : Bool) (so : whole ≡ has_workers (texts (drop n words))) (within : n < length words) (is : word ≡ get_or words n word) where
+  workers_at : whole ≡ (if is_dashes (string_bytes word) then false else is_workers (string_bytes word) || has_workers (texts (drop (n + 1) words)))
+  workers_at =
+      let next : suc n ≡ n + 1 = omega arith in
+      so ∙ ap (λ (l : List (String Global)). has_workers (texts l)) (drop-cons words n word within ∙ ap (λ (w : String Global). w ∷ drop (suc n) words) (sym is) ∙ ap (λ (k : ℕ). word ∷ drop k words) next)
+
+  pub workers_end : is_dashes (string_bytes word) ≡ true → false ≡ whole
+  workers_end dashes = sym (workers_at ∙ cond-true (is_dashes (string_bytes word)) false (is_workers (string_bytes word) || has_workers (texts (drop (n + 1) words))) dashes)
+
+  module _ (other : is_dashes (string_bytes word) ≡ false) where
+    workers_here : whole ≡ (is_workers (string_bytes word) || has_workers (texts (drop (n + 1) words)))
+    workers_here = workers_at ∙ cond-false (is_dashes (string_bytes word)) false (is_workers (string_bytes word) || has_workers (texts (drop (n + 1) words))) other
+
+    pub workers_found : is_workers (string_bytes word) ≡ true → true ≡ whole
+    workers_found found = sym (workers_here ∙ ap (λ (test : Bool). test || has_workers (texts (drop (n + 1) words))) found)
+
+    pub workers_on : is_workers (string_bytes word) ≡ false → whole ≡ has_workers (texts (drop (n + 1) words))
+    workers_on none = workers_here ∙ ap (λ (test : Bool). test || has_workers (texts (drop (n + 1) words))) none
+
+pub workers_none : (words : List (String Global)) (n : ℕ) (whole : Bool) → whole ≡ has_workers (texts (drop n words)) → length words ≤ n → false ≡ whole
+workers_none words n whole so past = sym (so ∙ ap (λ (l : List (String Global)). has_workers (texts l)) (drop_all n words past))
+
+-- ---- what is asked for
+
+-- the limit of a job
+abbrev JobHas : Option Job → Type 0
+JobHas job = IfSome job (λ job. (0 < limit_in job.options) × (limit_in job.options ≤ 250))
+
+job_has : (asked : Command) → HasRanges asked → JobHas (job_of asked)
+job_has (command.Session files options json workers) has = (has.0, has.1)
+job_has (command.Enforce files options json cache) has = tt
+job_has (command.Explain files options json most) has = tt
+job_has (command.Check files) has = tt
+job_has (command.Format files) has = tt
+job_has (command.Implicit files subject options) has = tt
+job_has (command.Report files options) has = tt
+job_has (command.Ship files options) has = tt
+job_has (command.Follow files options) has = tt
+job_has (command.Lint files options) has = tt
+job_has (command.Demo count workers) has = tt
+
+pub job_limits : (words : List (List ℕ)) (result : Option Job) → result ≡ option_and_then job_of (command_of words) → JobHas result
+job_limits words None asked = tt
+job_limits words (Some job) asked = option_and_then_some job_of (command_of words) job (sym asked) (λ found told made. subst JobHas made (job_has found (command_of-ranges words found told)))
+
+-- by the words of the session, which were made
+module _ (words : List (List ℕ)) (made : Option (Vec (String Global))) (is : option_map all_texts made ≡ session_of words) where
+  pub asked_none : made ≡ None → job_asked words ≡ None
+  asked_none none = ap (option_and_then (λ (words : List (List ℕ)). option_and_then job_of (command_of words))) (sym is ∙ ap (option_map all_texts) none)
+
+  module _ (session : Vec (String Global)) (some : made ≡ Some session) (items : List (String Global)) (same : items ≡ session.items) where
+    pub asked_by : (job : Option Job) → job ≡ option_and_then job_of (command_of (texts items)) → job_asked words ≡ job
+    asked_by job told =
+        ap (option_and_then (λ (words : List (List ℕ)). option_and_then job_of (command_of words))) (sym is ∙ ap (option_map all_texts) some)
+        ∙ ap (λ (words : List (String Global)). option_and_then job_of (command_of (texts words))) (sym same) ∙ sym told

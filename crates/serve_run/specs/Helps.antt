@@ -1,0 +1,4 @@
+-- What only private functions and proofs say.
+pub mod Reading
+pub mod Serving
+pub mod Opened

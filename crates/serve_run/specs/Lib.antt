@@ -1,0 +1,5 @@
+pub mod Words
+pub mod Moments
+pub mod Announced
+pub mod Services
+pub mod Helps
