@@ -151,7 +151,7 @@ fn push_section_words(words: &mut String, name: &str) -> Result<(), NoMemory>
 // Appends the name that was nearly written, or all that may stand there.
 fn push_near(words: &mut String, all: &str, near: Option<&str>) -> Result<(), NoMemory>
     ensures { OnOk result (string_bytes words.new ≡ string_bytes words.old
-        ++ or_near all.now (option_map (λ name. name.now) near)) }
+        ++ or_near all.now (option_map (λ name. name.now) near.entry)) }
 {
     let Some(name) = near else {
         push(words, all)?;

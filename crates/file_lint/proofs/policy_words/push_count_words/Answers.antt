@@ -1,4 +1,4 @@
-use Rattle.std.proofs.Common.{◌≡◌, ◌-◌, ℕ, Option, codes, decimal, ap, ◌∙◌, rules}
+use Rattle.std.proofs.Common.{◌≡◌, ◌-◌, ℕ, Option, codes, decimal, ap, ◌∙◌, arith}
 use Rattle.std.specs.Prelude.{string_bytes}
 use Rattle.perm_base.specs.TableNames.{table_named}
 use Rattle.perm_base.specs.declared.shapes.TableId.{TableId}
@@ -11,7 +11,7 @@ use Rattle.file_lint.proofs.policy_words.push_count_words.Goals as goal
 pub returns : goal.returns
 returns c =
     let line = c.args.line.now in
-    let count : c.saturating_sub.result ≡ field_count Front line - 1 = search rules in
+    let count : c.saturating_sub.result ≡ field_count Front line - 1 = omega (arith, c.field_count.ensures) in
     let wanted = wanted_text c.args.model.now in
     let named : c.named.result ≡ table_named (name_in line) = c.named.ensures ∙ ap table_named c.name_in.ensures in
     three_pushed (string_bytes c.args.words.now) (string_bytes c.push_number.new.text) (string_bytes c.push.new.text) (string_bytes c.push_wanted.new.words)
