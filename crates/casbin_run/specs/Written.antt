@@ -10,7 +10,7 @@ use Rattle.run_status.specs.Told.{IsTold}
 use Rattle.script_read.specs.Said.{Said}
 use Rattle.casbin_run.specs.declared.job.Task.{Task}
 use Rattle.casbin_run.specs.declared.job.Task.TheVariants.{Enforce, Cached, Explain, Serve, Share, Check, Format, Implicit, Report, Ship, Follow}
-use Rattle.loaded_work.specs.Caching.{AreHits}
+use Rattle.cached_work.specs.Caching.{AreHits}
 use Rattle.loaded_work.specs.Explaining.{IsExplained}
 use Rattle.loaded_work.specs.Following.{IsFollowed}
 use Rattle.loaded_work.specs.Roles.{IsImplied, IsLong, IsReported, IsShort}

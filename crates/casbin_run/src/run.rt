@@ -21,11 +21,10 @@ use crate::input::{read_items, read_shipped, read_text};
 use crate::job::{Task, read_job, sharing};
 use crate::shared::share_items;
 use crate::showing::{check, format};
+use cached_work::enforce_cached;
 use live_pair::Places;
 use live_rounds::Gate;
-use loaded_work::{
-    Loaded, enforce, enforce_cached, explain, follow, implicit, report, serve, ship,
-};
+use loaded_work::{Loaded, enforce, explain, follow, implicit, report, serve, ship};
 use perm_base::{Shelf, Sink, Source};
 use regex_gate::Finder;
 use run_files::load_files;

@@ -16,7 +16,7 @@ use perm_value::Request;
 use regex_gate::Finder;
 
 /// What `decide_seat` answers, by way of a cache that its caller keeps for the seat (Casbin, the cached enforcer): over the
-/// policy that is then published, whatever the cache holds. A request that stands in the cache is judged no more, until a publish
+/// policy that is then published, whatever the cache holds. A request that stands in the cache is judged no more, until a publish of edits
 /// that the seat enters after; then the cache loses all its verdicts (`decide_cached`).
 ///
 /// A new cache serves each seat (`caches_serve_seats`), and one that served a seat serves it again, whatever was answered. A

@@ -1,5 +1,4 @@
 mod AskLemmas
-mod CachedLemmas
 mod ExplainLemmas
 mod FollowLemmas
 mod GatheredLemmas
@@ -8,6 +7,5 @@ mod PrintLemmas
 mod RolesLemmas
 mod ShipLemmas
 mod WorkLemmas
-mod CachedWork
 mod ExplainWork
 pub mod CallerLemmas

@@ -1,7 +1,6 @@
 -- What answering, gathering and pushing come to: helps for proofs, which no public clause of a run cites.
 pub mod Gathering
 pub mod Working
-pub mod Caching
 pub mod Explaining
 pub mod Shipping
 pub mod Following

@@ -2,7 +2,6 @@ pub mod Sinks
 pub mod Finders
 pub mod Texts
 pub mod Roles
-pub mod Caching
 pub mod Explaining
 pub mod Shipping
 pub mod Following

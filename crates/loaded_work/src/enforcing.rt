@@ -27,7 +27,7 @@ use std::alloc::Global;
 
 /// What requests are answered by: a program, a policy that suits it, and whether requests are JSON.
 #[derive(Clone, Copy)]
-pub(crate) struct Court<'a> {
+pub struct Court<'a> {
     pub program: &'a Program,
     pub state: &'a PolicyState,
     pub json: bool,
@@ -94,7 +94,7 @@ fn print_answers<K: Sink, P: Finder>(
 }
 
 /// The number behind this one, as far as numbers go.
-pub(crate) fn next_number(number: u32) -> u32
+pub fn next_number(number: u32) -> u32
     ensures { result ≡ min (number + 1) 4294967295 }
 {
     number.saturating_add(1)
@@ -131,7 +131,7 @@ fn push_answer<P: Finder>(
 }
 
 /// What a line asks, or why it is no request.
-pub(crate) fn ask(alloc: Global, json: bool, line: &str) -> Result<Asked, NoMemory>
+pub fn ask(alloc: Global, json: bool, line: &str) -> Result<Asked, NoMemory>
     ensures says { IfOk result (λ asked. Says json line.now (reading asked)) }
     ensures named { IfOk result (λ asked. is_named (asks (reading asked)) ≡ true) }
 {

@@ -9,7 +9,7 @@ use perm_base::{Failed, Sink, push_all};
 const GATHERED: usize = 16_384;
 
 /// Pushes a text once enough of it is gathered; it is empty then.
-pub(crate) fn push_full<K: Sink>(out: &mut K, text: &mut String) -> Result<(), Failed>
+pub fn push_full<K: Sink>(out: &mut K, text: &mut String) -> Result<(), Failed>
     ensures moved { OnOk result (Moves (K.taken out.old) (K.taken out.new)
         (string_bytes text.old) (string_bytes text.new)) }
     ensures stopped { OnErr result

@@ -1,7 +1,6 @@
 //! What commands do over a model and a policy that were loaded: requests, items and packets are answered, and the answers pushed.
 #![tactic(auto)]
 
-mod cached;
 mod enforcing;
 mod explaining;
 mod following;
@@ -14,10 +13,10 @@ mod session;
 mod shipping;
 mod taken_lines;
 
-pub use cached::enforce_cached;
-pub use enforcing::enforce;
+pub use enforcing::{Court, ask, enforce, next_number};
 pub use explaining::explain;
 pub use following::follow;
+pub use gather::push_full;
 pub use implied::implicit;
 pub use loaded::Loaded;
 pub use opening::{Opened, open_loaded};

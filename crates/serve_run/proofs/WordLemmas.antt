@@ -78,6 +78,13 @@ workers_none words n whole so past = sym (so ∙ ap (λ (l : List (String Global
 
 -- ---- what is asked for
 
+-- what was read of words, where they are a command and where they are none
+pub job_read : (words : List (List ℕ)) (found : Option Command) (asked : Command) (result : Option Job) → found ≡ command_of words → found ≡ Some asked → result ≡ job_of asked → result ≡ option_and_then job_of (command_of words)
+job_read words found asked result is some made = made ∙ ap (λ (o : Option Command). option_and_then job_of o) (sym some ∙ is)
+
+pub no_job_read : (words : List (List ℕ)) (found : Option Command) → found ≡ command_of words → found ≡ None → None ≡ option_and_then job_of (command_of words)
+no_job_read words found is none = ap (λ (o : Option Command). option_and_then job_of o) (sym none ∙ is)
+
 -- the limit of a job
 abbrev JobHas : Option Job → Type 0
 JobHas job = IfSome job (λ job. (0 < limit_in job.options) × (limit_in job.options ≤ 250))

@@ -93,7 +93,7 @@ fn serve_words<F: Shelf, S: Source, K: Sink, E: Sink, P: Finder>(
     let Some(session) = session else {
         return Err(Stop::Words);
     };
-    let Some(job) = read_job(&session) else {
+    let Some(job) = read_job(alloc, &session)? else {
         return Err(Stop::Words);
     };
     serve_job(alloc, &job, shelf, input, out, err, finder)
@@ -161,6 +161,6 @@ fn serve_opened<S: Source, K: Sink, E: Sink, P: Finder>(
     ensures used { IsUsed (P.refusals finder.old) (P.refusals finder.new) }
 {
     let desk = open_desk(alloc, opened.state)?;
-    tell_serving(err, job.files.model, opened.rules);
+    tell_serving(err, &job.files, opened.rules);
     serve_stream(alloc, desk, &opened.program, job.json, input, out, finder)
 }

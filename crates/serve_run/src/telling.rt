@@ -3,15 +3,17 @@ ghost use Rattle.outside.specs.Pushes.{PushesAll};
 ghost use Rattle.run_status.specs.Told.{IsTold};
 ghost use Rattle.serve_run.specs.Announced.{serving_line};
 
+use command_words::Files;
 use itoa::Buffer;
 use perm_base::{Failed, Sink, push_all};
 
-/// Tells what is served, a model and so many rules: pushes the line. Where a push fails, no more is told. It takes no memory.
-pub(crate) fn tell_serving<E: Sink>(err: &mut E, model: &str, rules: u32)
+/// Tells what is served, the model of these files and so many rules: pushes the line. Where a push fails, no more is told. It takes
+/// no memory.
+pub(crate) fn tell_serving<E: Sink>(err: &mut E, files: &Files<'_>, rules: u32)
     ensures { IsTold (E.taken err.old) (E.taken err.new)
-        (E.faults err.old) (E.faults err.new) (serving_line model.now rules) }
+        (E.faults err.old) (E.faults err.new) (serving_line files.now.model rules) }
 {
-    let _ = push_serving(err, model, rules);
+    let _ = push_serving(err, files.model, rules);
 }
 
 fn push_serving<E: Sink>(err: &mut E, model: &str, rules: u32) -> Result<(), Failed>

@@ -120,12 +120,16 @@ fn tells_workers(word: &[u8]) -> bool
 }
 
 /// What the words of a session ask for.
-pub(crate) fn read_job(session: &[String]) -> Option<Job<'_>>
-    ensures asked { result ≡ option_and_then job_of (command_of (texts session.now)) }
-    ensures limit { IfSome result (λ job.
-        (0 < limit_in job.options) × (limit_in job.options ≤ 250)) }
+pub(crate) fn read_job(alloc: Global, session: &[String]) -> Result<Option<Job<'_>>, NoMemory>
+    ensures asked { IfOk result (λ found.
+        found ≡ option_and_then job_of (command_of (texts session.now))) }
+    ensures limit { IfOk result (λ found. IfSome found (λ job.
+        (0 < limit_in job.options) × (limit_in job.options ≤ 250))) }
 {
-    job_of(read_words(session)?)
+    let Some(command) = read_words(alloc, session)? else {
+        return Ok(None);
+    };
+    Ok(job_of(command))
 }
 
 // What a session is done on.

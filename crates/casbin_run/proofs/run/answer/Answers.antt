@@ -1,5 +1,5 @@
-use Rattle.std.proofs.Common.{◌≡◌, Bool, Err, arith, refl, rules, subst, sym, ◌∙◌}
-use Rattle.std.specs.Prelude.{map}
+use Rattle.std.proofs.Common.{◌≡◌, ◌<◌, ◌≤◌, Bool, Err, Option, arith, refl, rules, subst, sym, ◌∙◌}
+use Rattle.std.specs.Prelude.{IfSome, map}
 use Rattle.std.proofs.lemmas.Result.{IfErr-weaker, err_from_is_err_and, on_ok_weaker}
 use Rattle.command_words.specs.Items.{texts}
 use Rattle.run_status.specs.declared.stop.Stop.TheVariants.{NoMemory, Words}
@@ -8,6 +8,8 @@ use Rattle.casbin_run.specs.Finders.{AreUsed}
 use Rattle.outside.proofs.CallerLemmas.{adds_none}
 use Rattle.casbin_run.specs.Worlds.{fetched, pulled, world}
 use Rattle.loaded_work.specs.Sinks.{taken}
+use Rattle.casbin_run.specs.Jobs.{HasSize, limit_in}
+use Rattle.casbin_run.specs.declared.job.Job.{Job}
 use Rattle.casbin_run.proofs.EarlyLemmas.{asks_read}
 use Rattle.casbin_run.proofs.EndLemmas.{all_done, load_done, memory_end, nothing_done, on_both, words_end, work_ends}
 use Rattle.casbin_run.proofs.OneEnd.{has_none, workers_asked}
@@ -21,9 +23,15 @@ returns-in_err-job-clause-comes g c =
 pub returns-in_default-clause-comes : goal.returns-in_default-clause-comes
 returns-in_default-clause-comes g c = nothing_done _ _ _ _ Words refl (words_end _ _ _ (sym c.in_ok-job.ensures.asked ∙ c.in_default.is) (adds_none (g.F.Shelf.calls c.args.shelf.now)) refl) (omega arith) refl refl refl
 
+pub load_files-requires : goal.load_files-requires
+load_files-requires g c = subst (λ (found : Option Job). IfSome found (λ (job : Job). (0 < limit_in job.options) × (limit_in job.options ≤ 250))) c.in-Some.is c.in_ok-job.ensures.limit
+
+pub do_any-requires-clause-sized : goal.do_any-requires-clause-sized
+do_any-requires-clause-sized g c = subst (λ (found : Option Job). IfSome found (λ (job : Job). HasSize job.task)) c.in-Some.is c.in_ok-job.ensures.sized
+
 pub returns-in_err-loaded-clause-comes : goal.returns-in_err-loaded-clause-comes
 returns-in_err-loaded-clause-comes g c =
-    let stop : c.from_residual.result ≡ Err c.in_err-loaded.field-0.0 = search rules in
+    let stop : c.from_residual-in_err-loaded.result ≡ Err c.in_err-loaded.field-0.0 = search rules in
     rw stop (load_done (given (texts c.args.words.now) (g.F.Shelf.files c.args.shelf.now) (g.S.Source.left c.args.input.now)) _ _ _ c.in-Some.job (sym c.in_ok-job.ensures.asked ∙ c.in-Some.is) refl refl c.in_err-loaded.field-0.0 c.in_err-loaded.ensures.stopped c.load_files.ensures.counted refl)
 
 pub returns-clause-comes : goal.returns-clause-comes

@@ -1,4 +1,4 @@
-use Rattle.std.proofs.Common.{◌≡◌, inl, refl}
+use Rattle.std.proofs.Common.{◌≡◌, inl, refl, sym, ◌∙◌}
 use Rattle.std.specs.Prelude.{Some, None}
 use Rattle.std.proofs.lemmas.Result.{IfErr-weaker, err_from_is_err_and, on_ok_weaker}
 use Rattle.command_words.specs.Items.{texts}
@@ -31,22 +31,34 @@ returns-in_default-clause-no_further g c = inl refl
 pub returns-in_default-clause-used : goal.returns-in_default-clause-used
 returns-in_default-clause-used g c = used_none (g.P.Finder.refusals c.args.finder.now)
 
-pub returns-in_default-read_job-clause-stopped : goal.returns-in_default-read_job-clause-stopped
-returns-in_default-read_job-clause-stopped g c = at_words (asked_by (texts c.args.words.now) c.in_ok-session.session c.in_ok-session.ensures c.in-Some.session c.in-Some.is c.deref.result.now c.deref.ensures.value None c.in_default-read_job.ensures.asked) refl refl
+-- they are none behind it, or memory runs out for them
+pub returns-in_default-2-clause-stopped : goal.returns-in_default-2-clause-stopped
+returns-in_default-2-clause-stopped g c = at_words (asked_by (texts c.args.words.now) c.in_ok-session.session c.in_ok-session.ensures c.in-Some.session c.in-Some.is c.deref.result.now c.deref.ensures.value None (sym c.in_default-2.is ∙ c.in_ok-job.ensures.asked)) refl refl
 
-pub returns-in_default-read_job-clause-no_further : goal.returns-in_default-read_job-clause-no_further
-returns-in_default-read_job-clause-no_further g c = inl refl
+pub returns-in_default-2-clause-no_further : goal.returns-in_default-2-clause-no_further
+returns-in_default-2-clause-no_further g c = inl refl
 
-pub returns-in_default-read_job-clause-used : goal.returns-in_default-read_job-clause-used
-returns-in_default-read_job-clause-used g c = used_none (g.P.Finder.refusals c.args.finder.now)
+pub returns-in_default-2-clause-used : goal.returns-in_default-2-clause-used
+returns-in_default-2-clause-used g c = used_none (g.P.Finder.refusals c.args.finder.now)
+
+pub returns-in_err-job-clause-stopped : goal.returns-in_err-job-clause-stopped
+returns-in_err-job-clause-stopped g c =
+    let p = err_from_is_err_and c.from_residual-in_err-job.result c.from_residual-in_err-job.ensures.1 in
+    rw p.1 (before_files p.2 refl)
+
+pub returns-in_err-job-clause-no_further : goal.returns-in_err-job-clause-no_further
+returns-in_err-job-clause-no_further g c = inl refl
+
+pub returns-in_err-job-clause-used : goal.returns-in_err-job-clause-used
+returns-in_err-job-clause-used g c = used_none (g.P.Finder.refusals c.args.finder.now)
 
 -- a job
 pub returns-clause-done : goal.returns-clause-done
 returns-clause-done g c =
-    let asked : job_asked (texts c.args.words.now) ≡ Some c.in-Some-read_job.job = asked_by (texts c.args.words.now) c.in_ok-session.session c.in_ok-session.ensures c.in-Some.session c.in-Some.is c.deref.result.now c.deref.ensures.value (Some c.in-Some-read_job.job) c.in-Some-read_job.ensures.asked in
-    on_ok_weaker c.serve_job.result (has_served (texts c.args.words.now) (g.F.Shelf.files c.args.shelf.now) c.in-Some-read_job.job asked _ _) c.serve_job.ensures.served
+    let asked : job_asked (texts c.args.words.now) ≡ Some c.in-Some-2.job = asked_by (texts c.args.words.now) c.in_ok-session.session c.in_ok-session.ensures c.in-Some.session c.in-Some.is c.deref.result.now c.deref.ensures.value (Some c.in-Some-2.job) (sym c.in-Some-2.is ∙ c.in_ok-job.ensures.asked) in
+    on_ok_weaker c.serve_job.result (has_served (texts c.args.words.now) (g.F.Shelf.files c.args.shelf.now) c.in-Some-2.job asked _ _) c.serve_job.ensures.served
 
 pub returns-clause-stopped : goal.returns-clause-stopped
 returns-clause-stopped g c =
-    let asked : job_asked (texts c.args.words.now) ≡ Some c.in-Some-read_job.job = asked_by (texts c.args.words.now) c.in_ok-session.session c.in_ok-session.ensures c.in-Some.session c.in-Some.is c.deref.result.now c.deref.ensures.value (Some c.in-Some-read_job.job) c.in-Some-read_job.ensures.asked in
-    IfErr-weaker c.serve_job.result _ _ (stops_serving (texts c.args.words.now) (g.F.Shelf.files c.args.shelf.now) c.in-Some-read_job.job asked _ _) c.serve_job.ensures.stopped
+    let asked : job_asked (texts c.args.words.now) ≡ Some c.in-Some-2.job = asked_by (texts c.args.words.now) c.in_ok-session.session c.in_ok-session.ensures c.in-Some.session c.in-Some.is c.deref.result.now c.deref.ensures.value (Some c.in-Some-2.job) (sym c.in-Some-2.is ∙ c.in_ok-job.ensures.asked) in
+    IfErr-weaker c.serve_job.result _ _ (stops_serving (texts c.args.words.now) (g.F.Shelf.files c.args.shelf.now) c.in-Some-2.job asked _ _) c.serve_job.ensures.stopped

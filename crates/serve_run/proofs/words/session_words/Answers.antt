@@ -5,6 +5,9 @@ use Rattle.serve_run.specs.Words.{has_workers}
 use Rattle.serve_run.proofs.WordLemmas.{session_by, session_none}
 use Rattle.serve_run.proofs.words.session_words.Goals as goal
 
+pub returns-in_default : goal.returns-in_default
+returns-in_default c = session_none c.args.words.now c.in_default.ensures.cases
+
 pub returns-then-not-is_serve : goal.returns-then-not-is_serve
 returns-then-not-is_serve c =
     let is : c.args.words.now ≡ c.in-Some.name.now ∷ c.in-Some.others.now = search rules in

@@ -1,0 +1,2 @@
+mod CachedLemmas
+mod CachedWork
