@@ -71,7 +71,10 @@ fn hint_of_names(rest: &[u8]) -> &'static str
 fn compares(rest: &[u8]) -> bool
     ensures { result ≡ compares rest.now }
 {
-    begins_so(rest, b"==") || begins_so(rest, b"!=") || begins_so(rest, b"<") || begins_so(rest, b">")
+    begins_so(rest, b"==")
+        || begins_so(rest, b"!=")
+        || begins_so(rest, b"<")
+        || begins_so(rest, b">")
 }
 
 // A second request or policy does.

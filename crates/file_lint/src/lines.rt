@@ -168,9 +168,7 @@ fn goes_past(text: &str, before: usize) -> bool
 fn behind_line(text: &str, before: usize) -> usize
     ensures { result ≡ before - (open_length text.now + 1) }
 {
-    before
-        .saturating_sub(open_length(text))
-        .saturating_sub(1)
+    before.saturating_sub(open_length(text)).saturating_sub(1)
 }
 
 // The place behind so many bytes of a line.

@@ -105,12 +105,7 @@ fn without_mark(line: &str) -> Option<&str>
 }
 
 // A text with a line replaced by what is left of it, or without the line.
-fn with_left(
-    alloc: Global,
-    text: &str,
-    number: u64,
-    left: Option<&str>,
-) -> Result<String, NoMemory>
+fn with_left(alloc: Global, text: &str, number: u64, left: Option<&str>) -> Result<String, NoMemory>
     ensures { IfOk result (λ made. string_bytes made
         ≡ with_left number text.now (option_map (λ rest. rest.now) left.entry)) }
 {
