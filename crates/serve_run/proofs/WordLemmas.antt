@@ -1,5 +1,5 @@
 -- Words that are read as those of a session.
-use Rattle.std.proofs.Common.{◌≡◌, ℕ, suc, ◌+◌, ◌<◌, ◌≤◌, ◌||◌, Bool, true, false, not, List, [], ◌∷◌, ◌++◌, length, take, drop, drop-cons, sym, ap, subst, ◌∙◌, arith}
+use Rattle.std.proofs.Common.{◌≡◌, ℕ, suc, ◌+◌, ◌<◌, ◌≤◌, ◌||◌, Bool, true, false, not, List, [], ◌∷◌, ◌++◌, length, take, drop, drop-cons, refl, sym, ap, subst, ◌∙◌, arith}
 use Rattle.std.specs.Prelude.{Option, Some, None, IfSome, String, bytes_eq, codes, get_or, if◌then◌else◌, option_map, string_bytes}
 use Rattle.std.specs.Global.{Vec}
 use Rattle.std.specs.Option.{option_and_then}
@@ -33,16 +33,18 @@ texts_all first made others n past before = before ∙ ap (λ (l : List (String 
 
 -- ---- the first word
 
-pub serve_none : (words : List (String Global)) → words ≡ [] → false ≡ is_to_serve (texts words)
-serve_none words none = ap (λ (w : List (String Global)). is_to_serve (texts w)) (sym none)
+pub serve_none : (words : List (String Global)) → length words ≡ 0 → false ≡ is_to_serve (texts words)
+serve_none [] none = refl
+serve_none (word ∷ words) none = absurd (omega (arith, none))
 
 pub serve_some : (words others : List (String Global)) (name : String Global) → words ≡ name ∷ others → bytes_eq (string_bytes name) (codes "serve") ≡ is_to_serve (texts words)
 serve_some words others name is = ap (λ (w : List (String Global)). is_to_serve (texts w)) (sym is)
 
 -- ---- the words of a session
 
-pub session_none : (words : List (String Global)) → words ≡ [] → None ≡ session_of (texts words)
-session_none words none = ap (λ (w : List (String Global)). session_of (texts w)) (sym none)
+pub session_none : (words : List (String Global)) → length words ≡ 0 → None ≡ session_of (texts words)
+session_none [] none = refl
+session_none (word ∷ words) none = absurd (omega (arith, none))
 
 -- by the tests of the first word and of the others
 pub session_by : (words others : List (String Global)) (name : String Global) (serve workers : Bool) → words ≡ name ∷ others → bytes_eq (string_bytes name) (codes "serve") ≡ serve → has_workers (texts others) ≡ workers

@@ -27,7 +27,7 @@ pub load_files-requires : goal.load_files-requires
 load_files-requires g c = subst (λ (found : Option Job). IfSome found (λ (job : Job). (0 < limit_in job.options) × (limit_in job.options ≤ 250))) c.in-Some.is c.in_ok-job.ensures.limit
 
 pub do_any-requires-clause-sized : goal.do_any-requires-clause-sized
-do_any-requires-clause-sized g c = subst (λ (found : Option Job). IfSome found (λ (job : Job). HasSize job.task)) c.in-Some.is c.in_ok-job.ensures.sized
+do_any-requires-clause-sized g c = λ lifetimes outlive. subst (λ (found : Option Job). IfSome found (λ (job : Job). HasSize job.task)) c.in-Some.is c.in_ok-job.ensures.sized
 
 pub returns-in_err-loaded-clause-comes : goal.returns-in_err-loaded-clause-comes
 returns-in_err-loaded-clause-comes g c =

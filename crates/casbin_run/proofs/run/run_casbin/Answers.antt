@@ -39,11 +39,11 @@ returns-in_default g c =
     }
 
 pub run_demo-requires-clause-few : goal.run_demo-requires-clause-few
-run_demo-requires-clause-few g c = subst (λ (found : Option (ℕ × ℕ)). IfSome found (λ demo. demo.1 ≤ 8)) c.in-Some.is c.in-Ok.ensures.few
+run_demo-requires-clause-few g c = λ lifetimes outlive. subst (λ (found : Option (ℕ × ℕ)). IfSome found (λ demo. demo.1 ≤ 8)) c.in-Some.is c.in-Ok.ensures.few
 
 -- a run over files
-pub returns-in_default-2 : goal.returns-in_default-2
-returns-in_default-2 g c =
+pub returns-in_default-demo : goal.returns-in_default-demo
+returns-in_default-demo g c =
     let words = texts c.args.words.now in
     let before = world (fetched (g.F.Shelf.calls c.args.shelf.now) (g.F.Shelf.faults c.args.shelf.now)) (pulled (g.S.Source.left c.args.input.now) (g.S.Source.ends c.args.input.now) (g.S.Source.faults c.args.input.now)) (taken (g.K.Sink.taken c.args.out.now) (g.K.Sink.faults c.args.out.now)) (map g.P.Finder.refusals c.args.finders.now.items) in
     let now = world (fetched (g.F.Shelf.calls c.run_files.new.shelf) (g.F.Shelf.faults c.run_files.new.shelf)) (pulled (g.S.Source.left c.run_files.new.input) (g.S.Source.ends c.run_files.new.input) (g.S.Source.faults c.run_files.new.input)) (taken (g.K.Sink.taken c.run_files.new.out) (g.K.Sink.faults c.run_files.new.out)) (map g.P.Finder.refusals c.run_files.new.finders.items) in
@@ -51,7 +51,7 @@ returns-in_default-2 g c =
     let err_now = taken (g.E.Sink.taken c.run_files.new.err) (g.E.Sink.faults c.run_files.new.err) in
     let ran = c.run_files.ensures in
     record {
-      ends = ends_files (given words (g.F.Shelf.files c.args.shelf.now) (g.S.Source.left c.args.input.now)) before now err err_now c.run_files.result (sym c.in_default-2.is ∙ c.in-Ok.ensures.asked) ran.ends;
+      ends = ends_files (given words (g.F.Shelf.files c.args.shelf.now) (g.S.Source.left c.args.input.now)) before now err err_now c.run_files.result (sym c.in_default-demo.is ∙ c.in-Ok.ensures.asked) ran.ends;
       quiet = ran.quiet;
       read_to_end = ran.read_to_end;
       ended = ran.ended;
@@ -63,8 +63,8 @@ returns-in_default-2 g c =
       out_counted = ran.out_counted;
       err_counted = ran.err_counted;
       places_counted = ran.places_counted;
-      finders = subst (λ (shared : Bool). AreUsed shared (map g.P.Finder.refusals c.args.finders.now.items) (map g.P.Finder.refusals c.run_files.new.finders.items)) (sym (without_demo words (sym c.in_default-2.is ∙ c.in-Ok.ensures.asked))) ran.finders;
-      others = λ alone. ran.others (sym (without_demo words (sym c.in_default-2.is ∙ c.in-Ok.ensures.asked)) ∙ alone);
+      finders = subst (λ (shared : Bool). AreUsed shared (map g.P.Finder.refusals c.args.finders.now.items) (map g.P.Finder.refusals c.run_files.new.finders.items)) (sym (without_demo words (sym c.in_default-demo.is ∙ c.in-Ok.ensures.asked))) ran.finders;
+      others = λ alone. ran.others (sym (without_demo words (sym c.in_default-demo.is ∙ c.in-Ok.ensures.asked)) ∙ alone);
       idle = ran.idle;
     }
 
