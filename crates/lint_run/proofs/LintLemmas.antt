@@ -1,5 +1,5 @@
 -- What the words of a lint ask for, and why a lint stops.
-use Rattle.std.proofs.Common.{◌≡◌, ℕ, ◌<◌, ◌≤◌, ◌∙◌, false, List, [], ◌∷◌, Option, Some, None, Ok, inl, inr, ⊎_elim, length, refl, sym, ap, subst}
+use Rattle.std.proofs.Common.{◌≡◌, ℕ, ◌<◌, ◌≤◌, ◌∙◌, false, List, [], ◌∷◌, Option, Some, None, Ok, inl, inr, ⊎_elim, length, refl, sym, ap, subst, arith}
 use Rattle.std.specs.Prelude.{Err, IfErr, IfOk, IfSome, Result, String, bytes_eq, codes, string_bytes}
 use Rattle.std.specs.Option.{option_and_then}
 use Rattle.std.specs.declared.alloc.Global.{Global}
@@ -34,8 +34,9 @@ use Rattle.lint_run.specs.declared.job.LintJob.{LintJob}
 use Rattle.lint_run.specs.declared.linting.Linted.{Linted}
 
 -- a first word, or none
-pub named_none : (words : List (String Global)) → words ≡ [] → false ≡ is_to_lint (texts words)
-named_none words none = ap (λ (w : List (String Global)). is_to_lint (texts w)) (sym none)
+pub named_none : (words : List (String Global)) → length words ≡ 0 → false ≡ is_to_lint (texts words)
+named_none [] none = refl
+named_none (word ∷ words) none = absurd (omega (arith, none))
 
 pub named_so : (words others : List (String Global)) (name : String Global) → words ≡ name ∷ others → bytes_eq (string_bytes name) (codes "lint") ≡ is_to_lint (texts words)
 named_so words others name is = ap (λ (w : List (String Global)). is_to_lint (texts w)) (sym is)

@@ -1,7 +1,10 @@
 use Rattle.std.proofs.Common.{◌≡◌, ◌∷◌, ap, ◌∙◌, rules}
 use Rattle.std.specs.Prelude.{bytes_eq, codes}
-use Rattle.lint_run.proofs.LintLemmas.{named_so}
+use Rattle.lint_run.proofs.LintLemmas.{named_none, named_so}
 use Rattle.lint_run.proofs.job.asks_for_lint.Goals as goal
+
+pub returns-in_default : goal.returns-in_default
+returns-in_default c = named_none c.args.words.now c.in_default.ensures.cases
 
 pub returns : goal.returns
 returns c =

@@ -1,11 +1,16 @@
-use Rattle.std.proofs.Common.{◌≡◌, Err, Some, refl, sym, subst, ◌∙◌, rules}
+use Rattle.std.proofs.Common.{◌≡◌, ◌<◌, ◌≤◌, Err, Option, Some, refl, sym, subst, ◌∙◌, rules}
+use Rattle.std.specs.Prelude.{IfSome}
 use Rattle.std.proofs.lemmas.Result.{err_from_is_err_and}
 use Rattle.command_words.specs.Items.{texts}
 use Rattle.outside.specs.Faults.{Rose}
 use Rattle.outside.specs.Told.{TookFront}
 use Rattle.lint_run.specs.Linting.{lint_asked, lint_text}
+use Rattle.lint_run.specs.declared.job.LintJob.{LintJob}
 use Rattle.lint_run.proofs.LintLemmas.{files_end}
 use Rattle.lint_run.proofs.linting.lint.Goals as goal
+
+pub lint_files-requires : goal.lint_files-requires
+lint_files-requires g c = subst (λ (found : Option LintJob). IfSome found (λ (job : LintJob). (0 < job.options.limit) × (job.options.limit ≤ 250))) c.in-Some.is c.in_ok-job.ensures.limit
 
 pub returns-in_default-clause-stopped : goal.returns-in_default-clause-stopped
 returns-in_default-clause-stopped g c = (sym c.in_ok-job.ensures.asked ∙ c.in_default.is, refl)
