@@ -138,9 +138,11 @@ fn is_rule_text(alloc: Global, model: &Model, text: &str) -> Result<bool, NoMemo
         ((e : Expression) × IsRuleText model.now text.now e)
         (IsNoRuleText model.now text.now)) }
 {
-    match read_rule_text(alloc, model, text) {
-        Ok(_) => Ok(true),
-        Err(RuleTextFault::NoRule) => Ok(false),
-        Err(RuleTextFault::NoMemory) => Err(NoMemory),
+    let Err(fault) = read_rule_text(alloc, model, text) else {
+        return Ok(true);
+    };
+    match fault {
+        RuleTextFault::NoRule => Ok(false),
+        RuleTextFault::NoMemory => Err(NoMemory),
     }
 }

@@ -7,7 +7,7 @@ use Rattle.file_lint.proofs.model_words.push_near.Goals as goal
 
 pub returns : goal.returns
 returns c =
-    two_pushed (string_bytes c.args.words.now) (string_bytes c.push.new.text) (string_bytes c.push-2.new.text) (codes ": did you mean ") c.in-Some.name.now c.in_ok-push.ensures c.in_ok-push-2.ensures
+    two_pushed (string_bytes c.args.words.now) (string_bytes c.push-2.new.text) (string_bytes c.push-3.new.text) (codes ": did you mean ") c.in-Some.name.now c.in_ok-push-2.ensures c.in_ok-push-3.ensures
     ∙ ap (λ (o : Option (Bor (List ℕ))). string_bytes c.args.words.now ++ or_near c.args.all.now (option_map (λ (name : Bor (List ℕ)). name.now) o)) (sym c.in-Some.is)
 
 pub returns-in_default : goal.returns-in_default
