@@ -125,4 +125,4 @@ pub no_errors : (findings : List Finding) → AreWarnings findings → count_of 
 no_errors [] all = refl
 no_errors (first ∷ others) all =
     let none : ◌≡◌ {A = ℕ} (cond (is_same Error first.level) 1 0) 0 = ap (λ (level : Level). cond (is_same Error level) 1 0) all.0 in
-    omega (arith, none, no_errors others all.1)
+    ap (λ (n : ℕ). cond (is_same Error first.level) 1 0 + n) (no_errors others all.1) ∙ ap (λ (n : ℕ). n + 0) none
