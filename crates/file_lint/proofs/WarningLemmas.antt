@@ -1,7 +1,7 @@
 -- Where a policy has no fault, all findings are warnings.
 use Rattle.std.proofs.Common.{◌≡◌, ◌≢◌, ℕ, ◌+◌, Bool, true, false, cond, List, [], ◌∷◌, ◌++◌, Option, Some, None, inl, inr, refl, sym, ap, subst, ◌∙◌, arith}
 use Rattle.std.specs.Prelude.{Ok, Err, flat_map, if◌then◌else◌}
-use Rattle.std.specs.List.{AllByRecursion, AllZip}
+use Rattle.std.specs.List.{AllByRecursion, AllZip, fold}
 use Rattle.effect_fold.specs.declared.effect.Effect.{Effect}
 use Rattle.model_conf.specs.ModelText.{ModelParts}
 use Rattle.perm_base.specs.declared.shapes.RoleShape.{RoleShape}
@@ -10,7 +10,7 @@ use Rattle.perm_base.specs.declared.shapes.TableId.{TableId}
 use Rattle.perm_base.specs.declared.shapes.TableId.TheVariants.{P, G}
 use Rattle.policy_csv.proofs.CallerLemmas.{says_fault, says_rule}
 use Rattle.policy_csv.specs.Faults.{IsTextFault}
-use Rattle.policy_csv.specs.Policy.{SaysRule, SayRules}
+use Rattle.policy_csv.specs.Policy.{SaysRule, SayRules, with_entry}
 use Rattle.policy_csv.specs.declared.entry.Entry.{Entry}
 use Rattle.policy_csv.specs.declared.fault.PolicyFault.{PolicyFault}
 use Rattle.policy_csv.specs.declared.fault.PolicyFault.TheVariants.{NoMemory}
@@ -117,12 +117,16 @@ pub warned : (model : ModelParts) (shapes : Shapes) (before : Policy) (lines : L
 warned model shapes before [] entries findings says no_line = tt
 warned model shapes before (next ∷ lines) [] findings says is = absurd says
 warned model shapes before (next ∷ lines) (entry ∷ entries) findings says (told why e rest) = absurd cc
-warned model shapes before (next ∷ lines) (entry ∷ entries) findings says (rule found none is finds rest) = both _ _ (row model shapes before next found _ finds) (warned model shapes _ lines entries _ says.1 rest)
+warned model shapes before (next ∷ lines) (entry ∷ entries) findings says (rule found none is finds rest) = both _ _ (row model shapes before next found _ finds) (warned model shapes (with_entry found before) lines entries _ says.1 rest)
 warned model shapes before (next ∷ lines) (entry ∷ entries) findings says (at_fault why none other is rest) = absurd (fine shapes (given_number next.number) next.text entry why says.0 other is)
+
+-- a count of errors stays where all are warnings
+count_from : (start : ℕ) (findings : List Finding) → AreWarnings findings → ◌≡◌ {A = ℕ} (fold (λ (count : ℕ) (found : Finding). count + cond (is_same Error found.level) 1 0) start findings) start
+count_from start [] all = refl
+count_from start (first ∷ others) all =
+    let plus : start + 0 ≡ start = omega arith in
+    count_from (start + cond (is_same Error first.level) 1 0) others all.1 ∙ ap (λ (level : Level). start + cond (is_same Error level) 1 0) all.0 ∙ plus
 
 -- among warnings is no error
 pub no_errors : (findings : List Finding) → AreWarnings findings → count_of Error findings ≡ 0
-no_errors [] all = refl
-no_errors (first ∷ others) all =
-    let none : cond (is_same Error first.level) 1 0 ≡ 0 = ap (λ (level : Level). cond (is_same Error level) 1 0) all.0 in
-    omega (arith, none, no_errors others all.1)
+no_errors findings all = count_from 0 findings all
