@@ -39,6 +39,7 @@ job_has (command.Implicit files subject options) has = has
 job_has (command.Report files options) has = has
 job_has (command.Ship files options) has = has
 job_has (command.Follow files options) has = has
+job_has (command.Lint files options) has = tt
 job_has (command.Demo count workers) has = tt
 
 -- the limit of what words ask for
@@ -73,6 +74,7 @@ job_sized (command.Implicit files subject options) has = tt
 job_sized (command.Report files options) has = tt
 job_sized (command.Ship files options) has = tt
 job_sized (command.Follow files options) has = tt
+job_sized (command.Lint files options) has = tt
 job_sized (command.Demo count workers) has = tt
 
 pub job_size : (words : List (List ℕ)) (job : Job) → job_asked words ≡ Some job → HasSize job.task

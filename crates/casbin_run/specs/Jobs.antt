@@ -1,4 +1,4 @@
--- What a command is done on. A demonstration is none of these: it has no files.
+-- What a command is done on. A demonstration is none of these: it has no files. Nor is a lint, which stands beside a run.
 use Rattle.std.specs.Prelude.{ℕ, ◌<◌, ◌≤◌, ⊤, ◌==◌, Bool, true, false, List, Option, Some, None, if◌then◌else◌}
 use Rattle.std.specs.Option.{option_and_then, option_map_or}
 use Rattle.command_words.specs.Commands.{command_of}
@@ -29,6 +29,7 @@ job_of (command.Implicit files subject options) = Some (record { files = files; 
 job_of (command.Report files options) = Some (record { files = files; options = Some options; task = Report })
 job_of (command.Ship files options) = Some (record { files = files; options = Some options; task = Ship })
 job_of (command.Follow files options) = Some (record { files = files; options = Some options; task = Follow })
+job_of (command.Lint files options) = None
 job_of (command.Demo count workers) = None
 
 -- what the words ask for, where they are a command that is done

@@ -45,7 +45,8 @@ fn demo_of(command: Command<'_>) -> Option<(u32, u32)>
         | Command::Implicit { .. }
         | Command::Report { .. }
         | Command::Ship { .. }
-        | Command::Follow { .. } => None,
+        | Command::Follow { .. }
+        | Command::Lint { .. } => None,
     }
 }
 

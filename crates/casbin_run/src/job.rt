@@ -89,7 +89,7 @@ fn job_of(command: Command<'_>) -> Option<Job<'_>>
         Command::Report { files, options } => Some(job_on(files, Some(options), Task::Report)),
         Command::Ship { files, options } => Some(job_on(files, Some(options), Task::Ship)),
         Command::Follow { files, options } => Some(job_on(files, Some(options), Task::Follow)),
-        Command::Demo { .. } => None,
+        Command::Lint { .. } | Command::Demo { .. } => None,
     }
 }
 

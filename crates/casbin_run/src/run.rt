@@ -51,7 +51,7 @@ use std::thread::Threads;
 /// - `follow MODEL POLICY` takes the packets of the input one after the other, and writes what became of each, and the policy.
 /// - `demo N` does the session of the demonstration, without files or input, and writes its summary.
 ///
-/// `check`, `format`, `implicit` and `report` read no input. `command_words` says which options there are. With workers it may wait; the first finder is asked for what no worker answers, and worker k asks finder k + 1.
+/// `check`, `format`, `implicit` and `report` read no input. `command_words` says which options there are; `lint` is no command here. With workers it may wait; the first finder is asked for what no worker answers, and worker k asks finder k + 1.
 /// The gate is passed before each request that a worker answers, and told of each publish then. Exactly where a cause is said to
 /// come, want of memory may come instead.
 pub fn run_casbin<

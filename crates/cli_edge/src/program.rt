@@ -6,6 +6,7 @@ use crate::file_shelf::FileShelf;
 use crate::read_source::ReadSource;
 use crate::write_sink::WriteSink;
 use casbin_run::run_casbin;
+use lint_run::{asks_for_lint, run_lint};
 use live_pair::PairPlaces;
 use live_rounds::FreeGate;
 use outside::NoMemory;
@@ -30,6 +31,11 @@ pub fn run_program<R: Threads + Wait + Sync>(rt: &R, host: &HostRuntime) -> Stat
         Ok(words) => words,
         Err(stop) => return tell_stop(&mut err, stop),
     };
+    if asks_for_lint(&words) {
+        let mut shelf = FileShelf::new(alloc, host);
+        let mut out = WriteSink::new(host.stdout());
+        return run_lint(alloc, &words, &mut shelf, &mut out, &mut err);
+    }
     let Ok(mut finders) = finders(alloc) else {
         return tell_stop(&mut err, Stop::NoMemory);
     };

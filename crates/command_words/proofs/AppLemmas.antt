@@ -12,7 +12,7 @@ use Rattle.clap.proofs.FaultLemmas.{leaf_fault}
 use Rattle.command_words.specs.Commands.{has_json, options_of}
 use Rattle.command_words.specs.Helps.Matched.{app_for, flag_rule, operands_rule, option_rule}
 use Rattle.command_words.specs.declared.kind.Kind.{Kind}
-use Rattle.command_words.specs.declared.kind.Kind.TheVariants.{Enforce, Explain, Session, Check, Format, Implicit, Report, Ship, Follow, Demo}
+use Rattle.command_words.specs.declared.kind.Kind.TheVariants.{Enforce, Explain, Session, Check, Format, Implicit, Report, Ship, Follow, Lint, Demo}
 use Rattle.command_words.proofs.TextLemmas.{apart_names, bytes_flip, bytes_same, or_false}
 
 -- ---- what building makes of the arguments
@@ -55,6 +55,7 @@ simple_app Implicit = refl
 simple_app Report = refl
 simple_app Ship = refl
 simple_app Follow = refl
+simple_app Lint = refl
 simple_app Demo = refl
 
 free_app : (kind : Kind) → is_simple_and_free (app_for kind) ≡ true
@@ -67,6 +68,7 @@ free_app Implicit = refl
 free_app Report = refl
 free_app Ship = refl
 free_app Follow = refl
+free_app Lint = refl
 free_app Demo = refl
 
 built_app : (kind : Kind) → built (app_for kind) ≡ ready_app (options_of kind) (has_json kind)
@@ -79,6 +81,7 @@ built_app Implicit = refl
 built_app Report = refl
 built_app Ship = refl
 built_app Follow = refl
+built_app Lint = refl
 built_app Demo = refl
 
 -- what is at fault, and what is matched, at the command itself
@@ -122,6 +125,7 @@ apart Implicit = record { operands = refl; json = refl }
 apart Report = record { operands = refl; json = refl }
 apart Ship = record { operands = refl; json = refl }
 apart Follow = record { operands = refl; json = refl }
+apart Lint = record { operands = refl; json = refl }
 apart Demo = record { operands = refl; json = refl }
 
 -- by `--name`: the option of that name, or the flag

@@ -11,7 +11,7 @@ use Rattle.command_words.specs.declared.command.Command.{Command}
 use Rattle.command_words.specs.declared.command.Command.TheVariants as asked
 use Rattle.command_words.specs.declared.command.Options.{Options}
 use Rattle.command_words.specs.declared.kind.Kind.{Kind}
-use Rattle.command_words.specs.declared.kind.Kind.TheVariants.{Enforce, Explain, Session, Check, Format, Implicit, Report, Ship, Follow, Demo}
+use Rattle.command_words.specs.declared.kind.Kind.TheVariants.{Enforce, Explain, Session, Check, Format, Implicit, Report, Ship, Follow, Lint, Demo}
 use Rattle.command_words.proofs.ItemLemmas.{taken}
 use Rattle.command_words.proofs.MetItems.{met_behind, met_items, met_valued}
 use Rattle.command_words.proofs.TextLemmas.{after_cons, before_cons, bytes_flip, bytes_same, bytes_self, clash, or_false, or_true}
@@ -187,6 +187,7 @@ module _ (a b : List Item) (value : (name : Text) → value_of name a ≡ value_
   same_command Report words = ap (λ (o : Option Options). on_files asked.Report (files_of words) o) same_options
   same_command Ship words = ap (λ (o : Option Options). on_files asked.Ship (files_of words) o) same_options
   same_command Follow words = ap (λ (o : Option Options). on_files asked.Follow (files_of words) o) same_options
+  same_command Lint words = ap (λ (o : Option Options). on_files asked.Lint (files_of words) o) same_options
   same_command Demo words = ap (λ (o : Option ℕ). showing (count_of words) o) same_workers
 
 -- ---- a value `-` says nothing
@@ -290,6 +291,7 @@ dash_command Implicit given words name listed told = ap (λ (o : Option Options)
 dash_command Report given words name listed told = ap (λ (o : Option Options). on_files asked.Report (files_of words) o) (dash_roles given name told listed) ∙ files_no_options asked.Report (files_of words)
 dash_command Ship given words name listed told = ap (λ (o : Option Options). on_files asked.Ship (files_of words) o) (dash_roles given name told listed) ∙ files_no_options asked.Ship (files_of words)
 dash_command Follow given words name listed told = ap (λ (o : Option Options). on_files asked.Follow (files_of words) o) (dash_roles given name told listed) ∙ files_no_options asked.Follow (files_of words)
+dash_command Lint given words name listed told = ap (λ (o : Option Options). on_files asked.Lint (files_of words) o) (dash_roles given name told listed) ∙ files_no_options asked.Lint (files_of words)
 dash_command Demo given words name listed told =
     ap (λ (o : Option ℕ). showing (count_of words) o) (dash_workers given name told (sym (or_false (bytes_eq name (codes "workers"))) ∙ listed)) ∙ showing_no_workers (count_of words)
 

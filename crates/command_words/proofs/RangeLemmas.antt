@@ -11,7 +11,7 @@ use Rattle.command_words.specs.Items.{Item, is_dashes, items, operands, value_of
 use Rattle.command_words.specs.Values.{is_numeral, is_within, number_between}
 use Rattle.command_words.specs.declared.command.Command.{Command}
 use Rattle.command_words.specs.declared.command.Options.{Options}
-use Rattle.command_words.specs.declared.command.Command.TheVariants.{Enforce, Explain, Session, Check, Format, Implicit, Report, Ship, Follow, Demo}
+use Rattle.command_words.specs.declared.command.Command.TheVariants.{Enforce, Explain, Session, Check, Format, Implicit, Report, Ship, Follow, Lint, Demo}
 use Rattle.command_words.specs.declared.kind.Kind.{Kind}
 use Rattle.command_words.specs.declared.kind.Kind.TheVariants as kind
 
@@ -31,6 +31,7 @@ HasRanges (Implicit files subject options) = (0 < options.limit) × (options.lim
 HasRanges (Report files options) = (0 < options.limit) × (options.limit ≤ 250)
 HasRanges (Ship files options) = (0 < options.limit) × (options.limit ≤ 250)
 HasRanges (Follow files options) = (0 < options.limit) × (options.limit ≤ 250)
+HasRanges (Lint files options) = (0 < options.limit) × (options.limit ≤ 250)
 HasRanges (Demo count workers) = (0 < count) × (count ≤ 100000) × (workers ≤ 8)
 
 number_within : (digits least most : ℕ) (text : List ℕ) (number : ℕ) → number_between digits least most text ≡ Some number → (least ≤ number) × (number ≤ most)
@@ -147,6 +148,7 @@ command_within kind.Implicit items words command is = implicit_within _ _ (limit
 command_within kind.Report items words command is = files_within Report (λ files options has. has) _ (limit_in items) _ _ command (limit_within items) is
 command_within kind.Ship items words command is = files_within Ship (λ files options has. has) _ (limit_in items) _ _ command (limit_within items) is
 command_within kind.Follow items words command is = files_within Follow (λ files options has. has) _ (limit_in items) _ _ command (limit_within items) is
+command_within kind.Lint items words command is = files_within Lint (λ files options has. has) _ (limit_in items) _ _ command (limit_within items) is
 command_within kind.Demo items words command is = demo_within (count_of words) (workers_in items) command (count_within words) (workers_within items) is
 
 taken_within : (which : Kind) (items : List Item) (others : List (List ℕ)) (command : Command) (taken : Bool) → cond taken (command_with which items (operands items ++ others)) None ≡ Some command → HasRanges command

@@ -23,7 +23,7 @@ use Rattle.command_words.specs.declared.command.Command.{Command}
 use Rattle.command_words.specs.declared.command.Command.TheVariants as asked
 use Rattle.command_words.specs.declared.command.Options.{Options}
 use Rattle.command_words.specs.declared.kind.Kind.{Kind}
-use Rattle.command_words.specs.declared.kind.Kind.TheVariants.{Enforce, Explain, Session, Check, Format, Implicit, Report, Ship, Follow, Demo}
+use Rattle.command_words.specs.declared.kind.Kind.TheVariants.{Enforce, Explain, Session, Check, Format, Implicit, Report, Ship, Follow, Lint, Demo}
 use Rattle.command_words.proofs.AppLemmas.{apart, fault_is, matches_are, ready_flag, ready_flags, ready_operands, ready_option, ready_rules, ready_shape}
 use Rattle.command_words.proofs.CutLemmas.{front_met, met_command}
 use Rattle.command_words.proofs.ItemLemmas.{flag_found, flag_row, operands_found, option_found, option_row, passes_is, taken}
@@ -225,6 +225,8 @@ told_command Ship f met json value words flags =
     ap₂ (λ (l : List Text) (o : Option Options). on_files asked.Ship (files_of l) o) words (told_options f met (value (codes "limit") refl refl) (value (codes "match") refl refl) (value (codes "domain-match") refl refl))
 told_command Follow f met json value words flags =
     ap₂ (λ (l : List Text) (o : Option Options). on_files asked.Follow (files_of l) o) words (told_options f met (value (codes "limit") refl refl) (value (codes "match") refl refl) (value (codes "domain-match") refl refl))
+told_command Lint f met json value words flags =
+    ap₂ (λ (l : List Text) (o : Option Options). on_files asked.Lint (files_of l) o) words (told_options f met (value (codes "limit") refl refl) (value (codes "match") refl refl) (value (codes "domain-match") refl refl))
 told_command Demo f met json value words flags =
     ap₂ (λ (l : List Text) (o : Option Text). showing (count_of l) (value_or 0 (number_between 3 0 8) o)) words (value (codes "workers") refl refl)
 

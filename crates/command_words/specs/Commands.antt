@@ -10,7 +10,7 @@ use Rattle.command_words.specs.declared.command.Command.{Command}
 use Rattle.command_words.specs.declared.command.Command.TheVariants as asked
 use Rattle.command_words.specs.declared.command.Options.{Options}
 use Rattle.command_words.specs.declared.kind.Kind.{Kind}
-use Rattle.command_words.specs.declared.kind.Kind.TheVariants.{Enforce, Explain, Session, Check, Format, Implicit, Report, Ship, Follow, Demo}
+use Rattle.command_words.specs.declared.kind.Kind.TheVariants.{Enforce, Explain, Session, Check, Format, Implicit, Report, Ship, Follow, Lint, Demo}
 
 -- the command of that name
 abbrev pub kind_named : List ℕ → Option Kind
@@ -24,6 +24,7 @@ kind_named name =
     else if bytes_eq name (codes "report") then Some Report
     else if bytes_eq name (codes "ship") then Some Ship
     else if bytes_eq name (codes "follow") then Some Follow
+    else if bytes_eq name (codes "lint") then Some Lint
     else if bytes_eq name (codes "demo") then Some Demo
     else None
 
@@ -42,6 +43,7 @@ options_of Implicit = role_options
 options_of Report = role_options
 options_of Ship = role_options
 options_of Follow = role_options
+options_of Lint = role_options
 options_of Demo = codes "workers" ∷ []
 
 -- whether it has the flag
@@ -55,6 +57,7 @@ has_json Implicit = false
 has_json Report = false
 has_json Ship = false
 has_json Follow = false
+has_json Lint = false
 has_json Demo = false
 
 -- whether it takes the item
@@ -155,6 +158,7 @@ command_with Implicit items operands = implying (first_files operands) (subject_
 command_with Report items operands = on_files asked.Report (files_of operands) (options_in items)
 command_with Ship items operands = on_files asked.Ship (files_of operands) (options_in items)
 command_with Follow items operands = on_files asked.Follow (files_of operands) (options_in items)
+command_with Lint items operands = on_files asked.Lint (files_of operands) (options_in items)
 command_with Demo items operands = showing (count_of operands) (workers_in items)
 
 -- by the items before the first `--` and the words behind it: the command takes each item, and none stands twice

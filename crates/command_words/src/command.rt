@@ -98,6 +98,11 @@ pub enum Command<'a> {
         files: Files<'a>,
         options: Options,
     },
+    /// What is wrong with a model and a policy is told.
+    Lint {
+        files: Files<'a>,
+        options: Options,
+    },
     /// A demonstration of a size from 1 to 100,000, with 0 to 8 workers; 0 unless it is told.
     Demo {
         count: u32,

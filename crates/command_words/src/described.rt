@@ -49,7 +49,7 @@ fn described<'a>(alloc: Global, kind: Kind) -> Result<Command<'a>, AllocError>
         Kind::Explain => flagged(alloc, "most"),
         Kind::Session => flagged(alloc, "workers"),
         Kind::Check | Kind::Format => bare(alloc),
-        Kind::Implicit | Kind::Report | Kind::Ship | Kind::Follow => of_roles(alloc),
+        Kind::Implicit | Kind::Report | Kind::Ship | Kind::Follow | Kind::Lint => of_roles(alloc),
         Kind::Demo => with_workers(alloc),
     }
 }

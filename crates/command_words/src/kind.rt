@@ -13,6 +13,7 @@ pub(crate) enum Kind {
     Report,
     Ship,
     Follow,
+    Lint,
     Demo,
 }
 
@@ -31,6 +32,7 @@ impl Kind {
             "report" => Some(Kind::Report),
             "ship" => Some(Kind::Ship),
             "follow" => Some(Kind::Follow),
+            "lint" => Some(Kind::Lint),
             "demo" => Some(Kind::Demo),
             _ => None,
         }

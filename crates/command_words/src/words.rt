@@ -30,6 +30,7 @@ use std::alloc::Global;
 /// - `report MODEL POLICY [--limit L] [--match LIST] [--domain-match LIST]`
 /// - `ship MODEL POLICY [--limit L] [--match LIST] [--domain-match LIST]`
 /// - `follow MODEL POLICY [--limit L] [--match LIST] [--domain-match LIST]`
+/// - `lint MODEL POLICY [--limit L] [--match LIST] [--domain-match LIST]`
 /// - `demo N [--workers W]`
 ///
 /// `L` is a number from 1 to 250 and `W` one from 0 to 8, each in one to three decimal digits; `C` is one from 1 to 10,000, in one
@@ -74,6 +75,7 @@ fn command_in<'a>(kind: Kind, json: bool, matches: &ArgMatches<'a>) -> Option<Co
         Kind::Report => report(matches),
         Kind::Ship => ship(matches),
         Kind::Follow => follow(matches),
+        Kind::Lint => lint(matches),
         Kind::Demo => demo(matches),
     }
 }
@@ -169,6 +171,14 @@ fn follow<'a>(matches: &ArgMatches<'a>) -> Option<Command<'a>>
     let files = files_of(matches)?;
     let options = options_in(matches)?;
     Some(Command::Follow { files, options })
+}
+
+fn lint<'a>(matches: &ArgMatches<'a>) -> Option<Command<'a>>
+    ensures { result ≡ command_told Kind.Lint false (found_of matches.now) }
+{
+    let files = files_of(matches)?;
+    let options = options_in(matches)?;
+    Some(Command::Lint { files, options })
 }
 
 fn demo<'a>(matches: &ArgMatches<'a>) -> Option<Command<'a>>

@@ -13,3 +13,4 @@ pub mod TakeLemmas
 pub mod FillLemmas
 pub mod PrintLemmas
 pub mod PushLemmas
+pub mod CallerLemmas

@@ -12,10 +12,9 @@ use Rattle.perm_base.specs.declared.quoted.FieldFault.TheVariants as field
 use Rattle.perm_base.specs.declared.shapes.Shapes.{Shapes}
 use Rattle.perm_base.specs.declared.shapes.TableId.{TableId}
 use Rattle.policy_csv.proofs.NameLemmas.{first_of_many}
-use Rattle.policy_csv.specs.Faults.{BeginsWith, HasLongField, HasOtherColumns, NamesNoTable, columns_named}
+use Rattle.policy_csv.specs.Faults.{BeginsWith, HasLongField, HasOtherColumns, IsTextFault, NamesNoTable, columns_named}
 use Rattle.policy_csv.specs.Faults.HasOtherColumns.{many_fields, other_number}
 use Rattle.policy_csv.specs.Faults.NamesNoTable.{unknown_front, unknown_name}
-use Rattle.policy_csv.specs.Helps.Entries.{IsTextFault}
 use Rattle.policy_csv.specs.Policy.{SaysRule}
 use Rattle.policy_csv.specs.declared.entry.Entry.{Entry}
 use Rattle.policy_csv.specs.declared.fault.PolicyFault.{PolicyFault}

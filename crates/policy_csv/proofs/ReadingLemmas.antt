@@ -4,9 +4,8 @@ use Rattle.perm_base.specs.declared.shapes.Shapes.{Shapes}
 use Rattle.policy_csv.proofs.GrowthLemmas.{passed_before}
 use Rattle.policy_csv.proofs.LineFaultLemmas.{LineMeets, line_meets, line_says, says_fault, says_rule}
 use Rattle.policy_csv.proofs.PutLemmas.{with_entry_counted}
-use Rattle.policy_csv.specs.Faults.{IsLineFault}
+use Rattle.policy_csv.specs.Faults.{IsLineFault, IsTextFault}
 use Rattle.text_parts.specs.Full.{given_number}
-use Rattle.policy_csv.specs.Helps.Entries.{IsTextFault}
 use Rattle.policy_csv.specs.Policy.{SayRules, SaysRule, with_entries, with_entry}
 use Rattle.policy_csv.specs.declared.entry.Entry.{Entry}
 use Rattle.policy_csv.specs.declared.fault.PolicyFault.{PolicyFault}

@@ -7,9 +7,9 @@ use Rattle.policy_csv.proofs.PolicyLemmas.{empty_sound, whole}
 use Rattle.policy_csv.proofs.PutLemmas.{with_entry_counted, with_entry_ranked}
 use Rattle.policy_csv.proofs.RankedLemmas.{ranked_entry, ranked_none, ranked_passed}
 use Rattle.policy_csv.proofs.ReadingLemmas.{reading, reading_fault, reading_more}
-use Rattle.policy_csv.specs.Faults.{IsLineFault}
+use Rattle.policy_csv.specs.Faults.{IsLineFault, IsTextFault}
 use Rattle.text_parts.specs.Full.{given_number}
-use Rattle.policy_csv.specs.Helps.Entries.{IsStop, IsTextFault}
+use Rattle.policy_csv.specs.Helps.Entries.{IsStop}
 use Rattle.policy_csv.specs.Helps.Filling.{IsFilled, TookLine, ranked_if}
 use Rattle.text_parts.specs.Full.{full_lines}
 use Rattle.policy_csv.specs.Policy.{SaysRule, with_entry}

@@ -62,6 +62,16 @@ IsLineFault shapes line before (FieldTooLong number) = (number ≡ given_number 
 IsLineFault shapes line before (Full number what) = (number ≡ given_number line.number) × Overfills shapes line.text before what
 IsLineFault shapes line before NoMemory = ⊥
 
+-- the line of this number and text has this fault, or memory ran out
+abbrev pub IsTextFault : Shapes → ℕ → List ℕ → PolicyFault → Type 0
+IsTextFault shapes number text NotUtf8 = ⊥
+IsTextFault shapes number text (Quote at column) = (at ≡ number) × IsQuoteFault text column
+IsTextFault shapes number text (UnknownTable at) = (at ≡ number) × NamesNoTable shapes text
+IsTextFault shapes number text (Columns at) = (at ≡ number) × HasOtherColumns shapes text
+IsTextFault shapes number text (FieldTooLong at) = (at ≡ number) × HasLongField shapes text
+IsTextFault shapes number text (Full at what) = ⊥
+IsTextFault shapes number text NoMemory = Unit {0}
+
 -- behind lines that say rules within the limits stands a line with this fault
 pub record IsFaultInLine (shapes : Shapes) (bytes : List ℕ) (fault : PolicyFault) : Type 0 where
   pub front : List Line

@@ -3,8 +3,8 @@ ghost use Rattle.perm_base.specs.FieldFaults.{HasTooMany};
 ghost use Rattle.perm_base.specs.FieldLine.{IsFields};
 ghost use Rattle.perm_base.specs.LineEnds.{AreFields};
 ghost use Rattle.perm_base.specs.TableNames.{table_named};
-ghost use Rattle.policy_csv.specs.Faults.{BeginsWith, columns_named};
-ghost use Rattle.policy_csv.specs.Helps.Entries.{BeginsWithComma, IsTextFault};
+ghost use Rattle.policy_csv.specs.Faults.{BeginsWith, IsTextFault, columns_named};
+ghost use Rattle.policy_csv.specs.Helps.Entries.{BeginsWithComma};
 ghost use Rattle.policy_csv.specs.Policy.{SaysRule};
 ghost use Rattle.policy_table.specs.Limits.{columns_of};
 
@@ -16,13 +16,13 @@ use text_parts::cut_at;
 
 /// A rule, and its table.
 #[derive(Drop)]
-pub(crate) struct Entry {
-    pub(crate) table: TableId,
-    pub(crate) rule: Rule,
+pub struct Entry {
+    pub table: TableId,
+    pub rule: Rule,
 }
 
-/// The rule that a line says. The line has this number.
-pub(crate) fn read_entry(
+/// The rule that a line says by itself, or its fault, which is none of the limits of tables. The line has this number.
+pub fn read_entry(
     alloc: Global,
     shapes: &Shapes,
     number: u32,

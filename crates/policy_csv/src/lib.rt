@@ -8,6 +8,7 @@ mod laws;
 mod policy;
 mod printing;
 
+pub use entry::{Entry, read_entry};
 pub use fault::PolicyFault;
 pub use laws::{
     every_text_is_a_policy_or_at_fault, faulty_text_is_no_policy, printed_policy_is_read,

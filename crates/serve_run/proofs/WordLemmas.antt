@@ -123,6 +123,7 @@ job_has follow (command.Implicit files subject options) has = tt
 job_has follow (command.Report files options) has = tt
 job_has follow (command.Ship files options) has = tt
 job_has follow (command.Follow files options) has = tt
+job_has follow (command.Lint files options) has = tt
 job_has follow (command.Demo count workers) has = tt
 
 pub job_limits : (follow : Bool) (words : List (List ℕ)) (result : Option Job) → result ≡ option_and_then (job_of follow) (command_of words) → JobHas result

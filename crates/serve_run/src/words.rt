@@ -201,6 +201,7 @@ fn job_of(command: Command<'_>, follow: bool) -> Option<Job<'_>>
         | Command::Report { .. }
         | Command::Ship { .. }
         | Command::Follow { .. }
+        | Command::Lint { .. }
         | Command::Demo { .. } => None,
     }
 }

@@ -11,7 +11,7 @@ use Rattle.command_words.specs.declared.command.Command.{Command}
 use Rattle.command_words.specs.declared.command.Command.TheVariants as asked
 use Rattle.command_words.specs.declared.command.Options.{Options}
 use Rattle.command_words.specs.declared.kind.Kind.{Kind}
-use Rattle.command_words.specs.declared.kind.Kind.TheVariants.{Enforce, Explain, Session, Check, Format, Implicit, Report, Ship, Follow, Demo}
+use Rattle.command_words.specs.declared.kind.Kind.TheVariants.{Enforce, Explain, Session, Check, Format, Implicit, Report, Ship, Follow, Lint, Demo}
 
 -- the operands, however many; an option of one value; the flag
 abbrev pub operands_rule : Rule
@@ -85,4 +85,5 @@ command_told Implicit json found = implying (first_files (operands_told found)) 
 command_told Report json found = on_files asked.Report (files_of (operands_told found)) (options_told found)
 command_told Ship json found = on_files asked.Ship (files_of (operands_told found)) (options_told found)
 command_told Follow json found = on_files asked.Follow (files_of (operands_told found)) (options_told found)
+command_told Lint json found = on_files asked.Lint (files_of (operands_told found)) (options_told found)
 command_told Demo json found = showing (count_of (operands_told found)) (workers_told found)

@@ -1,4 +1,4 @@
--- The faults of one line's text, by the number that is given for the line.
+-- What one line stops at while tables are filled, by the number that is given for the line.
 use Rattle.std.specs.Prelude.{◌≡◌, ℕ, true, List}
 use Rattle.perm_base.specs.FieldFaults.{IsQuoteFault}
 use Rattle.perm_base.specs.declared.shapes.Shapes.{Shapes}
@@ -7,16 +7,6 @@ use Rattle.policy_csv.specs.declared.fault.PolicyFault.{PolicyFault}
 use Rattle.policy_csv.specs.declared.fault.PolicyFault.TheVariants.{NotUtf8, Quote, UnknownTable, Columns, FieldTooLong, Full, NoMemory}
 use Rattle.policy_table.specs.Tables.{Policy}
 use Rattle.text_parts.specs.Lines.{has_byte}
-
--- the line of this number and text has this fault, or memory ran out
-abbrev pub IsTextFault : Shapes → ℕ → List ℕ → PolicyFault → Type 0
-IsTextFault shapes number text NotUtf8 = ⊥
-IsTextFault shapes number text (Quote at column) = (at ≡ number) × IsQuoteFault text column
-IsTextFault shapes number text (UnknownTable at) = (at ≡ number) × NamesNoTable shapes text
-IsTextFault shapes number text (Columns at) = (at ≡ number) × HasOtherColumns shapes text
-IsTextFault shapes number text (FieldTooLong at) = (at ≡ number) × HasLongField shapes text
-IsTextFault shapes number text (Full at what) = ⊥
-IsTextFault shapes number text NoMemory = Unit {0}
 
 -- behind lines that have filled these tables the line of this number and text has this fault, or memory ran out
 abbrev pub IsStop : Shapes → ℕ → List ℕ → Policy → PolicyFault → Type 0

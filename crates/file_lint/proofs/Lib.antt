@@ -1,0 +1,15 @@
+pub mod NumberLemmas
+pub mod OrderLemmas
+pub mod CutLemmas
+pub mod PlaceLemmas
+pub mod MendLemmas
+pub mod WantLemmas
+pub mod RoundLemmas
+pub mod ColumnLemmas
+pub mod RowLemmas
+pub mod LineLemmas
+pub mod OtherLemmas
+pub mod KeptLemmas
+pub mod ToldLemmas
+pub mod PushLemmas
+pub mod WarningLemmas

@@ -1,0 +1,17 @@
+use Rattle.std.proofs.Common.{◌≡◌, ◌+◌, ◌≤◌, length}
+use Rattle.std.specs.Str.{IsUtf8}
+use Rattle.text_parts.specs.Numbered.{line, numbered, text_lines}
+use Rattle.file_lint.specs.Places.{value_in}
+use Rattle.file_lint.proofs.values.value_in.Given as goal
+
+abbrev pub invariant-loop-next : goal.invariant-loop-next
+invariant-loop-next l = record {
+  left : value_in l.skipped (line l.at l.text) (numbered (l.at + 1) (text_lines l.rest)) l.before ≡ value_in l.offset (line l.number l.first) (numbered (l.number + 1) (text_lines l.behind)) l.before;
+  within : l.at + length l.rest ≤ l.number + length l.behind;
+  skipped : l.skipped ≤ length l.text + 1;
+  utf8 : IsUtf8 l.rest;
+  text_utf8 : IsUtf8 l.text;
+}
+
+abbrev pub decreases-loop-next : goal.decreases-loop-next
+decreases-loop-next l = length l.rest

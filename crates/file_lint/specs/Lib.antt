@@ -1,0 +1,16 @@
+pub mod Texts
+pub mod Findings
+pub mod Places
+pub mod Near
+pub mod Hints
+pub mod ModelNames
+pub mod Mended
+pub mod ModelWords
+pub mod Nodes
+pub mod ModelWarnings
+pub mod ModelErrors
+pub mod Columns
+pub mod PolicyWords
+pub mod RowWarnings
+pub mod PolicyErrors
+pub mod Helps

@@ -1,0 +1,3 @@
+pub mod Linting
+pub mod Ends
+pub mod Helps
