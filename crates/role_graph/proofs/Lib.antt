@@ -24,6 +24,8 @@ mod Nearest
 mod Picking
 mod Preparing
 mod Putting
+mod Reached
+mod Removals
 mod Rooms
 mod Resizing
 mod Seeking

@@ -9,3 +9,4 @@ pub mod Squares
 pub mod Distances
 pub mod Users
 pub mod Lists
+pub mod Reaching

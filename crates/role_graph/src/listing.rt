@@ -48,8 +48,14 @@ pub(crate) fn listed(
     Ok(names)
 }
 
-// The nodes of roles that a name reaches by at most so many links.
-fn within(links: &Links, roles: &Roles, square: &DistRows, x: &[u8], most: u8) -> NodeMarks
+/// The nodes of roles that a name reaches by at most so many links.
+pub(crate) fn within(
+    links: &Links,
+    roles: &Roles,
+    square: &DistRows,
+    x: &[u8],
+    most: u8,
+) -> NodeMarks
     requires nodes { AreNodes (linked_of links.now) (nodes_of roles.now) }
     requires exact { IsExact (linked_of links.now) (nodes_of roles.now) square.now.cells }
     requires few { length (nodes_of roles.now) ≤ most_nodes }
