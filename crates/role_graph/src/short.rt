@@ -135,7 +135,6 @@ pub(crate) fn list_one(place: usize, listed: &mut Listed) -> bool
     true
 }
 
-// The group at a place of a list.
 /// The group at a place of a list.
 pub(crate) fn group_at(listed: &[usize], index: usize) -> usize
     requires { index < length listed.now }

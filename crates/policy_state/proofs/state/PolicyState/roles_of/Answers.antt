@@ -10,16 +10,18 @@ use Rattle.policy_query.specs.declared.refused.QueryRefused.{QueryRefused}
 use Rattle.policy_state.specs.States.{tables}
 use Rattle.policy_state.proofs.QueryLemmas.{asked_unless, columns_named, copied_some, refused_told, roles_told, same_shape}
 use Rattle.policy_table.specs.Tables.{Fields, Policy, rows}
-use Rattle.policy_state.proofs.querying.PolicyState.roles_of.Goals as goal
+use Rattle.policy_state.proofs.state.PolicyState.roles_of.Goals as goal
 
 -- a query over shapes is not refused where it is not over the same
 none_refused : (one other : Shapes) (relation : ℕ) (domain : Option (List ℕ)) (first : Option QueryRefused) → other ≡ one → first ≡ names_refusal other relation domain → first ≡ None → names_refusal one relation domain ≡ None
 none_refused one other relation domain first same told none = ap (λ (s : Shapes). names_refusal s relation domain) (sym same) ∙ sym told ∙ none
 
 pub returns-in-Some : goal.returns-in-Some
-returns-in-Some c =
-    subst (λ (shapes : Shapes). IsAnswer (roles_answer shapes (tables c.args.self.now) c.args.relation c.args.name.now (option_copied c.args.domain)) (Err c.in-Some.refused)) c.shapes.ensures.shapes
-    (refused_told (names_beside 0 1 c.args.name.now (option_copied c.args.domain) (rows (tables c.args.self.now) (G c.args.relation))) c.in-Some.refused (names_refusal c.shapes.result.now c.args.relation (option_copied c.args.domain)) (sym c.names_refusal.ensures ∙ c.in-Some.is))
+returns-in-Some c = record {
+  answer =
+      subst (λ (shapes : Shapes). IsAnswer (roles_answer shapes (tables c.args.self.now) c.args.relation c.args.name.now (option_copied c.args.domain)) (Err c.in-Some.refused)) c.shapes.ensures.shapes
+      (refused_told (names_beside 0 1 c.args.name.now (option_copied c.args.domain) (rows (tables c.args.self.now) (G c.args.relation))) c.in-Some.refused (names_refusal c.shapes.result.now c.args.relation (option_copied c.args.domain)) (sym c.names_refusal.ensures ∙ c.in-Some.is));
+}
 
 pub section-requires : goal.section-requires
 section-requires c =
@@ -53,5 +55,8 @@ pub returns : goal.returns
 returns c =
     let X : Policy → List (List ℕ) = λ (policy : Policy). names_beside 0 1 c.args.name.now (option_copied c.args.domain) (rows policy (G c.args.relation)) in
     let none = none_refused c.args.self.now.shapes c.shapes.result.now c.args.relation (option_copied c.args.domain) c.names_refusal.result c.shapes.ensures.shapes c.names_refusal.ensures c.in_default.is in
-    subst (λ (names : List (List ℕ)). roles_answer c.args.self.now.shapes (tables c.args.self.now) c.args.relation c.args.name.now (option_copied c.args.domain) ≡ Ok names)
-    (ap X (sym c.tables.ensures.policy) ∙ sym c.in_ok-roles_among.ensures) (ap (λ (o : Option QueryRefused). answer_unless o (X (tables c.args.self.now))) none)
+    record {
+      answer =
+          subst (λ (names : List (List ℕ)). roles_answer c.args.self.now.shapes (tables c.args.self.now) c.args.relation c.args.name.now (option_copied c.args.domain) ≡ Ok names)
+          (ap X (sym c.tables.ensures.policy) ∙ sym c.in_ok-roles_among.ensures) (ap (λ (o : Option QueryRefused). answer_unless o (X (tables c.args.self.now))) none);
+    }
