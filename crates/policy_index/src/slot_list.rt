@@ -71,6 +71,7 @@ impl SlotList {
         ensures last { result ≡ get_or self.old.slots (length self.old.slots - 1) 0 }
         ensures room { self.old.room + 1 ≤ self.new.room }
     {
+        let _held = self.slots.len();
         let last = last_of(self.slots.as_slice());
         let _gone = self.slots.swap_remove(at);
         last

@@ -19,6 +19,7 @@ mod LinkLemmas
 mod Linking
 mod Marked
 mod Marking
+mod Mending
 mod Naming
 mod Nearest
 mod Picking

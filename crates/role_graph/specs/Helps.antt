@@ -6,6 +6,7 @@ pub mod Kept
 pub mod Edits
 pub mod Names
 pub mod Squares
+pub mod Mending
 pub mod Distances
 pub mod Users
 pub mod Lists

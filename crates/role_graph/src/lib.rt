@@ -12,6 +12,7 @@ mod law;
 mod links;
 mod listing;
 mod marks;
+mod mending;
 mod names;
 mod prepared;
 mod reach;

@@ -1,0 +1,10 @@
+use Rattle.std.proofs.Common.{◌≡◌, ◌+◌, ◌<◌, ℕ}
+use Rattle.dist_rows.specs.Squares.{cell_of}
+use Rattle.role_graph.specs.Helps.Squares.{IsMarked}
+use Rattle.role_graph.proofs.mending.hit_through.Given as goal
+
+abbrev pub invariant-loop-node : goal.invariant-loop-node
+invariant-loop-node l = record {
+  keeps : (a : ℕ) → IsMarked l.fn.hits a → IsMarked l.hits a;
+  hits : (a : ℕ) → a < l.node → cell_of l.square.cells a l.to ≡ 1 + cell_of l.square.cells a l.from → IsMarked l.hits a;
+}
