@@ -4,7 +4,7 @@ use Rattle.role_graph.proofs.Mending.{told_all, told_begins, told_fewer}
 use Rattle.role_graph.proofs.mending.mend.Goals as goal
 
 pub loop-level-init : goal.loop-level-init
-loop-level-init c = record { spare = refl; mends = λ linked names old mending. (mending, told_begins linked names old c.args.hits.now c.args.square.now.cells mending) }
+loop-level-init c = record { past = omega arith; spare = refl; mends = λ linked names old mending. (mending, told_begins linked names old c.args.hits.now c.args.square.now.cells mending) }
 
 pub returns-then-not-mend_all-clause-mending : goal.returns-then-not-mend_all-clause-mending
 returns-then-not-mend_all-clause-mending c = λ linked names old mending. c.mend_all.ensures.mending linked names old (c.loop-level.invariant.mends linked names old mending).0
@@ -15,13 +15,14 @@ returns-then-not-mend_all-clause-told c = λ linked names old mending.
     let same = c.mend_all.ensures.same c.if-not-mend_all.true in
     subst (AreTold linked names old 254) (sym same)
     (told_all linked names old c.loop-level.square.cells (λ most told. subst (AreTold linked names old (most + 1)) same (c.mend_all.ensures.told linked names old most now.0 told))
-    (told_fewer linked names old 1 c.loop-level._level c.loop-level.square.cells (omega (arith, c.loop-level.auto.level)) now.1))
+    (told_fewer linked names old 1 c.loop-level._level c.loop-level.square.cells (omega (arith, c.loop-level.invariant.past)) now.1))
 
 pub returns-then-not-mend_all-clause-spare : goal.returns-then-not-mend_all-clause-spare
 returns-then-not-mend_all-clause-spare c = c.mend_all.ensures.spare ∙ c.loop-level.invariant.spare
 
 pub loop-level-preserved : goal.loop-level-preserved
 loop-level-preserved c = record {
+  past = omega (arith, c.loop-level.invariant.past);
   spare = c.mend_all.ensures.spare ∙ c.loop-level.invariant.spare;
   mends = λ linked names old mending.
       let now = c.loop-level.invariant.mends linked names old mending in

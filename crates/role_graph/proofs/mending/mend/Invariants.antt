@@ -5,6 +5,7 @@ use Rattle.role_graph.proofs.mending.mend.Given as goal
 
 abbrev pub invariant-loop-level : goal.invariant-loop-level
 invariant-loop-level l = record {
+  past : 1 ≤ l._level;
   spare : l.square.spare ≡ l.fn.square.spare;
   mends : (linked : Linked) (names old : List (List ℕ)) → IsMending linked names old l.hits l.fn.square.cells → IsMending linked names old l.hits l.square.cells × AreTold linked names old l._level l.square.cells;
 }
