@@ -1,11 +1,11 @@
 -- Squares from which links are taken out, and whose distances are found anew.
 use Rattle.std.proofs.Common.{◌≡◌, ◌≢◌, ◌⊎◌, inl, inr, ◌<◌, ◌≤◌, ◌+◌, ℕ, zero, suc, Bool, true, false, List, length, get_or, min, set, refl, sym, ap, subst, ◌∙◌, arith, length-set}
 use Rattle.std.proofs.lemmas.Bool.{cases_Bool, cases_eq, cases_lt, false≢true}
-use Rattle.dist_rows.specs.Squares.{IsSquare, cell_of, row_of, sum_of, with_cell}
-use Rattle.dist_rows.proofs.CallerLemmas.{with_cell_column, with_cell_own, with_cell_row}
+use Rattle.dist_rows.specs.Squares.{IsSquare, cell_of, lowered, relaxed, row_of, sum_of, with_cell}
+use Rattle.dist_rows.proofs.CallerLemmas.{relaxed_other, relaxed_own, with_cell_column, with_cell_own, with_cell_row}
 use Rattle.role_meaning.specs.Distances.{farthest}
 use Rattle.role_meaning.specs.Least.{IsLeast}
-use Rattle.role_graph.specs.Helps.Mending.{AreHit, AreTold, IsKept, IsMending, IsReset}
+use Rattle.role_graph.specs.Helps.Mending.{AreHit, AreTold, IsKept, IsMending, IsReset, IsStable}
 use Rattle.role_graph.specs.Helps.Squares.{Chain, IsBefore, IsBegun, IsClosed, IsMarked, IsNear, IsNodeLink}
 use Rattle.role_graph.specs.Helps.Walks.{Linked}
 use Rattle.role_graph.proofs.Chains.{chain_itself, chain_joined, chain_link, chain_more, chain_none, chain_weaker}
@@ -293,53 +293,19 @@ mending_begins linked names touched old hits upto cells before hit past resettin
 
 -- ---- a row is lowered by way of another
 
--- the places before one are lowered
-pub record AreLower (node next upto : ℕ) (old cells : List (List ℕ)) : Type 0 where
-  pub long : length cells ≡ length old
-  pub square : IsSquare cells
-  pub done : (b : ℕ) → b < upto → cell_of cells node b ≡ min (cell_of old node b) (sum_of 1 (cell_of old next b))
-  pub later : (b : ℕ) → upto ≤ b → cell_of cells node b ≡ cell_of old node b
-  pub others : (a b : ℕ) → a ≢ node → cell_of cells a b ≡ cell_of old a b
+pub lowered_own : (cells new : List (List ℕ)) (a v b : ℕ) → IsSquare cells → a < length cells → v < length cells → b < length cells → new ≡ relaxed cells a 1 v → cell_of new a b ≡ min (cell_of cells a b) (sum_of 1 (cell_of cells v b))
+lowered_own cells new a v b square first second within is = ap (λ (l : List (List ℕ)). cell_of l a b) is ∙ relaxed_own cells a 1 v b square first second within
 
-pub lower_begins : (node next : ℕ) (old : List (List ℕ)) → IsSquare old → AreLower node next 0 old old
-lower_begins node next old square = record {
-  long = refl;
-  square = square;
-  done = λ b low. absurd (omega (arith, low));
-  later = λ b past. refl;
-  others = λ a b differ. refl;
-}
+pub lowered_other : (cells new : List (List ℕ)) (a v i b : ℕ) → i ≢ a → new ≡ relaxed cells a 1 v → cell_of new i b ≡ cell_of cells i b
+lowered_other cells new a v i b differ is = ap (λ (l : List (List ℕ)). cell_of l i b) is ∙ relaxed_other cells a 1 v i b differ
 
-pub lower_skips : (node next at sum : ℕ) (old cells : List (List ℕ)) → node ≢ next → sum ≡ sum_of 1 (cell_of cells next at) → cell_of cells node at ≤ sum → AreLower node next at old cells → AreLower node next (at + 1) old cells
-lower_skips node next at sum old cells apart sum_is low are = record {
-  long = are.long;
-  square = are.square;
-  done = next_place (λ b. cell_of cells node b ≡ min (cell_of old node b) (sum_of 1 (cell_of old next b))) at are.done
-      (let here = are.later at (omega arith) in let other : sum ≡ sum_of 1 (cell_of old next at) = sum_is ∙ ap (sum_of 1) (are.others next at (λ same. apart (sym same))) in omega (arith, here, other, low));
-  later = λ b past. are.later b (omega (arith, past));
-  others = are.others;
-}
-
-pub lower_writes : (node next at sum : ℕ) (old cells new : List (List ℕ)) → node ≢ next → node < length old → at < length old → sum ≡ sum_of 1 (cell_of cells next at) → sum < cell_of cells node at → new ≡ with_cell cells node at sum → IsSquare new
-    → AreLower node next at old cells → AreLower node next (at + 1) old new
-lower_writes node next at sum old cells new apart first second sum_is less is square are = record {
-  long = written_long cells new node at sum is ∙ are.long;
-  square = square;
-  done = next_place (λ b. cell_of new node b ≡ min (cell_of old node b) (sum_of 1 (cell_of old next b))) at
-      (λ b low. written_column cells new node at sum b inside (λ same. absurd (omega (arith, low, same))) is ∙ are.done b low)
-      (let here = are.later at (omega arith) in let other : sum ≡ sum_of 1 (cell_of old next at) = sum_is ∙ ap (sum_of 1) (are.others next at (λ same. apart (sym same))) in
-      let now = written_own cells new node at sum are.square inside (omega (arith, second, are.long)) is in omega (arith, here, other, less, now));
-  later = λ b past. written_column cells new node at sum b inside (λ same. absurd (omega (arith, past, same))) is ∙ are.later b (omega (arith, past));
-  others = λ a b differ. written_row cells new node at sum a b differ is ∙ are.others a b differ;
-}
-  where
-    inside : node < length cells
-    inside = omega (arith, first, are.long)
+pub lowered_long : (cells new : List (List ℕ)) (a v : ℕ) → new ≡ relaxed cells a 1 v → length new ≡ length cells
+lowered_long cells new a v is = ap (λ (l : List (List ℕ)). length l) is ∙ length-set cells a (lowered 1 (row_of cells a) (row_of cells v))
 
 -- what is lowered tells no less than there is
 pub mending_by : (linked : Linked) (names old : List (List ℕ)) (hits : List Bool) (node next : ℕ) (cells new : List (List ℕ)) → IsMarked hits node → node < length cells → next < length cells → cell_of cells node next ≡ 1 → length new ≡ length cells → IsSquare new
     → ((b : ℕ) → b < length cells → cell_of new node b ≡ min (cell_of cells node b) (sum_of 1 (cell_of cells next b))) → ((a b : ℕ) → a ≢ node → cell_of new a b ≡ cell_of cells a b) → IsMending linked names old hits cells → IsMending linked names old hits new
-mending_by linked names old hits node next cells new marked first_now second_now one long square lowered others mending = record {
+mending_by linked names old hits node next cells new marked first_now second_now one long square lowers others mending = record {
   long = long ∙ mending.long;
   square = square;
   small = λ a b within inside. omega (arith, lower a b within inside, mending.small a b within inside);
@@ -359,7 +325,7 @@ mending_by linked names old hits node next cells new marked first_now second_now
     lower a b within inside = by (cases_eq a node)
       where
         by : (a ≡ node) ⊎ (a ≡ node → ⊥) → cell_of new a b ≤ cell_of cells a b
-        by (inl same) = subst (λ (n : ℕ). cell_of new n b ≤ cell_of cells n b) (sym same) (let is = lowered b (inside_now b inside) in omega (arith, is))
+        by (inl same) = subst (λ (n : ℕ). cell_of new n b ≤ cell_of cells n b) (sym same) (let is = lowers b (inside_now b inside) in omega (arith, is))
         by (inr differ) = omega (arith, others a b differ)
 
     -- by way of the other, or as before
@@ -367,7 +333,7 @@ mending_by linked names old hits node next cells new marked first_now second_now
     here b inside low = by (cases_lt (sum_of 1 (cell_of cells next b)) (cell_of cells node b)) (cases_sum 1 (cell_of cells next b))
       where
         is : cell_of new node b ≡ min (cell_of cells node b) (sum_of 1 (cell_of cells next b))
-        is = lowered b (inside_now b inside)
+        is = lowers b (inside_now b inside)
 
         by : (sum_of 1 (cell_of cells next b) < cell_of cells node b) ⊎ (cell_of cells node b ≤ sum_of 1 (cell_of cells next b))
             → ((1 + cell_of cells next b ≤ 254) × (sum_of 1 (cell_of cells next b) ≡ 1 + cell_of cells next b)) ⊎ ((254 < 1 + cell_of cells next b) × (sum_of 1 (cell_of cells next b) ≡ 255)) → Chain Kept (cell_of new node b) node b
@@ -408,15 +374,21 @@ kept_one linked names old hits node at far cells mending is differ kept apart =
     (chain_none (IsKept linked names old) node at
     (subst (λ (k : ℕ). Chain (IsKept linked names old) k node at) none (mending.sound node at kept.near.first kept.near.second (omega (arith, none)))))
 
-pub by_row_more : (linked : Linked) (names old : List (List ℕ)) (hits : List Bool) (node at : ℕ) (first cells new : List (List ℕ)) → IsMarked hits node → node < length cells → at < length cells → node ≢ at → cell_of cells node at ≡ 1 → length cells ≡ length first → length new ≡ length cells → IsSquare new
+pub by_row_more : (linked : Linked) (names old : List (List ℕ)) (hits : List Bool) (node at : ℕ) (first cells new : List (List ℕ)) → IsMarked hits node → node < length cells → at < length cells → cell_of cells node at ≡ 1 → length cells ≡ length first → length new ≡ length cells → IsSquare new
     → ((b : ℕ) → b < length cells → cell_of new node b ≡ min (cell_of cells node b) (sum_of 1 (cell_of cells at b))) → ((a b : ℕ) → a ≢ node → cell_of new a b ≡ cell_of cells a b) → ((a b : ℕ) → a ≢ node → cell_of cells a b ≡ cell_of first a b)
     → IsByRow linked names old hits node at first cells → IsByRow linked names old hits node (at + 1) first new
-by_row_more linked names old hits node at first cells new marked within inside apart one long_first long square lowered others stay row = record {
-  mending = mending_by linked names old hits node at cells new marked within inside one long square lowered others row.mending;
+by_row_more linked names old hits node at first cells new marked within inside one long_first long square lowers others stay row = record {
+  mending = mending_by linked names old hits node at cells new marked within inside one long square lowers others row.mending;
   by = λ next b low kept differ low_b. next_place (λ n. IsKept linked names old node n → node ≢ n → cell_of new node b ≤ sum_of 1 (cell_of first n b)) at
-      (λ n less here other. let is = lowered b (omega (arith, low_b, long_first)) in let before = row.by n b less here other low_b in omega (arith, is, before))
-      (λ here other. let is = lowered b (omega (arith, low_b, long_first)) in let same : sum_of 1 (cell_of cells at b) ≡ sum_of 1 (cell_of first at b) = ap (sum_of 1) (stay at b (λ e. apart (sym e))) in omega (arith, is, same)) next low kept differ;
+      (λ n less here other. let is = lowers b (omega (arith, low_b, long_first)) in let before = row.by n b less here other low_b in omega (arith, is, before))
+      (λ here other. let is = lowers b (omega (arith, low_b, long_first)) in let same : sum_of 1 (cell_of cells at b) ≡ sum_of 1 (cell_of first at b) = ap (sum_of 1) (stay at b (λ e. apart (sym e))) in omega (arith, is, same)) next low kept differ;
 }
+  where
+    apart : node ≡ at → ⊥
+    apart same =
+        let none = row.mending.own node (omega (arith, within, row.mending.long)) in
+        let here : cell_of cells node node ≡ cell_of cells node at = ap (cell_of cells node) same in
+        absurd (omega (arith, none, here, one))
 
 pub by_row_ends : (linked : Linked) (names old : List (List ℕ)) (hits : List Bool) (node upto : ℕ) (first cells : List (List ℕ)) → length first ≤ upto → length first ≡ length old → IsByRow linked names old hits node upto first cells
     → (next b : ℕ) → IsKept linked names old node next → node ≢ next → b < length first → cell_of cells node b ≤ sum_of 1 (cell_of first next b)
@@ -504,13 +476,36 @@ told_more linked names old hits most upto first cells past mending lower all tol
 pub told_fewer : (linked : Linked) (names old : List (List ℕ)) (fewer most : ℕ) (cells : List (List ℕ)) → fewer ≤ most → AreTold linked names old most cells → AreTold linked names old fewer cells
 told_fewer linked names old fewer most cells less told = λ a b k first second low few chain. told a b k first second (omega (arith, low, less)) few chain
 
--- where a level more changes nothing, all are told
-pub told_all : (linked : Linked) (names old : List (List ℕ)) (cells : List (List ℕ)) → ((most : ℕ) → AreTold linked names old most cells → AreTold linked names old (most + 1) cells) → AreTold linked names old 1 cells → AreTold linked names old 254 cells
-told_all linked names old cells more start = up 254
+-- where no row of a marked node is lower by way of what is near, all are told
+told_at : (linked : Linked) (names old : List (List ℕ)) (hits : List Bool) (cells : List (List ℕ)) → IsMending linked names old hits cells → IsStable hits cells → (k a b : ℕ) → a < length old → b < length old → k ≤ 254 → Chain (IsKept linked names old) k a b → cell_of cells a b ≤ k
+unfolding Chain
+told_at linked names old hits cells mending stable zero a b first second few same = omega (arith, ap (cell_of cells a) (sym same) ∙ mending.own a first)
+told_at linked names old hits cells mending stable (suc k) a b first second few (inl same) = omega (arith, ap (cell_of cells a) (sym same) ∙ mending.own a first)
+told_at linked names old hits cells mending stable (suc k) a b first second few (inr (next, kept, chain)) =
+    step (told_at linked names old hits cells mending stable k next b kept.near.second second (omega (arith, few)) chain) (cases_Bool (get_or hits a false)) (cases_eq (cell_of cells a next) 1)
   where
-    up : (n : ℕ) → AreTold linked names old n cells
-    up zero = told_fewer linked names old 0 1 cells (omega arith) start
-    up (suc n) = subst (λ (m : ℕ). AreTold linked names old m cells) (let e : n + 1 ≡ suc n = omega arith in e) (more n (up n))
+    Kept : ℕ → ℕ → Type 0
+    Kept = IsKept linked names old
+
+    sum : cell_of cells next b ≤ k → cell_of cells a b ≤ sum_of 1 (cell_of cells next b)
+        → ((1 + cell_of cells next b ≤ 254) × (sum_of 1 (cell_of cells next b) ≡ 1 + cell_of cells next b)) ⊎ ((254 < 1 + cell_of cells next b) × (sum_of 1 (cell_of cells next b) ≡ 255)) → cell_of cells a b ≤ suc k
+    sum before less (inl (small, is)) = omega (arith, before, less, is)
+    sum before less (inr (large, is)) = absurd (omega (arith, before, large, few))
+
+    alike : (cell_of cells a next ≡ 1 → ⊥) → a ≡ next
+    alike differ =
+        let low = mending.near a next kept in
+        let none : cell_of cells a next ≡ 0 = omega (arith, low, differ) in
+        chain_none Kept a next (subst (λ (n : ℕ). Chain Kept n a next) none (mending.sound a next first kept.near.second (omega (arith, none))))
+
+    step : cell_of cells next b ≤ k → (get_or hits a false ≡ true) ⊎ (get_or hits a false ≡ false) → (cell_of cells a next ≡ 1) ⊎ (cell_of cells a next ≡ 1 → ⊥) → cell_of cells a b ≤ suc k
+    step before (inr no) which = mending.still a b (suc k) first second (unmarked hits a no) few (inr (next, kept, chain))
+    step before (inl marked) (inl one) =
+        sum before (stable a (omega (arith, first, mending.long)) marked next b (omega (arith, kept.near.second, mending.long)) one (omega (arith, second, mending.long))) (cases_sum 1 (cell_of cells next b))
+    step before (inl marked) (inr differ) = let here : cell_of cells a b ≡ cell_of cells next b = ap (λ (n : ℕ). cell_of cells n b) (alike differ) in omega (arith, here, before)
+
+pub stable_told : (linked : Linked) (names old : List (List ℕ)) (hits : List Bool) (cells : List (List ℕ)) → IsMending linked names old hits cells → IsStable hits cells → AreTold linked names old 254 cells
+stable_told linked names old hits cells mending stable = λ a b k first second low few chain. told_at linked names old hits cells mending stable k a b first second few chain
 
 -- ---- the square is mended
 

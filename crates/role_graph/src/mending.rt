@@ -3,12 +3,12 @@
 ghost use Rattle.std.specs.Prelude.{◌≡◌, ◌≢◌, ◌⊎◌, ◌+◌, ◌<◌, ◌≤◌, ℕ, Bool, List, false, length, min, true};
 ghost use Rattle.dist_rows.specs.Squares.{IsSquare, cell_of, most_nodes, sum_of, with_cell};
 ghost use Rattle.role_graph.specs.Helps.Kept.{linked_of};
-ghost use Rattle.role_graph.specs.Helps.Mending.{AreHit, AreTold, IsKept, IsMending, IsReset};
+ghost use Rattle.role_graph.specs.Helps.Mending.{AreHit, AreTold, IsKept, IsMending, IsReset, IsStable, IsStableAt};
 ghost use Rattle.role_graph.specs.Helps.Roles.{nodes_of};
 ghost use Rattle.role_graph.specs.Helps.Squares.{IsBefore, IsBegun, IsClosed, IsMarked, IsNear, IsNodeLink};
 ghost use Rattle.role_graph.specs.Helps.Walks.{Linked};
 
-use crate::inserting::distance;
+use crate::inserting::{distance, relax};
 use crate::links::Links;
 use crate::roles::Roles;
 use crate::touching::{NodeMarks, no_nodes};
@@ -19,6 +19,9 @@ const FARTHEST: u8 = 254;
 
 /// What tells that there is none.
 const TOO_FAR: u8 = 255;
+
+/// The number of levels that tell the greatest distance.
+const LEVELS: u32 = 254;
 
 /// Takes the links of touched nodes out of the square that are none of the graph any more. Its time
 /// grows with the links of these nodes, and with the rows of the nodes from which a shortest way went
@@ -191,7 +194,8 @@ fn write(square: &mut DistRows, a: u32, b: u32, far: u8)
     let _size = square.size();
 }
 
-// Lowers the rows of marked nodes by way of what is near, until no distance is lower.
+// Lowers the rows of marked nodes by way of what is near, until no distance is lower. A look at all of
+// them comes before twice as many levels each time.
 fn mend(square: &mut DistRows, hits: &NodeMarks)
     ensures mending { (linked : Linked) (names old : List (List ℕ))
         → IsMending linked names old hits.now square.old.cells
@@ -201,15 +205,89 @@ fn mend(square: &mut DistRows, hits: &NodeMarks)
         → AreTold linked names old 254 square.new.cells }
     ensures spare { square.new.spare ≡ square.old.spare }
 {
-    for _level in 1..FARTHEST {
-        if !mend_all(square, hits) {
+    let mut level = 1;
+    'more: while level < LEVELS {
+        if is_mended(square, hits) {
             return;
         }
+        mend_levels(square, hits, level);
+        level *= 2;
     }
 }
 
-// The same once; whether a distance was lowered.
-fn mend_all(square: &mut DistRows, hits: &NodeMarks) -> bool
+// Whether no row of a marked node is lower by way of what is near.
+fn is_mended(square: &DistRows, hits: &NodeMarks) -> bool
+    ensures { result ≡ true → IsStable hits.now square.now.cells }
+{
+    for node in 0..square.size() {
+        if !hits[node as usize] {
+            continue;
+        }
+        if !is_low(square, node) {
+            return false;
+        }
+    }
+    true
+}
+
+// Whether the row of a node is not.
+fn is_low(square: &DistRows, node: u32) -> bool
+    requires { node < length square.now.cells }
+    ensures { result ≡ true → IsStableAt square.now.cells node }
+{
+    for next in 0..square.size() {
+        if distance(square, node, next) != 1 {
+            continue;
+        }
+        if !is_low_by(square, node, next) {
+            return false;
+        }
+    }
+    true
+}
+
+// Whether the row of a node is not, by way of another that is a link away.
+fn is_low_by(square: &DistRows, node: u32, next: u32) -> bool
+    requires node { node < length square.now.cells }
+    requires next { next < length square.now.cells }
+    ensures { result ≡ true → (b : ℕ) → b < length square.now.cells
+        → cell_of square.now.cells node b ≤ sum_of 1 (cell_of square.now.cells next b) }
+{
+    for other in 0..square.size() {
+        let far = distance(square, node, other);
+        let sum = one_more(distance(square, next, other));
+        if far > sum {
+            return false;
+        }
+    }
+    true
+}
+
+// A distance of one link more.
+fn one_more(far: u8) -> u8
+    ensures { result ≡ sum_of 1 far }
+{
+    if far < FARTHEST { far + 1 } else { TOO_FAR }
+}
+
+// Lowers the rows of marked nodes so many times.
+fn mend_levels(square: &mut DistRows, hits: &NodeMarks, levels: u32)
+    ensures mending { (linked : Linked) (names old : List (List ℕ))
+        → IsMending linked names old hits.now square.old.cells
+        → IsMending linked names old hits.now square.new.cells }
+    ensures told { (linked : Linked) (names old : List (List ℕ)) (most : ℕ)
+        → IsMending linked names old hits.now square.old.cells
+        → AreTold linked names old most square.old.cells
+        → AreTold linked names old (most + levels) square.new.cells }
+    ensures spare { square.new.spare ≡ square.old.spare }
+{
+    for _level in 0..levels {
+        mend_all(square, hits);
+    }
+}
+
+// Lowers them once.
+fn mend_all(square: &mut DistRows, hits: &NodeMarks)
     ensures mending { (linked : Linked) (names old : List (List ℕ))
         → IsMending linked names old hits.now square.old.cells
         → IsMending linked names old hits.now square.new.cells }
@@ -217,22 +295,18 @@ fn mend_all(square: &mut DistRows, hits: &NodeMarks) -> bool
         → IsMending linked names old hits.now square.old.cells
         → AreTold linked names old most square.old.cells
         → AreTold linked names old (most + 1) square.new.cells }
-    ensures same { result ≡ false → square.new.cells ≡ square.old.cells }
     ensures spare { square.new.spare ≡ square.old.spare }
 {
-    let mut changed = false;
     for node in 0..square.size() {
         if !hits[node as usize] {
             continue;
         }
-        let lowered = mend_row(square, node);
-        changed |= lowered;
+        mend_row(square, node);
     }
-    changed
 }
 
-// Lowers the row of a node by way of those that are near; whether a distance was lowered.
-fn mend_row(square: &mut DistRows, node: u32) -> bool
+// Lowers the row of a node by way of those that are a link away.
+fn mend_row(square: &mut DistRows, node: u32)
     requires { node < length square.old.cells }
     ensures mending { (linked : Linked) (names old : List (List ℕ)) (hits : List Bool)
         → IsMarked hits node → IsMending linked names old hits square.old.cells
@@ -245,53 +319,28 @@ fn mend_row(square: &mut DistRows, node: u32) -> bool
         → b < length square.old.cells → cell_of square.new.cells node b
         ≤ sum_of 1 (cell_of square.old.cells next b) }
     ensures long { length square.new.cells ≡ length square.old.cells }
-    ensures same { result ≡ false → square.new.cells ≡ square.old.cells }
     ensures spare { square.new.spare ≡ square.old.spare }
 {
-    let mut changed = false;
     for next in 0..square.size() {
-        if next == node {
-            continue;
-        }
         if distance(square, node, next) != 1 {
             continue;
         }
-        let lowered = mend_by(square, node, next);
-        changed |= lowered;
+        mend_by(square, node, next);
     }
-    changed
 }
 
-// Lowers the row of a node by way of another, which is a link away; whether a distance was lowered.
-fn mend_by(square: &mut DistRows, node: u32, next: u32) -> bool
+// Lowers the row of a node by way of another, which is a link away.
+fn mend_by(square: &mut DistRows, node: u32, next: u32)
     requires node { node < length square.old.cells }
     requires next { next < length square.old.cells }
-    requires apart { node ≢ next }
     ensures cells { (b : ℕ) → b < length square.old.cells → cell_of square.new.cells node b
         ≡ min (cell_of square.old.cells node b) (sum_of 1 (cell_of square.old.cells next b)) }
     ensures others { (a b : ℕ) → a ≢ node
         → cell_of square.new.cells a b ≡ cell_of square.old.cells a b }
     ensures long { length square.new.cells ≡ length square.old.cells }
     ensures square { IsSquare square.new.cells }
-    ensures same { result ≡ false → square.new.cells ≡ square.old.cells }
     ensures spare { square.new.spare ≡ square.old.spare }
 {
-    let mut changed = false;
-    for other in 0..square.size() {
-        let sum = one_more(distance(square, next, other));
-        if distance(square, node, other) <= sum {
-            continue;
-        }
-        write(square, node, other, sum);
-        changed = true;
-    }
     let _size = square.size();
-    changed
-}
-
-// A distance of one link more.
-fn one_more(far: u8) -> u8
-    ensures { result ≡ sum_of 1 far }
-{
-    if far < FARTHEST { far + 1 } else { TOO_FAR }
+    relax(square, node, 1, next);
 }

@@ -1,6 +1,6 @@
 -- A square from which links are taken out: the distances that went by them are found anew.
 use Rattle.std.specs.Prelude.{◌≡◌, ◌⊎◌, ◌<◌, ◌≤◌, ◌+◌, ℕ, Bool, List, length}
-use Rattle.dist_rows.specs.Squares.{IsSquare, cell_of}
+use Rattle.dist_rows.specs.Squares.{IsSquare, cell_of, sum_of}
 use Rattle.role_graph.specs.Helps.Squares.{Chain, IsMarked, IsNear, IsNodeLink}
 use Rattle.role_graph.specs.Helps.Walks.{Linked}
 
@@ -30,3 +30,11 @@ pub record IsMending (linked : Linked) (names old : List (List ℕ)) (hits : Lis
 -- the distances of at most so many links are told
 abbrev pub AreTold : Linked → List (List ℕ) → List (List ℕ) → ℕ → List (List ℕ) → Type 0
 AreTold linked names old most cells = (a b k : ℕ) → a < length old → b < length old → k ≤ most → k ≤ 254 → Chain (IsKept linked names old) k a b → cell_of cells a b ≤ k
+
+-- the row of a node is not lower by way of any that is a link away
+abbrev pub IsStableAt : List (List ℕ) → ℕ → Type 0
+IsStableAt cells a = (next b : ℕ) → next < length cells → cell_of cells a next ≡ 1 → b < length cells → cell_of cells a b ≤ sum_of 1 (cell_of cells next b)
+
+-- so are the rows of marked nodes
+abbrev pub IsStable : List Bool → List (List ℕ) → Type 0
+IsStable hits cells = (a : ℕ) → a < length cells → IsMarked hits a → IsStableAt cells a

@@ -1,4 +1,4 @@
-use Rattle.std.proofs.Common.{◌≡◌, ◌<◌, ◌≤◌, ℕ, List, false, length}
+use Rattle.std.proofs.Common.{◌≡◌, ◌<◌, ◌≤◌, ℕ, List, length}
 use Rattle.dist_rows.specs.Squares.{cell_of}
 use Rattle.role_graph.specs.Helps.Mending.{IsMending}
 use Rattle.role_graph.specs.Helps.Walks.{Linked}
@@ -9,7 +9,6 @@ abbrev pub invariant-loop-node : goal.invariant-loop-node
 invariant-loop-node l = record {
   long : length l.square.cells ≡ length l.fn.square.cells;
   spare : l.square.spare ≡ l.fn.square.spare;
-  same : l.changed ≡ false → l.square.cells ≡ l.fn.square.cells;
   lower : (a b : ℕ) → a < length l.fn.square.cells → b < length l.fn.square.cells → cell_of l.square.cells a b ≤ cell_of l.fn.square.cells a b;
   mends : (linked : Linked) (names old : List (List ℕ)) → IsMending linked names old l.hits l.fn.square.cells → IsByAll linked names old l.hits l.node l.fn.square.cells l.square.cells;
 }

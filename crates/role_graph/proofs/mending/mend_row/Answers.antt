@@ -1,5 +1,5 @@
 use Rattle.std.proofs.Common.{◌≡◌, ◌≢◌, ◌⊎◌, inl, inr, ◌<◌, ◌≤◌, ◌∙◌, ℕ, List, arith, length, refl, subst, sym}
-use Rattle.std.proofs.lemmas.Bool.{cases_eq, or_parts}
+use Rattle.std.proofs.lemmas.Bool.{cases_eq}
 use Rattle.dist_rows.specs.Squares.{cell_of}
 use Rattle.role_graph.proofs.Mending.{by_row_begins, by_row_ends, by_row_more, by_row_skips, kept_one}
 use Rattle.role_graph.proofs.mending.mend_row.Goals as goal
@@ -8,28 +8,15 @@ pub loop-next-init : goal.loop-next-init
 loop-next-init c = record {
   long = refl;
   spare = refl;
-  same = λ none. refl;
   others = λ a b differ. refl;
   lower = λ b within. omega arith;
   mends = λ linked names old hits marked mending. by_row_begins linked names old hits c.args.node c.args.square.now.cells mending;
-}
-
-pub loop-next-preserved-then-next-node : goal.loop-next-preserved-then-next-node
-loop-next-preserved-then-next-node c = record {
-  long = c.loop-next.invariant.long;
-  spare = c.loop-next.invariant.spare;
-  same = c.loop-next.invariant.same;
-  others = c.loop-next.invariant.others;
-  lower = c.loop-next.invariant.lower;
-  mends = λ linked names old hits marked mending.
-      by_row_skips linked names old hits c.args.node c.loop-next.next c.args.square.now.cells c.loop-next.square.cells (λ kept apart. apart (sym c.if-next-node.true)) (c.loop-next.invariant.mends linked names old hits marked mending);
 }
 
 pub loop-next-preserved-then-distance-ne1 : goal.loop-next-preserved-then-distance-ne1
 loop-next-preserved-then-distance-ne1 c = record {
   long = c.loop-next.invariant.long;
   spare = c.loop-next.invariant.spare;
-  same = c.loop-next.invariant.same;
   others = c.loop-next.invariant.others;
   lower = c.loop-next.invariant.lower;
   mends = λ linked names old hits marked mending.
@@ -44,26 +31,22 @@ distance-requires-clause-a c = omega (arith, c.loop-next.invariant.long, c.requi
 pub distance-requires-clause-b : goal.distance-requires-clause-b
 distance-requires-clause-b c = omega (arith, c.loop-next.invariant.long, c.loop-next-test.true, c.size-next-end.ensures.value)
 
-pub mend_by-lowered-requires-clause-node : goal.mend_by-lowered-requires-clause-node
-mend_by-lowered-requires-clause-node c = omega (arith, c.loop-next.invariant.long, c.requires)
+pub mend_by-requires-clause-node : goal.mend_by-requires-clause-node
+mend_by-requires-clause-node c = omega (arith, c.loop-next.invariant.long, c.requires)
 
-pub mend_by-lowered-requires-clause-next : goal.mend_by-lowered-requires-clause-next
-mend_by-lowered-requires-clause-next c = omega (arith, c.loop-next.invariant.long, c.loop-next-test.true, c.size-next-end.ensures.value)
-
-pub mend_by-lowered-requires-clause-apart : goal.mend_by-lowered-requires-clause-apart
-mend_by-lowered-requires-clause-apart c = λ same. c.if-next-node.false (sym same)
+pub mend_by-requires-clause-next : goal.mend_by-requires-clause-next
+mend_by-requires-clause-next c = omega (arith, c.loop-next.invariant.long, c.loop-next-test.true, c.size-next-end.ensures.value)
 
 pub loop-next-preserved : goal.loop-next-preserved
 loop-next-preserved c = record {
-  long = c.mend_by-lowered.ensures.long ∙ c.loop-next.invariant.long;
-  spare = c.mend_by-lowered.ensures.spare ∙ c.loop-next.invariant.spare;
-  same = λ none. let parts = or_parts c.loop-next.changed c.mend_by-lowered.result none in c.mend_by-lowered.ensures.same parts.1 ∙ c.loop-next.invariant.same parts.0;
-  others = λ a b differ. c.mend_by-lowered.ensures.others a b differ ∙ c.loop-next.invariant.others a b differ;
-  lower = λ b within. let is = c.mend_by-lowered.ensures.cells b (omega (arith, within, c.loop-next.invariant.long)) in let before = c.loop-next.invariant.lower b within in omega (arith, is, before);
+  long = c.mend_by.ensures.long ∙ c.loop-next.invariant.long;
+  spare = c.mend_by.ensures.spare ∙ c.loop-next.invariant.spare;
+  others = λ a b differ. c.mend_by.ensures.others a b differ ∙ c.loop-next.invariant.others a b differ;
+  lower = λ b within. let is = c.mend_by.ensures.cells b (omega (arith, within, c.loop-next.invariant.long)) in let before = c.loop-next.invariant.lower b within in omega (arith, is, before);
   mends = λ linked names old hits marked mending.
-      by_row_more linked names old hits c.args.node c.loop-next.next c.args.square.now.cells c.loop-next.square.cells c.mend_by-lowered.new.square.cells marked (omega (arith, c.loop-next.invariant.long, c.requires))
-      (omega (arith, c.loop-next.invariant.long, c.loop-next-test.true, c.size-next-end.ensures.value)) (λ same. c.if-next-node.false (sym same)) (sym c.distance.ensures.cell ∙ c.if-distance-ne1.false) c.loop-next.invariant.long c.mend_by-lowered.ensures.long
-      c.mend_by-lowered.ensures.square c.mend_by-lowered.ensures.cells c.mend_by-lowered.ensures.others c.loop-next.invariant.others (c.loop-next.invariant.mends linked names old hits marked mending);
+      by_row_more linked names old hits c.args.node c.loop-next.next c.args.square.now.cells c.loop-next.square.cells c.mend_by.new.square.cells marked (omega (arith, c.loop-next.invariant.long, c.requires))
+      (omega (arith, c.loop-next.invariant.long, c.loop-next-test.true, c.size-next-end.ensures.value)) (sym c.distance.ensures.cell ∙ c.if-distance-ne1.false) c.loop-next.invariant.long c.mend_by.ensures.long
+      c.mend_by.ensures.square c.mend_by.ensures.cells c.mend_by.ensures.others c.loop-next.invariant.others (c.loop-next.invariant.mends linked names old hits marked mending);
 }
 
 pub returns-clause-mending : goal.returns-clause-mending
@@ -87,9 +70,6 @@ returns-clause-by c = λ linked names old hits marked mending.
 
 pub returns-clause-long : goal.returns-clause-long
 returns-clause-long c = c.loop-next.invariant.long
-
-pub returns-clause-same : goal.returns-clause-same
-returns-clause-same c = c.loop-next.invariant.same
 
 pub returns-clause-spare : goal.returns-clause-spare
 returns-clause-spare c = c.loop-next.invariant.spare
