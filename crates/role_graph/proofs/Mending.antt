@@ -8,7 +8,7 @@ use Rattle.role_meaning.specs.Least.{IsLeast}
 use Rattle.role_graph.specs.Helps.Mending.{AreHit, AreTold, IsKept, IsMending, IsReset, IsStable}
 use Rattle.role_graph.specs.Helps.Squares.{Chain, IsBefore, IsBegun, IsClosed, IsMarked, IsNear, IsNodeLink}
 use Rattle.role_graph.specs.Helps.Walks.{Linked}
-use Rattle.role_graph.proofs.Chains.{chain_itself, chain_joined, chain_link, chain_more, chain_none, chain_weaker}
+use Rattle.role_graph.proofs.Chains.{chain_itself, chain_joined, chain_link, chain_none, chain_weaker}
 use Rattle.role_graph.proofs.Closed.{own_cell, small_cell, zero_cell}
 use Rattle.role_graph.proofs.Leasts.{cases_sum, least_alike, least_below}
 

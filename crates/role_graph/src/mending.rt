@@ -215,7 +215,7 @@ fn mend(square: &mut DistRows, hits: &NodeMarks)
     }
 }
 
-// Whether no row of a marked node is lower by way of what is near.
+// Whether no row of a marked node becomes lower by way of what is near.
 fn is_mended(square: &DistRows, hits: &NodeMarks) -> bool
     ensures { result ≡ true → IsStable hits.now square.now.cells }
 {
@@ -230,7 +230,7 @@ fn is_mended(square: &DistRows, hits: &NodeMarks) -> bool
     true
 }
 
-// Whether the row of a node is not.
+// The same for the row of one node.
 fn is_low(square: &DistRows, node: u32) -> bool
     requires { node < length square.now.cells }
     ensures { result ≡ true → IsStableAt square.now.cells node }
@@ -246,7 +246,7 @@ fn is_low(square: &DistRows, node: u32) -> bool
     true
 }
 
-// Whether the row of a node is not, by way of another that is a link away.
+// The same by way of one that is a link away.
 fn is_low_by(square: &DistRows, node: u32, next: u32) -> bool
     requires node { node < length square.now.cells }
     requires next { next < length square.now.cells }
