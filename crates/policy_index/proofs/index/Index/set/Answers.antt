@@ -27,6 +27,9 @@ pub next_place-place-requires : goal.next_place-place-requires
 next_place-place-requires c =
     omega (arith, c.unlist.ensures.shorter c.args.mark.hash, listed_few c.self.inside.marks.items c.self.inside.slots c.args.mark.hash c.self.invariant.listed, c.self.invariant.few)
 
+pub index_mut-requires-2 : goal.index_mut-requires-2
+index_mut-requires-2 c = omega (arith, c.requires.slot, c.unlist.ensures.sizes, c.self.invariant.placed.sizes, ap (λ (i : Indexed). length i.marks) c.self.view_is, c.unlist.new.places.ok.0)
+
 pub put-requires : goal.put-requires
 put-requires c = omega (arith, c.requires.room, c.unlist.ensures.room c.args.mark.hash, ap (λ (i : Indexed). room_at i.lists c.args.mark.hash) c.self.view_is)
 
