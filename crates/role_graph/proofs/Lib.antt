@@ -19,7 +19,7 @@ mod LinkLemmas
 mod Linking
 mod Marked
 mod Marking
-mod Mending
+mod Mended
 mod Naming
 mod Nearest
 mod Picking

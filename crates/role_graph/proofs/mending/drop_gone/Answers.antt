@@ -1,6 +1,6 @@
 use Rattle.role_graph.specs.Helps.Kept.{linked_of}
 use Rattle.role_graph.specs.Helps.Roles.{nodes_of}
-use Rattle.role_graph.proofs.Mending.{begun_mended}
+use Rattle.role_graph.proofs.Mended.{begun_mended}
 use Rattle.role_graph.proofs.mending.drop_gone.Goals as goal
 
 pub returns-clause-begun : goal.returns-clause-begun

@@ -5,7 +5,7 @@ use Rattle.role_graph.specs.Helps.Mending.{IsKept}
 use Rattle.role_graph.specs.Helps.Roles.{nodes_of}
 use Rattle.role_graph.specs.Helps.Squares.{IsMarked, IsNear, name_at}
 use Rattle.role_graph.specs.Helps.Walks.{IsLink}
-use Rattle.role_graph.proofs.Mending.{hit_linked, hit_same, hit_still, next_place}
+use Rattle.role_graph.proofs.Mended.{hit_linked, hit_same, hit_still, next_place}
 use Rattle.role_graph.proofs.mending.hit_by_node.Goals as goal
 
 pub loop-other-init : goal.loop-other-init

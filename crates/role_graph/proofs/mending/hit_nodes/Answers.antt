@@ -4,7 +4,7 @@ use Rattle.role_graph.specs.Helps.Kept.{linked_of}
 use Rattle.role_graph.specs.Helps.Mending.{IsKept}
 use Rattle.role_graph.specs.Helps.Roles.{nodes_of}
 use Rattle.role_graph.specs.Helps.Squares.{IsMarked, IsNear}
-use Rattle.role_graph.proofs.Mending.{hit_still, hit_untouched, next_place, unmarked}
+use Rattle.role_graph.proofs.Mended.{hit_still, hit_untouched, next_place, unmarked}
 use Rattle.role_graph.proofs.mending.hit_nodes.Goals as goal
 
 pub loop-node-init : goal.loop-node-init

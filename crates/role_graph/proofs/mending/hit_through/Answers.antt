@@ -2,7 +2,7 @@ use Rattle.std.proofs.Common.{◌≡◌, ◌+◌, ◌<◌, ◌∙◌, ℕ, true,
 use Rattle.dist_rows.specs.Squares.{cell_of}
 use Rattle.role_graph.specs.Helps.Squares.{IsMarked}
 use Rattle.role_graph.proofs.Marked.{mark_here, mark_stays}
-use Rattle.role_graph.proofs.Mending.{next_place}
+use Rattle.role_graph.proofs.Mended.{next_place}
 use Rattle.role_graph.proofs.mending.hit_through.Goals as goal
 
 pub loop-node-init : goal.loop-node-init

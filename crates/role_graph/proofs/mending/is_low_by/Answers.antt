@@ -1,6 +1,6 @@
 use Rattle.std.proofs.Common.{◌≡◌, ◌≤◌, ◌∙◌, ap, arith, sym, true≢false}
 use Rattle.dist_rows.specs.Squares.{cell_of, sum_of}
-use Rattle.role_graph.proofs.Mending.{next_place}
+use Rattle.role_graph.proofs.Mended.{next_place}
 use Rattle.role_graph.proofs.mending.is_low_by.Goals as goal
 
 pub loop-other-init : goal.loop-other-init

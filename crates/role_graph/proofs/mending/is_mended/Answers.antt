@@ -1,7 +1,7 @@
 use Rattle.std.proofs.Common.{arith, true≢false, sym}
 use Rattle.role_graph.specs.Helps.Mending.{IsStableAt}
 use Rattle.role_graph.specs.Helps.Squares.{IsMarked}
-use Rattle.role_graph.proofs.Mending.{next_place, unmarked}
+use Rattle.role_graph.proofs.Mended.{next_place, unmarked}
 use Rattle.role_graph.proofs.mending.is_mended.Goals as goal
 
 pub loop-node-init : goal.loop-node-init

@@ -1,6 +1,6 @@
 use Rattle.std.proofs.Common.{◌≡◌, ◌+◌, ◌*◌, ◌∙◌, ℕ, arith, refl, subst}
 use Rattle.role_graph.specs.Helps.Mending.{AreTold}
-use Rattle.role_graph.proofs.Mending.{stable_told, told_begins, told_fewer}
+use Rattle.role_graph.proofs.Mended.{stable_told, told_begins, told_fewer}
 use Rattle.role_graph.proofs.mending.mend.Goals as goal
 
 pub more-init : goal.more-init

@@ -1,5 +1,5 @@
 use Rattle.std.proofs.Common.{◌≡◌, ◌<◌, ◌∙◌, arith, length, refl}
-use Rattle.role_graph.proofs.Mending.{by_all_begins, by_all_more, by_all_skips, told_more, unmarked}
+use Rattle.role_graph.proofs.Mended.{by_all_begins, by_all_more, by_all_skips, told_more, unmarked}
 use Rattle.role_graph.proofs.mending.mend_all.Goals as goal
 
 pub loop-node-init : goal.loop-node-init

@@ -2,7 +2,7 @@ use Rattle.std.proofs.Common.{◌≡◌, ◌<◌, ◌≤◌, ℕ, List, length}
 use Rattle.dist_rows.specs.Squares.{cell_of}
 use Rattle.role_graph.specs.Helps.Mending.{IsMending}
 use Rattle.role_graph.specs.Helps.Walks.{Linked}
-use Rattle.role_graph.proofs.Mending.{IsByAll}
+use Rattle.role_graph.proofs.Mended.{IsByAll}
 use Rattle.role_graph.proofs.mending.mend_all.Given as goal
 
 abbrev pub invariant-loop-node : goal.invariant-loop-node

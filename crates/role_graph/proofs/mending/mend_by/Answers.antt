@@ -1,4 +1,4 @@
-use Rattle.role_graph.proofs.Mending.{lowered_long, lowered_other, lowered_own}
+use Rattle.role_graph.proofs.Mended.{lowered_long, lowered_other, lowered_own}
 use Rattle.role_graph.proofs.mending.mend_by.Goals as goal
 
 pub returns-clause-cells : goal.returns-clause-cells

@@ -1,6 +1,6 @@
 use Rattle.std.proofs.Common.{◌≡◌, ◌+◌, ◌∙◌, ℕ, arith, refl, subst}
 use Rattle.role_graph.specs.Helps.Mending.{AreTold}
-use Rattle.role_graph.proofs.Mending.{told_fewer}
+use Rattle.role_graph.proofs.Mended.{told_fewer}
 use Rattle.role_graph.proofs.mending.mend_levels.Goals as goal
 
 pub loop-level-init : goal.loop-level-init

@@ -3,7 +3,7 @@ use Rattle.dist_rows.specs.Squares.{cell_of}
 use Rattle.role_graph.specs.Helps.Mending.{IsMending}
 use Rattle.role_graph.specs.Helps.Squares.{IsMarked}
 use Rattle.role_graph.specs.Helps.Walks.{Linked}
-use Rattle.role_graph.proofs.Mending.{IsByRow}
+use Rattle.role_graph.proofs.Mended.{IsByRow}
 use Rattle.role_graph.proofs.mending.mend_row.Given as goal
 
 abbrev pub invariant-loop-next : goal.invariant-loop-next

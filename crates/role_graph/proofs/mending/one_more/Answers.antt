@@ -1,4 +1,4 @@
-use Rattle.role_graph.proofs.Mending.{sum_large, sum_small}
+use Rattle.role_graph.proofs.Mended.{sum_large, sum_small}
 use Rattle.role_graph.proofs.mending.one_more.Goals as goal
 
 pub returns-then-far-lt-FARTHEST : goal.returns-then-far-lt-FARTHEST

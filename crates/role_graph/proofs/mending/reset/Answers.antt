@@ -1,7 +1,7 @@
 use Rattle.std.proofs.Common.{◌∙◌, arith, refl}
 use Rattle.role_graph.specs.Helps.Kept.{linked_of}
 use Rattle.role_graph.specs.Helps.Roles.{nodes_of}
-use Rattle.role_graph.proofs.Mending.{mending_begins, resetting_begins, resetting_more, resetting_skips, unmarked}
+use Rattle.role_graph.proofs.Mended.{mending_begins, resetting_begins, resetting_more, resetting_skips, unmarked}
 use Rattle.role_graph.proofs.mending.reset.Goals as goal
 
 pub loop-node-init : goal.loop-node-init

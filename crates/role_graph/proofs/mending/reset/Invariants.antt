@@ -1,7 +1,7 @@
 use Rattle.std.proofs.Common.{◌≡◌}
 use Rattle.role_graph.specs.Helps.Kept.{linked_of}
 use Rattle.role_graph.specs.Helps.Roles.{nodes_of}
-use Rattle.role_graph.proofs.Mending.{IsResetting}
+use Rattle.role_graph.proofs.Mended.{IsResetting}
 use Rattle.role_graph.proofs.mending.reset.Given as goal
 
 abbrev pub invariant-loop-node : goal.invariant-loop-node

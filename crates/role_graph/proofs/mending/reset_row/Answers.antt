@@ -1,7 +1,7 @@
 use Rattle.std.proofs.Common.{◌∙◌, arith, refl}
 use Rattle.role_graph.specs.Helps.Kept.{linked_of}
 use Rattle.role_graph.specs.Helps.Roles.{nodes_of}
-use Rattle.role_graph.proofs.Mending.{reset_ends, reset_gone, reset_kept, written_column, written_long, written_row}
+use Rattle.role_graph.proofs.Mended.{reset_ends, reset_gone, reset_kept, written_column, written_long, written_row}
 use Rattle.role_graph.proofs.mending.reset_row.Goals as goal
 
 pub loop-other-init : goal.loop-other-init

@@ -4,7 +4,7 @@ use Rattle.role_graph.specs.Helps.Kept.{linked_of}
 use Rattle.role_graph.specs.Helps.Roles.{nodes_of}
 use Rattle.role_graph.specs.Helps.Squares.{name_at}
 use Rattle.role_graph.specs.Helps.Walks.{IsLink}
-use Rattle.role_graph.proofs.Mending.{far_gone, kept_linked, kept_untouched, kept_zero, link_gone, unmarked}
+use Rattle.role_graph.proofs.Mended.{far_gone, kept_linked, kept_untouched, kept_zero, link_gone, unmarked}
 use Rattle.role_graph.proofs.mending.stays.Goals as goal
 
 pub returns-then-far-ne1-clause-kept : goal.returns-then-far-ne1-clause-kept
