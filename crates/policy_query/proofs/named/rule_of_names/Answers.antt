@@ -19,8 +19,8 @@ returns-in_default-2 c =
     made_of c.rule_from.result c.in_ok-fields.fields.items (rule_of_names c.args.user.now c.args.role.now (option_copied c.args.domain))
     (pair c.args.user.now c.args.role.now c.in-Some.first c.in_ok-fields.fields.items _ c.in-Some.is c.in_ok-first.ensures c.in_ok-fields.ensures ∙ ap (rule_of_names c.args.user.now c.args.role.now) (sym (ap option_copied c.in_default-2.is))) c.rule_from.ensures
 
-pub rule_from-2-requires : goal.rule_from-2-requires
-rule_from-2-requires c =
+pub rule_from-requires-2 : goal.rule_from-requires-2
+rule_from-requires-2 c =
     let longer : c.push.new.self.items ≡ c.in_ok-fields.fields.items ++ c.in-Some-3.last ∷ [] = search rules in
     let three = ap length (longer ∙ ap (λ (l : List (List ℕ)). l ++ c.in-Some-3.last ∷ []) c.in_ok-fields.ensures) in omega (arith, c.push.new.self.ok.0, three)
 
