@@ -1,13 +1,10 @@
-use Rattle.std.proofs.Common.{◌≡◌, ◌≤◌, ◌∙◌, ap, arith, sym, true≢false}
+use Rattle.std.proofs.Common.{◌≡◌, ◌≤◌, ◌∙◌, ap, arith}
 use Rattle.dist_rows.specs.Squares.{cell_of, sum_of}
 use Rattle.role_graph.proofs.Mended.{next_place}
 use Rattle.role_graph.proofs.mending.is_low_by.Goals as goal
 
 pub loop-other-init : goal.loop-other-init
 loop-other-init c = λ b low. absurd (omega (arith, low))
-
-pub returns-then-far-gt-sum : goal.returns-then-far-gt-sum
-returns-then-far-gt-sum c = λ holds. absurd (true≢false (sym holds))
 
 pub loop-other-preserved : goal.loop-other-preserved
 loop-other-preserved c =

@@ -11,11 +11,8 @@ loop-at-init c = counting_begins c.args.user.now c.args.rows.now c.args.from c.a
 pub returns-then-not-is_same : goal.returns-then-not-is_same
 returns-then-not-is_same c = counting_stops c.args.user.now c.args.rows.now c.args.from c.loop-at.at c.loop-at.gone (omega (arith, c.loop-at-test.true)) c.loop-at.invariant
 
-pub count_role-requires-2-clause-user : goal.count_role-requires-2-clause-user
-count_role-requires-2-clause-user c = sym c.user_at.ensures ∙ c.is_same.ensures c.if-not-is_same.false
-
-pub count_role-requires-2-clause-few : goal.count_role-requires-2-clause-few
-count_role-requires-2-clause-few c = counting_few c.args.user.now c.args.rows.now c.args.from c.loop-at.at c.loop-at.gone (omega (arith, c.loop-at-test.true)) c.loop-at.invariant
+pub count_role-requires-in-loop-at-clause-few : goal.count_role-requires-in-loop-at-clause-few
+count_role-requires-in-loop-at-clause-few c = counting_few c.args.user.now c.args.rows.now c.args.from c.loop-at.at c.loop-at.gone (omega (arith, c.loop-at-test.true)) c.loop-at.invariant
 
 pub loop-at-preserved : goal.loop-at-preserved
 loop-at-preserved c = counting_on c.args.user.now c.args.rows.now c.args.from c.loop-at.at c.loop-at.gone c.count_role-2.new.gone c.loop-at.invariant c.in_ok-count_role-2.ensures
