@@ -112,7 +112,7 @@ impl Edits {
     {
         match self.entries.swap_remove(user) {
             Some(roles) => Ok(roles),
-            None => copy_all(alloc, links.roles_of(user)),
+            None => copy_and_room(alloc, links.roles_of(user)),
         }
     }
 
@@ -155,7 +155,21 @@ fn text_at(texts: &[Text], at: usize) -> &[u8]
 pub(crate) fn copy_all(alloc: Global, texts: &[Text]) -> Result<Vec<Text>, NoMemory>
     ensures { IfOk result (λ copy. copy.items ≡ texts.now) }
 {
-    let mut copy = Vec::with_capacity(alloc, texts.len())?;
+    copy_in(alloc, texts, texts.len())
+}
+
+// A copy of texts, with room for one more: most users have few roles, and a list that grows takes room for four.
+fn copy_and_room(alloc: Global, texts: &[Text]) -> Result<Vec<Text>, NoMemory>
+    ensures { IfOk result (λ copy. copy.items ≡ texts.now) }
+{
+    copy_in(alloc, texts, texts.len() + 1)
+}
+
+// A copy of texts in a list with so much room.
+fn copy_in(alloc: Global, texts: &[Text], room: usize) -> Result<Vec<Text>, NoMemory>
+    ensures { IfOk result (λ copy. copy.items ≡ texts.now) }
+{
+    let mut copy = Vec::with_capacity(alloc, room)?;
     for text in texts {
         copy.push(Text::from_str(alloc, text.as_str())?)?;
     }
