@@ -14,8 +14,8 @@ use std::mem;
 impl Desk {
     /// Publishes the pending edits: they follow the others of the log, in their order, and none is pending afterwards. It says
     /// the new version. The floor is raised to what is to be kept, whatever the answer, and the log starts there afterwards.
-    /// Where memory runs out nothing is published, and it may be tried again. Its time grows with the pending edits and, where
-    /// its start moves, with those of the log, and not with the tables.
+    /// Where memory runs out nothing is published, and it may be tried again. Its time grows with the pending edits, with the
+    /// distances between roles that they change and, where its start moves, with the edits of the log, and not with the tables.
     pub fn publish(&mut self, alloc: Global) -> Result<u32, NoMemory>
         ensures version { IfOk result (λ version. version ≡ versions self.new.state.log) }
         ensures published { OnOk result (IsPublished (floor_after self.old) self.old self.new) }

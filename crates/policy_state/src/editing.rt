@@ -19,7 +19,7 @@ use version_log::Log;
 impl PolicyState {
     /// Makes edits that are admitted one after the other ready, and a version at which the log is to start afterwards, so that
     /// `commit` needs no memory. The policy is as before, whatever the answer, also where what is ready is dropped. Its time
-    /// grows with the edits, and not with the tables.
+    /// grows with the edits and, where a role is new, with the distances of its domain, and not with the tables.
     pub fn prepare(
         &mut self,
         alloc: Global,

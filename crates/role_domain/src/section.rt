@@ -68,7 +68,8 @@ impl Model for RoleSection {
 }
 
 impl RoleSection {
-    /// The section of the relation of a shape in these tables. Its time is linear in the rules.
+    /// The section of the relation of a shape in these tables. Its time grows with the rules and, for
+    /// each row between two roles, with the distances that it lowers.
     pub fn make(
         alloc: Global,
         shape: RoleShape,
@@ -344,7 +345,8 @@ impl RoleSection {
 
     /// Makes edits of the tables ready, before they are made there, so that `commit` needs no memory;
     /// changes of other tables are passed over. The section stays of the rows that it is of, whatever
-    /// the answer.
+    /// the answer. A row with a pattern as its domain is an edit of each domain that fits it. Where a
+    /// role is new in a domain, the distances that are kept there are moved.
     pub fn prepare(
         &mut self,
         alloc: Global,
@@ -377,8 +379,9 @@ impl RoleSection {
         Ok(Prepared::new(touched, patterns))
     }
 
-    /// Makes the edits that were prepared for this section as it stands. It takes no memory, and its
-    /// time does not grow with the rows that they do not touch.
+    /// Makes the edits that were prepared for this section as it stands. It takes no memory. Its time
+    /// grows with the edits and, in each domain that they touch, with the distances that are kept there
+    /// and change: where the last row of a role goes, with all of them.
     pub fn commit(&mut self, prepared: Prepared)
         requires { (after : List Fields) × IsPreparedFor self.old after prepared }
         ensures shape { self.new.shape ≡ self.old.shape }
