@@ -24,9 +24,11 @@ returns-in-Some c = record {
 }
 
 pub section-requires : goal.section-requires
-section-requires c =
-    ap is_some (asked_unless c.args.self.now.shapes c.args.relation (option_copied c.args.domain)
-    (none_refused c.args.self.now.shapes c.shapes.result.now c.args.relation (option_copied c.args.domain) c.names_refusal.result c.shapes.ensures.shapes c.names_refusal.ensures c.in_default.is)).there
+section-requires c = record {
+  there =
+      ap is_some (asked_unless c.args.self.now.shapes c.args.relation (option_copied c.args.domain)
+      (none_refused c.args.self.now.shapes c.shapes.result.now c.args.relation (option_copied c.args.domain) c.names_refusal.result c.shapes.ensures.shapes c.names_refusal.ensures c.in_default.is)).there;
+}
 
 pub roles_of-roles-requires : goal.roles_of-roles-requires
 roles_of-roles-requires c =
