@@ -65,7 +65,7 @@ next_place P at before here k low = by (cases_eq k at)
     by (inr differ) = before k (omega (arith, low, differ))
 
 pub unmarked : (marks : List Bool) (a : ℕ) → get_or marks a false ≡ false → ¬ IsMarked marks a
-unmarked marks a no = λ marked. false≢true (sym no ∙ marked)
+unmarked marks a unset = λ marked. false≢true (sym unset ∙ marked)
 
 -- ---- one cell is written
 
@@ -86,7 +86,7 @@ written_row cells new a b value i k other is = ap (λ (l : List (List ℕ)). cel
 kept_itself : (linked : Linked) (names cells : List (List ℕ)) (a : ℕ) → IsClosed cells → a < length cells → IsKept linked names cells a a
 kept_itself linked names cells a closed within = record { near = record { first = within; second = within; near = omega (arith, own_cell cells a closed within) }; still = inl refl }
 
--- a node at no distance is the same
+-- a node at unset distance is the same
 pub kept_zero : (linked : Linked) (names : List (List ℕ)) (touched : List Bool) (old : List (List ℕ)) (a b far : ℕ) → IsBefore linked names touched old → a < length old → b < length old → far ≡ cell_of old a b → far ≡ 0 → IsKept linked names old a b
 kept_zero linked names touched old a b far before first second is none = record {
   near = record { first = first; second = second; near = omega (arith, is, none) };
@@ -246,10 +246,10 @@ mending_begins linked names touched old hits upto cells before hit past resettin
     row a b first second marked = (resetting.done a (omega (arith, first, past)) marked).each b second
 
     alone : (a b : ℕ) → get_or hits a false ≡ false → cell_of cells a b ≡ cell_of old a b
-    alone a b no = resetting.alone a b (unmarked hits a no)
+    alone a b unset = resetting.alone a b (unmarked hits a unset)
 
     small : (a b : ℕ) → a < length old → b < length old → (get_or hits a false ≡ true) ⊎ (get_or hits a false ≡ false) → cell_of cells a b ≤ 255
-    small a b first second (inr no) = omega (arith, alone a b no, small_cell old a b before.closed first second)
+    small a b first second (inr unset) = omega (arith, alone a b unset, small_cell old a b before.closed first second)
     small a b first second (inl marked) = by (row a b first second marked)
       where
         by : (IsKept linked names old a b × (cell_of cells a b ≡ cell_of old a b)) ⊎ ((¬ IsKept linked names old a b) × (cell_of cells a b ≡ 255)) → cell_of cells a b ≤ 255
@@ -257,7 +257,7 @@ mending_begins linked names touched old hits upto cells before hit past resettin
         by (inr (gone, same)) = omega (arith, same)
 
     own : (a : ℕ) → a < length old → (get_or hits a false ≡ true) ⊎ (get_or hits a false ≡ false) → cell_of cells a a ≡ 0
-    own a first (inr no) = alone a a no ∙ own_cell old a before.closed first
+    own a first (inr unset) = alone a a unset ∙ own_cell old a before.closed first
     own a first (inl marked) = by (row a a first first marked)
       where
         by : (IsKept linked names old a a × (cell_of cells a a ≡ cell_of old a a)) ⊎ ((¬ IsKept linked names old a a) × (cell_of cells a a ≡ 255)) → cell_of cells a a ≡ 0
@@ -265,7 +265,7 @@ mending_begins linked names touched old hits upto cells before hit past resettin
         by (inr (gone, same)) = absurd (gone (kept_itself linked names old a before.closed first))
 
     near : (a b : ℕ) → IsKept linked names old a b → (get_or hits a false ≡ true) ⊎ (get_or hits a false ≡ false) → cell_of cells a b ≤ 1
-    near a b kept (inr no) = let low = kept.near.near in omega (arith, alone a b no, low)
+    near a b kept (inr unset) = let low = kept.near.near in omega (arith, alone a b unset, low)
     near a b kept (inl marked) = by (row a b kept.near.first kept.near.second marked)
       where
         by : (IsKept linked names old a b × (cell_of cells a b ≡ cell_of old a b)) ⊎ ((¬ IsKept linked names old a b) × (cell_of cells a b ≡ 255)) → cell_of cells a b ≤ 1
@@ -278,7 +278,7 @@ mending_begins linked names touched old hits upto cells before hit past resettin
     short a b (suc (suc far)) kept is = let low = kept.near.near in absurd (omega (arith, low, is))
 
     sound : (a b : ℕ) → a < length old → b < length old → cell_of cells a b ≤ 254 → (get_or hits a false ≡ true) ⊎ (get_or hits a false ≡ false) → Chain (IsKept linked names old) (cell_of cells a b) a b
-    sound a b first second low (inr no) = unhit_chain linked names old hits a before.closed hit (unmarked hits a no) first (cell_of cells a b) b low second (sym (alone a b no))
+    sound a b first second low (inr unset) = unhit_chain linked names old hits a before.closed hit (unmarked hits a unset) first (cell_of cells a b) b low second (sym (alone a b unset))
     sound a b first second low (inl marked) = by (row a b first second marked)
       where
         by : (IsKept linked names old a b × (cell_of cells a b ≡ cell_of old a b)) ⊎ ((¬ IsKept linked names old a b) × (cell_of cells a b ≡ 255)) → Chain (IsKept linked names old) (cell_of cells a b) a b
@@ -302,7 +302,7 @@ lowered_other cells new a v i b differ is = ap (λ (l : List (List ℕ)). cell_o
 pub lowered_long : (cells new : List (List ℕ)) (a v : ℕ) → new ≡ relaxed cells a 1 v → length new ≡ length cells
 lowered_long cells new a v is = ap (λ (l : List (List ℕ)). length l) is ∙ length-set cells a (lowered 1 (row_of cells a) (row_of cells v))
 
--- what is lowered tells no less than there is
+-- what is lowered tells unset less than there is
 pub mending_by : (linked : Linked) (names old : List (List ℕ)) (hits : List Bool) (node next : ℕ) (cells new : List (List ℕ)) → IsMarked hits node → node < length cells → next < length cells → cell_of cells node next ≡ 1 → length new ≡ length cells → IsSquare new
     → ((b : ℕ) → b < length cells → cell_of new node b ≡ min (cell_of cells node b) (sum_of 1 (cell_of cells next b))) → ((a b : ℕ) → a ≢ node → cell_of new a b ≡ cell_of cells a b) → IsMending linked names old hits cells → IsMending linked names old hits new
 mending_by linked names old hits node next cells new marked first_now second_now one long square lowers others mending = record {
@@ -452,7 +452,7 @@ told_more linked names old hits most upto first cells past mending lower all tol
     own a b inside same = ap (cell_of cells a) (sym same) ∙ all.mending.own a inside
 
     step : (a b next k : ℕ) → a < length old → b < length old → suc k ≤ most + 1 → suc k ≤ 254 → IsKept linked names old a next → Chain (IsKept linked names old) k next b → (get_or hits a false ≡ true) ⊎ (get_or hits a false ≡ false) → (a ≡ next) ⊎ (a ≡ next → ⊥) → cell_of cells a b ≤ suc k
-    step a b next k inside within low few kept chain (inr no) which = all.mending.still a b (suc k) inside within (unmarked hits a no) few (inr (next, kept, chain))
+    step a b next k inside within low few kept chain (inr unset) which = all.mending.still a b (suc k) inside within (unmarked hits a unset) few (inr (next, kept, chain))
     step a b next k inside within low few kept chain (inl marked) (inl same) =
         let before = told next b k kept.near.second within (omega (arith, low)) (omega (arith, few)) chain in
         let here : cell_of first a b ≡ cell_of first next b = ap (λ (n : ℕ). cell_of first n b) same in
@@ -476,7 +476,7 @@ told_more linked names old hits most upto first cells past mending lower all tol
 pub told_fewer : (linked : Linked) (names old : List (List ℕ)) (fewer most : ℕ) (cells : List (List ℕ)) → fewer ≤ most → AreTold linked names old most cells → AreTold linked names old fewer cells
 told_fewer linked names old fewer most cells less told = λ a b k first second low few chain. told a b k first second (omega (arith, low, less)) few chain
 
--- where no row of a marked node is lower by way of what is near, all are told
+-- where unset row of a marked node is lower by way of what is near, all are told
 told_at : (linked : Linked) (names old : List (List ℕ)) (hits : List Bool) (cells : List (List ℕ)) → IsMending linked names old hits cells → IsStable hits cells → (k a b : ℕ) → a < length old → b < length old → k ≤ 254 → Chain (IsKept linked names old) k a b → cell_of cells a b ≤ k
 unfolding Chain
 told_at linked names old hits cells mending stable zero a b first second few same = omega (arith, ap (cell_of cells a) (sym same) ∙ mending.own a first)
@@ -499,7 +499,7 @@ told_at linked names old hits cells mending stable (suc k) a b first second few 
         chain_none Kept a next (subst (λ (n : ℕ). Chain Kept n a next) none (mending.sound a next first kept.near.second (omega (arith, none))))
 
     step : cell_of cells next b ≤ k → (get_or hits a false ≡ true) ⊎ (get_or hits a false ≡ false) → (cell_of cells a next ≡ 1) ⊎ (cell_of cells a next ≡ 1 → ⊥) → cell_of cells a b ≤ suc k
-    step before (inr no) which = mending.still a b (suc k) first second (unmarked hits a no) few (inr (next, kept, chain))
+    step before (inr unset) which = mending.still a b (suc k) first second (unmarked hits a unset) few (inr (next, kept, chain))
     step before (inl marked) (inl one) =
         sum before (stable a (omega (arith, first, mending.long)) marked next b (omega (arith, kept.near.second, mending.long)) one (omega (arith, second, mending.long))) (cases_sum 1 (cell_of cells next b))
     step before (inl marked) (inr differ) = let here : cell_of cells a b ≡ cell_of cells next b = ap (λ (n : ℕ). cell_of cells n b) (alike differ) in omega (arith, here, before)

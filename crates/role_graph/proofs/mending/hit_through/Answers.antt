@@ -13,7 +13,7 @@ loop-node-preserved-then-not-is_next c = record {
   long = c.loop-node.invariant.long;
   keeps = c.loop-node.invariant.keeps;
   hits = next_place (λ a. cell_of c.args.square.now.cells a c.args.to ≡ 1 + cell_of c.args.square.now.cells a c.args.from → IsMarked c.loop-node.hits a) c.loop-node.node c.loop-node.invariant.hits
-      (λ far. absurd (c.is_next.ensures c.if-not-is_next.true (c.distance-2.ensures.cell ∙ far ∙ ap (λ (n : ℕ). 1 + n) (sym c.distance.ensures.cell))));
+      (λ far. absurd (c.is_next.ensures c.if-not-is_next.true (c.distance-in-loop-node.ensures.cell ∙ far ∙ ap (λ (n : ℕ). 1 + n) (sym c.distance.ensures.cell))));
 }
 
 pub loop-node-preserved : goal.loop-node-preserved
