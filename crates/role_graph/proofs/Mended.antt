@@ -86,7 +86,7 @@ written_row cells new a b value i k other is = ap (λ (l : List (List ℕ)). cel
 kept_itself : (linked : Linked) (names cells : List (List ℕ)) (a : ℕ) → IsClosed cells → a < length cells → IsKept linked names cells a a
 kept_itself linked names cells a closed within = record { near = record { first = within; second = within; near = omega (arith, own_cell cells a closed within) }; still = inl refl }
 
--- a node at unset distance is the same
+-- a node at no distance is the same
 pub kept_zero : (linked : Linked) (names : List (List ℕ)) (touched : List Bool) (old : List (List ℕ)) (a b far : ℕ) → IsBefore linked names touched old → a < length old → b < length old → far ≡ cell_of old a b → far ≡ 0 → IsKept linked names old a b
 kept_zero linked names touched old a b far before first second is none = record {
   near = record { first = first; second = second; near = omega (arith, is, none) };
@@ -302,7 +302,7 @@ lowered_other cells new a v i b differ is = ap (λ (l : List (List ℕ)). cell_o
 pub lowered_long : (cells new : List (List ℕ)) (a v : ℕ) → new ≡ relaxed cells a 1 v → length new ≡ length cells
 lowered_long cells new a v is = ap (λ (l : List (List ℕ)). length l) is ∙ length-set cells a (lowered 1 (row_of cells a) (row_of cells v))
 
--- what is lowered tells unset less than there is
+-- what is lowered tells no less than there is
 pub mending_by : (linked : Linked) (names old : List (List ℕ)) (hits : List Bool) (node next : ℕ) (cells new : List (List ℕ)) → IsMarked hits node → node < length cells → next < length cells → cell_of cells node next ≡ 1 → length new ≡ length cells → IsSquare new
     → ((b : ℕ) → b < length cells → cell_of new node b ≡ min (cell_of cells node b) (sum_of 1 (cell_of cells next b))) → ((a b : ℕ) → a ≢ node → cell_of new a b ≡ cell_of cells a b) → IsMending linked names old hits cells → IsMending linked names old hits new
 mending_by linked names old hits node next cells new marked first_now second_now one long square lowers others mending = record {
@@ -476,7 +476,7 @@ told_more linked names old hits most upto first cells past mending lower all tol
 pub told_fewer : (linked : Linked) (names old : List (List ℕ)) (fewer most : ℕ) (cells : List (List ℕ)) → fewer ≤ most → AreTold linked names old most cells → AreTold linked names old fewer cells
 told_fewer linked names old fewer most cells less told = λ a b k first second low few chain. told a b k first second (omega (arith, low, less)) few chain
 
--- where unset row of a marked node is lower by way of what is near, all are told
+-- where no row of a marked node is lower by way of what is near, all are told
 told_at : (linked : Linked) (names old : List (List ℕ)) (hits : List Bool) (cells : List (List ℕ)) → IsMending linked names old hits cells → IsStable hits cells → (k a b : ℕ) → a < length old → b < length old → k ≤ 254 → Chain (IsKept linked names old) k a b → cell_of cells a b ≤ k
 unfolding Chain
 told_at linked names old hits cells mending stable zero a b first second few same = omega (arith, ap (cell_of cells a) (sym same) ∙ mending.own a first)
