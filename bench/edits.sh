@@ -1,12 +1,13 @@
 #!/usr/bin/env bash
 # Prints what an edit with its publish costs in a session over 1,000 rows and over 200,000, each as a ratio of one run: rules of p
-# that are removed and added again, plain and ranked, found by equalities or by key patterns; rules that are updated; role rows that
-# are removed and added again among users and roles that stand, in one domain and in as many as there are roles; and what a row costs
-# of a batch that removes 100 rows and of one that removes 10,000, by a filter and as those of one user. Usage: bench/edits.sh [EDITS].
+# that are removed and added again, plain and ranked, found by equalities or by key patterns, or all under one key; rules that are
+# updated; role rows that are removed and added again among users and roles that stand, in one domain and in as many as there are
+# roles, and links among roles that are all linked; and what a row costs of a batch that removes 100 rows and of one that removes
+# 10,000, by a filter and as those of one user. Usage: bench/edits.sh [EDITS].
 source "$(dirname "${BASH_SOURCE[0]}")/timing.sh"
 build "$root"
 python3 - "$root/crates/casbin_cli/out/casbin_cli" "$work" "${1:-2000}" <<'PYTHON'
-import resource, subprocess, sys
+import math, resource, subprocess, sys
 
 program, work, most = sys.argv[1], sys.argv[2], int(sys.argv[3])
 FEW, MANY = 1_000, 200_000
@@ -23,6 +24,8 @@ def model(name, matcher, columns="sub, obj, act", policy=None, roles="", effect=
 model("plain", EQUAL)
 model("ranked", EQUAL, policy="priority, sub, obj, act, eft", effect="e = priority(p.eft) || deny")
 model("keys", "r.sub == p.sub && keyMatch2(r.obj, p.obj) && r.act == p.act")
+model("one", "r.act == p.act")
+model("linked", "g(r.sub, p.sub) && r.obj == p.obj && r.act == p.act", roles="[role_definition]\ng = _, _\n")
 model("roles", "g(r.sub, p.sub) && r.obj == p.obj && r.act == p.act", roles="[role_definition]\ng = _, _\n")
 model("domains", "g(r.sub, p.sub, r.dom) && r.dom == p.dom && r.obj == p.obj && r.act == p.act", "sub, dom, obj, act", roles="[role_definition]\ng = _, _, _\n")
 
@@ -35,6 +38,9 @@ def row(kind, i, n):
         return f"p, user{i:06d}, /data{i:06d}/:id, read"
     if kind == "roles":
         return f"g, user{i:06d}, role{i % (n // 100)}"
+    if kind == "linked":
+        below = (1 + math.isqrt(1 + 8 * i)) // 2
+        return f"g, role{below:03d}, role{i - below * (below - 1) // 2:03d}"
     if kind == "domains":
         return f"g, user{i:06d}, role{i % (n // 100)}, dom{i % (n // 100)}"
     return f"p, user{i:06d}, data{i:06d}, read"
@@ -83,7 +89,9 @@ for kind, way, what in [
     ("plain", "update", "a rule of p updated"),
     ("ranked", "remove", "a rule of a ranked p removed or added"),
     ("keys", "remove", "a rule found by a key pattern removed or added"),
+    ("one", "remove", "a rule of p removed or added where all have one key"),
     ("roles", "remove", "a role row removed or added"),
+    ("linked", "remove", "a link among roles that are all linked removed or added"),
     ("domains", "remove", "a role row in one of many domains removed or added"),
 ]:
     few, many = edit_cost(kind, way, FEW), edit_cost(kind, way, MANY)

@@ -1,7 +1,8 @@
 #!/usr/bin/env bash
 # Prints what loading 200,000 rules takes in processor time and memory beside a plain program that cuts the same lines into fields and
-# keeps them as an ordered set, each as a ratio of one run: rules of p, and of a ranked p whose ranks fall. Wants rustc. Usage:
-# bench/load.sh [RULES].
+# keeps them as an ordered set, each as a ratio of one run: rules of p, and of a ranked p whose ranks fall. Then what a session takes
+# that opens a live pair over these rules, for one request of one worker, beside `enforce` without requests, which makes one state.
+# Wants rustc. Usage: bench/load.sh [RULES].
 source "$(dirname "${BASH_SOURCE[0]}")/timing.sh"
 build "$root"
 cat >"$work/plain.rs" <<'RUST'
@@ -43,11 +44,12 @@ with open(f"{work}/ranked.conf", "w") as file:
     file.write(HEAD.format("priority, sub, obj, act, eft", "e = priority(p.eft) || deny"))
 
 
-# The seconds of processor time and the most KiB of memory of a run.
-def measured(words):
+# The seconds of processor time and the most KiB of memory of a run over an input.
+def measured(words, given="/dev/null"):
     seconds, memory = None, 0
     for _ in range(5):
-        process = subprocess.Popen(words, stdin=subprocess.DEVNULL, stdout=subprocess.DEVNULL)
+        with open(given) as input:
+            process = subprocess.Popen(words, stdin=input, stdout=subprocess.DEVNULL)
         _, status, used = os.wait4(process.pid, 0)
         if status:
             sys.exit(f"{words}: status {status}")
@@ -65,4 +67,9 @@ for kind, what in [("plain", "rules of p"), ("ranked", "rules of a ranked p whos
     own = measured([program, "enforce", f"{work}/{kind}.conf", f"{work}/policy.csv"])
     plain = measured([f"{work}/plain", f"{work}/policy.csv"])
     print(f"{count} {what}: {own[0] * 1000:.0f} ms beside {plain[0] * 1000:.0f} ms, ratio {own[0] / plain[0]:.2f}; {own[1] // 1024} MB beside {plain[1] // 1024} MB, ratio {own[1] / plain[1]:.2f}")
+    if kind == "plain":
+        with open(f"{work}/script", "w") as file:
+            file.write("ask user000000, data000000, read\n")
+        pair = measured([program, "session", f"{work}/plain.conf", f"{work}/policy.csv", "--workers", "1"], f"{work}/script")
+        print(f"a live pair over them: {pair[0] * 1000:.0f} ms beside {own[0] * 1000:.0f} ms, ratio {pair[0] / own[0]:.2f}; {pair[1] // 1024} MB beside {own[1] // 1024} MB, ratio {pair[1] / own[1]:.2f}")
 PYTHON

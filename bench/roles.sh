@@ -1,8 +1,9 @@
 #!/usr/bin/env bash
 # Prints what a question to a role relation costs in a domain of 10 roles, in one of 1,000, whose distances are kept, and in one
-# of 1,100, which is walked; what adding and removing a user's row costs with 10 roles and with 1,000 standing; and what 200,000
-# rows of roles take in 1, 100 and 10,000 domains, in time to load and in memory, beside as many rules without roles. Each is a
-# ratio of one run. Usage: bench/roles.sh [QUESTIONS [EDITS]].
+# of 1,100, which is walked; what adding and removing a user's row costs with 10 roles and with 1,000 standing; what the roles of a
+# user cost among 1,000 rows and 200,000; what a request costs over one rule and over 140 that ask about a name with 1,260 roles; and
+# what 200,000 rows of roles take in 1, 100 and 10,000 domains, in time to load and in memory, beside as many rules without roles.
+# Each is a ratio of one run. Usage: bench/roles.sh [QUESTIONS [EDITS]].
 source "$(dirname "${BASH_SOURCE[0]}")/timing.sh"
 questions="${1:-200000}"
 edits="${2:-20000}"
@@ -71,6 +72,31 @@ for roles in 10 1000; do
   first="${first:-$took}"
   awk -v roles="$roles" -v ms="$took" -v first="$first" -v n="$edits" 'BEGIN {
     printf "a row added and removed among %4d roles, each published %7.1f us  ratio %.2f\n", roles, ms * 1e3 / n, ms / first }'
+done
+
+awk -v n="$edits" 'BEGIN { for (i = 0; i < n; i++) print "roles g, user7, here" }' >"$work/queries"
+first=""
+for rows in 1000 200000; do
+  awk -v n="$rows" 'BEGIN { for (i = 0; i < n; i++) printf "g, user%d, role%d, here\n", i, i % 1000 }' >"$work/policy.csv"
+  took="$(only "$work/queries" session "$work/asked.conf" "$work/policy.csv")"
+  first="${first:-$took}"
+  awk -v rows="$rows" -v ms="$took" -v first="$first" -v n="$edits" 'BEGIN {
+    printf "the roles of a user among %6d rows %7.0f ns  ratio %.2f\n", rows, ms * 1e6 / n, ms / first }'
+done
+
+# Rules that all ask about one name, which reaches nine layers of 140 roles and none of theirs.
+model 'g(r.sub, p.sub, r.dom) && r.dom == p.dom' 'sub, dom' "$relation" >"$work/rules.conf"
+awk 'BEGIN { for (i = 0; i < 200; i++) print "user, here" }' >"$work/input"
+first=""
+for rules in 1 140; do
+  awk -v n="$rules" 'BEGIN {
+    for (i = 0; i < n; i++) printf "p, lost%d, here\n", i
+    for (i = 0; i < 140; i++) printf "g, user, role0.%d, here\n", i
+    for (l = 0; l < 8; l++) for (i = 0; i < 140; i++) for (j = 0; j < 140; j++) printf "g, role%d.%d, role%d.%d, here\n", l, i, l + 1, j }' >"$work/policy.csv"
+  took="$(only "$work/input" enforce "$work/rules.conf" "$work/policy.csv")"
+  first="${first:-$took}"
+  awk -v rules="$rules" -v ms="$took" -v first="$first" 'BEGIN {
+    printf "a request over %3d rules that ask about one name %7.0f us  ratio %.2f\n", rules, ms * 1e3 / 200, ms / first }'
 done
 
 awk 'BEGIN { for (i = 0; i < 200000; i++) printf "p, user%d, dom%d\n", i, i % 100 }' >"$work/policy.csv"

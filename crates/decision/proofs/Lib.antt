@@ -7,6 +7,7 @@ mod FirstLemmas
 mod JudgedLemmas
 mod SuitLemmas
 mod NamedRowLemmas
+mod NamedLemmas
 mod NameLemmas
 mod LeftOutLemmas
 mod PlanLemmas

@@ -1,4 +1,5 @@
-use crate::plan::KeptPlan;
+use crate::links::AskedName;
+use crate::plan::{AskedPlaces, KeptPlan};
 use matcher_code::Code;
 use model_conf::Model;
 use perm_value::Request;
@@ -18,6 +19,10 @@ pub(crate) struct Asking<'a> {
     pub(crate) domain_place: Option<u32>,
     // By what rows are found.
     pub(crate) plan: Option<&'a KeptPlan>,
+    // What a role question of the matcher asks of each row.
+    pub(crate) question: Option<AskedPlaces>,
+    // The name that it asks about, and what this reaches, where that is found.
+    pub(crate) asked_name: Option<&'a AskedName<'a>>,
     pub(crate) state: &'a PolicyState,
     pub(crate) request: &'a Request,
 }

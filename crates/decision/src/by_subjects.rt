@@ -1,4 +1,4 @@
-ghost use Rattle.std.specs.Prelude.{◌≡◌, IfErr, IfOk, IfSome, true};
+ghost use Rattle.std.specs.Prelude.{◌≡◌, All, IfErr, IfOk, IfSome, true};
 ghost use Rattle.regex_gate.specs.Refusals.{IsRefused, IsUsed};
 ghost use Rattle.matcher_meaning.specs.Comes.{takes_memory};
 ghost use Rattle.matcher_meaning.specs.Order.{numbered};
@@ -9,7 +9,7 @@ ghost use Rattle.decision.specs.Helps.Outcomes.{HasOutcomesInOrder, IsJudgedOn, 
 
 use crate::asking::Asking;
 use crate::candidates::Candidates;
-use crate::depths::{Known, depth_of};
+use crate::depths::{Depths, PLACES, depth_of};
 use crate::looking::Looked;
 use crate::outcome::outcome;
 use effect_fold::{Outcome, Verdict};
@@ -50,11 +50,11 @@ pub(crate) fn verdict_by_subjects<'a, P: Finder, const N: usize>(
     depth_is_one();
     order_by_depth();
     let mut first = None;
-    let mut last = None;
+    let mut depths: Depths = [None; PLACES];
     let mut candidates = Candidates::of(asking, looked);
     while let Some((number, row)) = candidates.next() {
         let outcome = outcome(asking, Some(row), finder, stack)?;
-        first = first_with(asking, first, number, row, outcome, &mut last);
+        first = first_with(asking, first, number, row, outcome, &mut depths);
     }
     Ok(verdict_of(first))
 }
@@ -66,17 +66,17 @@ fn first_with<'a>(
     number: u32,
     row: &'a Rule,
     outcome: Outcome,
-    last: &mut Option<Known<'a>>,
+    depths: &mut Depths<'a>,
 ) -> Option<First>
     requires asked { IsAsked asking.now }
-    requires known { IfSome last.old (IsKnownIn (case_in asking.now)) }
+    requires known { All (λ one. IfSome one (IsKnownIn (case_in asking.now))) depths.old }
     ensures first { IsFirstWith (case_in asking.now) (numbered number row.now) outcome before result }
-    ensures known { IfSome last.new (IsKnownIn (case_in asking.now)) }
+    ensures known { All (λ one. IfSome one (IsKnownIn (case_in asking.now))) depths.new }
 {
     match outcome {
         Outcome::Unmatched => before,
         Outcome::Matched(_) | Outcome::Failed(_) => {
-            let depth = depth_of(asking, row, last);
+            let depth = depth_of(asking, row, depths);
             let later = First {
                 number,
                 depth,

@@ -5,7 +5,7 @@ ghost use Rattle.regex_gate.specs.Refusals.{IsRefused, IsUsed};
 ghost use Rattle.matcher_meaning.specs.Comes.{takes_memory};
 ghost use Rattle.matcher_meaning.specs.Perm.{names_policy};
 ghost use Rattle.matcher_meaning.specs.Verdicts.{HasOneOutcome, HasOutcomesOver, IsJudged};
-ghost use Rattle.decision.specs.Helps.Asked.{CanRun, IsAsked, case_in, rows_of};
+ghost use Rattle.decision.specs.Helps.Asked.{CanRun, IsAsked, KnowsName, case_in, rows_of};
 ghost use Rattle.decision.specs.Helps.Leaving.{LeavesOut};
 ghost use Rattle.decision.specs.Helps.Outcomes.{IsJudgedOn, is_by_subjects};
 ghost use Rattle.decision.specs.Judging.{IsJudgedWith, RefusedIn};
@@ -17,6 +17,7 @@ use crate::by_subjects::verdict_by_subjects;
 use crate::looking::{Looked, looked_at};
 use crate::outcome::outcome;
 use crate::program::Program;
+use crate::reaching::{name_asked, with_name};
 use crate::scratch::Scratch;
 use effect_fold::{Effect, Fold, Verdict};
 use matcher_code::{Stack, WideStack};
@@ -32,7 +33,8 @@ const NARROW: u32 = 8;
 /// for each rule of p in order, up to the first that settles the verdict or at which a fault stops it; once, without a
 /// rule, where it names no column of the policy or there is no rule. Under the priority of subjects every rule is
 /// evaluated, and the one with the deepest subject decides. Rules that cannot match by the policy's index are passed over,
-/// which changes no verdict. Role relations are asked of the policy. A search that the finder refuses is a fault of its
+/// which changes no verdict. Role relations are asked of the policy; where many rows ask about one name, what it reaches is
+/// found once, and each row reads that. A search that the finder refuses is a fault of its
 /// rule; but for the priority of subjects it is the last one, and the only one that is refused. Memory is taken by
 /// `regexMatch` and `eval` alone.
 pub fn decide<P: Finder>(
@@ -55,10 +57,12 @@ pub fn decide<P: Finder>(
 {
     let asking = program.asking(scratch.alloc(), state, request);
     let looked = looked_at(&asking, &mut scratch.found);
-    if asking.code.height() <= NARROW {
-        return on_narrow_stack(&asking, looked, finder);
+    let name = name_asked(&asking, looked, &mut scratch.room);
+    let named = with_name(&asking, name.as_ref());
+    if named.code.height() <= NARROW {
+        return on_narrow_stack(&named, looked, finder);
     }
-    on_wide_stack(&asking, looked, finder)
+    on_wide_stack(&named, looked, finder)
 }
 
 // The verdict, on a stack of 8 places.
@@ -68,6 +72,7 @@ fn on_narrow_stack<P: Finder>(
     finder: &mut P,
 ) -> Result<Verdict, NoMemory>
     requires asked { IsAsked asking.now }
+    requires knows { KnowsName asking.now }
     requires leaves { LeavesOut (case_in asking.now) (rows_of asking.now) looked }
     requires room { asking.now.code.now.height ≤ 8 }
     ensures judged { IfOk result (IsJudgedOn (case_in asking.now)
@@ -90,6 +95,7 @@ fn on_wide_stack<P: Finder>(
     finder: &mut P,
 ) -> Result<Verdict, NoMemory>
     requires asked { IsAsked asking.now }
+    requires knows { KnowsName asking.now }
     requires leaves { LeavesOut (case_in asking.now) (rows_of asking.now) looked }
     ensures judged { IfOk result (IsJudgedOn (case_in asking.now)
         (λ refused. HasOutcomesOver (case_in asking.now) refused

@@ -1,4 +1,4 @@
-ghost use Rattle.std.specs.Prelude.{◌≡◌, ◌<◌, [], IfSome, Some, get_or, option_copied, true};
+ghost use Rattle.std.specs.Prelude.{◌≡◌, ◌<◌, [], All, IfSome, Some, get_or, option_copied, true};
 ghost use Rattle.perm_base.specs.RoleShapes.{shape_of};
 ghost use Rattle.perm_base.specs.declared.shapes.RoleShape.{RoleShape};
 ghost use Rattle.perm_base.specs.declared.shapes.TableId.TheVariants.{G};
@@ -12,6 +12,7 @@ ghost use Rattle.decision.specs.Helps.Firsts.{IsDepthOf, IsKnownIn};
 
 use crate::asking::Asking;
 use perm_base::{RoleShape, Rule};
+use policy_index::{hash_with, start_hash};
 use policy_state::PolicyState;
 use role_domain::Steps;
 use std::marker::Brand;
@@ -21,6 +22,9 @@ use subject_rank::depth;
 /// The number of the relation `g`, by which subjects are deep.
 const HIERARCHY: u8 = 1;
 
+/// How many depths are known at a time.
+pub(crate) const PLACES: usize = 128;
+
 /// A depth that is known: that of a subject in a domain, or without one.
 #[derive(Clone, Copy)]
 pub(crate) struct Known<'a> {
@@ -29,13 +33,16 @@ pub(crate) struct Known<'a> {
     pub(crate) depth: u8,
 }
 
-/// The depth of a row: that of its subject in the row's own domain. It is worked out anew where they are not those of the
-/// row that was asked last.
-pub(crate) fn depth_of<'a>(asking: &Asking<'a>, row: &'a Rule, last: &mut Option<Known<'a>>) -> u8
+/// Depths that are known, each at a place from that of its subject's hash on.
+pub(crate) type Depths<'a> = [Option<Known<'a>>; PLACES];
+
+/// The depth of a row: that of its subject in the row's own domain. It is worked out once for each such pair, where there
+/// are no more pairs than places.
+pub(crate) fn depth_of<'a>(asking: &Asking<'a>, row: &'a Rule, depths: &mut Depths<'a>) -> u8
     requires asked { IsAsked asking.now }
-    requires known { IfSome last.old (IsKnownIn (case_in asking.now)) }
+    requires known { All (λ one. IfSome one (IsKnownIn (case_in asking.now))) depths.old }
     ensures depth { IsDepthOf (case_in asking.now) row.now result }
-    ensures known { IfSome last.new (IsKnownIn (case_in asking.now)) }
+    ensures known { All (λ one. IfSome one (IsKnownIn (case_in asking.now))) depths.new }
 {
     let shapes = asking.state.shapes();
     let Some(shape) = shapes.roles.find(HIERARCHY) else {
@@ -43,18 +50,46 @@ pub(crate) fn depth_of<'a>(asking: &Asking<'a>, row: &'a Rule, last: &mut Option
     };
     let subject = field_or_empty(row, shapes.subject_column);
     let domain = domain_of_row(asking, shape, row);
-    if let Some(known) = *last {
+    let at = place_of(depths, subject, domain);
+    if let Some(known) = known_at(asking, depths, at) {
         if is_of(known, subject, domain) {
             return known.depth;
         }
     }
     let depth = depth_in::<Brand>(asking.state, subject, domain, Blank::new(1));
-    *last = Some(Known {
+    depths[at] = Some(Known {
         subject,
         domain,
         depth,
     });
     depth
+}
+
+// The place of the depth of a subject in a domain: where it is known, or else the first that is free from that of the
+// subject's hash on, or that one, where all are taken by others.
+fn place_of(depths: &Depths<'_>, subject: &[u8], domain: Option<&[u8]>) -> usize
+    ensures { result < 128 }
+{
+    let first = (hash_with(start_hash(), subject) % PLACES as u64) as usize;
+    for step in 0..PLACES {
+        let at = (first + step) % PLACES;
+        let Some(known) = depths[at] else {
+            return at;
+        };
+        if is_of(known, subject, domain) {
+            return at;
+        }
+    }
+    first
+}
+
+// What is known at a place.
+fn known_at<'a>(_asking: &Asking<'a>, depths: &Depths<'a>, at: usize) -> Option<Known<'a>>
+    requires known { All (λ one. IfSome one (IsKnownIn (case_in _asking.now))) depths.now }
+    requires at { at < 128 }
+    ensures { IfSome result (IsKnownIn (case_in _asking.now)) }
+{
+    depths[at]
 }
 
 // Whether a known depth is that of this subject in this domain.

@@ -119,8 +119,8 @@ fn gather_roles(
     Ok(Gathered::Slots)
 }
 
-// The domain that a question names, or none; nothing where the request has no text for it.
-fn domain_at(request: &Request, place: Option<Option<u32>>) -> Option<Option<&[u8]>>
+/// The domain that a question names, or none; nothing where the request has no text for it.
+pub(crate) fn domain_at(request: &Request, place: Option<Option<u32>>) -> Option<Option<&[u8]>>
     ensures { IfSome result (λ domain. IsDomainOf (map datum request.now) place
         (option_copied domain)) }
 {

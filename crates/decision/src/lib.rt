@@ -15,6 +15,7 @@ mod outcome;
 mod parts;
 mod plan;
 mod program;
+mod reaching;
 mod scratch;
 
 pub use deciding::decide;

@@ -53,6 +53,7 @@ fn truth<'a, P: Finder, const N: usize>(
 {
     let links = StateLinks {
         state: asking.state,
+        asked_name: asking.asked_name,
     };
     match run(
         asking.alloc,

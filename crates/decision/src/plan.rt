@@ -264,6 +264,18 @@ fn question_of(part: &Tree, model: &Model) -> Option<AskedPlaces>
     })
 }
 
+/// What the first role question of a matcher asks of each row, where it asks about a column of the request.
+pub(crate) fn question_in(tree: &Tree, model: &Model) -> Option<AskedPlaces> {
+    match tree {
+        Tree::Role { .. } => question_of(tree, model),
+        Tree::Binary { left, right, .. } => match question_in(left, model) {
+            Some(found) => Some(found),
+            None => question_in(right, model),
+        },
+        _ => None,
+    }
+}
+
 // Pushes the places of the request's columns that calls among parts name.
 fn push_asked(parts: &[&Tree], columns: &Rule, names: &mut Vec<Option<u32>>) -> Result<(), NoMemory>
     ensures { OnOk result (names.new.items

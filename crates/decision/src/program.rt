@@ -4,7 +4,7 @@ ghost use Rattle.decision.specs.Plans.{index_key};
 
 use crate::asking::Asking;
 use crate::names::names_policy;
-use crate::plan::{KeptPlan, plan_of};
+use crate::plan::{AskedPlaces, KeptPlan, plan_of, question_in};
 use matcher_code::{Code, build};
 use model_conf::Model;
 use perm_base::{NoMemory, Share};
@@ -25,6 +25,8 @@ pub struct Program {
     domain_place: Option<u32>,
     // By what rows are found that may match.
     plan: Option<KeptPlan>,
+    // What a role question of the matcher asks of each row.
+    question: Option<AskedPlaces>,
 }
 
 impl std::marker::Model for Program {
@@ -61,6 +63,7 @@ pub fn make_program(alloc: Global, model: Model) -> Result<Program, NoMemory>
     let effect_place = model.policy_columns().place_of(b"eft");
     let domain_place = model.policy_columns().place_of(b"dom");
     let plan = plan_of(alloc, &model)?;
+    let question = question_in(model.matcher(), &model);
     Ok(Program {
         model,
         code,
@@ -68,6 +71,7 @@ pub fn make_program(alloc: Global, model: Model) -> Result<Program, NoMemory>
         effect_place,
         domain_place,
         plan,
+        question,
     })
 }
 
@@ -129,6 +133,8 @@ impl Program {
             effect_place: self.effect_place,
             domain_place: self.domain_place,
             plan: self.plan.as_ref(),
+            question: self.question,
+            asked_name: None,
             state,
             request,
         }

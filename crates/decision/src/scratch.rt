@@ -1,11 +1,14 @@
 use crate::program::Program;
+use role_domain::Room;
 use std::alloc::Global;
 
-/// What judging requests by one program keeps from one to the next: the allocator, and the places of the rows that are looked at.
+/// What judging requests by one program keeps from one to the next: the allocator, the places of the rows that are looked at, and
+/// room for what a name of the request reaches.
 #[derive(Drop)]
 pub struct Scratch {
     alloc: Global,
     pub(crate) found: Vec<u32>,
+    pub(crate) room: Room,
 }
 
 impl Scratch {
@@ -14,6 +17,7 @@ impl Scratch {
         Scratch {
             alloc,
             found: Vec::new(alloc),
+            room: Room::new(),
         }
     }
 

@@ -7,7 +7,7 @@ use Rattle.policy_desk.specs.Desks.{IsDesk, Work, edits_of, floor_after}
 use Rattle.policy_desk.specs.Ready.{IsPreparedFor}
 use Rattle.policy_desk.specs.Transitions.{IsBegun, IsPublished, after_call}
 use Rattle.policy_state.proofs.CallerLemmas.{admitted_both, stands_same}
-use Rattle.policy_state.specs.Ready.{Ready}
+use Rattle.policy_state.specs.Ready.{Readied}
 use Rattle.policy_state.specs.States.{State, StandsFor, tables}
 use Rattle.policy_table.proofs.CallerLemmas.{are_lists, counted_edited}
 use Rattle.policy_table.specs.Changes.{edited, flat, replay}
@@ -58,24 +58,42 @@ begun_from now inside state floor is raised shapes key start tail same =
     })
 
 -- it is made
-pub made_from : (now inside : Work) (ready : Ready) (state : State) (pending : List (List Change)) → pending ≡ [] → inside ≡ now → IsDesk inside → IsPreparedFor now ready → state.shapes ≡ inside.state.shapes → state.key ≡ inside.state.key → state.log.start ≡ ready.start
-    → ((opening : Policy) (history : List (List Change)) → StandsFor inside.state opening history → StandsFor state opening (history ++ ready.edits))
-    → tables state ≡ replay ready.edits (tables inside.state) → versions state.log ≡ versions inside.state.log + length ready.edits
+pub made_from : (now inside : Work) (ready : Readied) (edits : List (List Change)) (state : State) (pending : List (List Change)) → inside ≡ now → edits ≡ inside.pending → pending ≡ [] → IsDesk inside → IsPreparedFor now ready
+    → state.shapes ≡ inside.state.shapes → state.key ≡ inside.state.key → state.log.start ≡ ready.start
+    → ((opening : Policy) (history : List (List Change)) → StandsFor inside.state opening history → StandsFor state opening (history ++ edits))
+    → tables state ≡ replay edits (tables inside.state) → versions state.log ≡ versions inside.state.log + length edits
     → IsPublished now.floor now (record inside { state = state; pending = pending })
-made_from now inside ready state pending none is kept prepared shapes key start stands tables_are more =
+made_from now inside ready edits state pending is all none kept prepared shapes key start stands tables_are more =
     let here : IsPreparedFor inside ready = subst (λ (d : Work). IsPreparedFor d ready) (sym is) prepared in
     subst (λ (d : Work). IsPublished d.floor d (record inside { state = state; pending = pending })) is
     (record {
       state = record {
         shapes = shapes;
         key = key;
-        stands = λ opening history before. subst (λ (p : List (List Change)). StandsFor state opening (history ++ p)) here.edits (stands opening history before);
-        more = more ∙ ap (λ (p : List (List Change)). versions inside.state.log + length p) here.edits;
+        stands = λ opening history before. subst (λ (p : List (List Change)). StandsFor state opening (history ++ p)) all (stands opening history before);
+        more = more ∙ ap (λ (p : List (List Change)). versions inside.state.log + length p) all;
       };
-      tables_are = tables_are ∙ ap (λ (p : List (List Change)). replay p (tables inside.state)) here.edits ∙ sym kept.drafts;
+      tables_are = tables_are ∙ ap (λ (p : List (List Change)). replay p (tables inside.state)) all ∙ sym kept.drafts;
       start = start ∙ here.start;
       others = λ j. record inside { state = state; pending = none j };
     })
+
+-- the desk afterwards
+pub kept_after : (now inside : Work) (ready : Readied) (edits : List (List Change)) (state : State) (pending : List (List Change)) → inside ≡ now → edits ≡ inside.pending → pending ≡ [] → IsDesk inside → IsPreparedFor now ready
+    → state.shapes ≡ inside.state.shapes → state.log.start ≡ ready.start → tables state ≡ replay edits (tables inside.state) → versions state.log ≡ versions inside.state.log + length edits
+    → IsDesk (record inside { state = state; pending = pending })
+kept_after now inside ready edits state pending is all none kept prepared shapes start tables_are more =
+    let here : IsPreparedFor inside ready = subst (λ (d : Work). IsPreparedFor d ready) (sym is) prepared in
+    let drafts : inside.drafts ≡ tables state = kept.drafts ∙ ap (λ (p : List (List Change)). replay p (tables inside.state)) (sym all) ∙ sym tables_are in
+    let longer : versions state.log ≡ versions inside.state.log + length inside.pending = more ∙ ap (λ (p : List (List Change)). versions inside.state.log + length p) all in
+    record {
+      drafts = drafts ∙ ap (λ (p : List (List Change)). replay p (tables state)) (sym none);
+      sound = subst (λ (s : Shapes). AreSound s inside.drafts) (sym shapes) kept.sound;
+      admitted = subst (AreAdmitted state.shapes (tables state)) (sym none) tt;
+      few = omega (arith, kept.few, longer, ap (λ (p : List (List Change)). length p) none);
+      from = omega (arith, start, here.start);
+      until = omega (arith, kept.until, longer);
+    }
 
 -- a publish that is begun and then made
 pub published_from : (before ready now : Work) → IsBegun before ready → IsPublished ready.floor ready now → IsPublished (floor_after before) before now

@@ -1,5 +1,5 @@
 -- Of which rows an index is one after a change of p.
-use Rattle.std.proofs.Common.{◌≡◌, ℕ, zero, suc, ◌+◌, ◌-◌, ◌<◌, ◌≤◌, ◌^◌, ◌==◌, ◌||◌, Bool, true, false, not, cond, if◌then◌else◌, List, [], ◌∷◌, ◌++◌, length, length-append, map, set, take, get_or, position, Some, refl, sym, ap, subst, ◌∙◌, arith, true≢false}
+use Rattle.std.proofs.Common.{◌≡◌, ℕ, zero, suc, ◌+◌, ◌-◌, ◌<◌, ◌≤◌, ◌^◌, ◌==◌, ◌||◌, Bool, true, false, not, cond, if◌then◌else◌, List, [], ◌∷◌, ◌++◌, length, length-append, map, set, take, get_or, position, slice_get, Some, refl, sym, ap, subst, ◌∙◌, arith, true≢false}
 use Rattle.std.specs.Prelude.{nat_eq}
 use Rattle.std.specs.List.{IsDistinct, count_by, swap_remove}
 use Rattle.std.proofs.lemmas.Bool.{and_parts, eq-eqb, eqb-true}
@@ -165,14 +165,21 @@ columns_by_slot key by_slot rules all have = λ k d within. standing (get_or by_
             first true is e rest = subst (λ (q : Fields). is_below (length q) key ≡ true) (sym ((same-Decides r x).0 is)) (All-head (λ (q : Fields). is_below (length q) key ≡ true) x xs each)
             first false is e rest = rest e
 
--- what an index keeps beside, of the same marks with the same slots and counts
-pub kept_copied : (marks same_marks : List Mark) (lists same_lists : Lists) (counts same_counts : List ℕ) → same_marks ≡ marks → ((hash : ℕ) → slots_at same_lists hash ≡ slots_at lists hash) → same_counts ≡ counts → IsIndex marks lists counts → IsIndex same_marks same_lists same_counts
-kept_copied marks same_marks lists same_lists counts same_counts marked listed counted is =
-    subst (λ (m : List Mark). IsIndex m same_lists same_counts) (sym marked) (subst (λ (n : List ℕ). IsIndex marks same_lists n) (sym counted) (record {
+-- what an index keeps beside, of the same marks with the same slots, counts and places
+pub kept_copied : (marks same_marks : List Mark) (lists same_lists : Lists) (counts same_counts places same_places : List ℕ) → same_marks ≡ marks → ((hash : ℕ) → slots_at same_lists hash ≡ slots_at lists hash) → same_counts ≡ counts → same_places ≡ places
+    → IsIndex marks lists counts places → IsIndex same_marks same_lists same_counts same_places
+kept_copied marks same_marks lists same_lists counts same_counts places same_places marked listed counted placed is =
+    subst (λ (m : List Mark). IsIndex m same_lists same_counts same_places) (sym marked)
+    (subst (λ (n : List ℕ). IsIndex marks same_lists n same_places) (sym counted)
+    (subst (λ (p : List ℕ). IsIndex marks same_lists counts p) (sym placed) (record {
       few = is.few;
       listed = λ hash slot. ap (count_by (nat_eq slot)) (listed hash) ∙ is.listed hash slot;
       counted = is.counted;
-    }))
+      placed = record {
+        sizes = is.placed.sizes;
+        each = λ slot d low. ap (λ (l : List ℕ). slice_get l (get_or places slot 0)) (listed (get_or marks slot d).hash) ∙ is.placed.each slot d low;
+      };
+    })))
 
 -- more room alone: changes for which there was room can still be made
 pub ready_more : (old : Indexed) (key : KeyParts) (marks after : List Mark) (spare more : ℕ) (lists others : Lists) → record { key = key; marks = marks; spare = spare; lists = lists } ≡ old → after ≡ marks → spare ≤ more → ((hash : ℕ) → room_at lists hash ≤ room_at others hash)

@@ -21,7 +21,7 @@ counted_any (x ∷ xs) slot some = by (nat_eq slot x) refl (λ later. counted_an
     by false is rest = rest (omega (arith, some, sum_by-cons (λ (y : ℕ). cond (nat_eq slot y) 1 0) x xs, ap (λ (b : Bool). cond {A = ℕ} b 1 0) is))
 
 -- a slot that has a mark with the hash is within the marks
-has_within : (hash : ℕ) (marks : List Mark) (slot : ℕ) → has_hash_at hash marks slot ≡ true → slot < length marks
+pub has_within : (hash : ℕ) (marks : List Mark) (slot : ℕ) → has_hash_at hash marks slot ≡ true → slot < length marks
 has_within hash [] slot has = absurd (true≢false (sym has))
 has_within hash (m ∷ ms) zero has = omega arith
 has_within hash (m ∷ ms) (suc slot) has = omega (arith, has_within hash ms slot has)

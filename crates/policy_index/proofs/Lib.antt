@@ -8,6 +8,7 @@ mod ReserveLemmas
 mod FollowLemmas
 mod FindLemmas
 mod FoundLemmas
+mod PlaceLemmas
 mod AddLemmas
 mod OrderLemmas
 mod FoundRowsLemmas

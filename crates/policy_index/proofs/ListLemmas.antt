@@ -1,15 +1,11 @@
 -- Slots by a hash, as a map keeps them: what is read, written, taken out and let go.
-use Rattle.std.proofs.Common.{◌≡◌, ℕ, ◌+◌, ◌≤◌, Bool, true, false, ◌&&◌, ◌||◌, ◌==◌, cond, if◌then◌else◌, List, [], ◌∷◌, ◌++◌, length, get_or, Option, Some, None, refl, sym, ap, subst, ◌∙◌, arith, true≢false}
-use Rattle.std.specs.Prelude.{IsSome, nat_eq, position}
-use Rattle.std.specs.List.{count_by, list_any, swap_remove}
+use Rattle.std.proofs.Common.{◌≡◌, ℕ, ◌+◌, ◌≤◌, Bool, true, false, ◌==◌, cond, if◌then◌else◌, List, [], ◌∷◌, ◌++◌, length, Option, Some, None, refl, sym, ap, subst, ◌∙◌, arith, true≢false}
+use Rattle.std.specs.Prelude.{IsSome, nat_eq}
 use Rattle.std.specs.Map.{lookup, set_value}
 use Rattle.std.specs.Option.{option_map_or}
 use Rattle.std.proofs.lemmas.Bool.{eqb-true}
 use Rattle.std.proofs.lemmas.Cmp.{nat_eq_equiv}
-use Rattle.std.proofs.lemmas.List.Quantifiers.{position-Some}
-use Rattle.std.proofs.lemmas.List.Sums.{sum_by-cons, sum_by-swap_remove}
 use Rattle.std.proofs.lemmas.Map.{lookup-set_value}
-use Rattle.text_parts.proofs.CallerLemmas.{position-None}
 use Rattle.indexmap.specs.IndexMap.{insert_entry}
 use Rattle.policy_index.specs.Helps.Kept.{one_if}
 use Rattle.policy_index.specs.Lists.{Listed, Lists, room_at, slots_at}
@@ -106,17 +102,6 @@ room_more old new hash after other wrote is = by (nat_eq hash other) refl (wrote
 pub room_here : (old new : Lists) (hash : ℕ) (after : Listed) → Wrote old new hash after → room_at new hash ≡ after.room
 room_here old new hash after wrote = wrote_room old new hash after wrote hash ∙ ap (λ (b : Bool). cond b after.room (room_at old hash)) (nat_eq_equiv.refl hash)
 
--- a slot more under a hash
-pub put_more : (old new : Lists) (hash slot : ℕ) (before after : Listed) (other : ℕ) → lookup (nat_eq hash) old ≡ Some before → Wrote old new hash after → after.slots ≡ before.slots ++ slot ∷ []
-    → slots_at new other ≡ (if hash == other then slots_at old other ++ slot ∷ [] else slots_at old other)
-put_more old new hash slot before after other there wrote is = by (nat_eq hash other) refl (wrote_slots old new hash after wrote other)
-  where
-    by : (b : Bool) → nat_eq hash other ≡ b → slots_at new other ≡ cond b after.slots (slots_at old other) → slots_at new other ≡ (if b then slots_at old other ++ slot ∷ [] else slots_at old other)
-    by true same written =
-        let mine : slots_at old other ≡ before.slots = subst (λ (h : ℕ). slots_at old h ≡ before.slots) (eqb-true hash other same) (found_slots old hash before there) in
-        written ∙ is ∙ ap (λ (l : List ℕ). l ++ slot ∷ []) (sym mine)
-    by false same written = written
-
 pub put_room : (old new : Lists) (hash : ℕ) (before after : Listed) (other : ℕ) → lookup (nat_eq hash) old ≡ Some before → Wrote old new hash after → before.room ≤ after.room + 1 → room_at old other ≤ room_at new other + one_if (hash == other)
 put_room old new hash before after other there wrote is = by (nat_eq hash other) refl (wrote_room old new hash after wrote other)
   where
@@ -126,17 +111,25 @@ put_room old new hash before after other there wrote is = by (nat_eq hash other)
         omega (arith, written, mine, is)
     by false same written = omega (arith, written)
 
--- a slot fewer under a hash
-pub take_one : (old new : Lists) (hash slot : ℕ) (before after : Listed) (other at : ℕ) → lookup (nat_eq hash) old ≡ Some before → Wrote old new hash after
-    → ((o : ℕ) → count_by (nat_eq o) after.slots + one_if (slot == o) ≡ count_by (nat_eq o) before.slots)
-    → count_by (nat_eq at) (slots_at new other) + one_if (hash == other && slot == at) ≡ count_by (nat_eq at) (slots_at old other)
-take_one old new hash slot before after other at there wrote is = by (nat_eq hash other) refl (wrote_slots old new hash after wrote other)
+-- the slots of a hash as they are made of those before
+pub changed_by : (f : List ℕ → List ℕ) (old new : Lists) (hash : ℕ) (before after : Listed) (other : ℕ) → lookup (nat_eq hash) old ≡ Some before → Wrote old new hash after → after.slots ≡ f before.slots
+    → slots_at new other ≡ (if hash == other then f (slots_at old other) else slots_at old other)
+changed_by f old new hash before after other there wrote is = by (nat_eq hash other) refl (wrote_slots old new hash after wrote other)
   where
-    by : (b : Bool) → nat_eq hash other ≡ b → slots_at new other ≡ cond b after.slots (slots_at old other) → count_by (nat_eq at) (slots_at new other) + one_if (b && slot == at) ≡ count_by (nat_eq at) (slots_at old other)
+    by : (b : Bool) → nat_eq hash other ≡ b → slots_at new other ≡ cond b after.slots (slots_at old other) → slots_at new other ≡ (if b then f (slots_at old other) else slots_at old other)
     by true same written =
         let mine : slots_at old other ≡ before.slots = subst (λ (h : ℕ). slots_at old h ≡ before.slots) (eqb-true hash other same) (found_slots old hash before there) in
-        omega (arith, ap (count_by (nat_eq at)) written, ap (count_by (nat_eq at)) mine, is at)
-    by false same written = omega (arith, ap (count_by (nat_eq at)) written)
+        written ∙ is ∙ ap f (sym mine)
+    by false same written = written
+
+pub room_same : (old new : Lists) (hash : ℕ) (before after : Listed) (other : ℕ) → lookup (nat_eq hash) old ≡ Some before → Wrote old new hash after → after.room ≡ before.room → room_at new other ≡ room_at old other
+room_same old new hash before after other there wrote is = by (nat_eq hash other) refl (wrote_room old new hash after wrote other)
+  where
+    by : (b : Bool) → nat_eq hash other ≡ b → room_at new other ≡ cond b after.room (room_at old other) → room_at new other ≡ room_at old other
+    by true same written =
+        let mine : room_at old other ≡ before.room = subst (λ (h : ℕ). room_at old h ≡ before.room) (eqb-true hash other same) (found_room old hash before there) in
+        written ∙ is ∙ sym mine
+    by false same written = written
 
 pub take_room : (old new : Lists) (hash : ℕ) (before after : Listed) (other : ℕ) → lookup (nat_eq hash) old ≡ Some before → Wrote old new hash after → before.room + 1 ≤ after.room → room_at old other + one_if (hash == other) ≤ room_at new other
 take_room old new hash before after other there wrote is = by (nat_eq hash other) refl (wrote_room old new hash after wrote other)
@@ -167,25 +160,3 @@ forgot_slots old new hash before other there empty is = by (nat_eq hash other) r
 pub forgot_room : (old new : Lists) (hash other : ℕ) → (hash == other) ≡ false → lookup (nat_eq other) new ≡ cond (nat_eq hash other) None (lookup (nat_eq other) old) → room_at new other ≡ room_at old other
 forgot_room old new hash other differs is =
     ap (λ (o : Option Listed). option_map_or (λ (l : Listed). l.room) o 0) (is ∙ ap (λ (b : Bool). cond b None (lookup (nat_eq other) old)) differs)
-
--- ---- a slot that is taken out of a list
-
--- a slot that is not found does not stand
-pub none_counted : (slots : List ℕ) (slot : ℕ) → position (λ (other : ℕ). other == slot) slots ≡ None → count_by (nat_eq slot) slots ≡ 0
-none_counted slots slot none = none_any slots (position-None (λ (other : ℕ). other == slot) slots none)
-  where
-    none_any : (xs : List ℕ) → list_any (λ (other : ℕ). other == slot) xs ≡ false → count_by (nat_eq slot) xs ≡ 0
-    none_any [] e = refl
-    none_any (x ∷ xs) e = by (x == slot) refl e (λ later. none_any xs later)
-      where
-        by : (b : Bool) → (x == slot) ≡ b → (b || list_any (λ (other : ℕ). other == slot) xs) ≡ false → (list_any (λ (other : ℕ). other == slot) xs ≡ false → count_by (nat_eq slot) xs ≡ 0) → count_by (nat_eq slot) (x ∷ xs) ≡ 0
-        by true is e rest = absurd (true≢false e)
-        by false is e rest = omega (arith, sum_by-cons (λ (y : ℕ). cond (nat_eq slot y) 1 0) x xs, ap (λ (b : Bool). cond {A = ℕ} b 1 0) (nat_eq_equiv.symm slot x ∙ is), rest e)
-
--- one that is found is gone once, and the last comes into its place
-pub removed : (slots : List ℕ) (at slot other d : ℕ) → position (λ (one : ℕ). one == slot) slots ≡ Some at → count_by (nat_eq other) (swap_remove slots at d) + one_if (slot == other) ≡ count_by (nat_eq other) slots
-removed slots at slot other d found =
-    let there = position-Some (λ (one : ℕ). one == slot) slots at d found in
-    let own : get_or slots at d ≡ slot = eqb-true (get_or slots at d) slot there.1 in
-    let one : cond {A = ℕ} (nat_eq other (get_or slots at d)) 1 0 ≡ one_if (slot == other) = ap (λ (n : ℕ). cond {A = ℕ} (nat_eq other n) 1 0) own ∙ ap (λ (b : Bool). cond {A = ℕ} b 1 0) (nat_eq_equiv.symm other slot) in
-    omega (arith, sum_by-swap_remove (λ (y : ℕ). cond (nat_eq other y) 1 0) slots at d there.0, one)

@@ -186,14 +186,6 @@ module _ (marks : List Mark) (slot : ℕ) (within : slot < length marks) (d : Ma
       → AreListed left new
   listed_remove old mid new listed took renamed hash at = omega (arith, took hash at, renamed hash at, listed hash at, remove_hash hash at)
 
-  -- the last row stands under its hash, where it is another
-  pub last_listed : (old mid : Lists) → AreListed marks old → ((hash at : ℕ) → count_by (nat_eq at) (slots_at mid hash) + one_if (gone.hash == hash && slot == at) ≡ count_by (nat_eq at) (slots_at old hash))
-      → (last == slot) ≡ false → 0 < count_by (nat_eq last) (slots_at mid moved.hash)
-  last_listed old mid listed took differs =
-      let other : (slot == last) ≡ false = apart slot last (λ e. absurd (true≢false (sym (eq-eqb last slot (sym e)) ∙ differs))) in
-      let mine = ap one_if (hash_within moved.hash marks last d (omega (arith, within)) ∙ eq-eqb moved.hash moved.hash refl) in
-      omega (arith, took moved.hash last, both (gone.hash == moved.hash) (slot == last) other, listed moved.hash last, mine)
-
   -- ---- another row comes into a slot
 
   module _ (mark : Mark) where
@@ -239,12 +231,6 @@ module _ (marks : List Mark) (slot : ℕ) (within : slot < length marks) (d : Ma
         turned b (below less) = both b (at == slot) (apart at slot (λ e. absurd (omega (arith, less, e)))) ∙ sym (both b (slot == at) (apart slot at (λ e. absurd (omega (arith, less, e)))))
         turned b (above more) = both b (at == slot) (apart at slot (λ e. absurd (omega (arith, more, e)))) ∙ sym (both b (slot == at) (apart slot at (λ e. absurd (omega (arith, more, e)))))
 
--- the row in a slot stands under its hash
-pub gone_listed : (marks : List Mark) (lists : Lists) (slot : ℕ) (d : Mark) → slot < length marks → AreListed marks lists → 0 < count_by (nat_eq slot) (slots_at lists (get_or marks slot d).hash)
-gone_listed marks lists slot d within listed =
-    let hash = (get_or marks slot d).hash in
-    omega (arith, listed hash slot, ap one_if (hash_within hash marks slot d within ∙ eq-eqb hash hash refl))
-
 -- ---- how many rows have a front of each length
 
 pub counted_push : (marks : List Mark) (mark : Mark) (old new : List ℕ) → AreCounted marks old → length new ≡ length old → ((size : ℕ) → get_or new size 0 ≡ get_or old size 0 + one_if (is_front size mark.front)) → AreCounted (marks ++ mark ∷ []) new
@@ -274,19 +260,6 @@ counted_set marks slot mark d old mid new within counted first second less more 
   each = λ size. omega (arith, less size, more size, counted.each size, sum_set (λ (m : Mark). cond (has_front size m) 1 0) marks slot mark d within);
 }
 
--- ---- a row that gets another slot
-
-pub one_here : (hash : ℕ) → one_if (hash == hash) ≡ 1
-one_here hash = ap one_if (eq-eqb hash hash refl)
-
-pub put_turned : (b : Bool) (slots new : List ℕ) (slot at : ℕ) → new ≡ (if b then slots ++ slot ∷ [] else slots) → count_by (nat_eq at) new ≡ count_by (nat_eq at) slots + one_if (b && slot == at)
-put_turned b slots new slot at is = put_count b slots new slot at is ∙ ap (λ (n : ℕ). count_by (nat_eq at) slots + n) (turned (stand at slot))
-  where
-    turned : Stand at slot → one_if (b && at == slot) ≡ one_if (b && slot == at)
-    turned (same is) = along b (at == slot) (eq-eqb at slot is) ∙ sym (along b (slot == at) (eq-eqb slot at (sym is)))
-    turned (below less) = both b (at == slot) (apart at slot (λ e. absurd (omega (arith, less, e)))) ∙ sym (both b (slot == at) (apart slot at (λ e. absurd (omega (arith, less, e)))))
-    turned (above more) = both b (at == slot) (apart at slot (λ e. absurd (omega (arith, more, e)))) ∙ sym (both b (slot == at) (apart slot at (λ e. absurd (omega (arith, more, e)))))
-
 -- ---- a row that is taken out, as a table keeps it
 
 -- what it comes to does not rest on a default
@@ -303,13 +276,6 @@ module _ (marks : List Mark) (slot end hash : ℕ) (gone d : Mark) (within : slo
   ending : (get_or marks (length marks - 1) gone).hash ≡ hash
   ending =
       ap (λ (m : Mark). m.hash) (get_or_default marks (length marks - 1) gone d (omega (arith, within))) ∙ ap (λ (n : ℕ). (get_or marks n d).hash) (sym end_is) ∙ sym hash_is
-
-  pub last_stands : (old mid : Lists) → AreListed marks old → ((other at : ℕ) → count_by (nat_eq at) (slots_at mid other) + one_if (gone.hash == other && slot == at) ≡ count_by (nat_eq at) (slots_at old other))
-      → (end == slot) ≡ false → 0 < count_by (nat_eq end) (slots_at mid hash)
-  last_stands old mid listed took differs =
-      subst (λ (n : ℕ). 0 < count_by (nat_eq n) (slots_at mid hash)) (sym end_is)
-      (subst (λ (h : ℕ). 0 < count_by (nat_eq (length marks - 1)) (slots_at mid h)) ending
-      (last_listed marks slot within gone old mid listed (took_at marks slot gone gone_is old mid took) (subst (λ (n : ℕ). (n == slot) ≡ false) end_is differs)))
 
   pub listed_left : (old mid new : Lists) → AreListed marks old → ((other at : ℕ) → count_by (nat_eq at) (slots_at mid other) + one_if (gone.hash == other && slot == at) ≡ count_by (nat_eq at) (slots_at old other))
       → ((other at : ℕ) → count_by (nat_eq at) (slots_at new other) + one_if (hash == other && end == at) ≡ count_by (nat_eq at) (slots_at mid other) + one_if (hash == other && slot == at))
@@ -381,10 +347,14 @@ no_fronts zero size = refl
 no_fronts (suc n) zero = refl
 no_fronts (suc n) (suc size) = no_fronts n size
 
-pub none_kept : (marks : List Mark) (lists : Lists) (counts : List ℕ) → marks ≡ [] → lists ≡ [] → counts ≡ replicate 256 0 → IsIndex marks lists counts
-none_kept marks lists counts no_marks no_lists no_counts =
-    subst (λ (m : List Mark). IsIndex m lists counts) (sym no_marks) (subst (λ (l : Lists). IsIndex [] l counts) (sym no_lists) (subst (λ (n : List ℕ). IsIndex [] [] n) (sym no_counts) (record {
+pub none_kept : (marks : List Mark) (lists : Lists) (counts places : List ℕ) → marks ≡ [] → lists ≡ [] → counts ≡ replicate 256 0 → places ≡ [] → IsIndex marks lists counts places
+none_kept marks lists counts places no_marks no_lists no_counts no_places =
+    subst (λ (m : List Mark). IsIndex m lists counts places) (sym no_marks)
+    (subst (λ (l : Lists). IsIndex [] l counts places) (sym no_lists)
+    (subst (λ (n : List ℕ). IsIndex [] [] n places) (sym no_counts)
+    (subst (λ (p : List ℕ). IsIndex [] [] (replicate 256 0) p) (sym no_places) (record {
       few = omega arith;
       listed = λ hash slot. refl;
       counted = record { sizes = length-replicate {A = ℕ} 256 0; each = λ size. no_fronts 256 size };
-    })))
+      placed = record { sizes = refl; each = λ slot d low. absurd (omega (arith, low)) };
+    }))))

@@ -15,6 +15,7 @@ ghost use Rattle.policy_index.specs.declared.mark.Mark.{Mark};
 
 use crate::index::Index;
 use crate::mark::{Mark, mark_of};
+use crate::places::{next_place, rename, unlist};
 use crate::reserving::is_of_p;
 use crate::slots::Slots;
 use perm_base::{NoMemory, Rule, TableId};
@@ -23,7 +24,7 @@ use std::alloc::Global;
 
 impl Index {
     /// Follows a change of tables, before it is made in these. It is the first of changes for which there is room; for the others
-    /// there is room afterwards. It takes no memory, and its time grows with the rows under the hashes that it touches alone.
+    /// there is room afterwards. It takes no memory, and its time does not grow with the rows.
     pub fn follow(&mut self, change: &Change, tables: &Tables)
         requires index { IsIndexIn self.old tables.now }
         requires ready { (changes : List Change) × IsReadyFor self.old (change.now ∷ changes) }
@@ -110,6 +111,7 @@ impl Index {
         ensures marks { OnOk result (self.new.marks ≡ self.old.marks ++ mark ∷ []) }
     {
         self.marks.reserve(1)?;
+        self.places.reserve(1)?;
         self.slots.reserve(alloc, mark.hash, 1)?;
         self.push(mark);
         Ok(())
@@ -127,9 +129,11 @@ impl Index {
             ≤ room_at self.new.lists hash + one_if (mark.hash == hash) }
     {
         let slot = self.marks.len() as u32;
+        let place = next_place(&self.slots, mark.hash);
         self.slots.put(mark.hash, slot);
         self.fronts.add(mark.front);
         self.marks.push_reserved(mark);
+        self.places.push_reserved(place);
     }
 
     // Takes the row of a slot out, and puts that of the last slot there.
@@ -143,8 +147,10 @@ impl Index {
         let last = self.marks.len() - 1;
         let moved = self.marks[last];
         let gone = self.marks.swap_remove(slot as usize);
-        self.slots.remove(gone.hash, slot);
-        rename(&mut self.slots, moved.hash, last as u32, slot);
+        unlist(&mut self.slots, &mut self.places, gone.hash, slot);
+        let place = self.places[last];
+        let _place = self.places.swap_remove(slot as usize);
+        rename(&mut self.slots, moved.hash, last as u32, slot, place);
         self.fronts.take(gone.front);
         note(&mut self.emptied, gone.hash);
     }
@@ -161,7 +167,9 @@ impl Index {
     {
         let gone = self.marks[slot as usize];
         self.marks[slot as usize] = mark;
-        self.slots.remove(gone.hash, slot);
+        unlist(&mut self.slots, &mut self.places, gone.hash, slot);
+        let place = next_place(&self.slots, mark.hash);
+        self.places[slot as usize] = place;
         self.slots.put(mark.hash, slot);
         self.fronts.take(gone.front);
         self.fronts.add(mark.front);
@@ -181,22 +189,6 @@ fn slot_of(tables: &Tables, rule: &Rule) -> u32
         unreachable!()
     };
     slot
-}
-
-// Puts a row that stands in one slot under its hash into another; the two may be the same.
-fn rename(slots: &mut Slots, hash: u64, from: u32, to: u32)
-    requires { (from == to) ≡ false → 0 < count_by (nat_eq from) (slots_at slots.old hash) }
-    ensures slots { (other at : ℕ) → count_by (nat_eq at) (slots_at slots.new other)
-        + one_if (hash == other && from == at)
-        ≡ count_by (nat_eq at) (slots_at slots.old other)
-        + one_if (hash == other && to == at) }
-    ensures room { (other : ℕ) → room_at slots.old other ≤ room_at slots.new other }
-{
-    if from == to {
-        return;
-    }
-    slots.remove(hash, from);
-    slots.put(hash, to);
 }
 
 // Notes a hash whose slots may all be gone, where there is room for it.

@@ -24,12 +24,14 @@ pub struct Index {
     pub(crate) marks: Vec<Mark>,
     pub(crate) slots: Slots,
     pub(crate) fronts: Fronts,
+    // Where the slot of each row stands in the list of its hash.
+    pub(crate) places: Vec<u32>,
     // Hashes whose last slot went since they were last let go.
     pub(crate) emptied: Vec<u64>,
 }
 
 impl Model for Index {
-    ghost use Rattle.std.specs.Prelude.{◌-◌, vec_capacity, vec_len};
+    ghost use Rattle.std.specs.Prelude.{◌-◌, min, vec_capacity, vec_len};
     ghost use Rattle.policy_index.specs.Helps.Kept.{IsIndex};
     ghost use Rattle.policy_index.specs.Indexed.{Indexed};
 
@@ -38,11 +40,12 @@ impl Model for Index {
     ghost view = { λ i. record {
       key = i.key;
       marks = i.marks.items;
-      spare = vec_capacity i.marks - vec_len i.marks;
+      spare = min (vec_capacity i.marks - vec_len i.marks)
+          (vec_capacity i.places - vec_len i.places);
       lists = i.slots;
     } };
 
-    ghost invariant = { λ i. IsIndex i.marks.items i.slots i.fronts };
+    ghost invariant = { λ i. IsIndex i.marks.items i.slots i.fronts i.places.items };
 }
 
 impl Index {
@@ -57,6 +60,7 @@ impl Index {
             marks: Vec::new(alloc),
             slots: Slots::new(alloc),
             fronts: Fronts::new(),
+            places: Vec::new(alloc),
             emptied: Vec::new(alloc),
         };
         for rule in tables.by_slot(TableId::P) {
@@ -76,12 +80,14 @@ impl Index {
         let marks = Vec::from_slice(alloc, self.marks.as_slice())?;
         let slots = self.slots.copy(alloc)?;
         let fronts = self.fronts.copy();
+        let places = Vec::from_slice(alloc, self.places.as_slice())?;
         let emptied = Vec::new(alloc);
         Ok(Index {
             key,
             marks,
             slots,
             fronts,
+            places,
             emptied,
         })
     }
@@ -111,6 +117,7 @@ impl Index {
             return Err(NoMemory);
         }
         self.marks.reserve(taken as usize)?;
+        self.places.reserve(taken as usize)?;
         self.emptied.reserve(edits.len())?;
         Ok(())
     }

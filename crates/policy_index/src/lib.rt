@@ -10,6 +10,7 @@ mod key;
 mod law;
 mod mark;
 mod ordering;
+mod places;
 mod reserving;
 mod slot_list;
 mod slots;

@@ -1,6 +1,5 @@
-ghost use Rattle.std.specs.Prelude.{◌≡◌, ℕ, ◌+◌, ◌<◌, ◌≤◌, ◌==◌, [], ◌∷◌, ◌++◌, IfOk, OnOk, length, nat_eq, position};
-ghost use Rattle.std.specs.List.{count_by};
-ghost use Rattle.policy_index.specs.Helps.Kept.{one_if};
+ghost use Rattle.std.specs.Prelude.{◌≡◌, ◌+◌, ◌-◌, ◌<◌, ◌≤◌, ◌==◌, [], ◌∷◌, ◌++◌, IfOk, OnOk, get_or, length, slice_set, swap_remove};
+ghost use Rattle.smallvec.specs.SmallVec.{small_vec_len};
 
 use perm_base::{NoMemory, Share};
 use smallvec::SmallVec;
@@ -65,18 +64,26 @@ impl SlotList {
         self.slots.push_reserved(slot);
     }
 
-    /// Takes a slot out that stands, and puts the last one in its place.
-    pub(crate) fn remove(&mut self, slot: u32)
-        requires { 0 < count_by (nat_eq slot) self.old.slots }
-        ensures slots { (other : ℕ) → count_by (nat_eq other) self.new.slots
-            + one_if (slot == other) ≡ count_by (nat_eq other) self.old.slots }
+    /// Takes the slot at a place out, and puts the last one there; that last one.
+    pub(crate) fn take(&mut self, at: usize) -> u32
+        requires { at < length self.old.slots }
+        ensures slots { self.new.slots ≡ swap_remove self.old.slots at 0 }
+        ensures last { result ≡ get_or self.old.slots (length self.old.slots - 1) 0 }
         ensures room { self.old.room + 1 ≤ self.new.room }
     {
         let _held = self.slots.len();
-        let Some(at) = place_of(self.slots.as_slice(), slot) else {
-            unreachable!()
-        };
-        let _slot = self.slots.swap_remove(at);
+        let last = last_of(self.slots.as_slice());
+        let _gone = self.slots.swap_remove(at);
+        last
+    }
+
+    /// Puts a slot at a place, for the one that is there.
+    pub(crate) fn set(&mut self, at: usize, slot: u32)
+        requires { at < length self.old.slots }
+        ensures slots { self.new.slots ≡ slice_set self.old.slots at slot }
+        ensures room { self.new.room ≡ self.old.room }
+    {
+        write(&mut self.slots, at, slot);
     }
 
     /// The same slots once more.
@@ -91,9 +98,22 @@ impl SlotList {
 
 impl Share for SlotList {}
 
-// The place of a slot among others.
-fn place_of(slots: &[u32], slot: u32) -> Option<usize>
-    ensures { result ≡ position (λ other. other == slot) slots.now }
+// The last of some slots.
+fn last_of(slots: &[u32]) -> u32
+    requires { 0 < length slots.now }
+    ensures { result ≡ get_or slots.now (length slots.now - 1) 0 }
 {
-    slots.iter().position(|other| *other == slot)
+    slots[slots.len() - 1]
+}
+
+// Writes a slot at a place.
+fn write(slots: &mut SmallVec<u32, 2>, at: usize, slot: u32)
+    requires { at < small_vec_len slots.old }
+    ensures items { slots.new.items ≡ slice_set slots.old.items at slot }
+    ensures capacity { slots.new.capacity ≡ slots.old.capacity }
+    ensures len { small_vec_len slots.new ≡ small_vec_len slots.old }
+{
+    if let Some(held) = slots.get_mut(at) {
+        *held = slot;
+    }
 }

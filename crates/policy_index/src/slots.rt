@@ -1,5 +1,5 @@
-ghost use Rattle.std.specs.Prelude.{◌≡◌, ℕ, ◌+◌, ◌<◌, ◌≤◌, ◌==◌, ◌&&◌, [], ◌∷◌, ◌++◌, IfOk, OnOk, Some, false, if◌then◌else◌, length, nat_eq, slice_get};
-ghost use Rattle.std.specs.List.{IsDistinct, count_by};
+ghost use Rattle.std.specs.Prelude.{◌≡◌, ℕ, ◌+◌, ◌-◌, ◌<◌, ◌≤◌, ◌==◌, [], ◌∷◌, ◌++◌, IfOk, OnOk, Some, false, if◌then◌else◌, get_or, length, nat_eq, slice_get, slice_set, swap_remove};
+ghost use Rattle.std.specs.List.{IsDistinct};
 ghost use Rattle.std.specs.Map.{keys_of};
 ghost use Rattle.policy_index.specs.Helps.Kept.{one_if};
 ghost use Rattle.policy_index.specs.Lists.{room_at, slots_at};
@@ -84,19 +84,35 @@ impl Slots {
         Ok(())
     }
 
-    /// Takes a slot out that stands under a hash.
-    pub(crate) fn remove(&mut self, hash: u64, slot: u32)
-        requires { 0 < count_by (nat_eq slot) (slots_at self.old hash) }
-        ensures slots { (other at : ℕ) → count_by (nat_eq at) (slots_at self.new other)
-            + one_if (hash == other && slot == at)
-            ≡ count_by (nat_eq at) (slots_at self.old other) }
+    /// Takes the slot at a place under a hash out, and puts the last one there; that last one.
+    pub(crate) fn take(&mut self, hash: u64, at: u32) -> u32
+        requires { at < length (slots_at self.old hash) }
+        ensures slots { (other : ℕ) → slots_at self.new other
+            ≡ (if hash == other then swap_remove (slots_at self.old other) at 0
+            else slots_at self.old other) }
+        ensures last { result
+            ≡ get_or (slots_at self.old hash) (length (slots_at self.old hash) - 1) 0 }
         ensures room { (other : ℕ) → room_at self.old other + one_if (hash == other)
             ≤ room_at self.new other }
     {
         let Some(list) = self.lists.get_mut(&hash) else {
             unreachable!()
         };
-        list.remove(slot);
+        list.take(at as usize)
+    }
+
+    /// Puts a slot at a place under a hash, for the one that is there.
+    pub(crate) fn set(&mut self, hash: u64, at: u32, slot: u32)
+        requires { at < length (slots_at self.old hash) }
+        ensures slots { (other : ℕ) → slots_at self.new other
+            ≡ (if hash == other then slice_set (slots_at self.old other) at slot
+            else slots_at self.old other) }
+        ensures room { (other : ℕ) → room_at self.new other ≡ room_at self.old other }
+    {
+        let Some(list) = self.lists.get_mut(&hash) else {
+            unreachable!()
+        };
+        list.set(at as usize, slot);
     }
 
     /// Lets a hash go that has no slots, and its room with it.

@@ -1,3 +1,4 @@
 mod ShapeLemmas
 mod NameLemmas
 mod RowLemmas
+mod FoundLemmas

@@ -12,10 +12,10 @@ use perm_base::{NoMemory, Rule, Shapes, TableId, Text};
 use policy_table::{Rows, Tables};
 use std::alloc::Global;
 
-// The columns of a relation's rules.
-const USER: u32 = 0;
+/// The columns of a relation's rules.
+pub(crate) const USER: u32 = 0;
 
-const ROLE: u32 = 1;
+pub(crate) const ROLE: u32 = 1;
 
 const DOMAIN: u32 = 2;
 
@@ -90,8 +90,8 @@ fn named_columns(with_domain: bool) -> u32
     if with_domain { 2 } else { 1 }
 }
 
-// The names in the column `told` of the rules that have a name in the column `asked`, each once.
-fn names_beside(
+/// The names in the column `told` of the rules that have a name in the column `asked`, each once.
+pub(crate) fn names_beside(
     alloc: Global,
     rules: Rows<'_>,
     asked: u32,
@@ -116,8 +116,8 @@ fn names_beside(
     rule_of(alloc, names.as_slice())
 }
 
-// Whether a rule has a name in a column, and is of the domain.
-fn is_asked(rule: &Rule, column: u32, name: &[u8], domain: Option<&[u8]>) -> bool
+/// Whether a rule has a name in a column, and is of the domain.
+pub(crate) fn is_asked(rule: &Rule, column: u32, name: &[u8], domain: Option<&[u8]>) -> bool
     requires columns { named_columns (is_some (option_copied domain)) < length rule.now }
     requires column { column ≤ 1 }
     ensures { result ≡ is_asked column name.now (option_copied domain.entry) rule.now }
@@ -136,8 +136,8 @@ fn is_of(rule: &Rule, domain: Option<&[u8]>) -> bool
     }
 }
 
-// The rule of names that may be its fields.
-fn rule_of(alloc: Global, names: &[&str]) -> Result<Rule, NoMemory>
+/// The rule of names that may be its fields.
+pub(crate) fn rule_of(alloc: Global, names: &[&str]) -> Result<Rule, NoMemory>
     requires few { length names.now < 2 ^ 32 }
     requires whole_lines { list_any has_line_end (map (λ name. name.now) names.now) ≡ false }
     ensures { IfOk result (λ rule. rule ≡ map (λ name. name.now) names.now) }

@@ -4,6 +4,7 @@ mod RoleLemmas
 mod AdmittedLemmas
 mod CopyLemmas
 mod NamedLemmas
+mod QueryLemmas
 mod IndexLemmas
 mod IndexStepLemmas
 mod SectionLemmas

@@ -6,7 +6,7 @@ use Rattle.policy_index.specs.Indexed.{Indexed}
 use Rattle.policy_index.specs.Keys.{KeyParts, is_below}
 use Rattle.edit_calls.specs.Admitted.{AreAdmitted}
 use Rattle.policy_state.specs.Helps.Kept.{AreIndexed, IsSectionIn, IsState, kept_of, key_of, parts_of}
-use Rattle.policy_state.specs.Ready.{CanLink, IsPreparedFor, Ready}
+use Rattle.policy_state.specs.Ready.{AreReady, CanLink, Readied}
 use Rattle.policy_state.specs.States.{Parts, State}
 use Rattle.policy_state.proofs.AdmittedLemmas.{KeepSound, all_sound}
 use Rattle.policy_state.proofs.GrownLemmas.{grown_more}
@@ -29,27 +29,27 @@ few_after shapes keep policy edits nine sound admitted =
 -- ---- they are made
 
 -- edits that are ready are so as their parts are seen
-pub prepared_inside : (now there : State) (ready made : Ready) → there ≡ now → made ≡ ready → IsPreparedFor now ready → IsPreparedFor there made
-prepared_inside now there ready made state is prepared = subst (λ (r : Ready). IsPreparedFor there r) (sym is) (subst (λ (s : State). IsPreparedFor s ready) (sym state) prepared)
+pub ready_inside : (now there : State) (edits : List (List Change)) (ready made : Readied) → there ≡ now → made ≡ ready → AreReady now edits ready → AreReady there edits made
+ready_inside now there edits ready made state is are = subst (λ (r : Readied). AreReady there edits r) (sym is) (subst (λ (s : State). AreReady s edits ready) (sym state) are)
 
 -- the tables are those after the edits
 pub tables_made : (policy new : Policy) (changes : List Change) (edits : List (List Change)) → changes ≡ flat edits → new ≡ edited changes policy → new ≡ replay edits policy
 tables_made policy new changes edits same made = made ∙ ap (λ (l : List Change). edited l policy) same ∙ sym (replayed edits policy)
 
 -- a state is kept
-pub state_after : (shapes : Shapes) → KeepSound shapes → (key : Option KeyParts) (log new : Logged) (parts : Parts) (held : Held) (index : Option Indexed) (sections : List Section) (ready : Ready)
-    → IsState shapes log parts → IsPreparedFor (record { shapes = shapes; key = key; log = log; parts = parts }) ready
-    → new.tail ≡ drop (ready.start - log.start) log.tail ++ ready.edits → held.policy ≡ edited ready.parts.tables parts.held.policy
+pub state_after : (shapes : Shapes) → KeepSound shapes → (key : Option KeyParts) (log new : Logged) (parts : Parts) (held : Held) (index : Option Indexed) (sections : List Section) (edits : List (List Change)) (ready : Readied)
+    → IsState shapes log parts → AreReady (record { shapes = shapes; key = key; log = log; parts = parts }) edits ready
+    → new.tail ≡ drop (ready.start - log.start) log.tail ++ edits → held.policy ≡ edited ready.parts.tables parts.held.policy
     → key_of index ≡ key_of parts.index → AreIndexed index (slots held P) → map kept_of sections ≡ map kept_of parts.sections
     → ((after : Policy) → CanLink after parts.sections ready.parts.sections → All (IsSectionIn after) sections) → IsState shapes new (parts_of held index sections)
-state_after shapes keep key log new parts held index sections ready kept is tail made key_same indexed sections_same linked = record {
+state_after shapes keep key log new parts held index sections edits ready kept is tail made key_same indexed sections_same linked = record {
   valid = kept.valid;
-  sound = subst (AreSound shapes) (sym here) (all_sound shapes keep parts.held.policy ready.edits kept.sound is.admitted);
-  grown = grown_more shapes keep (ready.start - log.start) log.tail ready.edits new.tail parts.held.policy held.policy kept.grown is.admitted tail (tables_made parts.held.policy held.policy ready.parts.tables ready.edits is.changes made);
+  sound = subst (AreSound shapes) (sym here) (all_sound shapes keep parts.held.policy edits kept.sound is.admitted);
+  grown = grown_more shapes keep (ready.start - log.start) log.tail edits new.tail parts.held.policy held.policy kept.grown is.admitted tail (tables_made parts.held.policy held.policy ready.parts.tables edits is.changes made);
   below = subst (λ (k : Option KeyParts). IfSome k (λ (one : KeyParts). is_below shapes.columns one ≡ true)) (sym key_same) kept.below;
   index = indexed;
-  sections = record { kept = sections_same ∙ kept.sections.kept; each = subst (λ (p : Policy). All (IsSectionIn p) sections) (sym here) (linked (edited (flat ready.edits) parts.held.policy) is.sections) };
+  sections = record { kept = sections_same ∙ kept.sections.kept; each = subst (λ (p : Policy). All (IsSectionIn p) sections) (sym here) (linked (edited (flat edits) parts.held.policy) is.sections) };
 }
   where
-    here : held.policy ≡ edited (flat ready.edits) parts.held.policy
+    here : held.policy ≡ edited (flat edits) parts.held.policy
     here = made ∙ ap (λ (l : List Change). edited l parts.held.policy) is.changes

@@ -22,6 +22,11 @@ pub record Ready : Type 0 where
   pub start : ℕ
   pub parts : ReadyParts
 
+-- the same without the edits, which are handed over when they are made
+pub record Readied : Type 0 where
+  pub start : ℕ
+  pub parts : ReadyParts
+
 -- the changes can be made in the index, where there is one
 abbrev pub CanIndex : List Change → Option Indexed → Type 0
 CanIndex changes index = IfSome index (λ (i : Indexed). IsReadyFor i changes)
@@ -35,13 +40,21 @@ CanLink after (section ∷ sections) [] = ⊥
 
 -- the edits can be made in this state: each is admitted, every part has room for its own changes, and the start is one of the
 -- log's versions
-pub record IsPreparedFor (state : State) (ready : Ready) : Type 0 where
-  pub admitted : AreAdmitted state.shapes state.parts.held.policy ready.edits
-  pub few : versions state.log + length ready.edits ≤ most_versions
-  pub room : length ready.edits ≤ state.log.spare
+pub record AreReady (state : State) (edits : List (List Change)) (ready : Readied) : Type 0 where
+  pub admitted : AreAdmitted state.shapes state.parts.held.policy edits
+  pub few : versions state.log + length edits ≤ most_versions
+  pub room : length edits ≤ state.log.spare
   pub from : state.log.start ≤ ready.start
   pub until : ready.start ≤ versions state.log
   pub tables : CanBeMade state.parts.held ready.parts.tables
-  pub changes : ready.parts.tables ≡ flat ready.edits
-  pub index : CanIndex (flat ready.edits) state.parts.index
-  pub sections : CanLink (edited (flat ready.edits) state.parts.held.policy) state.parts.sections ready.parts.sections
+  pub changes : ready.parts.tables ≡ flat edits
+  pub index : CanIndex (flat edits) state.parts.index
+  pub sections : CanLink (edited (flat edits) state.parts.held.policy) state.parts.sections ready.parts.sections
+
+-- what is ready without its edits
+abbrev pub readied : Ready → Readied
+readied ready = record { start = ready.start; parts = ready.parts }
+
+-- what is ready can be made in this state
+abbrev pub IsPreparedFor : State → Ready → Type 0
+IsPreparedFor state ready = AreReady state ready.edits (readied ready)

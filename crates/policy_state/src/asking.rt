@@ -1,4 +1,4 @@
-ghost use Rattle.std.specs.Prelude.{◌≡◌, ◌↔◌, ◌+◌, ◌≤◌, Bool, IfOk, IsSome, IsTrue, Some};
+ghost use Rattle.std.specs.Prelude.{◌≡◌, ◌↔◌, ◌+◌, ◌≤◌, ℕ, Bool, IfOk, IfSome, IsSome, IsTrue, List, Some};
 ghost use Rattle.std.specs.Option.{option_copied};
 ghost use Rattle.perm_base.specs.RoleShapes.{shape_of};
 ghost use Rattle.perm_base.specs.declared.shapes.RoleShape.{RoleShape};
@@ -8,6 +8,7 @@ ghost use Rattle.policy_index.specs.Places.{places_of};
 ghost use Rattle.policy_state.specs.Asked.{IsAskedOf};
 ghost use Rattle.policy_state.specs.States.{tables};
 ghost use Rattle.policy_table.specs.Tables.{Fields, rows};
+ghost use Rattle.role_domain.specs.Reach.{ReachesName};
 ghost use Rattle.role_domain.specs.Relations.{HasFewRoles, TellsRows, asked_rows};
 ghost use Rattle.role_domain.specs.Sections.{IsSectionOf};
 ghost use Rattle.role_meaning.specs.Implied.{AreImplied};
@@ -15,7 +16,7 @@ ghost use Rattle.role_meaning.specs.Links.{IsLinked};
 
 use crate::state::PolicyState;
 use perm_base::{NoMemory, Rule};
-use role_domain::{RoleSection, Steps};
+use role_domain::{Reach, RoleSection, Room, Steps};
 use std::alloc::Global;
 use std::sync::ledger::Ledger;
 
@@ -79,6 +80,25 @@ impl PolicyState {
             + asked_rows shape test x.now (rows (tables self.now) (G relation)) + 1 }
     {
         self.section(relation).linked(x, y, domain, steps)
+    }
+
+    /// What the one name has as its roles in a relation, in one domain where the relation has domains, found once; each question
+    /// then reads it, in time that does not grow with the domain. None where no rule names the domain. It takes no memory beside
+    /// the room.
+    pub fn reach<'a>(
+        &'a self,
+        relation: u8,
+        x: &'a [u8],
+        domain: Option<&[u8]>,
+        room: &'a mut Room,
+    ) -> Option<Reach<'a>>
+        requires asked { IsAskedOf self.now.shapes relation (option_copied domain) }
+        ensures found { (shape : RoleShape) → shape_of self.now.shapes.roles relation ≡ Some shape
+            → IfSome result (λ reach. (y : List ℕ) → ReachesName reach y
+            ↔ IsLinked shape (rows (tables self.now) (G relation)) self.now.shapes.limit
+            (option_copied domain.entry) x.now y) }
+    {
+        self.section(relation).reach(x, domain, room)
     }
 
     /// The names other than `x` that it has as its roles in a relation by links, in one domain where the relation has domains:

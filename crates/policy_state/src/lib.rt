@@ -13,5 +13,5 @@ mod state;
 
 pub use laws::states_stand_for_their_history;
 pub use policy_query::QueryRefused;
-pub use prepared::Prepared;
+pub use prepared::{Prepared, PreparedParts};
 pub use state::{PolicyState, make_state};

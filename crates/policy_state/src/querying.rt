@@ -9,7 +9,9 @@ ghost use Rattle.version_log.specs.EditText.{NameRules};
 
 use crate::state::PolicyState;
 use perm_base::{Rule, Rules, TableId};
-use policy_query::{QueryRefused, edit_of, has_rule, roles_of, rows_of, users_of};
+use policy_query::{
+    QueryRefused, edit_of, has_rule, names_refusal, roles_among, rows_of, users_of,
+};
 use policy_table::Edit;
 use std::alloc::Global;
 
@@ -43,7 +45,8 @@ impl PolicyState {
     /// The roles that a name has in a relation by rules of its own, in one domain where the relation has domains: each once,
     /// in the order of its first rule. Names and domains are compared byte by byte (Casbin, GetRolesForUser and
     /// GetRolesForUserInDomain). Refused are a relation that the shapes lack, a domain where it has none, and none where it
-    /// has one. It takes memory for these roles alone.
+    /// has one. Its time grows with the roles that the name has there, by rows with patterns too, and with the logarithm of
+    /// the table; it takes memory for these roles alone.
     pub fn roles_of(
         &self,
         alloc: Global,
@@ -54,13 +57,18 @@ impl PolicyState {
         ensures answer { IsAnswer (roles_answer self.now.shapes (tables self.now) relation name.now
             (option_copied domain.entry)) result }
     {
-        roles_of(alloc, &self.tables, &self.shapes, relation, name, domain)
+        self.kept();
+        if let Some(refused) = names_refusal(self.shapes(), relation, domain) {
+            return Err(refused);
+        }
+        let roles = self.section(relation).roles_of(name, domain);
+        Ok(roles_among(alloc, self.tables(), relation, name, domain, roles)?)
     }
 
     /// The users that have a role in a relation by rules of their own, in one domain where the relation has domains: each
     /// once, in the order of its first rule. Names and domains are compared byte by byte (Casbin, GetUsersForRole and
     /// GetUsersForRoleInDomain). Refused are a relation that the shapes lack, a domain where it has none, and none where it
-    /// has one. It takes memory for these users alone.
+    /// has one. It goes over all rules of the relation, and takes memory for these users alone.
     pub fn users_of(
         &self,
         alloc: Global,

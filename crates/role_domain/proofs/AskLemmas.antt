@@ -14,7 +14,7 @@ use Rattle.indexmap.proofs.CallerLemmas.{Contains-list_any}
 use Rattle.perm_base.specs.Patterns.{is_pattern}
 use Rattle.perm_base.specs.declared.shapes.Fit.{Fit}
 use Rattle.policy_table.specs.Limits.{different, domains_of, role_columns}
-use Rattle.policy_table.specs.Tables.{Fields}
+use Rattle.policy_table.specs.Tables.{Fields, same}
 use Rattle.policy_table.proofs.CallerLemmas.{among_different, distinct_different}
 use Rattle.role_domain.specs.Domains.{IsDomain, IsRight, found}
 use Rattle.role_domain.specs.Helps.Walks.{IsDistance, inner, walk_of}
@@ -22,12 +22,14 @@ use Rattle.role_domain.specs.Relations.{HasFewRoles, IsNamed, Tells, TellsRows, 
 use Rattle.role_domain.specs.Sections.{IsSectionOf, Section, relation_of}
 use Rattle.role_domain.specs.declared.domain.Domain.{Domain}
 use Rattle.role_domain.specs.declared.terms.Terms.{Terms}
-use Rattle.role_domain.proofs.Across.{Alike, all_implied_across, alike_on, depth_across, far_across, few_across, graph_alike, graph_of, has_across, inner_of, linked_across, outer_alike, outer_of, patterns_alike, row_counts, users_across}
+use Rattle.role_domain.proofs.Across.{Alike, all_implied_across, alike_on, depth_across, far_across, few_across, graph_alike, graph_of, has_across, inner_of, linked_across, outer_alike, outer_of, patterns_alike, reaches_across, row_counts, users_across}
 use Rattle.role_domain.proofs.Bringing.{FitsDecided, tells_of, test_of}
 use Rattle.role_domain.proofs.Counting.{Passes, count_agree_on, count_alike, count_filter, count_map, pairs_of, passing_counts, some_passes, times_pairs}
+use Rattle.role_domain.proofs.Fitting.{fits_same}
 use Rattle.role_domain.proofs.Walking.{far_told, linked_told}
 use Rattle.role_graph.specs.Graph.{Graph, GraphReaches, IsGraphFar, asked_rows as graph_asked, shape_of}
 use Rattle.role_graph.specs.Groups.{times}
+use Rattle.role_graph.proofs.CallerLemmas.{same_itself, stands_from_times}
 use Rattle.role_meaning.specs.Depths.{IsDepth}
 use Rattle.role_meaning.specs.Distances.{IsFar}
 use Rattle.role_meaning.specs.Implied.{AreImplied}
@@ -66,6 +68,32 @@ module _ (section : Section) (all_rows : List Fields) (sound : IsSectionOf secti
     linked_there x y test told =
         linked_across (graph_of there.graph.names there.graph.rows) (outer_of section.shape all_rows domain) section.limit x y test alike
         (subst (λ (n : ℕ). IsTrue test ↔ GraphReaches there.graph n x y) right.limited told)
+
+    pub reach_there : (x y : List ℕ) → GraphReaches there.graph there.graph.limit x y ↔ IsLinked section.shape all_rows section.limit domain x y
+    reach_there x y = (
+      λ reaches. reaches_across (graph_of there.graph.names there.graph.rows) (outer_of section.shape all_rows domain) section.limit x y alike.there (subst (λ (n : ℕ). GraphReaches there.graph n x y) right.limited reaches),
+      λ linked. subst (λ (n : ℕ). GraphReaches there.graph n x y) (sym right.limited) (reaches_across (outer_of section.shape all_rows domain) (graph_of there.graph.names there.graph.rows) section.limit x y alike.back linked),
+    )
+
+    -- the role of a row with the domain's text is one of its user in the graph
+    pub roles_there : (user : List ℕ) (roles : List (List ℕ)) (row : Fields) → ((role : List ℕ) → Contains roles role ↔ Contains there.graph.rows (user ∷ role ∷ [])) → Contains all_rows row → user_of row ≡ user → domain_of row ≡ text → Contains roles (role_of row)
+    roles_there user roles row has stands is_user is_domain =
+        (has (role_of row)).1 (subst (λ (u : List ℕ). Contains there.graph.rows (u ∷ role_of row ∷ [])) is_user (stands_from_times (pair_of row) there.graph.rows (omega (arith, as_often, some))))
+      where
+        told : List ℕ → Bool
+        told = test_of decided (terms_of section.shape section.limit).domains text
+
+        tells : Tells (terms_of section.shape section.limit).domains text told
+        tells = tells_of decided (terms_of section.shape section.limit).domains text
+
+        as_often : times (pair_of row) there.graph.rows ≡ counted told (pair_of row) all_rows
+        as_often = right.rows told tells (pair_of row)
+
+        fits : told (domain_of row) ≡ true
+        fits = (tells.told (domain_of row)).1 (fits_same (terms_of section.shape section.limit).domains text (domain_of row) (sym is_domain))
+
+        some : 1 ≤ counted told (pair_of row) all_rows
+        some = passing_counts (λ (r : Fields). told (domain_of r) && same (pair_of row) (pair_of r)) all_rows row stands (ap (λ (b : Bool). b && same (pair_of row) (pair_of row)) fits ∙ same_itself (pair_of row))
 
     pub far_there : (x y : List ℕ) (distance : ℕ) → IsGraphFar there.graph x y distance → IsFar section.shape all_rows domain x y distance
     far_there x y distance far = far_across (graph_of there.graph.names there.graph.rows) (outer_of section.shape all_rows domain) x y distance alike far
@@ -220,16 +248,17 @@ module _ (section : Section) (all_rows : List Fields) (sound : IsSectionOf secti
         (subst (λ (l : List Fields). AreUsersOf (shape_of graph.names) graph.rows section.limit None (map user_of l) x names) all
         (subst (λ (n : ℕ). AreUsersOf (shape_of graph.names) graph.rows n None (map user_of among) x names) same_limit are))
 
+    -- no row has its text
+    pub no_row : (row : Fields) → Contains all_rows row → text ≡ domain_of row → ⊥
+    no_row row stands equal =
+        let some : 1 ≤ named text all_rows = passing_counts (λ (r : Fields). bytes_eq text (domain_of r)) all_rows row stands ((bytes_eq-Decides text (domain_of row)).1 equal) in
+        let no : named text all_rows ≡ 0 = none in
+        omega (arith, some, no)
+
     -- it is kept where no domain is asked for, and there are no rows then
     pub kept_nowhere : (test : Bool) → not test ≡ is_some domain → IsTrue test ↔ (IsNamed all_rows domain × HasFewRoles section.shape all_rows domain)
     kept_nowhere test told = by domain asks is told
       where
-        no_row : (row : Fields) → Contains all_rows row → text ≡ domain_of row → ⊥
-        no_row row stands same =
-            let some : 1 ≤ named text all_rows = passing_counts (λ (r : Fields). bytes_eq text (domain_of r)) all_rows row stands ((bytes_eq-Decides text (domain_of row)).1 same) in
-            let no : named text all_rows ≡ 0 = none in
-            omega (arith, some, no)
-
         turned : (b : Bool) → not b ≡ false → b ≡ true
         turned true is = refl
         turned false is = absurd (false≢true (sym is))

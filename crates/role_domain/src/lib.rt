@@ -16,5 +16,5 @@ mod terms;
 mod walk;
 
 pub use prepared::Prepared;
-pub use role_graph::Steps;
+pub use role_graph::{Reach, Room, Steps};
 pub use section::RoleSection;

@@ -19,7 +19,7 @@ pub(crate) fn pair_of(alloc: Global, row: &Rule) -> Result<Rule, NoMemory>
     requires { 2 ≤ length row.now }
     ensures { IfOk result (λ pair. pair ≡ pair_of row.now) }
 {
-    let mut fields = Vec::new(alloc);
+    let mut fields = Vec::with_capacity(alloc, 2)?;
     fields.push(Text::from_str(alloc, row.text(0))?)?;
     fields.push(Text::from_str(alloc, row.text(1))?)?;
     Ok(Rule::from_vec(fields))

@@ -1,6 +1,7 @@
 //! A role relation over its domains.
 
-ghost use Rattle.std.specs.Prelude.{◌≡◌, ◌+◌, ◌↔◌, ◌≤◌, ℕ, All, Bool, [], IfOk, IsSome, IsTrue, List, is_some, length, true, unwrap_or};
+ghost use Rattle.std.specs.Prelude.{◌≡◌, ◌+◌, ◌↔◌, ◌≤◌, ℕ, All, Bool, [], IfOk, IfSome, IsSome, IsTrue, List, is_some, length, true, unwrap_or};
+ghost use Rattle.std.specs.List.{Contains};
 ghost use Rattle.std.specs.Option.{option_copied};
 ghost use Rattle.perm_base.specs.declared.shapes.TableId.TheVariants.{G};
 ghost use Rattle.policy_table.specs.Changes.{applies, edited, flat, own};
@@ -10,7 +11,8 @@ ghost use Rattle.role_meaning.specs.Depths.{IsDepth};
 ghost use Rattle.role_meaning.specs.Distances.{IsFar};
 ghost use Rattle.role_meaning.specs.Implied.{AreImplied};
 ghost use Rattle.role_meaning.specs.ImpliedUsers.{AreImpliedUsers};
-ghost use Rattle.role_meaning.specs.Links.{HasRoles, IsLinked};
+ghost use Rattle.role_meaning.specs.Links.{HasRoles, IsLinked, domain_of, role_of, user_of};
+ghost use Rattle.role_domain.specs.Reach.{ReachesName};
 ghost use Rattle.role_domain.specs.Relations.{HasFewPatterns, HasFewRoles, IsNamed, TellsRows, asked_rows};
 ghost use Rattle.role_domain.specs.Sections.{IsPreparedFor, IsSectionOf, all_columns};
 
@@ -22,8 +24,9 @@ use crate::prepared::Prepared;
 use crate::terms::terms_of;
 use crate::walk::{depth, distance, has_roles};
 use dist_rows::Steps;
-use perm_base::{NoMemory, RoleShape, Rule, Share, TableId};
+use perm_base::{NoMemory, RoleShape, Rule, Share, TableId, Text};
 use policy_table::{Edit, Rows, Tables};
+use role_graph::{Reach, Room};
 use role_meaning::links_are_decided;
 use std::alloc::Global;
 use std::marker::Model;
@@ -65,7 +68,8 @@ impl Model for RoleSection {
 }
 
 impl RoleSection {
-    /// The section of the relation of a shape in these tables. Its time is linear in the rules.
+    /// The section of the relation of a shape in these tables. Its time grows with the rules and, for
+    /// each row between two roles, with the distances that it lowers.
     pub fn make(
         alloc: Global,
         shape: RoleShape,
@@ -163,6 +167,46 @@ impl RoleSection {
                 distance(terms, &self.patterns, text, x, y, self.limit).is_some()
             }
         }
+    }
+
+    /// What the name reaches in the domain within the limit, found once; each question then reads it,
+    /// in time that does not grow with the domain. None where no row names the domain. It takes no
+    /// memory beside the room.
+    pub fn reach<'a>(
+        &'a self,
+        x: &'a [u8],
+        domain: Option<&[u8]>,
+        room: &'a mut Room,
+    ) -> Option<Reach<'a>>
+        requires { is_some domain ≡ self.now.shape.with_domain }
+        ensures { (rows : List Fields) → IsSectionOf self.now rows
+            → IfSome result (λ reach. (y : List ℕ) → ReachesName reach y
+            ↔ IsLinked self.now.shape rows self.now.limit (option_copied domain.entry) x.now y) }
+    {
+        links_are_decided();
+        let text = asked(domain);
+        let Some(found) = self.domains.get(text) else {
+            return None;
+        };
+        Some(found.graph.reach(x, room))
+    }
+
+    /// Roles of a name in the domain, in no order of theirs: those of all its rows that have the
+    /// domain's text are among them, beside those of its rows with a pattern as their domain which the
+    /// text fits. It takes no memory, and its time does not grow with the domain.
+    pub fn roles_of(&self, user: &[u8], domain: Option<&[u8]>) -> &[Text]
+        requires { is_some domain ≡ self.now.shape.with_domain }
+        ensures { (rows : List Fields) → IsSectionOf self.now rows
+            → (row : Fields) → Contains rows row → user_of row ≡ user.now
+            → domain_of row ≡ unwrap_or (option_copied domain.entry) []
+            → Contains result.now (role_of row) }
+    {
+        links_are_decided();
+        let text = asked(domain);
+        let Some(found) = self.domains.get(text) else {
+            return &[];
+        };
+        found.graph.roles_of(user)
     }
 
     /// The least number of links by which the one name reaches the other in the domain, or 255 where
@@ -301,7 +345,8 @@ impl RoleSection {
 
     /// Makes edits of the tables ready, before they are made there, so that `commit` needs no memory;
     /// changes of other tables are passed over. The section stays of the rows that it is of, whatever
-    /// the answer.
+    /// the answer. A row with a pattern as its domain is an edit of each domain that fits it. Where a
+    /// role is new in a domain, the distances that are kept there are moved.
     pub fn prepare(
         &mut self,
         alloc: Global,
@@ -334,8 +379,9 @@ impl RoleSection {
         Ok(Prepared::new(touched, patterns))
     }
 
-    /// Makes the edits that were prepared for this section as it stands. It takes no memory, and its
-    /// time does not grow with the rows that they do not touch.
+    /// Makes the edits that were prepared for this section as it stands. It takes no memory. Its time
+    /// grows with the edits and, in each domain that they touch, with the distances that are kept there
+    /// and change: where the last row of a role goes, with all of them.
     pub fn commit(&mut self, prepared: Prepared)
         requires { (after : List Fields) × IsPreparedFor self.old after prepared }
         ensures shape { self.new.shape ≡ self.old.shape }

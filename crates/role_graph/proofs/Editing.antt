@@ -41,14 +41,14 @@ gives_from old between new user given roles same put others = record {
     here : (name : List ℕ) (base : List (List ℕ)) → overlay new base name ≡ cond (bytes_eq name user) roles (overlay between base name)
     here name base = put name base ∙ ap (λ (text : List ℕ). cond (bytes_eq name text) roles (overlay between base name)) same
 
-no_other : (a b user role : List ℕ) → bytes_eq a user ≡ false → once (same (a ∷ b ∷ []) (user ∷ role ∷ [])) ≡ 0
+pub no_other : (a b user role : List ℕ) → bytes_eq a user ≡ false → once (same (a ∷ b ∷ []) (user ∷ role ∷ [])) ≡ 0
 no_other a b user role differ = ap (λ (test : Bool). once (test && (bytes_eq b role && true))) differ
 
 pub and_end : (test : Bool) → (test && true) ≡ test
 and_end true = refl
 and_end false = refl
 
-this_role : (a b user role : List ℕ) → bytes_eq a user ≡ true → once (same (a ∷ b ∷ []) (user ∷ role ∷ [])) ≡ once (bytes_eq b role)
+pub this_role : (a b user role : List ℕ) → bytes_eq a user ≡ true → once (same (a ∷ b ∷ []) (user ∷ role ∷ [])) ≡ once (bytes_eq b role)
 this_role a b user role equal = ap (λ (test : Bool). once (test && (bytes_eq b role && true))) equal ∙ ap (λ (test : Bool). once test) (and_end (bytes_eq b role))
 
 pub added_once : (parts : Parts) (old new : List Group) (user role : List ℕ) → Gives old new user (overlay old (roles_in parts user) user ++ role ∷ []) → (one : Fields) → standing parts new one ≡ standing parts old one + once (same one (user ∷ role ∷ []))

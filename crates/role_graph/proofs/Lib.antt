@@ -19,11 +19,14 @@ mod LinkLemmas
 mod Linking
 mod Marked
 mod Marking
+mod Mended
 mod Naming
 mod Nearest
 mod Picking
 mod Preparing
 mod Putting
+mod Reached
+mod Removals
 mod Rooms
 mod Resizing
 mod Seeking

@@ -2,14 +2,14 @@
 use Rattle.std.proofs.Common.{◌≡◌, ◌⊎◌, inl, inr, ◌<◌, ◌≤◌, ◌+◌, ℕ, Bool, true, false, List, [], ◌∷◌, ◌++◌, length, get_or, refl, sym, ap, subst, ◌∙◌, arith}
 use Rattle.std.specs.List.{Contains, IsDistinct}
 use Rattle.std.specs.Str.{bytes_eq}
-use Rattle.std.proofs.lemmas.Bool.{cases_Bool, cases_eq, cases_lt, false≢true}
+use Rattle.std.proofs.lemmas.Bool.{cases_eq, cases_lt}
 use Rattle.std.proofs.lemmas.List.Elements.{Contains-get_or, Contains-push_cases}
 use Rattle.dist_rows.specs.Squares.{cell_of, most_nodes}
 use Rattle.role_meaning.proofs.CallerLemmas.{stands_nowhere}
-use Rattle.role_graph.specs.Helps.Squares.{Grows, IsBefore, IsBegun, IsClosed, IsLinking, IsMarked, IsNear, IsNodeLink, name_at}
+use Rattle.role_graph.specs.Helps.Squares.{Grows, IsBegun, IsClosed, IsLinking, IsMarked, IsNear, IsNodeLink, name_at}
 use Rattle.role_graph.specs.Helps.Walks.{FitsAt, IsRoleAt, Linked, no_group}
 use Rattle.role_graph.proofs.Bridging.{one_node}
-use Rattle.role_graph.proofs.Closed.{grows_both, grows_none, grows_weaker, zero_cell}
+use Rattle.role_graph.proofs.Closed.{grows_both, grows_none, grows_weaker}
 
 -- ---- where the square begins
 
@@ -22,30 +22,6 @@ begun_anew linked names touched cells marked few long closed alone = record {
   sound = λ a b near. inl (alone a b near);
   whole = λ a b first second none link. absurd (none (marked a (omega (arith, few, long))));
 }
-
--- or it stays, where no link is gone
-pub begun_stays : (linked : Linked) (names : List (List ℕ)) (touched : List Bool) (cells : List (List ℕ)) → IsBefore linked names touched cells → ((a b : ℕ) → IsMarked touched a → IsNear cells a b → (a ≡ b) ⊎ IsNodeLink linked names a b) → IsBegun linked names touched cells
-begun_stays linked names touched cells before stay = record {
-  closed = before.closed;
-  long = before.long;
-  fresh = before.fresh;
-  sound = λ a b near. sound a b near (cases_Bool (get_or touched a false));
-  whole = before.whole;
-}
-  where
-    sound : (a b : ℕ) → IsNear cells a b → (get_or touched a false ≡ true) ⊎ (get_or touched a false ≡ false) → (a ≡ b) ⊎ IsNodeLink linked names a b
-    sound a b near (inl marked) = stay a b marked near
-    sound a b near (inr none) = before.sound a b (λ marked. false≢true (sym none ∙ marked)) near
-
--- a node that is not exactly one link away is near only where it is the same
-pub next_stays : (linked : Linked) (names : List (List ℕ)) (cells : List (List ℕ)) (node other far : ℕ) → IsClosed cells → far ≡ cell_of cells node other → (far ≡ 1 → ⊥) → ((b : ℕ) → b < other → IsNear cells node b → (node ≡ b) ⊎ IsNodeLink linked names node b) → (b : ℕ) → b < other + 1 → IsNear cells node b → (node ≡ b) ⊎ IsNodeLink linked names node b
-next_stays linked names cells node other far closed is differ before b low near = by (cases_eq b other)
-  where
-    by : (b ≡ other) ⊎ (¬ (b ≡ other)) → (node ≡ b) ⊎ IsNodeLink linked names node b
-    by (inl same) =
-        let here : far ≡ cell_of cells node b = is ∙ ap (cell_of cells node) (sym same) in
-        inl (zero_cell cells node b closed near.first near.second (omega (arith, near.near, here, differ)))
-    by (inr apart) = before b (omega arith) near
 
 -- ---- node by node
 

@@ -1,5 +1,5 @@
 -- Marks as bits of words, and what marking adds.
-use Rattle.std.proofs.Common.{◌≡◌, suc, Bool, Option, None, Some, IsTrue, ◌⊎◌, inl, inr, ◌<◌, ◌≤◌, ◌+◌, ◌-◌, ◌*◌, ◌/◌, ◌%◌, ◌^◌, ℕ, List, length, get_or, replicate, set, sym, ap, ◌∙◌, arith, get_or-set_other, get_or-set_same, w64}
+use Rattle.std.proofs.Common.{◌≡◌, suc, Bool, Option, None, Some, IsTrue, ◌⊎◌, inl, inr, ◌<◌, ◌≤◌, ◌+◌, ◌-◌, ◌*◌, ◌/◌, ◌%◌, ◌^◌, ℕ, List, length, get_or, replicate, set, refl, sym, ap, ◌∙◌, arith, get_or-set_other, get_or-set_same, w64}
 use Rattle.std.specs.Int.{bit_at, trailing_zeros}
 use Rattle.std.specs.Prelude.{◌==◌, IfNone, IfSome, ◌↔◌, bit_and, bit_or}
 use Rattle.std.proofs.lemmas.Bool.{cases_eq, cases_lt, eq-eqb, eqb-true}
@@ -247,3 +247,15 @@ next_from Allowed all new all_after new_after none extends = record {
     by : (at : ℕ) → IsSet new at ⊎ (IsSet all_after at × Allowed at) → IsSet all_after at × Allowed at
     by at (inl one) = absurd (none at one)
     by at (inr both) = both
+
+-- ---- words that are cleared
+
+-- with one word more without bits, no place below it is marked
+pub word_cleared : (words : List ℕ) (word at : ℕ) → word < length words → at < 64 * (word + 1) → ((other : ℕ) → other < 64 * word → IsSet words other → ⊥) → IsSet (set words word 0) at → ⊥
+word_cleared words word at within low none one = by (cases_eq (at / 64) word)
+  where
+    by : (at / 64 ≡ word) ⊎ (at / 64 ≡ word → ⊥) → ⊥
+    by (inl same) = no_mark (set words word 0) at (ap (λ (k : ℕ). get_or (set words word 0) k 0) same ∙ get_or-set_same words word 0 0 within) one
+    by (inr differ) =
+        none at (omega (arith, low, differ))
+        (is_set words at (get_or (set words word 0) (at / 64) 0) (get_or-set_other words word (at / 64) 0 0 differ) (set_is (set words word 0) at (get_or (set words word 0) (at / 64) 0) refl one))

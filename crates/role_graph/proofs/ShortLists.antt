@@ -10,7 +10,7 @@ use Rattle.role_meaning.specs.Fits.{Fits}
 use Rattle.role_meaning.proofs.CallerLemmas.{stands_behind, stands_cases, stands_here, stands_nowhere}
 use Rattle.role_graph.specs.Helps.Kept.{AreLinks, Parts, linked_of}
 use Rattle.role_graph.specs.Helps.Lists.{FitsSome, GoesOnFrom, HasSoughtFrom, Lists}
-use Rattle.role_graph.specs.Helps.Marks.{IsSet}
+use Rattle.role_graph.specs.Helps.Marks.{IsNext, IsSet}
 use Rattle.role_graph.specs.Helps.Walks.{FitsAt, GoesOn, HasSought, IsFirst, IsRoleAt, IsSought, Linked, ReachesSought, no_group}
 use Rattle.role_graph.specs.declared.walk.Sought.{Sought}
 use Rattle.role_graph.proofs.LinkLemmas.{IsPlace, fits_pattern, fits_text, pattern_fits, text_first, text_none}
@@ -262,24 +262,28 @@ small_fits : (linked : Linked) (name : List ℕ) (at : ℕ) → length linked.gr
 small_fits linked name at few fits = let within : at < length linked.groups = fits.within in omega arith
 
 -- what stands behind a place stands in the list
-behind_stands : (listed : List ℕ) (from at : ℕ) → Contains (drop from listed) at → Contains listed at
+pub behind_stands : (listed : List ℕ) (from at : ℕ) → Contains (drop from listed) at → Contains listed at
 behind_stands listed from at (k, within, here) = (
   from + k,
   let short : length (drop from listed) ≡ length listed - from = length-drop from listed in omega (arith, short, within),
   sym (get_or-drop from listed k at) ∙ here,
 )
 
-pub listing_begins : (linked : Linked) (sought : Sought) (x listed : List ℕ) → length linked.groups ≤ 200000 → (IsSought linked sought x → ⊥) → Lists (λ at. FitsAt linked x at) (λ at. FitsAt linked x at) [] listed → IsListing linked sought x 0 0 listed
-listing_begins linked sought x listed few never lists = record {
-  before = omega arith;
+-- the groups that a name fits, as a first list
+pub record IsFirstListed (linked : Linked) (x listed : List ℕ) : Type 0 where
+  pub small : AreSmall listed
+  pub next : IsNext (λ at. FitsAt linked x at) (marks_of []) (marks_of listed) (marks_of (drop 0 listed))
+  pub marked : (at : ℕ) → FitsAt linked x at → IsSet (marks_of listed) at
+
+pub first_listed : (linked : Linked) (x listed : List ℕ) → length linked.groups ≤ 200000 → Lists (λ at. FitsAt linked x at) (λ at. FitsAt linked x at) [] listed → IsFirstListed linked x listed
+first_listed linked x listed few lists = record {
   small = small;
-  seeking = seek_begins linked sought x (marks_of []) (marks_of listed) (marks_of (drop 0 listed)) none_marked
-      (record {
-        keeps = λ at one. absurd (none_marked at one);
-        only = λ at one. inr one;
-        new_ones = λ at one. (one, small_added at (place_of listed at small one));
-      })
-      (λ at fits. mark_of listed at small (lists.whole at fits)) never;
+  next = record {
+    keeps = λ at one. absurd (none_marked at one);
+    only = λ at one. inr one;
+    new_ones = λ at one. (one, small_added at (place_of listed at small one));
+  };
+  marked = λ at fits. mark_of listed at small (lists.whole at fits);
 }
   where
     small_added : (at : ℕ) → Contains listed at → FitsAt linked x at
@@ -288,20 +292,34 @@ listing_begins linked sought x listed few never lists = record {
     small : AreSmall listed
     small at stands = small_fits linked x at few (small_added at stands)
 
--- the groups of the last level go on
-pub listing_on : (linked : Linked) (sought : Sought) (x : List ℕ) (level from : ℕ) (listed after : List ℕ) → length linked.groups ≤ 200000 → (HasSoughtFrom linked sought listed from (length listed) → ⊥)
-    → Lists (GoesOnFrom linked listed from (length listed)) (GoesOnFrom linked listed from (length listed)) listed after → IsListing linked sought x level from listed → IsListing linked sought x (level + 1) (length listed) after
-listing_on linked sought x level from listed after few none lists listing = record {
-  before = omega (arith, ap length lists.is, length-append listed lists.added);
+pub listing_begins : (linked : Linked) (sought : Sought) (x listed : List ℕ) → length linked.groups ≤ 200000 → (IsSought linked sought x → ⊥) → Lists (λ at. FitsAt linked x at) (λ at. FitsAt linked x at) [] listed → IsListing linked sought x 0 0 listed
+listing_begins linked sought x listed few never lists =
+    let first : IsFirstListed linked x listed = first_listed linked x listed few lists in
+    record {
+      before = omega arith;
+      small = first.small;
+      seeking = seek_begins linked sought x (marks_of []) (marks_of listed) (marks_of (drop 0 listed)) none_marked first.next first.marked never;
+    }
+
+-- what is listed behind a list, where the groups of its last level go on
+pub record IsNextListed (linked : Linked) (from : ℕ) (listed after : List ℕ) : Type 0 where
+  pub small : AreSmall after
+  pub next : IsNext (λ at. GoesOn linked (marks_of (drop from listed)) at) (marks_of listed) (marks_of after) (marks_of (drop (length listed) after))
+  pub marked : (place at : ℕ) (role : List ℕ) → IsSet (marks_of (drop from listed)) place → IsRoleAt linked role place → FitsAt linked role at → IsSet (marks_of after) at
+
+index_within : (listed : List ℕ) (from k : ℕ) → k < length (drop from listed) → from + k < length listed
+index_within listed from k within = let short : length (drop from listed) ≡ length listed - from = length-drop from listed in omega (arith, short, within)
+
+pub next_listed : (linked : Linked) (from : ℕ) (listed after : List ℕ) → length linked.groups ≤ 200000 → AreSmall listed
+    → Lists (GoesOnFrom linked listed from (length listed)) (GoesOnFrom linked listed from (length listed)) listed after → IsNextListed linked from listed after
+next_listed linked from listed after few small_listed lists = record {
   small = small;
-  seeking = seek_on linked sought x level (marks_of listed) (marks_of (drop from listed)) (marks_of after) (marks_of (drop (length listed) after)) listing.seeking
-      (λ found. none (sought_from found (place_of (drop from listed) found.at small_new found.marked)))
-      (record {
-        keeps = λ at one. mark_of after at small (earlier at (place_of listed at listing.small one));
-        only = λ at one. only at (Contains-append_cases listed lists.added at (subst (λ (l : List ℕ). Contains l at) lists.is (place_of after at small one)));
-        new_ones = λ at one. new_ones at (place_of (drop (length listed) after) at small_added one);
-      })
-      (λ place at role one stands fits. mark_of after at small (lists.whole at (goes place at role (place_of (drop from listed) place small_new one) stands fits)));
+  next = record {
+    keeps = λ at one. mark_of after at small (earlier at (place_of listed at small_listed one));
+    only = λ at one. only at (Contains-append_cases listed lists.added at (subst (λ (l : List ℕ). Contains l at) lists.is (place_of after at small one)));
+    new_ones = λ at one. new_ones at (place_of (drop (length listed) after) at small_added one);
+  };
+  marked = λ place at role one stands fits. mark_of after at small (lists.whole at (goes place at role (place_of (drop from listed) place small_new one) stands fits));
 }
   where
     last : drop (length listed) after ≡ lists.added
@@ -311,43 +329,30 @@ listing_on linked sought x level from listed after few none lists listing = reco
     earlier at stands = subst (λ (l : List ℕ). Contains l at) (sym lists.is) (Contains-append_left listed lists.added at stands)
 
     small_from : (at : ℕ) → Contains listed at ⊎ Contains lists.added at → at < 200000
-    small_from at (inl stands) = listing.small at stands
+    small_from at (inl stands) = small_listed at stands
     small_from at (inr stands) = let goes = lists.sound at stands in small_fits linked goes.role at few goes.fits
 
     small : AreSmall after
     small at stands = small_from at (Contains-append_cases listed lists.added at (subst (λ (l : List ℕ). Contains l at) lists.is stands))
 
     small_new : AreSmall (drop from listed)
-    small_new at stands = listing.small at (behind_stands listed from at stands)
+    small_new at stands = small_listed at (behind_stands listed from at stands)
 
     small_added : AreSmall (drop (length listed) after)
     small_added at stands = small at (behind_stands after (length listed) at stands)
 
     only : (at : ℕ) → Contains listed at ⊎ Contains lists.added at → IsSet (marks_of listed) at ⊎ IsSet (marks_of (drop (length listed) after)) at
-    only at (inl stands) = inl (mark_of listed at listing.small stands)
+    only at (inl stands) = inl (mark_of listed at small_listed stands)
     only at (inr stands) = inr (mark_of (drop (length listed) after) at small_added (subst (λ (l : List ℕ). Contains l at) (sym last) stands))
-
-    index_within : (k : ℕ) → k < length (drop from listed) → from + k < length listed
-    index_within k within = let short : length (drop from listed) ≡ length listed - from = length-drop from listed in omega (arith, short, within)
 
     goes : (place at : ℕ) (role : List ℕ) → Contains (drop from listed) place → IsRoleAt linked role place → FitsAt linked role at → GoesOnFrom linked listed from (length listed) at
     goes place at role (k, within, here) stands fits = record {
       index = from + k;
       behind = omega arith;
-      before = index_within k within;
+      before = index_within listed from k within;
       role = role;
       stands = subst (IsRoleAt linked role) (sym (sym (get_or-drop from listed k 0) ∙ get_or_default (drop from listed) k 0 place within ∙ here)) stands;
       fits = fits;
-    }
-
-    sought_from : (found : HasSought linked sought (IsSet (marks_of (drop from listed)))) → Contains (drop from listed) found.at → HasSoughtFrom linked sought listed from (length listed)
-    sought_from found (k, within, here) = record {
-      index = from + k;
-      behind = omega arith;
-      before = index_within k within;
-      role = found.role;
-      stands = subst (IsRoleAt linked found.role) (sym (sym (get_or-drop from listed k 0) ∙ get_or_default (drop from listed) k 0 found.at within ∙ here)) found.stands;
-      is = found.is;
     }
 
     new_of : (goes : ℕ) → from ≤ goes → goes < length listed → IsSet (marks_of (drop from listed)) (get_or listed goes 0)
@@ -362,6 +367,31 @@ listing_on linked sought x level from listed after few none lists listing = reco
           mark_of after at small (behind_stands after (length listed) at stands),
           record { place = get_or listed by.index 0; role = by.role; marked = new_of by.index by.behind by.before; stands = by.stands; fits = by.fits },
         )
+
+-- the groups of the last level go on
+pub listing_on : (linked : Linked) (sought : Sought) (x : List ℕ) (level from : ℕ) (listed after : List ℕ) → length linked.groups ≤ 200000 → (HasSoughtFrom linked sought listed from (length listed) → ⊥)
+    → Lists (GoesOnFrom linked listed from (length listed)) (GoesOnFrom linked listed from (length listed)) listed after → IsListing linked sought x level from listed → IsListing linked sought x (level + 1) (length listed) after
+listing_on linked sought x level from listed after few none lists listing =
+    let on : IsNextListed linked from listed after = next_listed linked from listed after few listing.small lists in
+    record {
+      before = omega (arith, ap length lists.is, length-append listed lists.added);
+      small = on.small;
+      seeking = seek_on linked sought x level (marks_of listed) (marks_of (drop from listed)) (marks_of after) (marks_of (drop (length listed) after)) listing.seeking
+          (λ found. none (sought_from found (place_of (drop from listed) found.at small_new found.marked))) on.next on.marked;
+    }
+  where
+    small_new : AreSmall (drop from listed)
+    small_new at stands = listing.small at (behind_stands listed from at stands)
+
+    sought_from : (found : HasSought linked sought (IsSet (marks_of (drop from listed)))) → Contains (drop from listed) found.at → HasSoughtFrom linked sought listed from (length listed)
+    sought_from found (k, within, here) = record {
+      index = from + k;
+      behind = omega arith;
+      before = index_within listed from k within;
+      role = found.role;
+      stands = subst (IsRoleAt linked found.role) (sym (sym (get_or-drop from listed k 0) ∙ get_or_default (drop from listed) k 0 found.at within ∙ here)) found.stands;
+      is = found.is;
+    }
 
 pub listing_ends : (linked : Linked) (sought : Sought) (x : List ℕ) (level most from : ℕ) (listed : List ℕ) → level < most → HasSoughtFrom linked sought listed from (length listed) → IsListing linked sought x level from listed → IsFirst linked sought x most (Some (level + 1))
 listing_ends linked sought x level most from listed low found listing =

@@ -43,7 +43,7 @@ pub reached_on : (linked : Linked) (x y : List ℕ) (links at : ℕ) → IsEnter
 reached_on linked x y links at entered stands =
     reaches_on (shape_of linked.names) (rows_of linked.groups) None links x entered.name y entered.reached (row_link linked entered.name y at entered.fits stands)
 
-entered_more : (linked : Linked) (x : List ℕ) (fewer links at : ℕ) → fewer ≤ links → IsEntered linked x fewer at → IsEntered linked x links at
+pub entered_more : (linked : Linked) (x : List ℕ) (fewer links at : ℕ) → fewer ≤ links → IsEntered linked x fewer at → IsEntered linked x links at
 entered_more linked x fewer links at less entered =
     record { name = entered.name; reached = reaches_more (shape_of linked.names) (rows_of linked.groups) None fewer links x entered.name less entered.reached; fits = entered.fits }
 
@@ -170,7 +170,7 @@ at_once linked x y most same = (
 )
 
 -- where no group is new, none is entered by more links
-stuck : (linked : Linked) (x : List ℕ) (level : ℕ) (all new : List ℕ) → AreReached linked x level all new → ((at : ℕ) → IsSet new at → ⊥) → (links at : ℕ) → level ≤ links → IsEntered linked x links at → IsEntered linked x level at
+pub stuck : (linked : Linked) (x : List ℕ) (level : ℕ) (all new : List ℕ) → AreReached linked x level all new → ((at : ℕ) → IsSet new at → ⊥) → (links at : ℕ) → level ≤ links → IsEntered linked x links at → IsEntered linked x level at
 stuck linked x level all new are none zero at less entered = subst (λ (k : ℕ). IsEntered linked x k at) (let e : zero ≡ level = omega arith in e) entered
 stuck linked x level all new are none (suc links) at less entered = by (cases_lt links level) (stuck linked x level all new are none links)
   where

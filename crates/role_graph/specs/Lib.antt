@@ -1,4 +1,5 @@
 pub mod Groups
 pub mod Graph
+pub mod Reach
 pub mod Keyed
 pub mod Helps

@@ -1,14 +1,15 @@
 //! The square of distances between the roles of a graph, after an edit.
 
-ghost use Rattle.std.specs.Prelude.{◌≡◌, ◌⊎◌, ◌+◌, ◌<◌, ◌≤◌, ◌↔◌, ℕ, [], IsTrue, length};
+ghost use Rattle.std.specs.Prelude.{◌≡◌, ◌+◌, ◌<◌, ◌≤◌, ℕ, [], IsTrue, length};
 ghost use Rattle.std.specs.List.{Contains};
 ghost use Rattle.dist_rows.specs.Squares.{IsSquare, cleared, most_nodes, widened};
 ghost use Rattle.role_graph.specs.Helps.Kept.{linked_of};
 ghost use Rattle.role_graph.specs.Helps.Roles.{nodes_of};
-ghost use Rattle.role_graph.specs.Helps.Squares.{AreNodes, Grows, IsBefore, IsBegun, IsClosed, IsExact, IsLinking, IsMarked, IsNear, IsNodeLink, name_at};
+ghost use Rattle.role_graph.specs.Helps.Squares.{AreNodes, Grows, IsBefore, IsBegun, IsClosed, IsExact, IsLinking, IsNear, IsNodeLink, name_at};
 
-use crate::inserting::{distance, insert_link};
+use crate::inserting::insert_link;
 use crate::links::Links;
+use crate::mending::drop_gone;
 use crate::roles::Roles;
 use crate::touching::{MOST_NODES, NodeMarks, nodes_from};
 use dist_rows::DistRows;
@@ -43,7 +44,8 @@ pub(crate) fn refresh(
     link_touched(square, links, roles, &touched);
 }
 
-// Leaves the square where no link is gone; else clears it, and all nodes are touched.
+// Takes out what is gone, where all nodes keep their places; else clears the square, and all nodes are
+// touched.
 fn begin(
     square: &mut DistRows,
     links: &Links,
@@ -60,52 +62,12 @@ fn begin(
     ensures room { length (nodes_of roles.now) ≤ length square.new.cells + square.new.spare }
 {
     if whole {
-        if links_stay(square, links, roles, &touched) {
-            return touched;
-        }
+        drop_gone(square, links, roles, &touched);
+        return touched;
     }
     shrink(square, roles.len() as u32);
     clear(square);
     nodes_from(0)
-}
-
-// Whether the links of touched nodes that the square tells are links of the graph still.
-fn links_stay(square: &DistRows, links: &Links, roles: &Roles, touched: &NodeMarks) -> bool
-    requires few { length (nodes_of roles.now) ≤ most_nodes }
-    requires closed { IsClosed square.now.cells }
-    requires long { length square.now.cells ≤ length (nodes_of roles.now) }
-    ensures { IsTrue result → (a b : ℕ) → IsMarked touched.now a → IsNear square.now.cells a b
-        → (a ≡ b) ⊎ IsNodeLink (linked_of links.now) (nodes_of roles.now) a b }
-{
-    for node in 0..square.size() {
-        if !touched[node as usize] {
-            continue;
-        }
-        if !links_of_stay(square, links, roles, node) {
-            return false;
-        }
-    }
-    true
-}
-
-// The same for the links of one node.
-fn links_of_stay(square: &DistRows, links: &Links, roles: &Roles, node: u32) -> bool
-    requires closed { IsClosed square.now.cells }
-    requires long { length square.now.cells ≤ length (nodes_of roles.now) }
-    requires node { node < length square.now.cells }
-    ensures { IsTrue result → (b : ℕ) → IsNear square.now.cells node b
-        → (node ≡ b) ⊎ IsNodeLink (linked_of links.now) (nodes_of roles.now) node b }
-{
-    let name = roles.name_at(node as usize);
-    for other in 0..square.size() {
-        if distance(square, node, other) != 1 {
-            continue;
-        }
-        if !links.has_link(name, roles.name_at(other as usize)) {
-            return false;
-        }
-    }
-    true
 }
 
 // Takes the last nodes out, until there are no more than these.

@@ -1,15 +1,17 @@
 //! Users whose rows change, with all their roles afterwards.
 
-ghost use Rattle.std.specs.Prelude.{◌≡◌, ◌+◌, ◌<◌, ◌≤◌, ◌++◌, ◌∷◌, ℕ, List, [], true, false, IfOk, OnOk, IfSome, IfNone, get_or, count_by, position, if◌then◌else◌, length};
+ghost use Rattle.std.specs.Prelude.{◌≡◌, ◌+◌, ◌<◌, ◌≤◌, ◌++◌, ◌∷◌, ℕ, List, [], true, false, IfOk, OnOk, IfSome, IfNone, get_or, count_by, if◌then◌else◌, length};
 ghost use Rattle.std.specs.Str.{bytes_eq};
 ghost use Rattle.policy_table.specs.Tables.{Fields, same};
 ghost use Rattle.role_meaning.specs.Links.{role_of, user_of};
 ghost use Rattle.role_graph.specs.Groups.{Group};
 ghost use Rattle.role_graph.specs.Helps.Kept.{AreApart, roles_in};
-ghost use Rattle.role_graph.specs.Helps.Edits.{overlay, standing};
+ghost use Rattle.role_graph.specs.Helps.Edits.{counted_rows, overlay, standing};
+ghost use Rattle.role_graph.specs.Helps.Roles.{count_of};
 ghost use Rattle.role_graph.specs.Helps.Walks.{no_group};
 
 use crate::links::Links;
+use crate::roles::Roles;
 use indexmap::IndexMap;
 use perm_base::{NoMemory, Rule, Text};
 use std::alloc::Global;
@@ -81,21 +83,23 @@ impl Edits {
         self.put(Vec::from_slice(alloc, rule.field(0))?, roles)
     }
 
-    /// Takes a row out that stands, given the graph that is edited.
-    pub(crate) fn remove(
+    /// Takes rows of a user out that stand, given the graph that is edited: each as often as its role is counted. Its time is
+    /// that of the roles that the user has.
+    pub(crate) fn remove_counted(
         &mut self,
         links: &Links,
         alloc: Global,
-        rule: &Rule,
+        user: &[u8],
+        gone: Roles,
     ) -> Result<(), NoMemory>
-        requires two { length rule.now ≡ 2 }
-        requires stands { 1 ≤ standing links.now self.old rule.now }
+        requires { (role : List ℕ) → count_of gone role
+            ≤ count_by (bytes_eq role) (overlay self.old (roles_in links.now user.now) user.now) }
         ensures { OnOk result ((one : Fields) → standing links.now self.new one
-            + (if same one rule.now then 1 else 0) ≡ standing links.now self.old one) }
+            + counted_rows user.now gone one ≡ standing links.now self.old one) }
     {
-        let mut roles = self.take(links, alloc, rule.field(0))?;
-        remove_one(&mut roles, rule.field(1));
-        self.put(Vec::from_slice(alloc, rule.field(0))?, roles)
+        let mut roles = self.take(links, alloc, user)?;
+        take_out(&mut roles, gone);
+        self.put(Vec::from_slice(alloc, user)?, roles)
     }
 
     // Takes a user out, and gives the roles that it has so far.
@@ -108,7 +112,7 @@ impl Edits {
     {
         match self.entries.swap_remove(user) {
             Some(roles) => Ok(roles),
-            None => copy_all(alloc, links.roles_of(user)),
+            None => copy_and_room(alloc, links.roles_of(user)),
         }
     }
 
@@ -122,30 +126,50 @@ impl Edits {
     }
 }
 
-// Takes one of the texts out that are this name.
-fn remove_one(texts: &mut Vec<Text>, name: &[u8])
-    requires { 1 ≤ count_by (bytes_eq name.now) texts.old.items }
-    ensures { (other : List ℕ) → count_by (bytes_eq other) texts.new.items
-        + (if bytes_eq other name.now then 1 else 0)
-        ≡ count_by (bytes_eq other) texts.old.items }
+// Takes texts out, each as often as it is counted.
+fn take_out(texts: &mut Vec<Text>, mut gone: Roles)
+    requires { (name : List ℕ) → count_of gone name
+        ≤ count_by (bytes_eq name) texts.old.items }
+    ensures { (name : List ℕ) → count_by (bytes_eq name) texts.new.items + count_of gone name
+        ≡ count_by (bytes_eq name) texts.old.items }
 {
-    if let Some(at) = place_of(texts, name) {
+    let mut at = 0;
+    while at < texts.len() {
+        if !gone.take_one(text_at(texts, at)) {
+            at += 1;
+            continue;
+        }
         let _gone = texts.swap_remove(at);
     }
 }
 
-// The place of the first of the texts that is this name.
-fn place_of(texts: &[Text], name: &[u8]) -> Option<usize>
-    ensures { result ≡ position (bytes_eq name.now) texts.now }
+// The text at a place.
+fn text_at(texts: &[Text], at: usize) -> &[u8]
+    requires { at < length texts.now }
+    ensures { result.now ≡ get_or texts.now at [] }
 {
-    texts.iter().position(|text| name == text.bytes())
+    texts[at].bytes()
 }
 
 /// A copy of texts.
 pub(crate) fn copy_all(alloc: Global, texts: &[Text]) -> Result<Vec<Text>, NoMemory>
     ensures { IfOk result (λ copy. copy.items ≡ texts.now) }
 {
-    let mut copy = Vec::with_capacity(alloc, texts.len())?;
+    copy_in(alloc, texts, texts.len())
+}
+
+// A copy of texts, with room for one more: most users have few roles, and a list that grows takes room for four.
+fn copy_and_room(alloc: Global, texts: &[Text]) -> Result<Vec<Text>, NoMemory>
+    ensures { IfOk result (λ copy. copy.items ≡ texts.now) }
+{
+    copy_in(alloc, texts, texts.len() + 1)
+}
+
+// A copy of texts in a list with so much room.
+fn copy_in(alloc: Global, texts: &[Text], room: usize) -> Result<Vec<Text>, NoMemory>
+    ensures { IfOk result (λ copy. copy.items ≡ texts.now) }
+{
+    let mut copy = Vec::with_capacity(alloc, room)?;
     for text in texts {
         copy.push(Text::from_str(alloc, text.as_str())?)?;
     }

@@ -1,14 +1,16 @@
 //! The role graph of one domain.
 
-ghost use Rattle.std.specs.Prelude.{◌≡◌, ◌+◌, ◌≤◌, ◌↔◌, All, [], IfOk, OnOk, IsTrue, None, length, map};
+ghost use Rattle.std.specs.Prelude.{◌≡◌, ◌+◌, ◌≤◌, ◌↔◌, All, [], IfOk, OnOk, IsTrue, List, None, length, map, ℕ};
+ghost use Rattle.std.specs.List.{Contains};
 ghost use Rattle.role_meaning.specs.Depths.{IsDepth};
 ghost use Rattle.role_meaning.specs.Implied.{AreImplied};
 ghost use Rattle.role_meaning.specs.ImpliedUsers.{AreUsersOf};
 ghost use Rattle.role_meaning.specs.Links.{HasRoles, role_of, user_of};
 ghost use Rattle.policy_table.specs.Limits.{different};
 ghost use Rattle.policy_table.specs.Tables.{Fields};
-ghost use Rattle.role_graph.specs.Groups.{after, times};
+ghost use Rattle.role_graph.specs.Groups.{after, row, times};
 ghost use Rattle.role_graph.specs.Helps.Edits.{standing};
+ghost use Rattle.role_graph.specs.Reach.{reached_in};
 ghost use Rattle.role_graph.specs.Graph.{GraphReaches, IsGraphFar, IsPreparedFor, asked_rows, most_rows, shape_of};
 
 use crate::asked::nearest;
@@ -18,6 +20,9 @@ use crate::implied::implied;
 use crate::links::Links;
 use crate::listing::listed;
 use crate::prepared::{Prepared, names_of, roles_of};
+use crate::reach::{Reach, Room};
+use crate::reaching::{mark_kept, mark_walked};
+use crate::removing::remove_all;
 use crate::reserving::reserve_square;
 use crate::roles::Roles;
 use crate::touching::{MOST_NODES, touched};
@@ -167,6 +172,36 @@ impl RoleGraph {
         distance(&self.links, x, y, self.limit).is_some()
     }
 
+    /// What the name reaches within the limit, found once; each question then reads it. It takes no
+    /// memory beside the room. Where distances are kept, it reads them for the rows of the name; where
+    /// not, it walks as far as the name reaches.
+    pub fn reach<'a>(&'a self, x: &'a [u8], room: &'a mut Room) -> Reach<'a>
+        ensures { result ≡ reached_in self.now x.now }
+    {
+        let limit = self.limit;
+        if self.is_kept() {
+            mark_kept(
+                &self.links,
+                &self.roles,
+                &self.square,
+                x,
+                limit,
+                &mut room.marks,
+            );
+            return Reach::of(&self.links, &self.roles, x, limit, &room.marks);
+        }
+        mark_walked(&self.links, &self.roles, x, limit, &mut room.marks);
+        Reach::of(&self.links, &self.roles, x, limit, &room.marks)
+    }
+
+    /// The roles of the rows with this user, once for each row, in an order of the graph's own.
+    pub fn roles_of(&self, user: &[u8]) -> &[Text]
+        ensures { (role : List ℕ) → Contains result.now role
+            ↔ Contains self.now.rows (row user.now role) }
+    {
+        self.links.roles_of(user)
+    }
+
     /// The least number of links by which the one name reaches the other, or 255 where it is above
     /// 254 or there is none. It takes no memory, and as many steps as `linked`.
     pub fn far<L: Ledger>(&self, x: &[u8], y: &[u8], steps: &mut Steps<L>) -> u8
@@ -285,24 +320,6 @@ impl RoleGraph {
 }
 
 impl Share for RoleGraph {}
-
-// Takes rows out that stand, one after the other.
-fn remove_all(
-    edits: &mut Edits,
-    links: &Links,
-    alloc: Global,
-    rows: &[Rule],
-) -> Result<(), NoMemory>
-    requires two { All (λ row. length row ≡ 2) rows.now }
-    requires stand { (row : Fields) → times row rows.now ≤ standing links.now edits.old row }
-    ensures { OnOk result ((row : Fields) → standing links.now edits.new row + times row rows.now
-        ≡ standing links.now edits.old row) }
-{
-    for row in rows {
-        edits.remove(links, alloc, row)?;
-    }
-    Ok(())
-}
 
 // Adds rows, one after the other.
 fn add_all(edits: &mut Edits, links: &Links, alloc: Global, rows: &[Rule]) -> Result<(), NoMemory>

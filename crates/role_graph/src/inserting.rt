@@ -88,11 +88,12 @@ fn counted_distance<L: Ledger>(square: &DistRows, a: u32, b: u32, blank: Blank) 
     square.cell(a, b, &mut steps)
 }
 
-// Lowers the row of a node by that of another; no step is counted.
-fn relax(square: &mut DistRows, a: u32, add: u8, v: u32)
+/// Lowers the row of a node by that of another; no step is counted.
+pub(crate) fn relax(square: &mut DistRows, a: u32, add: u8, v: u32)
     requires a { a < length square.old.cells }
     requires v { v < length square.old.cells }
     ensures cells { square.new.cells ≡ relaxed square.old.cells a add v }
+    ensures spare { square.new.spare ≡ square.old.spare }
     ensures square { IsSquare square.new.cells }
 {
     counted_relax::<Brand>(square, a, add, v, Blank::new(1))
@@ -106,6 +107,7 @@ fn counted_relax<L: Ledger>(square: &mut DistRows, a: u32, add: u8, v: u32, blan
     requires a { a < length square.old.cells }
     requires v { v < length square.old.cells }
     ensures cells { square.new.cells ≡ relaxed square.old.cells a add v }
+    ensures spare { square.new.spare ≡ square.old.spare }
     ensures square { IsSquare square.new.cells }
 {
     let mut steps = Steps::<L>::new(blank);

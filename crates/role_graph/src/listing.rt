@@ -48,8 +48,14 @@ pub(crate) fn listed(
     Ok(names)
 }
 
-// The nodes of roles that a name reaches by at most so many links.
-fn within(links: &Links, roles: &Roles, square: &DistRows, x: &[u8], most: u8) -> NodeMarks
+/// The nodes of roles that a name reaches by at most so many links.
+pub(crate) fn within(
+    links: &Links,
+    roles: &Roles,
+    square: &DistRows,
+    x: &[u8],
+    most: u8,
+) -> NodeMarks
     requires nodes { AreNodes (linked_of links.now) (nodes_of roles.now) }
     requires exact { IsExact (linked_of links.now) (nodes_of roles.now) square.now.cells }
     requires few { length (nodes_of roles.now) ≤ most_nodes }
@@ -67,7 +73,7 @@ fn within(links: &Links, roles: &Roles, square: &DistRows, x: &[u8], most: u8) -
     marks
 }
 
-// NodeMarks also the nodes to which a node is at most so near.
+// Marks also the nodes to which a node is at most so near.
 fn mark_within(square: &DistRows, node: usize, most: u8, marks: &mut NodeMarks)
     requires node { node < length square.now.cells }
     ensures { (a : ℕ) → a < length square.now.cells → IsMarked marks.new a
@@ -81,7 +87,7 @@ fn mark_within(square: &DistRows, node: usize, most: u8, marks: &mut NodeMarks)
     }
 }
 
-// NodeMarks also the nodes that a name, which is no role, reaches by a link of a row and so many more.
+// Marks also the nodes that a name, which is no role, reaches by a link of a row and so many more.
 fn mark_by_rows(
     links: &Links,
     roles: &Roles,
@@ -106,7 +112,7 @@ fn mark_by_rows(
     }
 }
 
-// NodeMarks also the nodes that some of these roles reach by at most so many links.
+// Marks also the nodes that some of these roles reach by at most so many links.
 fn mark_by_roles(
     links: &Links,
     roles: &Roles,
@@ -129,7 +135,7 @@ fn mark_by_roles(
     }
 }
 
-// NodeMarks also the nodes that a role reaches by at most so many links.
+// Marks also the nodes that a role reaches by at most so many links.
 fn mark_by_role(
     _links: &Links,
     roles: &Roles,

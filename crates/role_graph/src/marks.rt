@@ -48,6 +48,16 @@ impl Marks {
         self.words[at / 64] |= 1u64 << (at % 64);
     }
 
+    /// Takes the marks of the places below one. Its time is that of so many places.
+    pub(crate) fn clear(&mut self, upto: usize)
+        requires { upto ≤ 200000 }
+        ensures { (at : ℕ) → at < upto → IsSet self.new at → ⊥ }
+    {
+        for word in 0..(upto + 63) / 64 {
+            self.words[word] = 0;
+        }
+    }
+
     /// The first marked place from here on.
     pub(crate) fn next(&self, from: usize) -> Option<usize>
         ensures found { IfSome result (λ at. (from ≤ at) × (at < 200000) × IsSet self.now at) }

@@ -1,6 +1,6 @@
 //! The roles of a graph's rows.
 
-ghost use Rattle.std.specs.Prelude.{◌≡◌, false, ◌+◌, ◌++◌, ◌<◌, ◌≤◌, ◌⊎◌, ◌^◌, ◌↔◌, [], List, ℕ, IfNone, IfOk, IfSome, IsOk, IsTrue, OnOk, Some, get_or, if◌then◌else◌, length, slice_get};
+ghost use Rattle.std.specs.Prelude.{◌≡◌, false, true, ◌+◌, ◌++◌, ◌<◌, ◌≤◌, ◌⊎◌, ◌^◌, ◌↔◌, [], List, ℕ, IfNone, IfOk, IfSome, IsOk, IsTrue, OnOk, Some, get_or, if◌then◌else◌, length, slice_get};
 ghost use Rattle.std.specs.List.{Contains, IsDistinct, count_by, list_any};
 ghost use Rattle.std.specs.Str.{IsUtf8, bytes_eq};
 ghost use Rattle.perm_base.specs.LineEnds.{has_line_end};
@@ -142,8 +142,8 @@ impl Roles {
         Ok(self.counts.reserve(count)?)
     }
 
-    // Counts a role once more; a new one gets the last place.
-    fn add(&mut self, role: Vec<u8>)
+    /// Counts a role once more; a new one gets the last place.
+    pub(crate) fn add(&mut self, role: Vec<u8>)
         requires few { count_of self.old role.items + 1 < 2 ^ 64 }
         requires whole_line { has_line_end role.items ≡ false }
         requires utf8 { IsUtf8 role.items }
@@ -158,6 +158,21 @@ impl Roles {
         let Ok(_before) = self.counts.insert(role, count) else {
             unreachable!()
         };
+    }
+
+    /// Counts a role once less, where it is counted; whether it was.
+    pub(crate) fn take_one(&mut self, role: &[u8]) -> bool
+        ensures taken { result ≡ true → (name : List ℕ) → count_of self.new name
+            + (if bytes_eq name role.now then 1 else 0) ≡ count_of self.old name }
+        ensures none { result ≡ false → count_of self.old role.now ≡ 0 }
+        ensures same { result ≡ false → (name : List ℕ)
+            → count_of self.new name ≡ count_of self.old name }
+    {
+        if self.count(role) == 0 {
+            return false;
+        }
+        self.take(role);
+        true
     }
 
     // Counts a role once less; the last one gets the place of one that is gone.

@@ -4,7 +4,7 @@ ghost use Rattle.std.specs.Prelude.{◌≡◌, ◌<◌, ◌≤◌, ◌↔◌, �
 ghost use Rattle.std.specs.List.{Contains};
 ghost use Rattle.role_graph.specs.Helps.Kept.{linked_of};
 ghost use Rattle.role_graph.specs.Helps.Lists.{FitsSome, GoesOnFrom, HasSoughtFrom, Lists};
-ghost use Rattle.role_graph.specs.Helps.Walks.{FitsAt, IsFirst};
+ghost use Rattle.role_graph.specs.Helps.Walks.{FitsAt, IsEntered, IsFirst};
 
 use crate::links::Links;
 use crate::walk::{Sought, is_sought, some_is_sought};
@@ -47,6 +47,32 @@ pub(crate) fn seek_near(links: &Links, x: &[u8], sought: Sought, most: u8) -> Op
         from = upto;
     }
     Some(None)
+}
+
+/// The groups that a name enters by at most so many links, where these are no more than a list holds.
+/// It takes no memory.
+pub(crate) fn list_entered(links: &Links, x: &[u8], most: u8) -> Option<Listed>
+    requires { most ≤ 254 }
+    ensures { IfSome result (λ listed. (at : ℕ) → Contains listed.items at
+        ↔ IsEntered (linked_of links.now) x.now most at) }
+{
+    let _few = links.len();
+    let mut listed = Listed::new();
+    if !links.list(x, &mut listed) {
+        return None;
+    }
+    let mut from = 0;
+    for _level in 0..most {
+        let upto = listed.len();
+        if from == upto {
+            return Some(listed);
+        }
+        if !list_on(links, &mut listed, from) {
+            return None;
+        }
+        from = upto;
+    }
+    Some(listed)
 }
 
 // Whether one of the groups from a place of the list on has a role that is sought.
@@ -109,8 +135,8 @@ pub(crate) fn list_one(place: usize, listed: &mut Listed) -> bool
     true
 }
 
-// The group at a place of a list.
-fn group_at(listed: &[usize], index: usize) -> usize
+/// The group at a place of a list.
+pub(crate) fn group_at(listed: &[usize], index: usize) -> usize
     requires { index < length listed.now }
     ensures { result ≡ get_or listed.now index 0 }
 {

@@ -51,7 +51,7 @@ pub(crate) fn nodes_from(known: usize) -> NodeMarks
     marks
 }
 
-// NodeMarks the nodes that fit a user.
+// Marks the nodes that fit a user.
 fn touch(roles: &Roles, names: Fit, user: &[u8], marks: &mut NodeMarks)
     ensures keeps { (a : ℕ) → IsMarked marks.old a → IsMarked marks.new a }
     ensures fitting { (a : ℕ) → a < most_nodes → a < length (nodes_of roles.now)
@@ -64,7 +64,7 @@ fn touch(roles: &Roles, names: Fit, user: &[u8], marks: &mut NodeMarks)
     }
 }
 
-// NodeMarks the node of a name.
+// Marks the node of a name.
 fn touch_role(roles: &Roles, name: &[u8], marks: &mut NodeMarks)
     ensures keeps { (a : ℕ) → IsMarked marks.old a → IsMarked marks.new a }
     ensures named { (a : ℕ) → a < most_nodes → a < length (nodes_of roles.now)
@@ -78,7 +78,7 @@ fn touch_role(roles: &Roles, name: &[u8], marks: &mut NodeMarks)
     }
 }
 
-// NodeMarks the nodes that fit a pattern.
+// Marks the nodes that fit a pattern.
 fn touch_fitting(roles: &Roles, names: Fit, pattern: &[u8], marks: &mut NodeMarks)
     ensures keeps { (a : ℕ) → IsMarked marks.old a → IsMarked marks.new a }
     ensures fitting { (a : ℕ) → a < most_nodes → a < length (nodes_of roles.now)

@@ -1,5 +1,5 @@
 -- What a decision is asked for, as a case over the tables of its policy.
-use Rattle.std.specs.Prelude.{◌≤◌, ℕ, List, map, option_copied}
+use Rattle.std.specs.Prelude.{◌≤◌, ℕ, IfSome, List, map, option_copied}
 use Rattle.perm_base.specs.declared.shapes.TableId.TheVariants.{P}
 use Rattle.perm_value.specs.Seen.{datum}
 use Rattle.policy_state.specs.States.{tables}
@@ -7,6 +7,7 @@ use Rattle.policy_table.specs.Tables.{Fields, rows}
 use Rattle.matcher_meaning.specs.Cases.{Case}
 use Rattle.matcher_meaning.specs.Verdicts.{case_of}
 use Rattle.decision.specs.Helps.Parts.{IsProgram}
+use Rattle.decision.specs.Helps.Reaching.{KnowsLinks}
 use Rattle.decision.specs.declared.asking.Asking.{Asking}
 
 -- the request over the tables of the policy, without a row, and with nothing refused
@@ -21,7 +22,12 @@ rows_of asking = rows (tables asking.state.now) P
 abbrev pub IsAsked : Asking → Type 0
 IsAsked asking = IsProgram asking.model.now asking.code.now asking.by_row asking.effect_place asking.domain_place (option_copied asking.plan)
 
--- the same, and a stack of so many places has room for the code
+-- what is known of the name that the rows ask about is so
+abbrev pub KnowsName : Asking → Type 0
+KnowsName asking = IfSome (option_copied asking.asked_name) (KnowsLinks asking.state.now)
+
+-- both, and a stack of so many places has room for the code
 pub record CanRun (asking : Asking) (places : ℕ) : Type 0 where
   pub program : IsAsked asking
+  pub knows : KnowsName asking
   pub room : asking.code.now.height ≤ places

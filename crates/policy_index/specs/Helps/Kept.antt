@@ -1,4 +1,5 @@
--- What an index keeps beside: the slots by their hashes, and how many rows have a front of each length.
+-- What an index keeps beside: the slots by their hashes, the place of each slot there, and how many rows have a front of each
+-- length.
 use Rattle.std.specs.Prelude.{◌≡◌, ℕ, ◌<◌, ◌^◌, ◌==◌, Bool, false, nat_eq, List, length, get_or, slice_get, Option, Some, None, if◌then◌else◌}
 use Rattle.std.specs.List.{count_by}
 use Rattle.std.specs.Option.{option_map_or}
@@ -34,8 +35,18 @@ pub record AreCounted (marks : List Mark) (counts : List ℕ) : Type 0 where
   pub sizes : length counts ≡ 256
   pub each : (size : ℕ) → get_or counts size 0 ≡ count_by (has_front size) marks
 
+-- a slot stands at a place in the list of a hash
+abbrev pub IsAt : Lists → ℕ → ℕ → ℕ → Type 0
+IsAt lists hash place slot = slice_get (slots_at lists hash) place ≡ Some slot
+
+-- each slot stands at its place in the list of its hash
+pub record ArePlaced (marks : List Mark) (lists : Lists) (places : List ℕ) : Type 0 where
+  pub sizes : length places ≡ length marks
+  pub each : (slot : ℕ) (d : Mark) → slot < length marks → IsAt lists (get_or marks slot d).hash (get_or places slot 0) slot
+
 -- what an index keeps
-pub record IsIndex (marks : List Mark) (lists : Lists) (counts : List ℕ) : Type 0 where
+pub record IsIndex (marks : List Mark) (lists : Lists) (counts places : List ℕ) : Type 0 where
   pub few : length marks < 2 ^ 32
   pub listed : AreListed marks lists
   pub counted : AreCounted marks counts
+  pub placed : ArePlaced marks lists places

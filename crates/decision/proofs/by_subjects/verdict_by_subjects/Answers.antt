@@ -5,13 +5,14 @@ use Rattle.matcher_meaning.specs.Order.{Numbered, numbered}
 use Rattle.decision.specs.Helps.Asked.{case_in, rows_of}
 use Rattle.decision.specs.Helps.Outcomes.{HasOutcomesInOrder, IsJudgedOn}
 use Rattle.effect_fold.specs.declared.verdict.Verdict.{Verdict}
+use Rattle.decision.proofs.DepthLemmas.{no_depths}
 use Rattle.decision.proofs.FirstLemmas.{IsSought, judged_by_first, sought_for_more, sought_more, sought_none}
 use Rattle.decision.proofs.JudgedLemmas.{one_truth_at, some_since, some_still, truths_at}
 use Rattle.decision.proofs.OutcomeLemmas.{comes_for_more}
 use Rattle.decision.proofs.by_subjects.verdict_by_subjects.Goals as goal
 
 pub loop-number-init : goal.loop-number-init
-loop-number-init g c = record { sought = sought_none (case_in c.args.asking.now) _ _ _ refl; known = tt; used = used_none _ }
+loop-number-init g c = record { sought = sought_none (case_in c.args.asking.now) _ _ _ refl; known = no_depths (case_in c.args.asking.now); used = used_none _ }
 
 pub loop-number-preserved : goal.loop-number-preserved
 loop-number-preserved g c =

@@ -1,4 +1,4 @@
-use Rattle.std.proofs.Common.{IfSome, length}
+use Rattle.std.proofs.Common.{All, IfSome, length}
 use Rattle.regex_gate.specs.Refusals.{IsRefused, IsUsed}
 use Rattle.decision.specs.Helps.Asked.{case_in}
 use Rattle.decision.specs.Helps.Firsts.{IsKnownIn}
@@ -8,7 +8,7 @@ use Rattle.decision.proofs.by_subjects.verdict_by_subjects.Given as goal
 abbrev pub invariant-loop-number : goal.invariant-loop-number
 invariant-loop-number g l = record {
   sought : IsSought (case_in l.asking) (λ refused. IfSome refused (IsRefused (g.P.Finder.refusals l.initial.finder) (g.P.Finder.refusals l.finder))) l.initial.candidates l.candidates l.first;
-  known : IfSome l.last (IsKnownIn (case_in l.asking));
+  known : All (λ one. IfSome one (IsKnownIn (case_in l.asking))) l.depths;
   used : IsUsed (g.P.Finder.refusals l.initial.finder) (g.P.Finder.refusals l.finder);
 }
 

@@ -1,12 +1,11 @@
 use Rattle.std.proofs.Common.{arith}
 use Rattle.role_graph.specs.Helps.Kept.{linked_of}
 use Rattle.role_graph.specs.Helps.Roles.{nodes_of}
-use Rattle.role_graph.proofs.Linking.{begun_anew, begun_stays}
+use Rattle.role_graph.proofs.Linking.{begun_anew}
 use Rattle.role_graph.proofs.closure.begin.Goals as goal
 
-pub returns-then-links_stay-clause-begun : goal.returns-then-links_stay-clause-begun
-returns-then-links_stay-clause-begun c =
-    begun_stays (linked_of c.args.links.now) (nodes_of c.args.roles.now) c.args.touched c.args.square.now.cells (c.requires.before c.if-whole.true) (c.links_stay.ensures c.if-links_stay.true)
+pub drop_gone-requires-clause-before : goal.drop_gone-requires-clause-before
+drop_gone-requires-clause-before c = c.requires.before c.if-whole.true
 
 pub returns-clause-begun : goal.returns-clause-begun
 returns-clause-begun c =

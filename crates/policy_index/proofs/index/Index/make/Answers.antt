@@ -12,7 +12,7 @@ use Rattle.policy_index.proofs.MarkLemmas.{none_kept}
 use Rattle.policy_index.proofs.index.Index.make.Goals as goal
 
 pub invariant_of-index : goal.invariant_of-index
-invariant_of-index c = none_kept _ _ _ c.new.ensures.items c.new-2.ensures c.new-3.ensures
+invariant_of-index c = none_kept _ _ _ _ c.new.ensures.items c.new-2.ensures c.new-3.ensures c.new-4.ensures.items
 
 -- the slots of the tables have the columns, since all rows have
 pub mark_of-mark-requires : goal.mark_of-mark-requires

@@ -20,15 +20,18 @@ pub returns-in_err-reserve-2-clause-others : goal.returns-in_err-reserve-2-claus
 returns-in_err-reserve-2-clause-others c = ready_more c.args.self.now _ _ _ _ _ _ _ c.self.view_is c.reserve-2.ensures.items (omega (arith, c.reserve-2.ensures.capacity, c.reserve-2.ensures.len)) c.reserve.ensures.more
 
 pub returns-in_err-reserve-3-clause-others : goal.returns-in_err-reserve-3-clause-others
-returns-in_err-reserve-3-clause-others c = ready_more c.args.self.now _ _ _ _ _ _ _ c.self.view_is c.reserve-2.ensures.items (omega (arith, c.reserve-2.ensures.capacity, c.reserve-2.ensures.len)) c.reserve.ensures.more
+returns-in_err-reserve-3-clause-others c = ready_more c.args.self.now _ _ _ _ _ _ _ c.self.view_is c.reserve-2.ensures.items (omega (arith, c.reserve-2.ensures.capacity, c.reserve-2.ensures.len, c.reserve-3.ensures.capacity, c.reserve-3.ensures.len)) c.reserve.ensures.more
+
+pub returns-in_err-reserve-4-clause-others : goal.returns-in_err-reserve-4-clause-others
+returns-in_err-reserve-4-clause-others c = ready_more c.args.self.now _ _ _ _ _ _ _ c.self.view_is c.reserve-2.ensures.items (omega (arith, c.reserve-2.ensures.capacity, c.reserve-2.ensures.len, c.reserve-3.ensures.capacity, c.reserve-3.ensures.len)) c.reserve.ensures.more
 
 pub returns-clause-others : goal.returns-clause-others
-returns-clause-others c = ready_more c.args.self.now _ _ _ _ _ _ _ c.self.view_is c.reserve-2.ensures.items (omega (arith, c.reserve-2.ensures.capacity, c.reserve-2.ensures.len)) c.reserve.ensures.more
+returns-clause-others c = ready_more c.args.self.now _ _ _ _ _ _ _ c.self.view_is c.reserve-2.ensures.items (omega (arith, c.reserve-2.ensures.capacity, c.reserve-2.ensures.len, c.reserve-3.ensures.capacity, c.reserve-3.ensures.len)) c.reserve.ensures.more
 
 pub returns-clause-ready : goal.returns-clause-ready
 returns-clause-ready c = record {
   columns = subst (λ (i : Indexed). all_fit i.key (flat c.args.edits.now) ≡ true) (sym c.self.view_is) c.requires.columns;
   few = omega (arith, c.if-taken-len.false, c.in_ok-taken.ensures, c.self.invariant.few, ap length c.reserve-2.ensures.items);
-  spare = omega (arith, c.in_ok-reserve-2.ensures.ok, c.in_ok-taken.ensures);
+  spare = omega (arith, c.in_ok-reserve-2.ensures.ok, c.in_ok-reserve-3.ensures.ok, c.in_ok-taken.ensures);
   room = c.in_ok-reserve.ensures.room;
 }

@@ -1,39 +1,25 @@
-use Rattle.std.proofs.Common.{◌++◌, List, ap, subst, sym, ◌∙◌}
-use Rattle.policy_state.specs.Helps.Kept.{key_of, parts_of}
-use Rattle.policy_state.specs.Ready.{Ready}
-use Rattle.policy_state.specs.States.{StandsFor, State}
-use Rattle.policy_state.proofs.LogLemmas.{stands_after}
-use Rattle.policy_state.proofs.StateLemmas.{prepared_inside, state_after, tables_made}
+use Rattle.std.proofs.Common.{◌+◌, ◌++◌, ◌-◌, ◌∙◌, ap, drop, length, subst, sym}
+use Rattle.policy_state.specs.Ready.{IsPreparedFor, Ready}
+use Rattle.policy_state.specs.States.{StandsFor, tables}
 use Rattle.policy_table.specs.Changes.{replay}
-use Rattle.policy_table.specs.declared.change.Change.{Change}
+use Rattle.version_log.specs.Log.{versions}
 use Rattle.policy_state.proofs.state.PolicyState.commit.Goals as goal
 
-pub invariant_of-self : goal.invariant_of-self
-invariant_of-self c =
-    let parts = parts_of c.self.inside.tables c.self.inside.index c.self.inside.sections in
-    let there : State = record { shapes = c.self.inside.shapes; key = key_of c.self.inside.index; log = c.self.inside.log; parts = parts } in
-    let is = prepared_inside c.args.self.now there c.args.prepared _ c.self.view_is c.prepared.view_is c.requires.ready in
-    state_after c.self.inside.shapes (c.admitted_edits_keep_sound.ensures.sound c.self.inside.shapes) (key_of c.self.inside.index) c.self.inside.log c.push_all.new.log parts
-    c.make_all.new.tables c.make_all.new.index c.commit.new.self _ c.self.invariant is
-    (c.push_all.ensures.tail ∙ ap (λ (l : List (List Change)). l ++ c.prepared.inside.edits.items) c.move_start.ensures.tail)
-    c.make_all.ensures.policy c.make_all.ensures.key c.make_all.ensures.index c.commit.ensures.kept c.commit.ensures.each
+pub commit_parts-requires : goal.commit_parts-requires
+commit_parts-requires c = record { ready = subst (IsPreparedFor c.args.self.now) (sym c.prepared.view_is) c.requires.ready }
 
-pub returns-clause-tables : goal.returns-clause-tables
-returns-clause-tables c =
-    let parts = parts_of c.self.inside.tables c.self.inside.index c.self.inside.sections in
-    let there : State = record { shapes = c.self.inside.shapes; key = key_of c.self.inside.index; log = c.self.inside.log; parts = parts } in
-    let is = prepared_inside c.args.self.now there c.args.prepared _ c.self.view_is c.prepared.view_is c.requires.ready in
-    tables_made c.self.inside.tables.policy c.make_all.new.tables.policy c.prepared.inside.tables c.prepared.inside.edits.items is.changes c.make_all.ensures.policy
-    ∙ (λ j. replay (c.prepared.view_is j).edits (c.self.view_is j).parts.held.policy)
+pub returns-clause-start : goal.returns-clause-start
+returns-clause-start c = c.commit_parts.ensures.start ∙ ap (λ (r : Ready). r.start) c.prepared.view_is
+
+pub returns-clause-tail : goal.returns-clause-tail
+returns-clause-tail c = c.commit_parts.ensures.tail ∙ ap (λ (r : Ready). drop (r.start - c.args.self.now.log.start) c.args.self.now.log.tail ++ r.edits) c.prepared.view_is
 
 pub returns-clause-stands : goal.returns-clause-stands
 returns-clause-stands c = λ opening history stands.
-    let parts = parts_of c.self.inside.tables c.self.inside.index c.self.inside.sections in
-    let there : State = record { shapes = c.self.inside.shapes; key = key_of c.self.inside.index; log = c.self.inside.log; parts = parts } in
-    let after : State = record { shapes = c.self.inside.shapes; key = key_of c.make_all.new.index; log = c.push_all.new.log; parts = parts_of c.make_all.new.tables c.make_all.new.index c.commit.new.self } in
-    let is = prepared_inside c.args.self.now there c.args.prepared _ c.self.view_is c.prepared.view_is c.requires.ready in
-    let before : StandsFor there opening history = subst (λ (s : State). StandsFor s opening history) (sym c.self.view_is) stands in
-    let now : StandsFor after opening (history ++ c.prepared.inside.edits.items) =
-    stands_after there after opening history c.prepared.inside.edits.items (c.push_all.ensures.stands history (c.move_start.ensures.stands history before.log))
-    (tables_made c.self.inside.tables.policy c.make_all.new.tables.policy c.prepared.inside.tables c.prepared.inside.edits.items is.changes c.make_all.ensures.policy) before in
-    subst (λ (r : Ready). StandsFor after opening (history ++ r.edits)) c.prepared.view_is now
+    subst (λ (r : Ready). StandsFor c.commit_parts.new.self opening (history ++ r.edits)) c.prepared.view_is (c.commit_parts.ensures.stands opening history stands)
+
+pub returns-clause-tables : goal.returns-clause-tables
+returns-clause-tables c = c.commit_parts.ensures.tables ∙ ap (λ (r : Ready). replay r.edits (tables c.args.self.now)) c.prepared.view_is
+
+pub returns-clause-versions : goal.returns-clause-versions
+returns-clause-versions c = c.commit_parts.ensures.versions ∙ ap (λ (r : Ready). versions c.args.self.now.log + length r.edits) c.prepared.view_is

@@ -15,8 +15,8 @@ returns-clause-roles c = elim c.match-swap_remove.branch [
   | in-Some w ↦ subst (λ r. IfOk r (λ roles. roles.items ≡ overlay c.args.self.now (roles_in c.args.links.now c.args.user.now) c.args.user.now)) (sym w.result-is)
       (overlay_found c.args.user.now (roles_in c.args.links.now c.args.user.now) c.self.inside.entries.entries c.args.self.now w.in-Some.roles c.self.view_is w.in-Some.ensures.value)
   | in-None w ↦ subst (λ r. IfOk r (λ roles. roles.items ≡ overlay c.args.self.now (roles_in c.args.links.now c.args.user.now) c.args.user.now)) (sym w.result-is)
-      (subst (λ (texts : List (List ℕ)). IfOk w.copy_all.result (λ roles. roles.items ≡ texts))
-      (w.roles_of.ensures ∙ overlay_nowhere c.args.user.now (roles_in c.args.links.now c.args.user.now) c.self.inside.entries.entries c.args.self.now c.self.view_is w.in-None.ensures.value) w.copy_all.ensures)
+      (subst (λ (texts : List (List ℕ)). IfOk w.copy_and_room.result (λ roles. roles.items ≡ texts))
+      (w.roles_of.ensures ∙ overlay_nowhere c.args.user.now (roles_in c.args.links.now c.args.user.now) c.self.inside.entries.entries c.args.self.now c.self.view_is w.in-None.ensures.value) w.copy_and_room.ensures)
 ]
 
 pub returns-clause-others : goal.returns-clause-others

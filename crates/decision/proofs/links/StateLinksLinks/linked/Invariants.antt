@@ -1,4 +1,0 @@
-use Rattle.decision.proofs.links.StateLinksLinks.linked.Given as goal
-
-abbrev pub ghosts-linked : goal.ghosts-linked
-ghosts-linked a = record { name = a.blank.name; parts = a.blank.parts }

@@ -1,0 +1,34 @@
+use Rattle.std.proofs.Common.{◌-◌, ◌<◌, ◌∙◌, ap, arith, get_or, length, subst, sym, List, ℕ}
+use Rattle.std.specs.List.{swap_remove}
+use Rattle.std.specs.Option.{option_copied_mut}
+use Rattle.policy_index.proofs.ListLemmas.{changed_by, found_slots, no_slots, take_room, there_now, wrote_now}
+use Rattle.policy_index.proofs.slots.Slots.take.Goals as goal
+
+pub unreachable-requires : goal.unreachable-requires
+unreachable-requires c =
+    absurd (omega (
+      arith,
+      ap (λ (l : List ℕ). length l) (no_slots c.args.self.now c.args.hash (there_now c.self.inside.lists.entries c.args.self.now c.args.hash _ c.self.view_is (sym c.get_mut.ensures.value ∙ ap option_copied_mut c.in_default.is))),
+      c.requires,
+    ))
+
+pub take-requires : goal.take-requires
+take-requires c =
+    subst (λ (l : List ℕ). c.args.at < length l) (found_slots c.args.self.now c.args.hash c.in-Some.list.now (there_now c.self.inside.lists.entries c.args.self.now c.args.hash _ c.self.view_is (sym c.get_mut.ensures.value ∙ ap option_copied_mut c.in-Some.is))) c.requires
+
+pub returns-clause-slots : goal.returns-clause-slots
+returns-clause-slots c =
+    let is = sym c.get_mut.ensures.value ∙ ap option_copied_mut c.in-Some.is in
+    λ other. changed_by (λ (l : List ℕ). swap_remove l c.args.at 0) c.args.self.now _ c.args.hash c.in-Some.list.now c.take.new.self other (there_now c.self.inside.lists.entries c.args.self.now c.args.hash _ c.self.view_is is)
+    (wrote_now c.self.inside.lists.entries c.args.self.now _ c.args.hash c.in-Some.list.now c.take.new.self c.self.view_is is (c.get_mut.follows.holds c.take.new.self).0) c.take.ensures.slots
+
+pub returns-clause-last : goal.returns-clause-last
+returns-clause-last c =
+    c.take.ensures.last
+    ∙ ap (λ (l : List ℕ). get_or l (length l - 1) 0) (sym (found_slots c.args.self.now c.args.hash c.in-Some.list.now (there_now c.self.inside.lists.entries c.args.self.now c.args.hash _ c.self.view_is (sym c.get_mut.ensures.value ∙ ap option_copied_mut c.in-Some.is))))
+
+pub returns-clause-room : goal.returns-clause-room
+returns-clause-room c =
+    let is = sym c.get_mut.ensures.value ∙ ap option_copied_mut c.in-Some.is in
+    λ other. take_room c.args.self.now _ c.args.hash c.in-Some.list.now c.take.new.self other (there_now c.self.inside.lists.entries c.args.self.now c.args.hash _ c.self.view_is is)
+    (wrote_now c.self.inside.lists.entries c.args.self.now _ c.args.hash c.in-Some.list.now c.take.new.self c.self.view_is is (c.get_mut.follows.holds c.take.new.self).0) c.take.ensures.room
