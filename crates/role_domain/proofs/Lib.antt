@@ -8,6 +8,8 @@ mod MoveLemmas
 mod ChangeLemmas
 mod Bringing
 mod StepLemmas
+mod Taken
+mod Popped
 mod Touching
 mod Turning
 mod SectionLemmas

@@ -23,7 +23,7 @@ use Rattle.role_meaning.specs.Links.{domain_of}
 use Rattle.role_meaning.proofs.CallerLemmas.{plain_fits}
 
 -- a test tells of a text that is no pattern whether it is that text
-plain_told : (fit : Fit) (text : List ℕ) (test : List ℕ → Bool) (domain : List ℕ) → Tells fit text test → is_pattern fit domain ≡ false → test domain ≡ bytes_eq text domain
+pub plain_told : (fit : Fit) (text : List ℕ) (test : List ℕ → Bool) (domain : List ℕ) → Tells fit text test → is_pattern fit domain ≡ false → test domain ≡ bytes_eq text domain
 plain_told fit text test domain tells plain = by (test domain) refl (bytes_eq text domain) refl
   where
     by : (t : Bool) → test domain ≡ t → (b : Bool) → bytes_eq text domain ≡ b → t ≡ b

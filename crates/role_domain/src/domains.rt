@@ -145,8 +145,8 @@ impl Domains {
         let _gone = self.entries.swap_remove(text);
     }
 
-    // Gives a text a domain.
-    fn put(&mut self, text: Vec<u8>, domain: Domain)
+    /// Gives a text a domain.
+    pub(crate) fn put(&mut self, text: Vec<u8>, domain: Domain)
         requires { 0 < self.old.spare }
         ensures there { found self.new.entries text.items ≡ Some domain }
         ensures others { (other : List ℕ) → bytes_eq other text.items ≡ false

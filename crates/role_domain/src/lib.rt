@@ -2,6 +2,7 @@
 //! what is asked of names in a domain.
 #![tactic(auto)]
 
+mod builders;
 mod domain;
 mod domains;
 mod moves;

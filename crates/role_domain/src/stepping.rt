@@ -12,6 +12,7 @@ ghost use Rattle.role_domain.specs.Helps.Turns.{CanStep, CanTurn, IsTurnOf, Turn
 ghost use Rattle.role_domain.specs.Relations.{Relation, Tells, pair_of};
 ghost use Rattle.role_domain.specs.Steps.{AreReady, IsReady};
 
+use crate::builders::{builders_of, built};
 use crate::domain::{Domain, graph_of};
 use crate::domains::Domains;
 use crate::patterns::fitting;
@@ -37,11 +38,12 @@ impl Domains {
         ensures { OnOk result
             (AreDomains (after_of (first_turn terms rows.entry)) self.new.entries) }
     {
-        let coming = gather_all(alloc, terms.domains, self, rows)?;
-        let going = Tallies::new(alloc);
-        let touched = self.steps(alloc, terms, &coming, &going, patterns)?;
-        self.reserve(touched.len())?;
-        self.make(touched);
+        let mut builders = builders_of(alloc, terms, rows)?;
+        self.reserve(builders.len())?;
+        while let Some((text, builder)) = builders.pop() {
+            let domain = built(alloc, terms, text.as_slice(), builder, patterns)?;
+            self.put(text, domain);
+        }
         Ok(())
     }
 
@@ -198,25 +200,6 @@ fn gather(alloc: Global, fit: Fit, domains: &Domains, rows: &[Rule]) -> Result<T
     requires { All (λ row. 2 ≤ length row) rows.now }
     ensures { IfOk result (λ tallies. (text : List ℕ)
         → Brings fit (is_some (found domains.now.entries text)) text rows.now tallies) }
-{
-    let mut tallies = Tallies::new(alloc);
-    for row in rows {
-        add(alloc, &mut tallies, fit, domains, row)?;
-    }
-    Ok(tallies)
-}
-
-// What all rows of a table bring.
-fn gather_all(
-    alloc: Global,
-    fit: Fit,
-    domains: &Domains,
-    rows: Rows<'_>,
-) -> Result<Tallies, NoMemory>
-    requires columns { All (λ row. 2 ≤ length row) rows }
-    requires few { length rows ≤ 200000 }
-    ensures { IfOk result (λ tallies. (text : List ℕ)
-        → Brings fit (is_some (found domains.now.entries text)) text rows.entry tallies) }
 {
     let mut tallies = Tallies::new(alloc);
     for row in rows {

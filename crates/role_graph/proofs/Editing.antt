@@ -6,7 +6,8 @@ use Rattle.std.specs.Str.{bytes_eq}
 use Rattle.std.proofs.lemmas.Bool.{cases_Bool}
 use Rattle.std.proofs.lemmas.List.Sums.{sum_by-append}
 use Rattle.policy_table.specs.Tables.{Fields, same}
-use Rattle.role_graph.specs.Groups.{Group, times}
+use Rattle.role_meaning.specs.Links.{role_of, user_of}
+use Rattle.role_graph.specs.Groups.{Group, row, times}
 use Rattle.role_graph.specs.Helps.Edits.{overlay, standing}
 use Rattle.role_graph.specs.Helps.Kept.{Parts, roles_in}
 use Rattle.role_graph.proofs.Putting.{same_text, text_itself}
@@ -15,11 +16,12 @@ use Rattle.role_graph.proofs.Putting.{same_text, text_itself}
 abbrev pub once : Bool → ℕ
 once test = cond test 1 0
 
-pub rule_two : (rule : Fields) (user role : List ℕ) → length rule ≡ 2 → slice_get rule 0 ≡ Some user → slice_get rule 1 ≡ Some role → rule ≡ user ∷ role ∷ []
-rule_two [] user role long first second = absurd cc
-rule_two (a ∷ []) user role long first second = absurd cc
-rule_two (a ∷ b ∷ []) user role long first second = cc
-rule_two (a ∷ b ∷ c ∷ rest) user role long first second = absurd (omega arith)
+-- the user and the role of a row of two fields
+pub pair_is : (rule : Fields) → length rule ≡ 2 → row (user_of rule) (role_of rule) ≡ rule
+pair_is [] long = absurd cc
+pair_is (a ∷ []) long = absurd cc
+pair_is (a ∷ b ∷ []) long = refl
+pair_is (a ∷ b ∷ c ∷ rest) long = absurd (omega arith)
 
 pub count_more : (name role : List ℕ) (roles : List (List ℕ)) → count_by (bytes_eq name) (roles ++ role ∷ []) ≡ count_by (bytes_eq name) roles + once (bytes_eq name role)
 count_more name role roles = let both = sum_by-append (λ (r : List ℕ). once (bytes_eq name r)) roles (role ∷ []) in omega (arith, both)

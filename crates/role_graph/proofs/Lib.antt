@@ -1,6 +1,7 @@
 mod Among
 mod Answering
 mod Bridging
+mod Building
 mod Chains
 mod Changing
 mod Closed

@@ -1,6 +1,6 @@
 //! The square of distances between the roles of a graph, after an edit.
 
-ghost use Rattle.std.specs.Prelude.{◌≡◌, ◌+◌, ◌<◌, ◌≤◌, ℕ, [], IsTrue, length};
+ghost use Rattle.std.specs.Prelude.{◌≡◌, ◌+◌, ◌<◌, ◌≤◌, ℕ, [], IfOk, IsTrue, length};
 ghost use Rattle.std.specs.List.{Contains};
 ghost use Rattle.dist_rows.specs.Squares.{IsSquare, cleared, most_nodes, widened};
 ghost use Rattle.role_graph.specs.Helps.Kept.{linked_of};
@@ -13,7 +13,7 @@ use crate::mending::drop_gone;
 use crate::roles::Roles;
 use crate::touching::{MOST_NODES, NodeMarks, nodes_from};
 use dist_rows::DistRows;
-use perm_base::Text;
+use perm_base::{NoMemory, Text};
 use std::alloc::Global;
 
 /// Makes the square follow an edit that was made: `whole` tells that no role is gone, and `touched`
@@ -42,6 +42,23 @@ pub(crate) fn refresh(
     let touched = begin(square, links, roles, whole, touched);
     widen(square, roles.len() as u32);
     link_touched(square, links, roles, &touched);
+}
+
+/// The square of the roles of a graph; among more than 1,024 no distances are kept.
+pub(crate) fn square_of(alloc: Global, links: &Links, roles: &Roles) -> Result<DistRows, NoMemory>
+    requires nodes { AreNodes (linked_of links.now) (nodes_of roles.now) }
+    ensures exact { IfOk result (λ square. length (nodes_of roles.now) ≤ most_nodes
+        → IsExact (linked_of links.now) (nodes_of roles.now) square.cells) }
+    ensures empty { IfOk result (λ square. most_nodes < length (nodes_of roles.now)
+        → square.cells ≡ []) }
+{
+    let mut square = DistRows::empty(alloc);
+    if roles.len() > MOST_NODES {
+        return Ok(square);
+    }
+    square.reserve_node(roles.len() as u32)?;
+    refresh(&mut square, alloc, links, roles, false, nodes_from(0));
+    Ok(square)
 }
 
 // Takes out what is gone, where all nodes keep their places; else clears the square, and all nodes are

@@ -8,13 +8,15 @@ ghost use Rattle.role_meaning.specs.ImpliedUsers.{AreUsersOf};
 ghost use Rattle.role_meaning.specs.Links.{HasRoles, role_of, user_of};
 ghost use Rattle.policy_table.specs.Limits.{different};
 ghost use Rattle.policy_table.specs.Tables.{Fields};
-ghost use Rattle.role_graph.specs.Groups.{after, row, times};
+ghost use Rattle.role_graph.specs.Groups.{after, row, rows_of, rows_with, times};
 ghost use Rattle.role_graph.specs.Helps.Edits.{standing};
+ghost use Rattle.role_graph.specs.Helps.Kept.{linked_of};
+ghost use Rattle.role_graph.specs.Helps.Roles.{count_of};
 ghost use Rattle.role_graph.specs.Reach.{reached_in};
 ghost use Rattle.role_graph.specs.Graph.{GraphReaches, IsGraphFar, IsPreparedFor, asked_rows, most_rows, shape_of};
 
 use crate::asked::nearest;
-use crate::closure::refresh;
+use crate::closure::{refresh, square_of};
 use crate::edits::Edits;
 use crate::implied::implied;
 use crate::links::Links;
@@ -94,6 +96,37 @@ pub fn new_graph(alloc: Global, names: Fit, limit: u8) -> RoleGraph
         count: 0,
         square: DistRows::empty(alloc),
     }
+}
+
+/// A graph of links, whose rows have these roles and are so many.
+pub(crate) fn graph_of(
+    alloc: Global,
+    links: Links,
+    limit: u8,
+    roles: Roles,
+    count: usize,
+) -> Result<RoleGraph, NoMemory>
+    requires few { length (rows_of (linked_of links).groups) ≤ most_rows }
+    requires some { 1 ≤ limit }
+    requires most { limit ≤ 250 }
+    requires counted { (role : List ℕ) → count_of roles role
+        ≡ rows_with role (rows_of (linked_of links).groups) }
+    requires number { count ≡ length (rows_of (linked_of links).groups) }
+    ensures rows { IfOk result (λ graph. graph.rows ≡ rows_of (linked_of links).groups) }
+    ensures names { IfOk result (λ graph. graph.names ≡ links.names) }
+    ensures limit { IfOk result (λ graph. graph.limit ≡ limit) }
+{
+    let _sound = links.len();
+    let _once = roles.len();
+    let square = square_of(alloc, &links, &roles)?;
+    Ok(RoleGraph {
+        alloc,
+        links,
+        limit,
+        roles,
+        count,
+        square,
+    })
 }
 
 impl RoleGraph {

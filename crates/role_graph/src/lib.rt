@@ -2,6 +2,7 @@
 #![tactic(auto)]
 
 mod asked;
+mod builder;
 mod closure;
 mod edits;
 mod graph;
@@ -25,6 +26,7 @@ mod touching;
 mod users;
 mod walk;
 
+pub use builder::GraphBuilder;
 pub use dist_rows::Steps;
 pub use graph::{RoleGraph, new_graph};
 pub use law::{rows_as_often_reach_the_same, standing_rows_are_counted};

@@ -160,6 +160,22 @@ impl Roles {
         };
     }
 
+    /// Counts a role once more; a new one is copied.
+    pub(crate) fn add_text(&mut self, alloc: Global, role: &[u8]) -> Result<(), NoMemory>
+        requires few { count_of self.old role.now + 1 < 2 ^ 64 }
+        requires whole_line { has_line_end role.now ≡ false }
+        requires utf8 { IsUtf8 role.now }
+        ensures { OnOk result ((name : List ℕ) → count_of self.new name
+            ≡ count_of self.old name + (if bytes_eq name role.now then 1 else 0)) }
+    {
+        if let Some(count) = self.counts.get_mut(role) {
+            *count += 1;
+            return Ok(());
+        }
+        let _none = self.counts.insert(Vec::from_slice(alloc, role)?, 1)?;
+        Ok(())
+    }
+
     /// Counts a role once less, where it is counted; whether it was.
     pub(crate) fn take_one(&mut self, role: &[u8]) -> bool
         ensures taken { result ≡ true → (name : List ℕ) → count_of self.new name
