@@ -1,9 +1,7 @@
--- What lines of requests ask, and lines for the requests that are left.
+-- What lines of requests ask, and lines for the items that are left.
 use Rattle.std.proofs.Common.{◌≡◌, ℕ, Bool, true, false, List, [], ◌∷◌, ◌++◌, append_assoc, append-nil, length, inl, refl, sym, ap, subst, ◌∙◌}
-use Rattle.std.specs.Prelude.{◌==◌, Contains, MatchBool, None, Ok, Err, Option, bytes_eq, if◌then◌else◌, map}
+use Rattle.std.specs.Prelude.{None, Option, bytes_eq, if◌then◌else◌, map}
 use Rattle.std.proofs.lemmas.Slice.Eq.{bytes_eq-Decides}
-use Rattle.answer_lines.specs.declared.answer.Answer.{Answer}
-use Rattle.answer_lines.specs.declared.answer.Answer.TheVariants as answer
 use Rattle.answer_lines.specs.declared.answer.Line.{Line}
 use Rattle.effect_fold.specs.declared.verdict.Verdict.{Verdict}
 use Rattle.matcher_meaning.specs.Perm.{Refusal}
@@ -15,9 +13,9 @@ use Rattle.policy_table.specs.Tables.{Policy}
 use Rattle.script_read.specs.Reads.{Reader, Says}
 use Rattle.script_read.specs.Said.{Reading, Said, asks}
 use Rattle.session_meaning.specs.Plain.{IsLine, IsPlain, all_refused, number_behind}
-use Rattle.session_meaning.specs.Replies.{IsDecided, IsReply, is_decided, rule_of}
+use Rattle.session_meaning.specs.Replies.{is_decided}
 use Rattle.session_meaning.specs.Versions.{out, published}
-use Rattle.session_meaning.proofs.CallerLemmas.{all_more, plain_more}
+use Rattle.session_meaning.proofs.CallerLemmas.{SomeJudged, all_more, plain_more, reply_some}
 
 -- ---- what lines ask
 
@@ -58,20 +56,13 @@ abbrev pub HasVerdicts : Type 0
 HasVerdicts = (model : ModelParts) (shapes : Shapes) (policy : Policy) (request : List Datum) (refused : Option Refusal) → (v : Verdict) × IsVerdict model shapes policy request refused v
 
 module _ (law : HasVerdicts) (model : ModelParts) (shapes : Shapes) (opening : Policy) where
-  -- a reply, whatever was refused
-  some_reply : (refused : List (List ℕ)) (before : List Said) (reading : Reading) → (reply : Answer) × IsReply model shapes opening refused before (asks reading) reply
-  some_reply refused before (Ok values) = by (length values == length model.request)
-    where
-      by : (fits : Bool) → (reply : Answer) × MatchBool fits (IsDecided model shapes refused (out shapes opening before) (published shapes opening before) values reply) (reply ≡ answer.Arity (length values) (length model.request))
-      by true =
-          let v = law model shapes (published shapes opening before) values None in
-          (answer.Decided (out shapes opening before) v.0 (rule_of (published shapes opening before) v.0), record { verdict = v.0; judged = inl v.1; told = refl })
-      by false = (answer.Arity (length values) (length model.request), refl)
-  some_reply refused before (Err fault) = (answer.Request fault, refl)
+  some_judged : (refused : List (List ℕ)) → SomeJudged model shapes refused
+  some_judged refused policy values = let v = law model shapes policy values None in (v.0, inl v.1)
 
-  pub some_line : (refused : List (List ℕ)) (before : List Said) (reading : Reading) → (is_decided model (asks reading) ≡ false → refused ≡ []) → (line : Line) × IsLine model shapes opening before (asks reading) refused line
-  some_line refused before reading unasked =
-      let reply = some_reply refused before reading in
+  -- an item has a line, whatever was refused
+  pub some_line : (refused : List (List ℕ)) (before : List Said) (item : Said) → (is_decided model item ≡ false → refused ≡ []) → (line : Line) × IsLine model shapes opening before item refused line
+  some_line refused before item unasked =
+      let reply = reply_some model shapes opening before (out shapes opening before) (published shapes opening before) refused (some_judged refused) item in
       (record { number = number_behind (length before); answer = reply.0 }, record { number = refl; answer = reply.1; unasked = unasked })
 
   -- lines of all items, of which these are the first, where nothing is refused for the others
@@ -90,31 +81,29 @@ module _ (law : HasVerdicts) (model : ModelParts) (shapes : Shapes) (opening : P
     same = rest.same ∙ same;
   }
 
-  pub more_lines : {json : Bool} (reader : Reader json) (left : List (List ℕ)) (items : List Said) (refused : List (List (List ℕ))) (lines : List Line) → IsPlain model shapes opening items refused lines → MoreLines (items ++ asked reader left) refused lines
-  more_lines reader [] items refused lines plain = record {
+  pub more_lines : (left : List Said) (items : List Said) (refused : List (List (List ℕ))) (lines : List Line) → IsPlain model shapes opening items refused lines → MoreLines (items ++ left) refused lines
+  more_lines [] items refused lines plain = record {
     more = [];
     all = refused;
     plain = subst (λ (l : List Line). IsPlain model shapes opening (items ++ []) refused l) (sym (append-nil lines)) (subst (λ (i : List Said). IsPlain model shapes opening i refused lines) (sym (append-nil items)) plain);
     same = refl;
   }
-  more_lines reader (line ∷ left) items refused lines plain =
-      let item = asks (reader.request line) in
-      let one = some_line [] items (reader.request line) (λ calm. refl) in
+  more_lines (item ∷ left) items refused lines plain =
+      let one = some_line [] items item (λ calm. refl) in
       let next = plain_more model shapes opening items refused lines item [] one.0 plain one.1 in
-      let rest = more_lines reader left (items ++ item ∷ []) (refused ++ [] ∷ []) (lines ++ one.0 ∷ []) next in
-      let whole : (items ++ item ∷ []) ++ asked reader left ≡ items ++ asked reader (line ∷ left) = append_assoc items (item ∷ []) (asked reader left) in
-      line_first (items ++ asked reader (line ∷ left)) refused lines one.0 (refused ++ [] ∷ [])
+      let rest = more_lines left (items ++ item ∷ []) (refused ++ [] ∷ []) (lines ++ one.0 ∷ []) next in
+      let whole : (items ++ item ∷ []) ++ left ≡ items ++ item ∷ left = append_assoc items (item ∷ []) left in
+      line_first (items ++ item ∷ left) refused lines one.0 (refused ++ [] ∷ [])
       (subst (λ (i : List Said). MoreLines i (refused ++ [] ∷ []) (lines ++ one.0 ∷ [])) whole rest)
       (all_more refused [] ∙ append-nil (all_refused refused))
 
-  -- the same where these patterns were refused for the next request
-  pub stopped_lines : {json : Bool} (reader : Reader json) (line : List ℕ) (left : List (List ℕ)) (items : List Said) (refused : List (List (List ℕ))) (patterns : List (List ℕ)) (lines : List Line)
-      → (is_decided model (asks (reader.request line)) ≡ false → patterns ≡ []) → IsPlain model shapes opening items refused lines → MoreLines (items ++ asked reader (line ∷ left)) (refused ++ patterns ∷ []) lines
-  stopped_lines reader line left items refused patterns lines unasked plain =
-      let item = asks (reader.request line) in
-      let one = some_line patterns items (reader.request line) unasked in
+  -- the same where these patterns were refused for the next item
+  pub stopped_lines : (item : Said) (left : List Said) (items : List Said) (refused : List (List (List ℕ))) (patterns : List (List ℕ)) (lines : List Line)
+      → (is_decided model item ≡ false → patterns ≡ []) → IsPlain model shapes opening items refused lines → MoreLines (items ++ item ∷ left) (refused ++ patterns ∷ []) lines
+  stopped_lines item left items refused patterns lines unasked plain =
+      let one = some_line patterns items item unasked in
       let next = plain_more model shapes opening items refused lines item patterns one.0 plain one.1 in
-      let rest = more_lines reader left (items ++ item ∷ []) (refused ++ patterns ∷ []) (lines ++ one.0 ∷ []) next in
-      let whole : (items ++ item ∷ []) ++ asked reader left ≡ items ++ asked reader (line ∷ left) = append_assoc items (item ∷ []) (asked reader left) in
-      line_first (items ++ asked reader (line ∷ left)) (refused ++ patterns ∷ []) lines one.0 (refused ++ patterns ∷ [])
+      let rest = more_lines left (items ++ item ∷ []) (refused ++ patterns ∷ []) (lines ++ one.0 ∷ []) next in
+      let whole : (items ++ item ∷ []) ++ left ≡ items ++ item ∷ left = append_assoc items (item ∷ []) left in
+      line_first (items ++ item ∷ left) (refused ++ patterns ∷ []) lines one.0 (refused ++ patterns ∷ [])
       (subst (λ (i : List Said). MoreLines i (refused ++ patterns ∷ []) (lines ++ one.0 ∷ [])) whole rest) refl

@@ -2,6 +2,7 @@ mod AskLemmas
 mod ExplainLemmas
 mod FollowLemmas
 mod GatheredLemmas
+mod ItemLemmas
 mod PieceLemmas
 mod PrintLemmas
 mod RolesLemmas

@@ -150,7 +150,7 @@ module _ (parts : List ModelParts) (most : ℕ) (model : ModelParts) (shapes : S
       more_pieces reader [] items refused lines pieces plain below = subst (λ (i : List Said). MorePieces i refused lines pieces) (sym (append-nil items)) (pieces_end items refused lines pieces plain below)
       more_pieces reader (line ∷ left) items refused lines pieces plain below =
           let item = asks (reader.request line) in
-          let one = some_line law model shapes policy [] items (reader.request line) (λ calm. refl) in
+          let one = some_line law model shapes policy [] items (asks (reader.request line)) (λ calm. refl) in
           let piece = some_piece [] (reader.request line) one.0 in
           let next = plain_more model shapes policy items refused lines item [] one.0 plain one.1 in
           let below_next = are_pieces_more items refused lines pieces item [] one.0 piece.0 below piece.1 in
@@ -165,7 +165,7 @@ module _ (parts : List ModelParts) (most : ℕ) (model : ModelParts) (shapes : S
           → IsPlain model shapes policy items refused lines → ArePieces parts most model shapes policy items refused lines pieces → MorePieces (items ++ asked reader (line ∷ left)) (refused ++ patterns ∷ []) lines pieces
       stopped_pieces reader line left items refused patterns lines pieces unasked plain below =
           let item = asks (reader.request line) in
-          let one = some_line law model shapes policy patterns items (reader.request line) unasked in
+          let one = some_line law model shapes policy patterns items (asks (reader.request line)) unasked in
           let piece = some_piece patterns (reader.request line) one.0 in
           let next = plain_more model shapes policy items refused lines item patterns one.0 plain one.1 in
           let below_next = are_pieces_more items refused lines pieces item patterns one.0 piece.0 below piece.1 in

@@ -163,7 +163,7 @@ module _ {json : Bool} (law : HasVerdicts) (run : Run json) (text : List ℕ) (l
       let patterns = stops.asked.refused in
       let same = one_reading json way run.reader line stops.reading stops.says in
       let asks_so : Refuses run.model seen.now later (asks (run.reader.request line)) = subst (λ (reading : Reading). Refuses run.model seen.now later (asks reading)) same stops.asked in
-      let more = stopped_lines law run.model run.state.shapes (tables run.state) run.reader line others (asked run.reader so.read) so.under.refused asks_so.refused so.lines asks_so.unasked so.under.plain in
+      let more = stopped_lines law run.model run.state.shapes (tables run.state) (asks (run.reader.request line)) (asked run.reader others) (asked run.reader so.read) so.under.refused asks_so.refused so.lines asks_so.unasked so.under.plain in
       let rest = subst (λ (l : List (List ℕ)). MoreLines law run.model run.state.shapes (tables run.state) (asked run.reader so.read ++ asked run.reader l) (so.under.refused ++ asks_so.refused ∷ []) so.lines) (sym begins) more in
       record {
         printed = lines_with (so.under.refused ++ asks_so.refused ∷ []) later (logged_more seen.before seen.now later so.under.refused asks_so.refused so.under.logged asks_so.logged) rest;
@@ -175,7 +175,7 @@ module _ {json : Bool} (law : HasVerdicts) (run : Run json) (text : List ℕ) (l
       → PrintedSome (IsRequests json text) run.model run.state.shapes (tables run.state) seen.before seen.now seen.out now (Rose seen.faults faults) CannotWrite
   unfolding lines_with
   printed_write now faults front rose =
-      let rest = more_lines law run.model run.state.shapes (tables run.state) run.reader left (asked run.reader so.read) so.under.refused so.lines so.under.plain in
+      let rest = more_lines law run.model run.state.shapes (tables run.state) (asked run.reader left) (asked run.reader so.read) so.under.refused so.lines so.under.plain in
       record {
         printed = lines_with so.under.refused seen.now so.under.logged rest;
         stops = (stopped_front seen.out seen.out_now now gathered so.lines rest.more seen.faults seen.faults_now so.told front, omega (arith, so.told.counted, rose));

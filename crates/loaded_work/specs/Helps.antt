@@ -4,3 +4,4 @@ pub mod Working
 pub mod Explaining
 pub mod Shipping
 pub mod Following
+pub mod Items

@@ -1,26 +1,40 @@
-ghost use Rattle.std.specs.Prelude.{◌≡◌, ◌≤◌, All, IfErr, OnOk, map, true};
+ghost use Rattle.std.specs.Prelude.{◌≡◌, ◌≤◌, All, IfErr, List, None, OnErr, OnOk, [], false, map, true};
 ghost use Rattle.answer_lines.specs.Told.{is_printable};
 ghost use Rattle.outside.specs.Faults.{Rose};
 ghost use Rattle.outside.specs.Told.{with_back};
 ghost use Rattle.script_read.specs.Named.{is_named};
-ghost use Rattle.script_read.specs.Said.{seen};
-ghost use Rattle.loaded_work.specs.Helps.Working.{AreAnswered, IsReady, LinesStop};
+ghost use Rattle.script_read.specs.Said.{Said, seen};
+ghost use Rattle.decision.specs.Programs.{Suits};
+ghost use Rattle.live_round.specs.Desks.{StandsBehind};
+ghost use Rattle.live_round.specs.Requests.{Refuses};
+ghost use Rattle.live_round.specs.Steps.{is_request};
+ghost use Rattle.loaded_work.specs.Helps.Items.{PushesItem};
+ghost use Rattle.loaded_work.specs.Helps.Working.{AreAnswered, IsReady, LinesStop, PrintedAll, PrintedSome};
 ghost use Rattle.loaded_work.specs.Texts.{text_of_lines};
 ghost use Rattle.loaded_work.specs.Sinks.{taken};
+ghost use Rattle.model_conf.specs.ModelText.{ModelParts};
+ghost use Rattle.policy_state.specs.States.{tables};
+ghost use Rattle.policy_table.specs.Tables.{Policy};
+ghost use Rattle.regex_gate.specs.Refusals.{IsUsed, Refusals};
+ghost use Rattle.version_log.specs.Log.{versions};
 
+use crate::enforcing::next_number;
 use crate::gather::push_full;
 use crate::loaded::Loaded;
 use crate::opening::open_loaded;
 use answer_lines::push_line;
-use live_round::{Line, run_plain};
-use perm_base::{Sink, push_all};
-use policy_desk::open_desk;
+use decision::{Program, Scratch};
+use live_round::{Line, answer_other, asked_in, push_request};
+use matcher_meaning::case_verdict_is_there;
+use perm_base::{NoMemory, Sink, push_all};
+use policy_desk::{Desk, open_desk};
 use regex_gate::Finder;
 use run_status::Stop;
-use script_read::Script;
+use script_read::{Item, Script};
+use session_meaning::replies_are_printable;
 use std::alloc::Global;
 
-/// Does the items of a script one after the other, each by a line.
+/// Does the items of a script one after the other, each by a line that is printed before the next is done.
 pub fn serve<K: Sink, P: Finder>(
     alloc: Global,
     loaded: Loaded,
@@ -37,8 +51,103 @@ pub fn serve<K: Sink, P: Finder>(
 {
     let opened = open_loaded(alloc, loaded)?;
     let mut desk = open_desk(alloc, opened.state)?;
-    let lines = run_plain(alloc, &mut desk, &opened.program, script, finder)?;
-    print_lines(alloc, out, lines.as_slice())
+    print_items(alloc, out, &mut desk, &opened.program, script, finder)
+}
+
+// Does the items of a script at a desk, and prints a line for each, numbered from 1.
+fn print_items<K: Sink, P: Finder>(
+    alloc: Global,
+    out: &mut K,
+    desk: &mut Desk,
+    program: &Program,
+    script: &Script,
+    finder: &mut P,
+) -> Result<(), Stop>
+    requires suits { Suits program.now desk.old.state.shapes }
+    requires opening { versions desk.old.state.log ≡ 0 }
+    requires none_pending { desk.old.pending ≡ [] }
+    requires keeps_all { desk.old.kept ≡ None }
+    requires have_names { All (λ item. is_named item ≡ true) (map seen script.now) }
+    ensures printed { OnOk result (PrintedAll (λ items. items ≡ map seen script.now)
+        program.now desk.old.state.shapes (tables desk.old.state)
+        (P.refusals finder.old) (P.refusals finder.new) (K.taken out.old) (K.taken out.new)) }
+    ensures stopped { IfErr result (PrintedSome (λ items. items ≡ map seen script.now)
+        program.now desk.old.state.shapes (tables desk.old.state)
+        (P.refusals finder.old) (P.refusals finder.new) (K.taken out.old) (K.taken out.new)
+        (Rose (K.faults out.old) (K.faults out.new))) }
+    ensures counted { K.faults out.old ≤ K.faults out.new }
+    ensures used { IsUsed (P.refusals finder.old) (P.refusals finder.new) }
+{
+    desk.holds();
+    case_verdict_is_there();
+    let mut scratch = Scratch::for_program(alloc, program);
+    let mut text = String::new(alloc);
+    let mut number = 0;
+    let items = script.as_slice();
+    for item in items {
+        number = next_number(number);
+        push_item(
+            alloc,
+            &mut text,
+            number,
+            desk,
+            program,
+            item,
+            finder,
+            &mut scratch,
+        )?;
+        push_full(out, &mut text)?;
+    }
+    push_all(out, text.as_bytes())?;
+    Ok(())
+}
+
+// Answers an item, does what it says, and appends its line; the rule that a line of a request names is not copied.
+fn push_item<P: Finder>(
+    alloc: Global,
+    text: &mut String,
+    number: u32,
+    desk: &mut Desk,
+    program: &Program,
+    item: &Item,
+    finder: &mut P,
+    scratch: &mut Scratch,
+) -> Result<(), NoMemory>
+    requires suits { Suits program.now desk.old.state.shapes }
+    requires stands { (opening : Policy) × (before : List Said) × StandsBehind opening before desk.old }
+    requires has_name { is_named (seen item.now) ≡ true }
+    ensures pushed { OnOk result (PushesItem program.now
+        (P.refusals finder.old) (P.refusals finder.new) (seen item.now) number
+        desk.old desk.new text.old text.new) }
+    ensures shapes { desk.new.state.shapes ≡ desk.old.state.shapes }
+    ensures refused { OnErr result (Refuses program.now
+        (P.refusals finder.old) (P.refusals finder.new) (seen item.now)) }
+{
+    let Some(asked) = asked_in(item) else {
+        return push_other(alloc, text, number, desk, item);
+    };
+    push_request(text, number, desk.state(), program, asked, finder, scratch)
+}
+
+// The same for an item that is no request.
+fn push_other(
+    alloc: Global,
+    text: &mut String,
+    number: u32,
+    desk: &mut Desk,
+    item: &Item,
+) -> Result<(), NoMemory>
+    requires other { is_request (seen item.now) ≡ false }
+    requires stands { (opening : Policy) × (before : List Said) × StandsBehind opening before desk.old }
+    requires has_name { is_named (seen item.now) ≡ true }
+    ensures pushed { OnOk result ((model : ModelParts) (refusals : Refusals)
+        → PushesItem model refusals refusals (seen item.now) number
+        desk.old desk.new text.old text.new) }
+    ensures shapes { desk.new.state.shapes ≡ desk.old.state.shapes }
+{
+    replies_are_printable();
+    let answer = answer_other(&(), alloc, desk, item)?;
+    push_line(text, &Line { number, answer })
 }
 
 /// Prints lines.

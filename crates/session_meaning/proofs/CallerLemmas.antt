@@ -3,4 +3,5 @@ pub use Rattle.session_meaning.proofs.LineLemmas.{all_more, plain_more, plain_no
 pub use Rattle.session_meaning.proofs.PrintableLemmas.{RowsAreMoved, plain_printable, reply_printable, rule_stands}
 pub use Rattle.session_meaning.proofs.DeskLemmas.{behind_call, behind_keep, behind_none, behind_other, behind_publish, desk_call, desk_edits, desk_not_recalled, desk_recalled, desk_version, only_asks, out_at_desk}
 pub use Rattle.session_meaning.proofs.GivenLemmas.{given_front}
+pub use Rattle.session_meaning.proofs.ReplyLemmas.{SomeJudged, reply_some}
 pub use Rattle.session_meaning.proofs.OutLemmas.{history_none, history_publish, history_same, out_among}
