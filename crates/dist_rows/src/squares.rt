@@ -65,6 +65,14 @@ impl DistRows {
         self.rows.len() as u32
     }
 
+    /// For how many nodes there is room in all.
+    pub fn room(&self) -> u32
+        ensures value { result ≡ length self.now.cells + self.now.spare }
+        ensures few { result ≤ most_nodes }
+    {
+        (self.rows.len() + self.free.len()) as u32
+    }
+
     /// Makes room for so many nodes more. On want of memory the square stays, and so does the room.
     pub fn reserve_node(&mut self, count: u32) -> Result<(), NoMemory>
         requires { length self.old.cells + count ≤ most_nodes }

@@ -1,19 +1,17 @@
 -- What is asked of names in a domain of a section.
 use Rattle.std.proofs.Common.{◌≡◌, ◌⊎◌, inl, inr, ◌≤◌, ◌↔◌, ◌+◌, ◌&&◌, ◌||◌, ℕ, Bool, true, false, List, [], ◌∷◌, Option, None, Some, IsTrue, length, map, refl, sym, ap, subst, ◌∙◌, arith, le-leb, leb-true}
-use Rattle.std.specs.Prelude.{filter, if◌then◌else◌, is_some, nat_le, not, unwrap_or}
+use Rattle.std.specs.Prelude.{filter, if◌then◌else◌, is_some, nat_le, unwrap_or}
 use Rattle.std.specs.Borrow.{Bor}
 use Rattle.std.specs.List.{Contains, list_any}
 use Rattle.std.specs.Option.{option_copied}
 use Rattle.std.specs.Str.{bytes_eq}
-use Rattle.std.proofs.lemmas.Bool.{false≢true}
 use Rattle.std.proofs.lemmas.Cmp.{nat_list_eq_equiv}
-use Rattle.std.proofs.lemmas.List.Elements.{All-contains}
 use Rattle.std.proofs.lemmas.Map.Made.{length-le_from_is_member}
 use Rattle.std.proofs.lemmas.Slice.Eq.{bytes_eq-Decides}
 use Rattle.indexmap.proofs.CallerLemmas.{Contains-list_any}
 use Rattle.perm_base.specs.Patterns.{is_pattern}
 use Rattle.perm_base.specs.declared.shapes.Fit.{Fit}
-use Rattle.policy_table.specs.Limits.{different, domains_of, role_columns}
+use Rattle.policy_table.specs.Limits.{different, domains_of}
 use Rattle.policy_table.specs.Tables.{Fields, same}
 use Rattle.policy_table.proofs.CallerLemmas.{among_different, distinct_different}
 use Rattle.role_domain.specs.Domains.{IsDomain, IsRight, found}
@@ -254,33 +252,3 @@ module _ (section : Section) (all_rows : List Fields) (sound : IsSectionOf secti
         let some : 1 ≤ named text all_rows = passing_counts (λ (r : Fields). bytes_eq text (domain_of r)) all_rows row stands ((bytes_eq-Decides text (domain_of row)).1 equal) in
         let no : named text all_rows ≡ 0 = none in
         omega (arith, some, no)
-
-    -- it is kept where no domain is asked for, and there are no rows then
-    pub kept_nowhere : (test : Bool) → not test ≡ is_some domain → IsTrue test ↔ (IsNamed all_rows domain × HasFewRoles section.shape all_rows domain)
-    kept_nowhere test told = by domain asks is told
-      where
-        turned : (b : Bool) → not b ≡ false → b ≡ true
-        turned true is = refl
-        turned false is = absurd (false≢true (sym is))
-
-        by : (asked : Option (List ℕ)) → is_some asked ≡ section.shape.with_domain → text ≡ unwrap_or asked [] → not test ≡ is_some asked → IsTrue test ↔ (IsNamed all_rows asked × HasFewRoles section.shape all_rows asked)
-        by None no_domain same kept = (
-          λ holds. (tt, record { names = []; few = omega arith; all = λ row stands counts. absurd (no_row row stands (same ∙ sym (empty row (columns row stands ∙ ap (λ (b : Bool). if b then 3 else 2) (sym no_domain))))) }),
-          λ both. turned test kept,
-        )
-          where
-            columns : (row : Fields) → Contains all_rows row → length row ≡ role_columns section.shape
-            columns row stands = All-contains (λ (r : Fields). length r ≡ role_columns section.shape) all_rows row sound.columns stands
-
-            empty : (row : Fields) → length row ≡ 2 → domain_of row ≡ []
-            empty [] long = refl
-            empty (a ∷ []) long = refl
-            empty (a ∷ b ∷ []) long = refl
-            empty (a ∷ b ∷ c ∷ rest) long = absurd (omega (arith, long))
-        by (Some name) some same kept = (
-          λ holds. absurd (false≢true (ap not (sym holds) ∙ kept)),
-          λ both. absurd (by_row (map_cases domain_of all_rows name both.0)),
-        )
-          where
-            by_row : (row : Fields) × Contains all_rows row × (domain_of row ≡ name) → ⊥
-            by_row (row, stands, has) = no_row row stands (same ∙ sym has)

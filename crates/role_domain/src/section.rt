@@ -13,7 +13,7 @@ ghost use Rattle.role_meaning.specs.Implied.{AreImplied};
 ghost use Rattle.role_meaning.specs.ImpliedUsers.{AreImpliedUsers};
 ghost use Rattle.role_meaning.specs.Links.{HasRoles, IsLinked, domain_of, role_of, user_of};
 ghost use Rattle.role_domain.specs.Reach.{ReachesName};
-ghost use Rattle.role_domain.specs.Relations.{HasFewPatterns, HasFewRoles, IsNamed, TellsRows, asked_rows};
+ghost use Rattle.role_domain.specs.Relations.{HasFewPatterns, HasFewRoles, TellsRows, asked_rows};
 ghost use Rattle.role_domain.specs.Sections.{IsPreparedFor, IsSectionOf, all_columns};
 
 use crate::domain::graph_of;
@@ -326,21 +326,6 @@ impl RoleSection {
         let graph = graph_of(alloc, terms.names, self.limit, &pairs, &[])?;
         let names = graph.users_within(alloc, x, rows)?;
         Ok(names)
-    }
-
-    /// Whether some row has the domain's text, or no domain is asked for, and at most 1,024 names
-    /// hold the role of each row that counts there.
-    pub fn is_kept(&self, domain: Option<&[u8]>) -> bool
-        requires { is_some domain ≡ self.now.shape.with_domain }
-        ensures { (rows : List Fields) → IsSectionOf self.now rows
-            → IsTrue result ↔ (IsNamed rows (option_copied domain.entry)
-            × HasFewRoles self.now.shape rows (option_copied domain.entry)) }
-    {
-        links_are_decided();
-        match self.domains.get(asked(domain)) {
-            Some(found) => found.graph.is_kept(),
-            None => domain.is_none(),
-        }
     }
 
     /// Makes edits of the tables ready, before they are made there, so that `commit` needs no memory;

@@ -1,5 +1,5 @@
 -- What a walk answers, and a graph without rows.
-use Rattle.std.proofs.Common.{◌≡◌, ◌≤◌, ◌++◌, ℕ, Bool, List, [], Option, None, Some, IsTrue, length, map, refl, sym, ap, subst, ◌∙◌, arith, le-leb, leb-true}
+use Rattle.std.proofs.Common.{◌≡◌, ◌≤◌, ◌++◌, ℕ, Bool, List, [], Option, None, Some, IsTrue, map, sym, ap, subst, ◌∙◌, arith, le-leb, leb-true}
 use Rattle.std.specs.Prelude.{◌↔◌, is_some, nat_le, unwrap_or}
 use Rattle.std.specs.List.{Contains, IsDistinct}
 use Rattle.std.proofs.lemmas.Bool.{false≢true}
@@ -8,11 +8,10 @@ use Rattle.role_meaning.specs.Distances.{IsFar}
 use Rattle.role_meaning.specs.Least.{IsLeast}
 use Rattle.role_meaning.specs.Links.{Reaches, role_of}
 use Rattle.role_meaning.proofs.CallerLemmas.{far_tells, reaches_more, stands_nowhere}
-use Rattle.role_graph.specs.Graph.{role_count, shape_of}
+use Rattle.role_graph.specs.Graph.{shape_of}
 use Rattle.role_graph.specs.Groups.{Group, rows_of}
-use Rattle.role_graph.specs.Helps.Squares.{AreNodes, IsExact}
+use Rattle.role_graph.specs.Helps.Squares.{AreNodes}
 use Rattle.role_graph.specs.Helps.Walks.{IsDistance, Linked}
-use Rattle.role_graph.proofs.Rooms.{nodes_many}
 
 pub no_rows : (plain patterned : List Group) → plain ≡ [] → patterned ≡ [] → rows_of (plain ++ patterned) ≡ []
 unfolding rows_of
@@ -39,10 +38,6 @@ kept_told linked x y limit far few is = (λ near. tells.1 (leb-true far limit ne
     tells : Reaches (shape_of linked.names) (rows_of linked.groups) None limit x y ↔ (far ≤ limit)
     tells = far_tells (shape_of linked.names) (rows_of linked.groups) None x y far limit (omega arith) is
 
--- the roles of a graph whose distances are kept
-pub kept_few : (linked : Linked) (names : List (List ℕ)) (rows : List Fields) (test : Bool) → AreNodes linked names → rows_of linked.groups ≡ rows → IsTrue test ↔ (role_count rows ≤ 1024) → IsTrue test → length names ≤ 1024
-kept_few linked names rows test nodes same told holds = omega (arith, nodes_many linked names nodes, ap role_count same, told.0 holds)
-
 -- ---- a graph without rows
 
 pub nodes_none : (linked : Linked) (names : List (List ℕ)) → names ≡ [] → rows_of linked.groups ≡ [] → AreNodes linked names
@@ -53,7 +48,3 @@ nodes_none linked names none empty =
       all = λ role stands. absurd (stands_nowhere role (subst (λ (rows : List Fields). Contains (map role_of rows) role) empty stands));
       only = λ role stands. absurd (stands_nowhere role stands);
     })
-
-pub exact_none : (linked : Linked) (names : List (List ℕ)) (cells : List (List ℕ)) → names ≡ [] → cells ≡ [] → IsExact linked names cells
-exact_none linked names cells none empty =
-    subst (λ (l : List (List ℕ)). IsExact linked l cells) (sym none) (subst (IsExact linked []) (sym empty) (record { long = refl; square = tt; far = λ a b within. absurd (omega arith) }))

@@ -9,17 +9,14 @@ use Rattle.std.proofs.lemmas.Cmp.{nat_list_eq_equiv}
 use Rattle.std.proofs.lemmas.List.Sums.{sum_by-cons}
 use Rattle.std.proofs.lemmas.Map.Views.{IsSome-lookup_from_Contains}
 use Rattle.dist_rows.specs.Squares.{most_nodes}
-use Rattle.policy_table.specs.Tables.{Fields}
-use Rattle.policy_table.proofs.CallerLemmas.{keys_different}
 use Rattle.role_meaning.specs.Links.{role_of}
 use Rattle.role_meaning.proofs.CallerLemmas.{stands_behind, stands_here}
-use Rattle.role_graph.specs.Graph.{role_count}
 use Rattle.role_graph.specs.Groups.{Group, rows_of, rows_with}
 use Rattle.role_graph.specs.Helps.Roles.{Counted, HasNoZero, count_of, nodes_of, number_in}
 use Rattle.role_graph.specs.Helps.Squares.{AreNodes, IsBefore, IsExact, IsMarked}
 use Rattle.role_graph.specs.Helps.Walks.{Linked}
 use Rattle.role_graph.proofs.Editing.{once}
-use Rattle.role_graph.proofs.Following.{IsTouching, before_from, before_none}
+use Rattle.role_graph.proofs.Following.{IsTouching, before_from}
 use Rattle.role_graph.proofs.Gathering.{counted_some}
 use Rattle.role_graph.proofs.Putting.{same_text}
 
@@ -65,10 +62,6 @@ nodes_from linked roles once some counted = record {
   only = λ role stands. counted_stands role (map role_of (rows_of linked.groups)) (subst (λ (n : ℕ). 1 ≤ n) (counted role) (key_counted roles.entries role some stands));
 }
 
--- there are as many nodes as different roles in the rows
-pub nodes_count : (rows : List Fields) (roles : Counted) → IsDistinct bytes_eq (nodes_of roles) → HasNoZero roles.entries → ((role : List ℕ) → count_of roles role ≡ rows_with role rows) → length (nodes_of roles) ≡ role_count rows
-nodes_count rows roles once some counted = keys_different (map role_of rows) roles.entries counted once some
-
 -- ---- before the square follows
 
 -- where no role is gone, the nodes keep their places
@@ -76,10 +69,6 @@ pub whole_places : (first mid last : List (List ℕ)) (grown now : ℕ) (test : 
 whole_places first mid last grown now test (more, joined) (inl same) one two is holds = (more, same ∙ joined)
 whole_places first mid last grown now test (more, joined) (inr less) one two is holds = absurd (let e : now ≡ grown = eqb-true now grown (sym is ∙ holds) in omega (arith, e, one, two))
 
-pub committed_before : (changed : List Group) (old new : Linked) (known names : List (List ℕ)) (touched : List Bool) (cells : List (List ℕ)) → IsTouching changed old new names touched → ((more : List (List ℕ)) × (names ≡ known ++ more)) → IsDistinct bytes_eq names → AreNodes old known
-    → (length known ≤ 1024 → IsExact old known cells) → (1024 < length known → cells ≡ []) → ((a : ℕ) → length cells ≤ a → a < most_nodes → IsMarked touched a) → IsBefore new names touched cells
-committed_before changed old new known names touched cells is (more, joined) once nodes exact empty fresh = by (cases_lt 1024 (length known))
-  where
-    by : (1024 < length known) ⊎ (length known ≤ 1024) → IsBefore new names touched cells
-    by (inl many) = before_none new names touched cells (empty many) is.few fresh
-    by (inr few) = before_from changed old new known names more touched cells is joined once nodes (exact few) fresh
+pub committed_before : (changed : List Group) (old new : Linked) (known names : List (List ℕ)) (touched : List Bool) (cells : List (List ℕ)) → IsTouching changed old new names touched → ((more : List (List ℕ)) × (names ≡ known ++ more)) → IsDistinct bytes_eq names → AreNodes old known → IsExact old known cells
+    → ((a : ℕ) → length cells ≤ a → a < most_nodes → IsMarked touched a) → IsBefore new names touched cells
+committed_before changed old new known names touched cells is (more, joined) once nodes exact fresh = before_from changed old new known names more touched cells is joined once nodes exact fresh

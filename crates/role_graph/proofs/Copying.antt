@@ -127,7 +127,6 @@ sound_room plain patterned a b c d names limit entries e f count cells is = reco
   number = is.number;
   nodes = is.nodes;
   exact = is.exact;
-  empty = is.empty;
 }
 
 pub sound_copied : (old new : Parts) (limit : ℕ) (roles more : Counted) (count : ℕ) (cells after : List (List ℕ)) → new.plain.groups ≡ old.plain.groups → new.patterned.groups ≡ old.patterned.groups → new.names ≡ old.names → more.entries ≡ roles.entries

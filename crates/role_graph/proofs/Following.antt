@@ -13,7 +13,7 @@ use Rattle.role_meaning.specs.Links.{SomeLink, role_of, user_of}
 use Rattle.role_meaning.proofs.CallerLemmas.{map_stands, stands_behind, stands_here}
 use Rattle.role_graph.specs.Graph.{shape_of}
 use Rattle.role_graph.specs.Groups.{Group, after, has_user, rows_of, times}
-use Rattle.role_graph.specs.Helps.Squares.{AreNodes, IsBefore, IsClosed, IsExact, IsMarked, IsNear, IsNodeLink, name_at}
+use Rattle.role_graph.specs.Helps.Squares.{AreNodes, IsBefore, IsExact, IsMarked, IsNear, IsNodeLink, name_at}
 use Rattle.role_graph.specs.Helps.Walks.{IsLink, Linked, no_group}
 use Rattle.role_graph.proofs.Bridging.{closed_from, link_near, near_told, node_of, one_node}
 use Rattle.role_graph.proofs.Counting.{stands_from_times, times_both, times_filter, times_from_stands}
@@ -143,16 +143,3 @@ before_from changed old new known names more touched cells is joined once nodes 
         subst (IsNear cells a) same
         (link_near old known cells a c exact (omega (arith, first, exact.long)) within
         (subst (λ (x : List ℕ). IsLink old x (name_at known c)) (same_name a (omega (arith, first, exact.long))) (subst (IsLink old (name_at names a)) (sym is_name) stood)))
-
--- where no distances were kept, there is nothing that could be wrong
-pub before_none : (new : Linked) (names : List (List ℕ)) (touched : List Bool) (cells : List (List ℕ)) → cells ≡ [] → length names ≤ most_nodes → ((a : ℕ) → length cells ≤ a → a < most_nodes → IsMarked touched a) → IsBefore new names touched cells
-before_none new names touched cells none few fresh = record {
-  closed = subst IsClosed (sym none) (record { square = tt; least = λ a b first. absurd (omega arith) });
-  long = omega (arith, empty);
-  fresh = λ a past within. fresh a past (omega (arith, few));
-  sound = λ a b untouched near. absurd (omega (arith, near.first, empty));
-  whole = λ a b first. absurd (omega (arith, first, empty));
-}
-  where
-    empty : length cells ≡ 0
-    empty = ap (λ (l : List (List ℕ)). length l) none

@@ -6,7 +6,7 @@ use Rattle.std.proofs.lemmas.List.{length-map}
 use Rattle.std.proofs.lemmas.List.Sums.{count_by-le-length}
 use Rattle.perm_base.specs.LineEnds.{has_line_end}
 use Rattle.role_meaning.specs.Links.{role_of}
-use Rattle.role_graph.specs.Graph.{Edit, Graph, IsPreparedFor, most_kept, role_count}
+use Rattle.role_graph.specs.Graph.{Edit, Graph, IsPreparedFor}
 use Rattle.role_graph.specs.Helps.Roles.{Counted, count_of}
 use Rattle.policy_table.specs.Tables.{Fields}
 use Rattle.role_graph.specs.Groups.{Group, after, rows_of, rows_with, times}
@@ -39,8 +39,8 @@ changed_roles rows others insert remove equal role =
     )
 
 -- what an edit comes to, in a graph whose rows these are
-pub prepared_for : (graph : Graph) (edit : Edit) (rows : List Fields) (changed : List Group) (added removed : List (List ℕ)) (insert remove : List Fields) → graph.rows ≡ rows → edit.changed ≡ changed → edit.added ≡ added → edit.removed ≡ removed → list_any has_line_end added ≡ false → added ≡ map role_of insert → removed ≡ map role_of remove → AreApart changed → length changed ≤ graph.spare → length added ≤ graph.spare_roles → ((one : Fields) → times one (after changed rows) + times one remove ≡ times one rows + times one insert) → length rows + length insert ≤ 200000 + length remove → (role_count (after changed rows) ≤ most_kept → role_count (after changed rows) ≤ graph.places) → IsPreparedFor graph edit
-prepared_for graph edit rows changed added removed insert remove same changed_is added_is removed_is lines come go apart room room_of_roles equal few distances = record {
+pub prepared_for : (graph : Graph) (edit : Edit) (rows : List Fields) (changed : List Group) (added removed : List (List ℕ)) (insert remove : List Fields) → graph.rows ≡ rows → edit.changed ≡ changed → edit.added ≡ added → edit.removed ≡ removed → list_any has_line_end added ≡ false → added ≡ map role_of insert → removed ≡ map role_of remove → AreApart changed → length changed ≤ graph.spare → length added ≤ graph.spare_roles → ((one : Fields) → times one (after changed rows) + times one remove ≡ times one rows + times one insert) → length rows + length insert ≤ 200000 + length remove → IsPreparedFor graph edit
+prepared_for graph edit rows changed added removed insert remove same changed_is added_is removed_is lines come go apart room room_of_roles equal few = record {
   once = subst AreApart (sym changed_is) apart;
   room = omega (arith, ap length changed_is, room);
   room_of_roles = omega (arith, ap length added_is, room_of_roles);
@@ -66,7 +66,6 @@ prepared_for graph edit rows changed added removed insert remove same changed_is
     ap (count_by (bytes_eq role)) (removed_is ∙ go),
     changed_roles rows (after changed rows) insert remove equal role,
   );
-  room_of_distances = λ low. omega (arith, ap role_count behind, distances (omega (arith, ap role_count behind, low)));
 }
   where
     behind : after edit.changed graph.rows ≡ after changed rows
@@ -89,8 +88,8 @@ counted_after graph edit old new added removed rows good come go counted change 
     omega (arith, good.roles role, counted role, change role, ap (count_by (bytes_eq role)) come, ap (count_by (bytes_eq role)) go, roles_alike rows (after edit.changed graph.rows) alike role)
 
 -- an edit stays prepared while the rows are the same and the room is not less
-pub still_prepared : (old new : Graph) (edit : Edit) → new.rows ≡ old.rows → old.spare ≤ new.spare → old.spare_roles ≤ new.spare_roles → old.places ≤ new.places → IsPreparedFor old edit → IsPreparedFor new edit
-still_prepared old new edit same more more_roles more_places good = record {
+pub still_prepared : (old new : Graph) (edit : Edit) → new.rows ≡ old.rows → old.spare ≤ new.spare → old.spare_roles ≤ new.spare_roles → IsPreparedFor old edit → IsPreparedFor new edit
+still_prepared old new edit same more more_roles good = record {
   once = good.once;
   room = omega (arith, good.room, more);
   room_of_roles = omega (arith, good.room_of_roles, more_roles);
@@ -98,5 +97,4 @@ still_prepared old new edit same more more_roles more_places good = record {
   long = omega (arith, good.long, ap length same, ap length (ap (after edit.changed) same));
   whole_lines = good.whole_lines;
   roles = λ role. omega (arith, good.roles role, ap (rows_with role) same, ap (rows_with role) (ap (after edit.changed) same));
-  room_of_distances = λ few. let count : role_count (after edit.changed new.rows) ≡ role_count (after edit.changed old.rows) = ap (λ (rows : List Fields). role_count (after edit.changed rows)) same in omega (arith, count, more_places, good.room_of_distances (omega (arith, count, few)));
 }

@@ -13,23 +13,18 @@ use Rattle.role_graph.specs.Groups.{Group, after, rows_with}
 use Rattle.role_meaning.specs.Distances.{IsFar}
 use Rattle.role_meaning.specs.Links.{Reaches, role_of, user_of}
 
--- the rows in an order of the graph's own, how names are compared with users, the hierarchy limit, for how many further users
--- and roles there is room, and between how many roles in all there is room for distances
+-- the rows in an order of the graph's own, how names are compared with users, the hierarchy limit, and for how many further users
+-- and roles there is room
 pub record Graph : Type 0 where
   pub rows : List Fields
   pub names : Fit
   pub limit : ℕ
   pub spare : ℕ
   pub spare_roles : ℕ
-  pub places : ℕ
 
 -- the greatest number of rows
 abbrev pub most_rows : ℕ
 most_rows = 200000
-
--- the greatest number of different roles between which the distances are kept
-abbrev pub most_kept : ℕ
-most_kept = 1024
 
 -- how many different roles the rows have
 abbrev pub role_count : List Fields → ℕ
@@ -46,8 +41,7 @@ pub record Edit : Type 0 where
   pub removed : List (List ℕ)
 
 -- the edit can be made in the graph as it stands: no user is named twice, there is room, there are no more rows than may be
--- afterwards, the roles that come and go are those of the rows and hold no line end, and there is room for the distances that
--- are kept afterwards
+-- afterwards, and the roles that come and go are those of the rows and hold no line end
 pub record IsPreparedFor (graph : Graph) (edit : Edit) : Type 0 where
   pub once : IsDistinct bytes_eq (map (λ (group : Group). group.user) edit.changed)
   pub room : length edit.changed ≤ graph.spare
@@ -57,7 +51,6 @@ pub record IsPreparedFor (graph : Graph) (edit : Edit) : Type 0 where
   pub whole_lines : list_any has_line_end edit.added ≡ false
   pub roles : (role : List ℕ)
       → rows_with role (after edit.changed graph.rows) + count_by (bytes_eq role) edit.removed ≡ rows_with role graph.rows + count_by (bytes_eq role) edit.added
-  pub room_of_distances : role_count (after edit.changed graph.rows) ≤ most_kept → role_count (after edit.changed graph.rows) ≤ graph.places
 
 -- the shape of a relation without domains
 abbrev pub shape_of : Fit → RoleShape

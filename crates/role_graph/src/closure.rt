@@ -17,7 +17,8 @@ use perm_base::{NoMemory, Text};
 use std::alloc::Global;
 
 /// Makes the square follow an edit that was made: `whole` tells that no role is gone, and `touched`
-/// which nodes may have other links. Among more than 1,024 roles no distances are kept.
+/// which nodes may have other links. No distances are kept where no role is below another, or there
+/// is no room, as among more than 1,024 roles.
 pub(crate) fn refresh(
     square: &mut DistRows,
     alloc: Global,
@@ -27,38 +28,88 @@ pub(crate) fn refresh(
     touched: NodeMarks,
 )
     requires nodes { AreNodes (linked_of links.now) (nodes_of roles.now) }
-    requires before { IsTrue whole → length (nodes_of roles.now) ≤ most_nodes
+    requires before { IsTrue whole → 0 < length square.old.cells
+        → length (nodes_of roles.now) ≤ most_nodes
         → IsBefore (linked_of links.now) (nodes_of roles.now) touched square.old.cells }
-    requires room { length (nodes_of roles.now) ≤ most_nodes
-        → length (nodes_of roles.now) ≤ length square.old.cells + square.old.spare }
-    ensures exact { length (nodes_of roles.now) ≤ most_nodes
+    ensures { 0 < length square.new.cells
         → IsExact (linked_of links.now) (nodes_of roles.now) square.new.cells }
-    ensures empty { most_nodes < length (nodes_of roles.now) → square.new.cells ≡ [] }
 {
-    if roles.len() > MOST_NODES {
+    if is_flat(square, links, roles, &touched) {
+        return;
+    }
+    if !has_room(square, roles) {
         *square = DistRows::empty(alloc);
         return;
     }
-    let touched = begin(square, links, roles, whole, touched);
-    widen(square, roles.len() as u32);
-    link_touched(square, links, roles, &touched);
+    follow(square, links, roles, whole, touched);
 }
 
-/// The square of the roles of a graph; among more than 1,024 no distances are kept.
+/// The square of the roles of a graph.
 pub(crate) fn square_of(alloc: Global, links: &Links, roles: &Roles) -> Result<DistRows, NoMemory>
-    requires nodes { AreNodes (linked_of links.now) (nodes_of roles.now) }
-    ensures exact { IfOk result (λ square. length (nodes_of roles.now) ≤ most_nodes
+    requires { AreNodes (linked_of links.now) (nodes_of roles.now) }
+    ensures { IfOk result (λ square. 0 < length square.cells
         → IsExact (linked_of links.now) (nodes_of roles.now) square.cells) }
-    ensures empty { IfOk result (λ square. most_nodes < length (nodes_of roles.now)
-        → square.cells ≡ []) }
 {
     let mut square = DistRows::empty(alloc);
+    let all = nodes_from(0);
+    if !has_links(links, roles, &all) {
+        return Ok(square);
+    }
     if roles.len() > MOST_NODES {
         return Ok(square);
     }
     square.reserve_node(roles.len() as u32)?;
-    refresh(&mut square, alloc, links, roles, false, nodes_from(0));
+    refresh(&mut square, alloc, links, roles, false, all);
     Ok(square)
+}
+
+// Whether no distances are kept, and no touched node has a link.
+fn is_flat(square: &DistRows, links: &Links, roles: &Roles, touched: &NodeMarks) -> bool
+    ensures { IsTrue result → length square.now.cells ≡ 0 }
+{
+    square.size() == 0 && !has_links(links, roles, touched)
+}
+
+// Whether a touched node has a link.
+fn has_links(links: &Links, roles: &Roles, touched: &NodeMarks) -> bool {
+    for node in 0..roles.len().min(MOST_NODES) {
+        if touched[node] && links.has_fitting(roles.name_at(node)) {
+            return true;
+        }
+    }
+    false
+}
+
+// Whether there is room for the distances between all roles.
+fn has_room(square: &DistRows, roles: &Roles) -> bool
+    ensures few { IsTrue result → length (nodes_of roles.now) ≤ most_nodes }
+    ensures room { IsTrue result
+        → length (nodes_of roles.now) ≤ length square.now.cells + square.now.spare }
+{
+    roles.len() <= square.room() as usize
+}
+
+// Makes the square follow, where there is room.
+fn follow(square: &mut DistRows, links: &Links, roles: &Roles, whole: bool, touched: NodeMarks)
+    requires nodes { AreNodes (linked_of links.now) (nodes_of roles.now) }
+    requires few { length (nodes_of roles.now) ≤ most_nodes }
+    requires before { IsTrue whole → 0 < length square.old.cells
+        → IsBefore (linked_of links.now) (nodes_of roles.now) touched square.old.cells }
+    requires room { length (nodes_of roles.now) ≤ length square.old.cells + square.old.spare }
+    ensures { IsExact (linked_of links.now) (nodes_of roles.now) square.new.cells }
+{
+    let keeps = keeps_places(square, whole);
+    let touched = begin(square, links, roles, keeps, touched);
+    widen(square, roles.len() as u32);
+    link_touched(square, links, roles, &touched);
+}
+
+// Whether there are distances of nodes that all keep their places.
+fn keeps_places(square: &DistRows, whole: bool) -> bool
+    ensures whole { IsTrue result → IsTrue whole }
+    ensures some { IsTrue result → 0 < length square.now.cells }
+{
+    whole && square.size() > 0
 }
 
 // Takes out what is gone, where all nodes keep their places; else clears the square, and all nodes are

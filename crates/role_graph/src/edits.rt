@@ -63,6 +63,11 @@ impl Edits {
         }
     }
 
+    /// Whether the rows of a user change.
+    pub(crate) fn has_user(&self, user: &[u8]) -> bool {
+        self.entries.get(user).is_some()
+    }
+
     /// The last user and its roles afterwards.
     pub(crate) fn pop(&mut self) -> Option<(Vec<u8>, Vec<Text>)>
         ensures none { IfNone result (self.old ≡ []) }

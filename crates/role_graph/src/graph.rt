@@ -27,7 +27,7 @@ use crate::reaching::{mark_kept, mark_walked};
 use crate::removing::remove_all;
 use crate::reserving::reserve_square;
 use crate::roles::Roles;
-use crate::touching::{MOST_NODES, touched};
+use crate::touching::touched;
 use crate::users::users_among;
 use crate::walk::{depth, distance};
 use dist_rows::{DistRows, Steps};
@@ -46,8 +46,8 @@ const TOO_FAR: u8 = 255;
 /// The rows of a role relation that count in one domain. Contracts see the rows, in an order of the
 /// graph's own, how names are compared with users, the hierarchy limit, and the room for more.
 ///
-/// Where at most 1,024 different roles stand, the distances between these are kept, a byte for each
-/// pair, and questions read them; where there are more, questions walk the rows.
+/// Where some role is below another, and at most 1,024 different roles stand, the distances between these
+/// are kept, a byte for each pair, and questions read them; else questions walk the rows.
 #[derive(Drop)]
 pub struct RoleGraph {
     alloc: Global,
@@ -56,12 +56,12 @@ pub struct RoleGraph {
     // How many rows have each role, and how many rows there are.
     roles: Roles,
     count: usize,
-    // The distances between the roles, of which each is a node; none where there are too many.
+    // The distances between the roles, of which each is a node; none where none are kept.
     square: DistRows,
 }
 
 impl Model for RoleGraph {
-    ghost use Rattle.std.specs.Prelude.{◌+◌, length, min};
+    ghost use Rattle.std.specs.Prelude.{min};
     ghost use Rattle.role_graph.specs.Graph.{Graph};
     ghost use Rattle.role_graph.specs.Groups.{rows_of};
     ghost use Rattle.role_graph.specs.Helps.Kept.{IsSound, linked_of};
@@ -74,7 +74,6 @@ impl Model for RoleGraph {
       limit = g.limit;
       spare = min g.links.plain.spare g.links.patterned.spare;
       spare_roles = g.roles.spare;
-      places = length g.square.cells + g.square.spare;
     } };
 
     ghost invariant = { λ g. IsSound g.links g.limit g.roles g.count g.square.cells };
@@ -175,13 +174,6 @@ impl RoleGraph {
         self.count
     }
 
-    /// Whether at most 1,024 different roles stand in the rows.
-    pub fn is_kept(&self) -> bool
-        ensures { IsTrue result ↔ (length (different (map role_of self.now.rows)) ≤ 1024) }
-    {
-        self.roles.different() <= MOST_NODES
-    }
-
     /// Whether the name has a role: whether it fits the user of some row. It takes no memory.
     pub fn has_roles(&self, x: &[u8]) -> bool
         ensures { IsTrue result
@@ -199,7 +191,7 @@ impl RoleGraph {
         ensures few_steps { length (different (map role_of self.now.rows)) ≤ 1024
             → steps.new ≤ steps.old + asked_rows self.now.names x.now self.now.rows + 1 }
     {
-        if self.is_kept() {
+        if self.square.size() > 0 {
             return nearest(&self.links, &self.roles, &self.square, x, y, steps) <= self.limit;
         }
         distance(&self.links, x, y, self.limit).is_some()
@@ -212,7 +204,7 @@ impl RoleGraph {
         ensures { result ≡ reached_in self.now x.now }
     {
         let limit = self.limit;
-        if self.is_kept() {
+        if self.square.size() > 0 {
             mark_kept(
                 &self.links,
                 &self.roles,
@@ -243,7 +235,7 @@ impl RoleGraph {
         ensures few_steps { length (different (map role_of self.now.rows)) ≤ 1024
             → steps.new ≤ steps.old + asked_rows self.now.names x.now self.now.rows + 1 }
     {
-        if self.is_kept() {
+        if self.square.size() > 0 {
             return nearest(&self.links, &self.roles, &self.square, x, y, steps);
         }
         distance(&self.links, x, y, FARTHEST).unwrap_or(TOO_FAR)
@@ -275,7 +267,7 @@ impl RoleGraph {
         ensures { IfOk result (λ names. AreImplied (shape_of self.now.names) self.now.rows
             self.now.limit None x.now names.items) }
     {
-        if self.is_kept() {
+        if self.square.size() > 0 {
             return listed(&self.links, &self.roles, &self.square, alloc, x, self.limit);
         }
         implied(&self.links, alloc, x, self.limit)
@@ -314,7 +306,6 @@ impl RoleGraph {
         ensures same_limit { self.new.limit ≡ self.old.limit }
         ensures more { self.old.spare ≤ self.new.spare }
         ensures more_roles { self.old.spare_roles ≤ self.new.spare_roles }
-        ensures more_places { self.old.places ≤ self.new.places }
     {
         let mut edits = Edits::new(alloc);
         remove_all(&mut edits, &self.links, alloc, remove)?;
@@ -323,7 +314,15 @@ impl RoleGraph {
         let removed = roles_of(alloc, remove)?;
         self.links.reserve(edits.len())?;
         self.roles.reserve(added.len())?;
-        reserve_square(&mut self.square, alloc, &self.roles, &added, removed.len())?;
+        reserve_square(
+            &mut self.square,
+            alloc,
+            &self.links,
+            &self.roles,
+            &edits,
+            &added,
+            removed.len(),
+        )?;
         Ok(Prepared::new(edits, added, removed))
     }
 
@@ -336,9 +335,9 @@ impl RoleGraph {
         ensures limit { self.new.limit ≡ self.old.limit }
     {
         let (edits, added, removed) = prepared.into_parts();
+        let known = self.roles.len();
         self.count = self.count + added.len() - removed.len();
         let whole = self.roles.recount(added, &removed);
-        let known = self.square.size() as usize;
         let touched = touched(&self.roles, self.links.names(), &edits, known);
         self.links.change(edits);
         refresh(

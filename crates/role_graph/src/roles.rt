@@ -4,7 +4,6 @@ ghost use Rattle.std.specs.Prelude.{◌≡◌, false, true, ◌+◌, ◌++◌, �
 ghost use Rattle.std.specs.List.{Contains, IsDistinct, count_by, list_any};
 ghost use Rattle.std.specs.Str.{IsUtf8, bytes_eq};
 ghost use Rattle.perm_base.specs.LineEnds.{has_line_end};
-ghost use Rattle.policy_table.specs.Limits.{different};
 ghost use Rattle.role_graph.specs.Helps.Roles.{HasNames, HasNoZero, count_of, nodes_of};
 
 use crate::names::Names;
@@ -122,15 +121,6 @@ impl Roles {
         ensures once { IsDistinct bytes_eq (nodes_of self.now) }
     {
         self.counts.get_index_of(name)
-    }
-
-    /// How many different roles there are.
-    pub(crate) fn different(&self) -> usize
-        ensures { (roles : List (List ℕ))
-            → ((role : List ℕ) → count_of self.now role ≡ count_by (bytes_eq role) roles)
-            → result ≡ length (different roles) }
-    {
-        self.len()
     }
 
     /// Makes room for so many further roles.

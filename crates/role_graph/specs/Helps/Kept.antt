@@ -64,7 +64,7 @@ pub record HasRoom (count : ℕ) (parts : Parts) : Type 0 where
   pub patterned : count ≤ parts.patterned.spare
 
 -- what a graph keeps: sound groups, no more rows than may be, a limit of its range, how many rows have each role, how many rows
--- there are, the roles as nodes, and the distances between these, where they are not too many
+-- there are, the roles as nodes, and the distances between these, where any are kept
 pub record IsSound (parts : Parts) (limit : ℕ) (roles : Counted) (count : ℕ) (cells : List (List ℕ)) : Type 0 where
   pub links : AreLinks parts.names parts.plain.groups parts.patterned.groups
   pub few : length (rows_of (linked_of parts).groups) ≤ 200000
@@ -73,5 +73,4 @@ pub record IsSound (parts : Parts) (limit : ℕ) (roles : Counted) (count : ℕ)
   pub counted : (role : List ℕ) → count_of roles role ≡ rows_with role (rows_of (linked_of parts).groups)
   pub number : count ≡ length (rows_of (linked_of parts).groups)
   pub nodes : AreNodes (linked_of parts) (nodes_of roles)
-  pub exact : length (nodes_of roles) ≤ 1024 → IsExact (linked_of parts) (nodes_of roles) cells
-  pub empty : 1024 < length (nodes_of roles) → cells ≡ []
+  pub exact : 0 < length cells → IsExact (linked_of parts) (nodes_of roles) cells

@@ -14,6 +14,5 @@ invariant_of-result c = record {
   counted = c.requires.counted;
   number = c.requires.number;
   nodes = nodes_from (linked_of c.args.links) c.args.roles c.len-once.ensures.once c.len-once.ensures.some c.requires.counted;
-  exact = c.in_ok-square.ensures.exact;
-  empty = c.in_ok-square.ensures.empty;
+  exact = c.in_ok-square.ensures;
 }

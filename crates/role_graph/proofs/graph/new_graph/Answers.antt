@@ -2,7 +2,7 @@ use Rattle.std.proofs.Common.{◌≡◌, ◌∙◌, ◌++◌, [], ap, arith, len
 use Rattle.dist_rows.specs.Squares.{Square}
 use Rattle.role_graph.specs.Groups.{rows_of, rows_with}
 use Rattle.role_graph.specs.Helps.Kept.{linked_of}
-use Rattle.role_graph.proofs.Answering.{exact_none, no_rows, nodes_none}
+use Rattle.role_graph.proofs.Answering.{no_rows, nodes_none}
 use Rattle.role_graph.proofs.graph.new_graph.Goals as goal
 
 pub returns-clause-rows : goal.returns-clause-rows
@@ -19,6 +19,5 @@ invariant_of-result c =
       counted = λ role. c.new-2.ensures.counts role ∙ sym (ap (rows_with role) none);
       number = sym (ap length none);
       nodes = nodes_none (linked_of c.new.result) _ c.new-2.ensures.none none;
-      exact = λ few. exact_none (linked_of c.new.result) _ _ c.new-2.ensures.none (ap (λ (square : Square). square.cells) c.empty.ensures);
-      empty = λ many. absurd (omega (arith, ap length c.new-2.ensures.none));
+      exact = λ some. absurd (omega (arith, some, ap (λ (square : Square). length square.cells) c.empty.ensures));
     }

@@ -1,14 +1,14 @@
-use Rattle.std.proofs.Common.{◌≡◌, ◌∙◌, List, length, ap, arith, refl, subst, sym}
+use Rattle.std.proofs.Common.{◌≡◌, ◌∙◌, List, length, ap, arith, subst, sym}
 use Rattle.std.specs.List.{Contains}
 use Rattle.perm_base.specs.declared.shapes.Fit.{Fit}
 use Rattle.policy_table.specs.Tables.{Fields}
 use Rattle.role_meaning.specs.Fits.{Fits}
-use Rattle.role_graph.specs.Graph.{Graph, IsPreparedFor, role_count}
+use Rattle.role_graph.specs.Graph.{Graph, IsPreparedFor}
 use Rattle.role_graph.specs.Groups.{Group, after, rows_of, times}
 use Rattle.role_graph.specs.Helps.Kept.{linked_of}
 use Rattle.role_graph.specs.Helps.Roles.{nodes_of}
 use Rattle.role_graph.specs.Helps.Squares.{name_at}
-use Rattle.role_graph.proofs.Committing.{committed_before, nodes_count, nodes_from}
+use Rattle.role_graph.proofs.Committing.{committed_before, nodes_from}
 use Rattle.role_graph.proofs.Counting.{as_long}
 use Rattle.role_graph.proofs.Preparing.{are_counted, can_count, counted_after}
 use Rattle.role_graph.proofs.graph.RoleGraph.commit.Goals as goal
@@ -31,7 +31,7 @@ refresh-requires-clause-nodes c =
     (λ row. c.change.ensures.rows row ∙ ap (λ (groups : List Group). times row (after groups (rows_of (linked_of c.self.inside.links).groups))) c.into_parts-edits.ensures.changed))
 
 pub refresh-requires-clause-before : goal.refresh-requires-clause-before
-refresh-requires-clause-before c = λ holds few.
+refresh-requires-clause-before c = λ holds some few.
     committed_before c.args.prepared.changed (linked_of c.self.inside.links) (linked_of c.change.new.self) (nodes_of c.self.inside.roles) (nodes_of c.recount-whole.new.self) c.touched-touched.result c.self.inside.square.cells
     (record {
       same = c.change.ensures.names;
@@ -41,17 +41,8 @@ refresh-requires-clause-before c = λ holds few.
           c.touched-touched.ensures.fitting a group low within (subst (λ (groups : List Group). Contains groups group) (sym c.into_parts-edits.ensures.changed) stands)
           (subst (λ (fit : Fit). Fits fit (name_at (nodes_of c.recount-whole.new.self) a) group.user) (c.change.ensures.names ∙ sym c.names.ensures) fits);
     })
-    (c.recount-whole.ensures.whole holds) c.recount-whole.ensures.once c.self.invariant.nodes c.self.invariant.exact c.self.invariant.empty
-    (λ a past low. c.touched-touched.ensures.fresh a (omega (arith, past, c.size-known.ensures.value)) low)
-
-pub refresh-requires-clause-room : goal.refresh-requires-clause-room
-refresh-requires-clause-room c = λ few.
-    let good : IsPreparedFor _ c.args.prepared = subst (λ (graph : Graph). IsPreparedFor graph c.args.prepared) (sym c.self.view_is) c.requires in
-    let count : length (nodes_of c.recount-whole.new.self) ≡ role_count (after c.args.prepared.changed (rows_of (linked_of c.self.inside.links).groups)) =
-    nodes_count (after c.args.prepared.changed (rows_of (linked_of c.self.inside.links).groups)) c.recount-whole.new.self c.recount-whole.ensures.once c.recount-whole.ensures.some
-    (counted_after _ c.args.prepared c.self.inside.roles c.recount-whole.new.self c.into_parts-edits.result.1 c.deref.result.now (after c.args.prepared.changed (rows_of (linked_of c.self.inside.links).groups))
-    good c.into_parts-edits.ensures.added (c.deref.ensures.value ∙ c.into_parts-edits.ensures.removed) c.self.invariant.counted c.recount-whole.ensures.counted (λ row. refl)) in
-    omega (arith, count, good.room_of_distances (omega (arith, count, few)))
+    (c.recount-whole.ensures.whole holds) c.recount-whole.ensures.once c.self.invariant.nodes (c.self.invariant.exact some)
+    (λ a past low. c.touched-touched.ensures.fresh a (omega (arith, past, (c.self.invariant.exact some).long, c.len-known.ensures.count)) low)
 
 pub invariant_of-self : goal.invariant_of-self
 invariant_of-self c =
@@ -70,8 +61,7 @@ invariant_of-self c =
           (counted_after _ c.args.prepared c.self.inside.roles c.recount-whole.new.self c.into_parts-edits.result.1 c.deref.result.now (rows_of (linked_of c.change.new.self).groups)
           (subst (λ (graph : Graph). IsPreparedFor graph c.args.prepared) (sym c.self.view_is) c.requires) c.into_parts-edits.ensures.added (c.deref.ensures.value ∙ c.into_parts-edits.ensures.removed) c.self.invariant.counted c.recount-whole.ensures.counted
           (λ row. c.change.ensures.rows row ∙ ap (λ (groups : List Group). times row (after groups (rows_of (linked_of c.self.inside.links).groups))) c.into_parts-edits.ensures.changed));
-      exact = c.refresh.ensures.exact;
-      empty = c.refresh.ensures.empty;
+      exact = c.refresh.ensures;
     }
 
 pub returns-clause-rows : goal.returns-clause-rows

@@ -1,17 +1,15 @@
-use Rattle.std.proofs.Common.{ap, subst}
+use Rattle.std.proofs.Common.{arith, subst}
 use Rattle.role_graph.specs.Graph.{Graph, IsGraphFar}
 use Rattle.role_graph.specs.Helps.Kept.{linked_of}
-use Rattle.role_graph.specs.Helps.Roles.{nodes_of}
-use Rattle.role_graph.proofs.Answering.{far_told, kept_few}
+use Rattle.role_graph.proofs.Answering.{far_told}
 use Rattle.role_graph.proofs.graph.RoleGraph.far.Goals as goal
 
 pub nearest-requires-clause-exact : goal.nearest-requires-clause-exact
-nearest-requires-clause-exact g c =
-    c.self.invariant.exact (kept_few (linked_of c.self.inside.links) (nodes_of c.self.inside.roles) c.args.self.now.rows c.is_kept.result c.self.invariant.nodes (ap (λ (graph : Graph). graph.rows) c.self.view_is) c.is_kept.ensures c.if-is_kept.true)
+nearest-requires-clause-exact g c = c.self.invariant.exact (omega (arith, c.size.ensures.value, c.if-size-gt0.true))
 
 pub nearest-requires-clause-few : goal.nearest-requires-clause-few
 nearest-requires-clause-few g c =
-    kept_few (linked_of c.self.inside.links) (nodes_of c.self.inside.roles) c.args.self.now.rows c.is_kept.result c.self.invariant.nodes (ap (λ (graph : Graph). graph.rows) c.self.view_is) c.is_kept.ensures c.if-is_kept.true
+    omega (arith, (c.self.invariant.exact (omega (arith, c.size.ensures.value, c.if-size-gt0.true))).long, c.size.ensures.value, c.size.ensures.few)
 
 pub returns-clause-far : goal.returns-clause-far
 returns-clause-far g c =

@@ -1,15 +1,9 @@
 use Rattle.std.proofs.Common.{◌≡◌, ◌∙◌, ◌≤◌, ◌+◌, ◌++◌, List, ℕ, length, ap, sym, subst, arith}
-use Rattle.std.specs.List.{count_by}
-use Rattle.std.specs.Map.{keys_of}
-use Rattle.std.specs.Str.{bytes_eq}
 use Rattle.policy_table.specs.Tables.{Fields}
 use Rattle.role_graph.specs.Graph.{Graph}
 use Rattle.role_graph.specs.Groups.{Group, after, rows_of, times}
 use Rattle.role_graph.specs.Helps.Kept.{linked_of}
-use Rattle.role_graph.specs.Helps.Roles.{nodes_of}
-use Rattle.role_graph.specs.Helps.Squares.{AreNodes}
-use Rattle.role_graph.proofs.Preparing.{changed_roles, prepared_for, prepared_times, stands_now}
-use Rattle.role_graph.proofs.Rooms.{room_after}
+use Rattle.role_graph.proofs.Preparing.{prepared_for, prepared_times, stands_now}
 use Rattle.role_graph.proofs.graph.RoleGraph.prepare.Goals as goal
 
 pub remove_all-requires-clause-stand : goal.remove_all-requires-clause-stand
@@ -31,18 +25,8 @@ returns-clause-good c =
     ∙ ap (λ (groups : List Group). rows_of (c.self.inside.links.plain.groups ++ groups)) c.in_ok-reserve.ensures.patterned in
     let equal : (one : Fields) → times one (after c.add_all.new.edits (rows_of (linked_of c.self.inside.links).groups)) + times one c.args.remove.now ≡ times one (rows_of (linked_of c.self.inside.links).groups) + times one c.args.insert.now =
     prepared_times c.self.inside.links c.new-edits.result c.remove_all.new.edits c.add_all.new.edits c.args.insert.now c.args.remove.now c.self.invariant.links c.new-edits.ensures c.len.ensures.apart c.in_ok-remove_all.ensures c.in_ok-add_all.ensures in
-    let names : nodes_of c.reserve-2.new.self ≡ nodes_of c.self.inside.roles = ap (λ (entries : List (List ℕ × ℕ)). keys_of entries) c.in_ok-reserve-2.ensures.same in
     prepared_for _ c.new.result (rows_of (linked_of c.self.inside.links).groups) c.add_all.new.edits c.in_ok-added.added c.in_ok-removed.removed.items c.args.insert.now c.args.remove.now
     rows c.new.ensures.changed c.new.ensures.added c.new.ensures.removed c.in_ok-added.ensures.whole_lines c.in_ok-added.ensures.names c.in_ok-removed.ensures c.len.ensures.apart
     (omega (arith, c.len.ensures.count, c.in_ok-reserve.ensures.room.plain, c.in_ok-reserve.ensures.room.patterned))
     (omega (arith, c.len-2.ensures.count, c.in_ok-reserve-2.ensures.room)) equal
     (subst (λ (graph : Graph). length graph.rows + length c.args.insert.now ≤ 200000 + length c.args.remove.now) (sym c.self.view_is) c.requires.few)
-    (room_after (linked_of c.self.inside.links) (nodes_of c.reserve-2.new.self) (after c.add_all.new.edits (rows_of (linked_of c.self.inside.links).groups)) c.in_ok-added.added c.in_ok-removed.removed.items c.len-3.result
-    (length c.reserve_square.new.square.cells + c.reserve_square.new.square.spare) (subst (AreNodes (linked_of c.self.inside.links)) (sym names) c.self.invariant.nodes) (omega (arith, c.len-3.ensures, c.in_ok-removed.removed.ok.0))
-    (λ role. omega (
-      arith,
-      changed_roles (rows_of (linked_of c.self.inside.links).groups) (after c.add_all.new.edits (rows_of (linked_of c.self.inside.links).groups)) c.args.insert.now c.args.remove.now equal role,
-      ap (count_by (bytes_eq role)) c.in_ok-added.ensures.names,
-      ap (count_by (bytes_eq role)) c.in_ok-removed.ensures,
-    ))
-    c.in_ok-reserve_square.ensures.room)
