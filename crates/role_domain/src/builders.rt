@@ -6,10 +6,8 @@ ghost use Rattle.policy_table.specs.Tables.{Fields};
 ghost use Rattle.role_domain.specs.Domains.{IsDomain, found};
 ghost use Rattle.role_domain.specs.Helps.Taking.{CanBuild, HaveTaken, TakesRow};
 ghost use Rattle.role_graph.specs.Built.{IsCounted};
-ghost use Rattle.role_graph.specs.Graph.{most_rows};
-ghost use Rattle.role_graph.specs.Groups.{times};
 
-use crate::domain::Domain;
+use crate::domain::{Domain, push_all};
 use crate::patterns::fitting;
 use crate::rows::domain_of;
 use crate::terms::Terms;
@@ -163,22 +161,5 @@ fn bring(alloc: Global, fit: Fit, builder: &mut DomainBuilder, row: &Rule) -> Re
         return Ok(());
     }
     builder.graph.push(alloc, row)?;
-    Ok(())
-}
-
-// Adds rows of two fields to a graph.
-fn push_all(alloc: Global, graph: &mut GraphBuilder, rows: &[Rule]) -> Result<(), NoMemory>
-    requires two { All (λ row. length row ≡ 2) rows.now }
-    requires counted { IsCounted graph.old }
-    requires few { length graph.old.rows + length rows.now ≤ most_rows }
-    ensures rows { OnOk result ((one : Fields)
-        → times one graph.new.rows ≡ times one graph.old.rows + times one rows.now) }
-    ensures counted { OnOk result (IsCounted graph.new) }
-    ensures names { OnOk result (graph.new.names ≡ graph.old.names) }
-    ensures limit { OnOk result (graph.new.limit ≡ graph.old.limit) }
-{
-    for row in rows {
-        graph.push(alloc, row)?;
-    }
     Ok(())
 }

@@ -3,11 +3,12 @@
 ghost use Rattle.std.specs.Prelude.{◌≡◌, ◌+◌, ◌≤◌, All, IfOk, OnOk, length};
 ghost use Rattle.policy_table.specs.Tables.{Fields};
 ghost use Rattle.role_domain.specs.Helps.Copies.{content_of};
+ghost use Rattle.role_graph.specs.Built.{IsCounted};
 ghost use Rattle.role_graph.specs.Graph.{most_rows};
 ghost use Rattle.role_graph.specs.Groups.{times};
 
 use perm_base::{Fit, NoMemory, Rule, Share};
-use role_graph::{RoleGraph, new_graph};
+use role_graph::{GraphBuilder, RoleGraph};
 use std::alloc::Global;
 
 /// A domain whose text some row has: how many rows do, and the graph of the rows that count there.
@@ -48,22 +49,30 @@ pub(crate) fn graph_of(
     ensures rows { IfOk result (λ graph. (row : Fields)
         → times row graph.rows ≡ times row first.now + times row second.now) }
 {
-    let mut graph = new_graph(alloc, names, limit);
-    add(alloc, &mut graph, first)?;
-    add(alloc, &mut graph, second)?;
+    let mut graph = GraphBuilder::new(alloc, names, limit);
+    push_all(alloc, &mut graph, first)?;
+    push_all(alloc, &mut graph, second)?;
+    let graph = graph.build(alloc)?;
     Ok(graph)
 }
 
-// Adds rows to a graph.
-fn add(alloc: Global, graph: &mut RoleGraph, rows: &[Rule]) -> Result<(), NoMemory>
+/// Adds rows of two fields to a graph that is being made.
+pub(crate) fn push_all(
+    alloc: Global,
+    graph: &mut GraphBuilder,
+    rows: &[Rule],
+) -> Result<(), NoMemory>
     requires two { All (λ row. length row ≡ 2) rows.now }
+    requires counted { IsCounted graph.old }
     requires few { length graph.old.rows + length rows.now ≤ most_rows }
-    ensures names { graph.new.names ≡ graph.old.names }
-    ensures limit { graph.new.limit ≡ graph.old.limit }
-    ensures rows { OnOk result ((row : Fields)
-        → times row graph.new.rows ≡ times row graph.old.rows + times row rows.now) }
+    ensures rows { OnOk result ((one : Fields)
+        → times one graph.new.rows ≡ times one graph.old.rows + times one rows.now) }
+    ensures counted { OnOk result (IsCounted graph.new) }
+    ensures names { OnOk result (graph.new.names ≡ graph.old.names) }
+    ensures limit { OnOk result (graph.new.limit ≡ graph.old.limit) }
 {
-    let prepared = graph.prepare(alloc, rows, &[])?;
-    graph.commit(prepared);
+    for row in rows {
+        graph.push(alloc, row)?;
+    }
     Ok(())
 }

@@ -13,7 +13,8 @@ ghost use Rattle.role_meaning.specs.Implied.{AreImplied};
 ghost use Rattle.role_meaning.specs.ImpliedUsers.{AreImpliedUsers};
 ghost use Rattle.role_meaning.specs.Links.{HasRoles, IsLinked, domain_of, role_of, user_of};
 ghost use Rattle.role_domain.specs.Reach.{ReachesName};
-ghost use Rattle.role_domain.specs.Relations.{HasFewPatterns, HasFewRoles, TellsRows, asked_rows};
+ghost use Rattle.role_domain.specs.Relations.{HasFewPatterns, HasFewRoles, Tells, TellsRows, asked_rows, counted, fit_of};
+ghost use Rattle.role_graph.specs.Groups.{times};
 ghost use Rattle.role_domain.specs.Sections.{IsPreparedFor, IsSectionOf, all_columns};
 
 use crate::domain::graph_of;
@@ -26,7 +27,7 @@ use crate::walk::{depth, distance, has_roles};
 use dist_rows::Steps;
 use perm_base::{NoMemory, RoleShape, Rule, Share, TableId, Text};
 use policy_table::{Edit, Rows, Tables};
-use role_graph::{Reach, Room};
+use role_graph::{Reach, RoleGraph, Room};
 use role_meaning::links_are_decided;
 use std::alloc::Global;
 use std::marker::Model;
@@ -293,9 +294,7 @@ impl RoleSection {
             let names = found.graph.roles_within(alloc, x)?;
             return Ok(names);
         }
-        let terms = terms_of(self.shape, self.limit);
-        let pairs = fitting(alloc, terms.domains, text, &self.patterns)?;
-        let graph = graph_of(alloc, terms.names, self.limit, &pairs, &[])?;
+        let graph = self.unnamed_graph(alloc, text)?;
         let names = graph.roles_within(alloc, x)?;
         Ok(names)
     }
@@ -321,11 +320,23 @@ impl RoleSection {
             let names = there.graph.users_within(alloc, x, rows)?;
             return Ok(names);
         }
+        let graph = self.unnamed_graph(alloc, text)?;
+        let names = graph.users_within(alloc, x, rows)?;
+        Ok(names)
+    }
+
+    // The graph of the rows that count in the domain of a text that no row has.
+    fn unnamed_graph(&self, alloc: Global, text: &[u8]) -> Result<RoleGraph, NoMemory>
+        ensures names { IfOk result (λ graph. graph.names ≡ self.now.shape.names) }
+        ensures limit { IfOk result (λ graph. graph.limit ≡ self.now.limit) }
+        ensures rows { IfOk result (λ graph. (test : List ℕ → Bool)
+            → Tells (fit_of self.now.shape) text.now test → (one : Fields)
+            → times one graph.rows ≡ counted test one self.now.patterns) }
+    {
         let terms = terms_of(self.shape, self.limit);
         let pairs = fitting(alloc, terms.domains, text, &self.patterns)?;
         let graph = graph_of(alloc, terms.names, self.limit, &pairs, &[])?;
-        let names = graph.users_within(alloc, x, rows)?;
-        Ok(names)
+        Ok(graph)
     }
 
     /// Makes edits of the tables ready, before they are made there, so that `commit` needs no memory;

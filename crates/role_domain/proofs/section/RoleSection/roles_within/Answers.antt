@@ -1,17 +1,12 @@
-use Rattle.std.proofs.Common.{◌≤◌, ◌∙◌, List, length, ap, subst, sym, arith}
-use Rattle.std.specs.Prelude.{All}
+use Rattle.std.proofs.Common.{◌≡◌, ◌∙◌, Bool, List, ℕ, ap, subst, sym}
 use Rattle.std.specs.Option.{option_copied}
 use Rattle.policy_table.specs.Tables.{Fields}
-use Rattle.role_domain.specs.Relations.{Tells, counted}
+use Rattle.role_domain.specs.Relations.{Tells, counted, fit_of}
 use Rattle.role_domain.specs.Sections.{IsSectionOf, Section}
-use Rattle.role_domain.specs.declared.terms.Terms.{Terms}
 use Rattle.role_domain.proofs.AskLemmas.{copied_some, implied_nowhere, implied_there}
 use Rattle.role_graph.specs.Groups.{times}
 use Rattle.role_meaning.specs.Implied.{AreImplied}
 use Rattle.role_domain.proofs.section.RoleSection.roles_within.Goals as goal
-
-pub fitting-requires : goal.fitting-requires
-fitting-requires c = subst (All (λ (row : Fields). 2 ≤ length row)) (sym c.deref.ensures.value) c.self.invariant.columns
 
 pub returns-in-Some : goal.returns-in-Some
 returns-in-Some c =
@@ -26,12 +21,6 @@ returns c =
     (λ (s : Section). (all : List Fields) → IsSectionOf s all → AreImplied s.shape all s.limit (option_copied c.args.domain) c.args.x.now c.in_ok-names-2.names)
     c.self.view_is
     (λ all sound. implied_nowhere _ all sound (option_copied c.args.domain) c.asked-text.result.now (copied_some c.args.domain ∙ c.requires ∙ sym (ap (λ (s : Section). s.shape.with_domain) c.self.view_is)) c.asked-text.ensures c.in_default.ensures c.links_are_decided.ensures.fits c.in_ok-graph.graph c.args.x.now c.in_ok-names-2.names
-    (c.in_ok-graph.ensures.names ∙ ap (λ (t : Terms). t.names) c.terms_of-terms.ensures) c.in_ok-graph.ensures.limit
-    (λ test tells one. omega (
-      arith,
-      c.in_ok-graph.ensures.rows one,
-      ap (times one) c.deref-2.ensures.value,
-      c.in_ok-pairs.ensures.rows test (subst (λ (t : Terms). Tells t.domains c.asked-text.result.now test) (sym c.terms_of-terms.ensures) tells) one,
-      ap (counted test one) c.deref.ensures.value,
-    ))
+    (c.in_ok-graph.ensures.names ∙ sym (ap (λ (s : Section). s.shape.names) c.self.view_is)) (c.in_ok-graph.ensures.limit ∙ sym (ap (λ (s : Section). s.limit) c.self.view_is))
+    (subst (λ (s : Section). (test : List ℕ → Bool) → Tells (fit_of s.shape) c.asked-text.result.now test → (one : Fields) → times one c.in_ok-graph.graph.rows ≡ counted test one s.patterns) (sym c.self.view_is) c.in_ok-graph.ensures.rows)
     c.in_ok-names-2.ensures)

@@ -2,7 +2,7 @@ use Rattle.std.proofs.Common.{◌≡◌, ◌+◌, length, take}
 use Rattle.policy_table.specs.Tables.{Fields}
 use Rattle.role_graph.specs.Built.{IsCounted}
 use Rattle.role_graph.specs.Groups.{times}
-use Rattle.role_domain.proofs.builders.push_all.Given as goal
+use Rattle.role_domain.proofs.domain.push_all.Given as goal
 
 abbrev pub invariant-loop-row : goal.invariant-loop-row
 invariant-loop-row l = record {

@@ -4,7 +4,7 @@ use Rattle.policy_table.specs.Tables.{Fields, same}
 use Rattle.role_graph.specs.Groups.{row, times}
 use Rattle.role_graph.proofs.CallerLemmas.{once, pair_is, times_more}
 use Rattle.role_meaning.specs.Links.{role_of, user_of}
-use Rattle.role_domain.proofs.builders.push_all.Goals as goal
+use Rattle.role_domain.proofs.domain.push_all.Goals as goal
 
 pub loop-row-preserved : goal.loop-row-preserved
 loop-row-preserved c =
