@@ -15,7 +15,6 @@ use policy_index::{Front, RowKey};
 use std::alloc::Global;
 
 /// By what the rows of p are found that may match, by the places of columns; what it leaves out comes to no match.
-#[derive(Drop)]
 pub(crate) struct KeptPlan {
     // The columns that are compared.
     pub(crate) pairs: Vec<PairPlaces>,
@@ -24,6 +23,18 @@ pub(crate) struct KeptPlan {
     pub(crate) key: RowKey,
     // The request's columns that have to be texts, so that no part of the matcher which counts fails.
     pub(crate) names: Vec<Option<u32>>,
+}
+
+// Written out, so that a caller's proof sees one call and not the drop of each field.
+impl Drop for KeptPlan {
+    fn drop(self) {
+        let KeptPlan {
+            pairs: _pairs,
+            by: _by,
+            key: _key,
+            names: _names,
+        } = self;
+    }
 }
 
 /// What a plan has beside the columns that are compared.

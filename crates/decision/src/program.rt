@@ -14,7 +14,6 @@ use policy_state::PolicyState;
 use std::alloc::Global;
 
 /// A model, ready to judge requests. Contracts see the model.
-#[derive(Drop)]
 pub struct Program {
     model: Model,
     code: Code,
@@ -27,6 +26,21 @@ pub struct Program {
     plan: Option<KeptPlan>,
     // What a role question of the matcher asks of each row.
     question: Option<AskedPlaces>,
+}
+
+// Written out, so that a caller's proof sees one call and not the drop of each field.
+impl Drop for Program {
+    fn drop(self) {
+        let Program {
+            model: _model,
+            code: _code,
+            by_row: _by_row,
+            effect_place: _effect_place,
+            domain_place: _domain_place,
+            plan: _plan,
+            question: _question,
+        } = self;
+    }
 }
 
 impl std::marker::Model for Program {

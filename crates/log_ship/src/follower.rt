@@ -10,13 +10,23 @@ use std::marker::Model;
 
 /// A policy that follows a leader's: it takes the leader's edits as packets, lost, repeated or in any order. Contracts see the
 /// policy, and the edits that wait for those before them.
-#[derive(Drop)]
 pub struct Follower {
     pub(crate) state: PolicyState,
     pub(crate) waiting: WaitingEdits,
     // The policy's tables once more, in which edits are tried. They are copied when they are first needed, and again after
     // memory ran out.
     pub(crate) drafts: Option<Tables>,
+}
+
+// Written out, so that a caller's proof sees one call and not the drop of each field.
+impl Drop for Follower {
+    fn drop(self) {
+        let Follower {
+            state: _state,
+            waiting: _waiting,
+            drafts: _drafts,
+        } = self;
+    }
 }
 
 impl Model for Follower {

@@ -12,9 +12,15 @@ pub struct Packet {
 impl Share for Packet {}
 
 /// Packets, one after the other. Contracts see their list.
-#[derive(Drop)]
 pub struct Packets {
     packets: Vec<Packet>,
+}
+
+// Written out, so that a caller's proof sees one call and not the drop of each field.
+impl Drop for Packets {
+    fn drop(self) {
+        let Packets { packets: _packets } = self;
+    }
 }
 
 impl Model for Packets {
@@ -47,6 +53,7 @@ impl Packets {
     pub fn into_vec(self) -> Vec<Packet>
         ensures { result.items ≡ self }
     {
-        self.packets
+        let Packets { packets } = self;
+        packets
     }
 }

@@ -9,11 +9,20 @@ use std::alloc::Global;
 use std::marker::Model;
 
 /// Edits that wait, by rising number. Contracts see them with their numbers.
-#[derive(Drop)]
 pub(crate) struct WaitingEdits {
     numbers: Vec<u32>,
     // The edit of each number.
     edits: Vec<Edit>,
+}
+
+// Written out, so that a caller's proof sees one call and not the drop of each field.
+impl Drop for WaitingEdits {
+    fn drop(self) {
+        let WaitingEdits {
+            numbers: _numbers,
+            edits: _edits,
+        } = self;
+    }
 }
 
 impl Model for WaitingEdits {

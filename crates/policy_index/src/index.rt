@@ -18,7 +18,6 @@ use std::marker::Model;
 
 /// An index of p by a key: of each row it keeps a hash of the key, by the row's slot, and the slots by these hashes. It keeps no
 /// text; contracts name the rows of which it is an index. They see the key, what is kept of each row, and the room.
-#[derive(Drop)]
 pub struct Index {
     pub(crate) key: RowKey,
     pub(crate) marks: Vec<Mark>,
@@ -28,6 +27,20 @@ pub struct Index {
     pub(crate) places: Vec<u32>,
     // Hashes whose last slot went since they were last let go.
     pub(crate) emptied: Vec<u64>,
+}
+
+// Written out, so that a caller's proof sees one call and not the drop of each field.
+impl Drop for Index {
+    fn drop(self) {
+        let Index {
+            key: _key,
+            marks: _marks,
+            slots: _slots,
+            fronts: _fronts,
+            places: _places,
+            emptied: _emptied,
+        } = self;
+    }
 }
 
 impl Model for Index {

@@ -15,9 +15,17 @@ use std::alloc::Global;
 use std::marker::Model;
 
 /// The sections of a policy's role relations. Contracts see the list of them.
-#[derive(Drop)]
 pub(crate) struct Sections {
     sections: Vec<RoleSection>,
+}
+
+// Written out, so that a caller's proof sees one call and not the drop of each field.
+impl Drop for Sections {
+    fn drop(self) {
+        let Sections {
+            sections: _sections,
+        } = self;
+    }
 }
 
 impl Model for Sections {

@@ -23,13 +23,25 @@ use version_log::{Log, new_log};
 /// A policy as a whole (Casbin, the enforcer's model and policy): tables of given shapes, an index of p by a key or none, the role
 /// relations, and the log of the edits that led to these tables. Each rule is kept in the tables alone. Contracts see the shapes,
 /// the key, the log, and what is kept beside it.
-#[derive(Drop)]
 pub struct PolicyState {
     pub(crate) shapes: Shapes,
     pub(crate) tables: Tables,
     pub(crate) index: Option<Index>,
     pub(crate) sections: Sections,
     pub(crate) log: Log,
+}
+
+// Written out, so that a caller's proof sees one call and not the drop of each field.
+impl Drop for PolicyState {
+    fn drop(self) {
+        let PolicyState {
+            shapes: _shapes,
+            tables: _tables,
+            index: _index,
+            sections: _sections,
+            log: _log,
+        } = self;
+    }
 }
 
 impl Model for PolicyState {

@@ -23,10 +23,19 @@ pub(crate) enum Step {
 
 /// Edits that `RoleSection::commit` makes. Contracts see what becomes of each domain that they touch,
 /// and the rows with a pattern as their domain afterwards.
-#[derive(Drop)]
 pub struct Prepared {
     touched: Vec<(Vec<u8>, Step)>,
     patterns: Vec<Rule>,
+}
+
+// Written out, so that a caller's proof sees one call and not the drop of each field.
+impl Drop for Prepared {
+    fn drop(self) {
+        let Prepared {
+            touched: _touched,
+            patterns: _patterns,
+        } = self;
+    }
 }
 
 impl Model for Prepared {
@@ -54,6 +63,7 @@ impl Prepared {
         ensures touched { by_text result.0.items ≡ self.touched }
         ensures patterns { result.1.items ≡ self.patterns }
     {
-        (self.touched, self.patterns)
+        let Prepared { touched, patterns } = self;
+        (touched, patterns)
     }
 }

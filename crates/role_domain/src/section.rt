@@ -43,13 +43,24 @@ const TOO_FAR: u8 = 255;
 /// without domains is asked with none, and has one graph. Contracts see the shape, the hierarchy limit,
 /// the domains, and the rows with a pattern as their domain. Of which rows a section is, they say by
 /// `IsSectionOf`; a question is answered of these.
-#[derive(Drop)]
 pub struct RoleSection {
     shape: RoleShape,
     limit: u8,
     domains: Domains,
     // The rows with a pattern as their domain.
     patterns: Vec<Rule>,
+}
+
+// Written out, so that a caller's proof sees one call and not the drop of each field.
+impl Drop for RoleSection {
+    fn drop(self) {
+        let RoleSection {
+            shape: _shape,
+            limit: _limit,
+            domains: _domains,
+            patterns: _patterns,
+        } = self;
+    }
 }
 
 impl Model for RoleSection {

@@ -17,7 +17,6 @@ use std::marker::Model;
 
 /// A graph that is being made: rows come one after the other, and the distances between roles are found once all are there.
 /// Contracts see the rows, how names are compared with users, the hierarchy limit, and what is counted of the rows.
-#[derive(Drop)]
 pub struct GraphBuilder {
     // Without rows; those that come are edits of it.
     links: Links,
@@ -25,6 +24,19 @@ pub struct GraphBuilder {
     limit: u8,
     roles: Roles,
     count: usize,
+}
+
+// Written out, so that a caller's proof sees one call and not the drop of each field.
+impl Drop for GraphBuilder {
+    fn drop(self) {
+        let GraphBuilder {
+            links: _links,
+            edits: _edits,
+            limit: _limit,
+            roles: _roles,
+            count: _count,
+        } = self;
+    }
 }
 
 impl Model for GraphBuilder {

@@ -48,7 +48,6 @@ const TOO_FAR: u8 = 255;
 ///
 /// Where some role is below another, and at most 1,024 different roles stand, the distances between these
 /// are kept, a byte for each pair, and questions read them; else questions walk the rows.
-#[derive(Drop)]
 pub struct RoleGraph {
     alloc: Global,
     links: Links,
@@ -58,6 +57,20 @@ pub struct RoleGraph {
     count: usize,
     // The distances between the roles, of which each is a node; none where none are kept.
     square: DistRows,
+}
+
+// Written out, so that a caller's proof sees one call and not the drop of each field.
+impl Drop for RoleGraph {
+    fn drop(self) {
+        let RoleGraph {
+            alloc: _alloc,
+            links: _links,
+            limit: _limit,
+            roles: _roles,
+            count: _count,
+            square: _square,
+        } = self;
+    }
 }
 
 impl Model for RoleGraph {

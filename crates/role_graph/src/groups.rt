@@ -15,9 +15,15 @@ use std::marker::Model;
 
 /// Groups with different users, each with some role, in an order of their own. Contracts see the
 /// groups and the room.
-#[derive(Drop)]
 pub(crate) struct Groups {
     entries: IndexMap<Vec<u8>, Vec<Text>>,
+}
+
+// Written out, so that a caller's proof sees one call and not the drop of each field.
+impl Drop for Groups {
+    fn drop(self) {
+        let Groups { entries: _entries } = self;
+    }
 }
 
 impl Model for Groups {

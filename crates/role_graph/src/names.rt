@@ -8,9 +8,15 @@ use std::alloc::Global;
 use std::marker::Model;
 
 /// A list of names, each of which is a text. Contracts see it as a list.
-#[derive(Drop)]
 pub(crate) struct Names {
     names: Vec<Vec<u8>>,
+}
+
+// Written out, so that a caller's proof sees one call and not the drop of each field.
+impl Drop for Names {
+    fn drop(self) {
+        let Names { names: _names } = self;
+    }
 }
 
 impl Model for Names {

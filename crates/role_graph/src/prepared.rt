@@ -14,11 +14,21 @@ use std::marker::Model;
 
 /// An edit of a graph that `RoleGraph::commit` makes. Contracts see the users whose rows change, each
 /// with the roles that it has afterwards, and the roles of the rows that come and of those that go.
-#[derive(Drop)]
 pub struct Prepared {
     edits: Edits,
     added: Names,
     removed: Vec<Text>,
+}
+
+// Written out, so that a caller's proof sees one call and not the drop of each field.
+impl Drop for Prepared {
+    fn drop(self) {
+        let Prepared {
+            edits: _edits,
+            added: _added,
+            removed: _removed,
+        } = self;
+    }
 }
 
 impl Model for Prepared {
@@ -52,7 +62,12 @@ impl Prepared {
         ensures added { result.1 ≡ self.added }
         ensures removed { result.2.items ≡ self.removed }
     {
-        (self.edits, self.added, self.removed)
+        let Prepared {
+            edits,
+            added,
+            removed,
+        } = self;
+        (edits, added, removed)
     }
 }
 
