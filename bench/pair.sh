@@ -58,7 +58,8 @@ def script(requests, publishes):
 
 
 # The seconds of a round with so many workers, its publishes, and the greatest version that a request shows: near the last one, so
-# that the administrator published as long as the workers read, and not longer.
+# that the administrator published as long as the workers read, and not longer. The time to load the policy, and to read as many
+# other lines and to print theirs, is taken out.
 def beside(name, requests, workers):
     publishes = len(requests) // 10
     for _ in range(10):
@@ -73,7 +74,8 @@ def beside(name, requests, workers):
             publishes = max(shown * 11 // 10, 10)
         else:
             break
-    return seconds, publishes, shown
+    others, _ = took(name, "session", [], ["sync"] * (2 * publishes))
+    return seconds - others, publishes, shown
 
 
 def compare(what, name, requests):
@@ -85,7 +87,7 @@ def compare(what, name, requests):
     one = None
     for workers in (1, 2, 4):
         seconds, publishes, shown = beside(name, requests, workers)
-        each = (seconds - idle) / len(requests)
+        each = seconds / len(requests)
         one = one or each
         print(f"{what}, {workers} workers: {1 / each:.0f} requests a second, as a ratio to one worker {one / each:.2f}, beside {publishes} publishes, version {shown} is shown; a request of a worker {workers * each * 1e6:.2f} us, of enforce {alone * 1e6:.2f} us, ratio {workers * each / alone:.2f}", flush=True)
 
@@ -97,7 +99,7 @@ compare("1000 rules looked at", "paths", [f"user, /data{RULES - 1}/7, {'write' i
 PYTHON
 }
 
-[ "$part" = entries ] || requests "${2:-400000}"
+[ "$part" = entries ] || requests "${2:-120000}"
 [ "$part" != requests ] || exit 0
 
 make_program pair_costs edit_calls live_pair perm_base policy_desk policy_state policy_table

@@ -1,6 +1,7 @@
 #!/usr/bin/env bash
 # Compares the examples with their copies among the cases of crates/cases_runs, which the gate runs: each model, policy and
-# list of requests with the text below its name in `stdin`, and the answers with the lines of its case in `stdout`.
+# list of requests with the text below its name in `stdin`, and the answers with the lines of its case in `stdout`. The README of a
+# folder has no copy.
 # Usage: checks/examples.sh
 set -u
 cd "$(dirname "${BASH_SOURCE[0]}")/.." || exit 1
@@ -26,6 +27,7 @@ answers_of() {
 
 compared=0
 for file in examples/*/*; do
+  [ "${file##*/}" = README.md ] && continue
   folder="${file%/*}"
   if [ "${file##*/}" = answers.txt ]; then
     copy="$(answers_of "$folder"; echo .)"

@@ -59,7 +59,7 @@ def read_examples():
         for name in sorted(os.listdir(f"{ROOT}/examples/{folder}")):
             with open(f"{ROOT}/examples/{folder}/{name}", "rb") as file:
                 texts[name] = file.read()
-        inputs = [(name, text) for name, text in texts.items() if name not in ("model.conf", "policy.csv", "answers.txt")]
+        inputs = [(name, text) for name, text in texts.items() if name in COMMANDS]
         examples.append((texts["model.conf"], texts["policy.csv"], inputs or [("none", b"")]))
     return examples
 

@@ -98,6 +98,12 @@ __attribute__((destructor)) static void tell(void) {
   syscall(SYS_close, log);
 }
 
+/* A program that ends so calls no destructor. */
+void _exit(int status) {
+  tell();
+  for (;;) syscall(SYS_exit_group, status);
+}
+
 static void *no_memory(void) {
   errno = ENOMEM;
   return NULL;

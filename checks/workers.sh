@@ -3,13 +3,14 @@
 # by a program of its own: a verdict is that of the rules of a version that was published whole and is one of its round, with the rule
 # that decided; within a worker's share versions do not fall; all other lines are those of one thread. Each script has another seed, and
 # rounds of another length. It also says how many verdicts show a version that was published beside them: these
-# tell that workers and the administrator ran side by side. Outside the gate. Usage: checks/workers.sh [MINUTES [WORKERS]]
+# tell that workers and the administrator ran side by side. Outside the gate. CASBIN_CLI names another program than the repository's.
+# Usage: checks/workers.sh [MINUTES [WORKERS]]
 set -euo pipefail
 cd "$(dirname "${BASH_SOURCE[0]}")/.."
 work="$(mktemp -d)"
 trap 'rm -rf "$work"' EXIT
 # Without words the program only says how it is used, once it is built.
-./casbin_cli </dev/null >/dev/null 2>&1 || true
+[ -n "${CASBIN_CLI:-}" ] || ./casbin_cli </dev/null >/dev/null 2>&1 || true
 python3 - "${CASBIN_CLI:-crates/casbin_cli/out/casbin_cli}" "$work" "${1:-10}" "${2:-8}" <<'PYTHON'
 import random, subprocess, sys, time
 

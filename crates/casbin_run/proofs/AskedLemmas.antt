@@ -1,5 +1,5 @@
 -- A run that stops at its words or its files has asked nothing of the input.
-use Rattle.std.proofs.Common.{◌≡◌, Bool, true, false, refl, ⊎_elim, sym, ap, ◌∙◌}
+use Rattle.std.proofs.Common.{◌≡◌, true, false, refl, ⊎_elim, sym, ap, ◌∙◌}
 use Rattle.log_ship.specs.declared.packet_fault.PacketFault.TheVariants as packet
 use Rattle.run_status.specs.Statuses.{status_of}
 use Rattle.run_status.specs.declared.part.Part.TheVariants.{Input, Report}

@@ -1,7 +1,6 @@
 -- What answering by way of a cache comes to as a task.
 use Rattle.std.proofs.Common.{ℕ, Bool, List, refl}
 use Rattle.std.specs.Prelude.{Option}
-use Rattle.policy_state.specs.States.{tables}
 use Rattle.regex_gate.specs.Refusals.{Refusals}
 use Rattle.script_read.specs.Said.{Said}
 use Rattle.loaded_work.specs.Finders.{HasRefused}

@@ -1,5 +1,5 @@
 -- Runs whose words ask for the demonstration, and those whose words do not.
-use Rattle.std.proofs.Common.{◌≡◌, ◌≤◌, ℕ, zero, suc, Bool, true, false, List, [], ◌∷◌, Option, Some, None, drop, refl, sym, ap, subst, ◌∙◌}
+use Rattle.std.proofs.Common.{◌≡◌, ◌≤◌, ℕ, Bool, true, false, List, [], ◌∷◌, Option, Some, None, drop, refl, sym, ap, subst, ◌∙◌}
 use Rattle.std.specs.Prelude.{◌==◌, ◌||◌, IfSome, MatchOption, map, not}
 use Rattle.std.specs.List.{AllZip}
 use Rattle.std.proofs.lemmas.Bool.{eqb-true}
@@ -75,8 +75,11 @@ first_alone [] (n ∷ now) used same = absurd used
 first_alone (b ∷ before) [] used same = absurd used
 
 pub no_workers : (workers : ℕ) → not (workers == 0) ≡ false → workers ≡ 0
-no_workers zero none = refl
-no_workers (suc workers) none = absurd cc
+no_workers workers none = by (workers == 0) refl none
+  where
+    by : (test : Bool) → (workers == 0) ≡ test → not test ≡ false → workers ≡ 0
+    by true is none = eqb-true workers 0 is
+    by false is none = absurd cc
 
 -- the finders of a demonstration
 pub demo_used : (workers : ℕ) (before now : List Refusals) → AllZip IsUsed before now → (workers ≡ 0 → drop 1 now ≡ drop 1 before) → AreUsed (not (workers == 0)) before now
@@ -88,7 +91,7 @@ demo_used workers before now used alone = by (workers == 0) refl
 
 -- what is behind the first is alike where the finders are
 pub maps_alike : {P : Type 0} (refusals : P → Refusals) (befores nows : List P) → drop 1 nows ≡ drop 1 befores → drop 1 (map refusals nows) ≡ drop 1 (map refusals befores)
-maps_alike refusals befores nows same = dropped nows ∙ ap (map refusals) same ∙ sym (dropped befores)
+maps_alike {P = P} refusals befores nows same = dropped nows ∙ ap (map refusals) same ∙ sym (dropped befores)
   where
     dropped : (list : List P) → drop 1 (map refusals list) ≡ map refusals (drop 1 list)
     dropped [] = refl
@@ -99,10 +102,11 @@ maps_alike refusals befores nows same = dropped nows ∙ ap (map refusals) same 
 -- words that ask for no demonstration, and those that ask for one
 module _ (g : Given) (before now : World) (err err_now : Taken) (status : Status) where
   pub ends_files : None ≡ demo_asked g.words → Ends g before now err err_now status → EndsAs g before now err err_now status
-  ends_files none ends = subst (λ (demo : Option (ℕ × ℕ)). MatchOption demo (Ends g before now err err_now status) (λ (d : ℕ × ℕ). EndsDemo d.0 d.1 before now err err_now status)) none ends
+  ends_files none ends = subst (λ (demo : Option (ℕ × ℕ)). MatchOption demo (Ends g before now err err_now status) (λ (d : ℕ × ℕ). (now.shelf ≡ before.shelf) × EndsDemo d.0 d.1 before now err err_now status)) none ends
 
-  pub ends_demo : (demo : ℕ × ℕ) → Some demo ≡ demo_asked g.words → EndsDemo demo.0 demo.1 before now err err_now status → EndsAs g before now err err_now status
-  ends_demo demo asked ends = subst (λ (found : Option (ℕ × ℕ)). MatchOption found (Ends g before now err err_now status) (λ (d : ℕ × ℕ). EndsDemo d.0 d.1 before now err err_now status)) asked ends
+  pub ends_demo : (demo : ℕ × ℕ) → Some demo ≡ demo_asked g.words → now.shelf ≡ before.shelf → EndsDemo demo.0 demo.1 before now err err_now status → EndsAs g before now err err_now status
+  ends_demo demo asked unfetched ends =
+      subst (λ (found : Option (ℕ × ℕ)). MatchOption found (Ends g before now err err_now status) (λ (d : ℕ × ℕ). (now.shelf ≡ before.shelf) × EndsDemo d.0 d.1 before now err err_now status)) asked (unfetched, ends)
 
 -- by what the sinks took, where this is all that changed of the world
 pub demo_ends : (count workers : ℕ) (before now : World) (err err_now : Taken) (status : Status) → DemoEnds count workers before.out now.out err err_now status → EndsDemo count workers before now err err_now status

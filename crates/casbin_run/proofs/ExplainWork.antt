@@ -12,7 +12,6 @@ use Rattle.near_miss.specs.declared.misses.NearMiss.{NearMiss}
 use Rattle.perm_base.specs.declared.shapes.Shapes.{Shapes}
 use Rattle.perm_base.specs.declared.shapes.TableId.TheVariants.{P}
 use Rattle.perm_value.specs.Datum.{Datum}
-use Rattle.policy_state.specs.States.{tables}
 use Rattle.policy_table.specs.Tables as table
 use Rattle.regex_gate.specs.Refusals.{Refusals}
 use Rattle.run_status.specs.declared.stop.Stop.{Stop}

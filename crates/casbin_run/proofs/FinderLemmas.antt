@@ -6,7 +6,7 @@ use Rattle.std.proofs.lemmas.List.{append_cancel_left}
 use Rattle.live_round.proofs.CallerLemmas.{logs_more}
 use Rattle.regex_gate.proofs.CallerLemmas.{used_none}
 use Rattle.regex_gate.specs.Refusals.{IsUsed, Refusals, after_refusals}
-use Rattle.casbin_run.specs.Finders.{AreUsed, HaveRefused, IsFirstUsed}
+use Rattle.casbin_run.specs.Finders.{AreUsed, HaveRefused, IsFirstUsed, Logs}
 use Rattle.loaded_work.specs.Finders.{HasRefused}
 
 -- finders that were not asked
@@ -34,8 +34,15 @@ module _ {P : Type 0} (refusals : P → Refusals) (last : P) where
   first_refused [] first some here patterns is = absurd (omega (arith, some))
   first_refused (f ∷ fs) first some here patterns is = (is ∙ ap (λ (x : P). after_refusals (refusals x) patterns) here, refl)
 
-  pub first_used : (fs : List P) (first : P) → 0 < length fs → first ≡ get_or fs 0 first → IsUsed (refusals first) (refusals last) → IsFirstUsed (map refusals fs) (map refusals (slice_set fs 0 last))
+  first_used : (fs : List P) (first : P) → 0 < length fs → first ≡ get_or fs 0 first → IsUsed (refusals first) (refusals last) → IsFirstUsed (map refusals fs) (map refusals (slice_set fs 0 last))
   first_used fs first some here used = (used.more, first_refused fs first some here used.more used.refused)
+
+  -- and so it is where no workers answer
+  pub first_logged : (shared : Bool) → shared ≡ false → (fs : List P) (first : P) → 0 < length fs → first ≡ get_or fs 0 first → (patterns : List (List ℕ)) → HasRefused (refusals first) (refusals last) patterns → Logs shared (map refusals fs) (map refusals (slice_set fs 0 last)) patterns
+  first_logged shared alone fs first some here patterns is = subst (λ (b : Bool). Logs b (map refusals fs) (map refusals (slice_set fs 0 last)) patterns) (sym alone) (first_refused fs first some here patterns is)
+
+  pub first_asked : (shared : Bool) → shared ≡ false → (fs : List P) (first : P) → 0 < length fs → first ≡ get_or fs 0 first → IsUsed (refusals first) (refusals last) → AreUsed shared (map refusals fs) (map refusals (slice_set fs 0 last))
+  first_asked shared alone fs first some here used = subst (λ (b : Bool). AreUsed b (map refusals fs) (map refusals (slice_set fs 0 last))) (sym alone) (first_used fs first some here used)
 
   -- where it is as before, all are
   pub first_kept : (fs : List P) (first : P) → 0 < length fs → first ≡ get_or fs 0 first → last ≡ first → slice_set fs 0 last ≡ fs

@@ -1,6 +1,7 @@
 -- The limit of links that words ask for.
 use Rattle.std.proofs.Common.{◌≡◌, ℕ, zero, suc, ◌<◌, ◌≤◌, Bool, true, false, List, Option, Some, None, refl, sym, subst, arith}
 use Rattle.std.specs.Prelude.{◌==◌, IfSome, if◌then◌else◌}
+use Rattle.std.proofs.lemmas.Bool.{eqb-false}
 use Rattle.std.proofs.lemmas.Option.{option_and_then_some}
 use Rattle.command_words.specs.Commands.{command_of}
 use Rattle.command_words.specs.declared.command.Command.{Command}
@@ -46,7 +47,7 @@ Sized None = Unit {0}
 Sized (Some job) = HasSize job.task
 
 positive : (count : ℕ) → (count == 0) ≡ false → 0 < count
-positive zero none = absurd cc
+positive zero none = absurd (eqb-false 0 0 none refl)
 positive (suc count) some = omega arith
 
 job_sized : (asked : Command) → HasRanges asked → Sized (job_of asked)

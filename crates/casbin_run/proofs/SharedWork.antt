@@ -103,24 +103,24 @@ module _ (json : Bool) (workers : ℕ) (loaded : Loaded) (input : Option (List �
   pub wrote_all : SharedAll IsScriptSaid workers loaded.model loaded.shapes loaded.tables.policy befores nows out out_now → DidWrite on (HaveRefusedAll befores nows) out out_now
   wrote_all all = record { worked = worked all.printed; took = all.took }
 
+  some_stops : (input_rose out_rose : Type 0) (stop : Stop) → SharedSome IsScriptSaid workers loaded.model loaded.shapes loaded.tables.policy befores nows out out_now out_rose stop → WorkStops on (HaveRefusedAll befores nows) out out_now input_rose out_rose stop
+  some_stops input_rose out_rose CannotWrite some = (record { worked = worked some.printed; took = some.stops.0 }, some.stops.1)
+  some_stops input_rose out_rose NoMemory some = inr (record { worked = worked some.printed; count = some.stops.0; took = some.stops.1 ∙ ap (with_back out) (first_lines some.stops.0 some.printed.lines) })
+  some_stops input_rose out_rose _ some = absurd some.stops
+
   pub wrote_stops : (input_rose out_rose : Type 0) (stop : Stop) → ((stop ≡ NoMemory) × (out_now ≡ out)) ⊎ SharedSome IsScriptSaid workers loaded.model loaded.shapes loaded.tables.policy befores nows out out_now out_rose stop
       → WorkStops on (HaveRefusedAll befores nows) out out_now input_rose out_rose stop
-  wrote_stops input_rose out_rose stop (inl none) = subst (WorkStops on (HaveRefusedAll befores nows) out out_now input_rose out_rose) (sym none.0) (inl none.1)
-  wrote_stops input_rose out_rose CannotWrite (inr some) = (record { worked = worked some.printed; took = some.stops.0 }, some.stops.1)
-  wrote_stops input_rose out_rose NoMemory (inr some) = inr (record { worked = worked some.printed; count = some.stops.0; took = some.stops.1 ∙ ap (with_back out) (first_lines some.stops.0 some.printed.lines) })
-  wrote_stops input_rose out_rose _ (inr some) = absurd some.stops
+  wrote_stops input_rose out_rose stop stops =
+      ⊎_elim (λ early. subst (λ (s : Stop). WorkStops on (HaveRefusedAll befores nows) out out_now input_rose out_rose s) (sym early.0) (inl early.1)) (λ some. some_stops input_rose out_rose stop some) stops
 
   -- with another stop nothing was pushed
   pub wrote_quiet : (out_rose : Type 0) (stop : Stop) → ((stop ≡ NoMemory) × (out_now ≡ out)) ⊎ SharedSome IsScriptSaid workers loaded.model loaded.shapes loaded.tables.policy befores nows out out_now out_rose stop → IsQuiet stop → out_now ≡ out
-  wrote_quiet out_rose stop (inl none) quiet = none.1
-  wrote_quiet out_rose CannotWrite (inr some) quiet = absurd cc
-  wrote_quiet out_rose NoMemory (inr some) quiet = absurd cc
-  wrote_quiet out_rose _ (inr some) quiet = absurd some.stops
+  wrote_quiet out_rose stop stops quiet = ⊎_elim (λ early. early.1) (λ some. lines_not_quiet out out_now some.printed.lines out_rose stop some.stops quiet) stops
 
   -- and no such stop is told
   pub wrote_idle : {A : Type 0} (out_rose : Type 0) (stop : Stop) → ((stop ≡ NoMemory) × (out_now ≡ out)) ⊎ SharedSome IsScriptSaid workers loaded.model loaded.shapes loaded.tables.policy befores nows out out_now out_rose stop → IsQuiet stop → A
   wrote_idle out_rose stop stops quiet =
-      ⊎_elim (λ none. memory_not_quiet (subst IsQuiet none.0 quiet)) (λ some. lines_not_quiet out out_now some.printed.lines out_rose stop some.stops quiet) stops
+      ⊎_elim (λ early. memory_not_quiet (subst IsQuiet early.0 quiet)) (λ some. lines_not_quiet out out_now some.printed.lines out_rose stop some.stops quiet) stops
 
 -- what was written is all that is done, where `err` took nothing
 pub wrote_done : (json : Bool) (workers : ℕ) (loaded : Loaded) (input : Option (List ℕ)) (IsLogged : List (List ℕ) → Type 0) (out out_now : Option (List ℕ)) (err : Taken) → DidWrite (ground (Share json workers) loaded input) IsLogged out out_now → DidAll (ground (Share json workers) loaded input) IsLogged out out_now err err

@@ -1,6 +1,6 @@
 -- What a run that is done has printed of its files reads back.
 use Rattle.std.proofs.Common.{◌≡◌, ◌≤◌, List, ℕ, length, sym, ap, subst, ◌∙◌}
-use Rattle.std.specs.Prelude.{Option, Some, flat_map}
+use Rattle.std.specs.Prelude.{Some, flat_map}
 use Rattle.model_conf.specs.ModelText.{IsModel, ModelParts, most_bytes}
 use Rattle.model_conf.specs.Printed as model_text
 use Rattle.outside.specs.Told.{with_back}

@@ -48,6 +48,6 @@ EndsDemo count workers before now err err_now WriteFault = ToldSome count worker
 EndsDemo count workers before now err err_now NoMemory = (now.out.bytes ≡ before.out.bytes) × IsTold err.bytes err_now.bytes err.faults err_now.faults (line_of stop.NoMemory)
 EndsDemo count workers before now err err_now _ = ⊥
 
--- the one or the other
+-- the one or the other; a demonstration asks nothing of the shelf
 abbrev pub EndsAs : Given → World → World → Taken → Taken → Status → Type 0
-EndsAs g before now err err_now status = MatchOption (demo_asked g.words) (Ends g before now err err_now status) (λ demo. EndsDemo demo.0 demo.1 before now err err_now status)
+EndsAs g before now err err_now status = MatchOption (demo_asked g.words) (Ends g before now err err_now status) (λ demo. (now.shelf ≡ before.shelf) × EndsDemo demo.0 demo.1 before now err err_now status)

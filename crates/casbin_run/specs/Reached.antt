@@ -1,5 +1,5 @@
 -- How far a run came, and what it asked of the shelf and the input on its way.
-use Rattle.std.specs.Prelude.{◌≡◌, Bool, true, false, List, [], ◌∷◌, Some, ⊤}
+use Rattle.std.specs.Prelude.{◌≡◌, Bool, false, List, [], ◌∷◌, Some, ⊤}
 use Rattle.outside.specs.Log.{Adds, call}
 use Rattle.outside.specs.declared.fetch_log.FetchCall.{FetchCall}
 use Rattle.model_conf.specs.ModelText.{ModelParts}

@@ -306,7 +306,7 @@ fn do_task<S: Source, K: Sink, E: Sink, P: Finder>(
 ) -> Result<(), Stop>
     requires ready { IsReady loaded }
     requires sized { HasSize task }
-    requires alone { has_workers task.entry ≡ false }
+    requires alone { has_workers task ≡ false }
     ensures done { OnOk result (DidAll (ground task.entry loaded (S.left input.old))
         (HasRefused (P.refusals finder.old) (P.refusals finder.new))
         (K.taken out.old) (K.taken out.new)

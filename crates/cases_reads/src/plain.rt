@@ -184,7 +184,7 @@ fn push_texts(items: &mut String, fields: &str) -> Result<()> {
 /// The first fault of a model whose keys have sound values but for the matcher's, which stands last, or `model`.
 pub(crate) fn plain_model(alloc: Global, text: &str) -> Result<String> {
     let mut missing = Missing::all();
-    let mut value = "";
+    let mut value = String::new(alloc);
     let mut number: u32 = 0;
     for line in text.split('\n') {
         number = number.saturating_add(1);
@@ -195,11 +195,11 @@ pub(crate) fn plain_model(alloc: Global, text: &str) -> Result<String> {
             return Ok(format!(in alloc; "Line {{ line: {number} }}")?);
         };
         missing.found(key.trim());
-        value = back;
+        value = String::from_str(alloc, back)?;
     }
     match missing.first() {
         Some(key) => Ok(format!(in alloc; "Missing {{ key: {key} }}")?),
-        None => matcher_fault(alloc, value.trim()),
+        None => matcher_fault(alloc, value.as_str().trim()),
     }
 }
 

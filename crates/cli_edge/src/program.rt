@@ -13,16 +13,19 @@ use regex_keep::KeepingFinder;
 use run_status::{Status, Stop, tell_stop};
 use std::alloc::Global;
 use std::process::ExitCode;
+use std::sync::Wait;
+use std::thread::Threads;
 use std::{env, io};
 
 // How many finders a run takes.
 const FINDERS: usize = 9;
 
-/// Runs what the words behind the program's name ask for, over the real files and streams.
-pub fn run_program(rt: &HostRuntime) -> Status {
-    let alloc = rt.alloc();
-    let mut err = WriteSink::new(rt.stderr());
-    let words = match words(rt, alloc) {
+/// Runs what the words behind the program's name ask for, over the real files and streams of the host, with threads and waits of
+/// `rt`: `main` lends its runtime as both.
+pub fn run_program<R: Threads + Wait + Sync>(rt: &R, host: &HostRuntime) -> Status {
+    let alloc = host.alloc();
+    let mut err = WriteSink::new(host.stderr());
+    let words = match words(host, alloc) {
         Ok(words) => words,
         Err(stop) => return tell_stop(&mut err, stop),
     };
@@ -33,9 +36,9 @@ pub fn run_program(rt: &HostRuntime) -> Status {
         rt,
         alloc,
         &words,
-        &mut FileShelf::new(alloc, rt),
-        &mut ReadSource::new(rt.stdin()),
-        &mut WriteSink::new(rt.stdout()),
+        &mut FileShelf::new(alloc, host),
+        &mut ReadSource::new(host.stdin()),
+        &mut WriteSink::new(host.stdout()),
         &mut err,
         &mut finders,
         &FreeGate,
@@ -62,17 +65,17 @@ fn finders(alloc: Global) -> Result<Vec<KeepingFinder>, NoMemory>
 }
 
 // The words behind the program's name. Those that are not UTF-8 name no file here, and are no command.
-fn words(rt: &HostRuntime, alloc: Global) -> Result<Vec<String>, Stop> {
-    match all_words(rt, alloc) {
+fn words(host: &HostRuntime, alloc: Global) -> Result<Vec<String>, Stop> {
+    match all_words(host, alloc) {
         Ok(words) => Ok(words),
         Err(error) if error.kind() == io::ErrorKind::OutOfMemory => Err(Stop::NoMemory),
         Err(_) => Err(Stop::Words),
     }
 }
 
-fn all_words(rt: &HostRuntime, alloc: Global) -> io::Result<Vec<String>> {
+fn all_words(host: &HostRuntime, alloc: Global) -> io::Result<Vec<String>> {
     let mut words = Vec::new(alloc);
-    for word in env::args(rt)?.skip(1) {
+    for word in env::args(host)?.skip(1) {
         words.push(word)?;
     }
     Ok(words)

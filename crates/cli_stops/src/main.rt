@@ -5,5 +5,5 @@ use cli_edge::{exit_code, run_program};
 use std::process::ExitCode;
 
 fn main(rt: HostRuntime) -> ExitCode {
-    exit_code(run_program(&rt))
+    exit_code(run_program(&rt, &rt))
 }

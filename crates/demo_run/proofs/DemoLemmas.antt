@@ -1,6 +1,7 @@
 -- The summary of the demonstration's session.
-use Rattle.std.proofs.Common.{◌≡◌, ◌<◌, ℕ, zero, suc, true, List, [], ◌∷◌, None, Option, ap, arith, drop, length, refl, slice_set, subst, sym, ◌∙◌}
-use Rattle.std.specs.Prelude.{IfSome, false, map}
+use Rattle.std.proofs.Common.{◌≡◌, ◌<◌, ℕ, Bool, true, List, [], ◌∷◌, None, Option, ap, arith, drop, length, refl, slice_set, subst, sym, ◌∙◌}
+use Rattle.std.specs.Prelude.{IfSome, MatchBool, false, map}
+use Rattle.std.proofs.lemmas.Bool.{ne_eqb}
 use Rattle.decision.proofs.CallerLemmas.{suits_columns}
 use Rattle.decision.specs.Programs.{Suits}
 use Rattle.answer_lines.specs.declared.answer.Line.{Line}
@@ -43,8 +44,10 @@ pub lines_plain : (workers : ℕ) (model : ModelParts) (shapes : Shapes) (policy
 lines_plain workers model shapes policy script refused lines none plain = subst (λ (n : ℕ). HasLines n model shapes policy script lines) (sym none) (record { refused = refused; are = plain })
 
 pub lines_shared : (workers : ℕ) (model : ModelParts) (shapes : Shapes) (policy : Policy) (script : List Item) (refused : List (List (List ℕ))) (lines : List Line) → 0 < workers → IsShared model shapes policy workers (map seen script) refused lines → HasLines workers model shapes policy script lines
-lines_shared zero model shapes policy script refused lines some shared = absurd (omega (arith, some))
-lines_shared (suc workers) model shapes policy script refused lines some shared = record { refused = refused; are = shared }
+lines_shared workers model shapes policy script refused lines some shared = record {
+  refused = refused;
+  are = subst (λ (none : Bool). MatchBool none (IsPlain model shapes policy (map seen script) refused lines) (IsShared model shapes policy workers (map seen script) refused lines)) (sym (ne_eqb workers 0 (λ none. absurd (omega (arith, none, some))))) shared;
+}
 
 -- ---- before the first item
 

@@ -1,19 +1,17 @@
 -- Where the administrator stands behind one item more.
-use Rattle.std.proofs.Common.{◌≡◌, ◌⊎◌, inl, inr, ⊎_elim, ℕ, ◌≤◌, Bool, true, false, List, [], ◌∷◌, ◌++◌, append_assoc, append-nil, length, length-append, refl, sym, ap, subst, ◌∙◌, arith}
+use Rattle.std.proofs.Common.{◌≡◌, ⊎_elim, ℕ, true, false, List, [], ◌∷◌, ◌++◌, append_assoc, append-nil, length, length-append, refl, sym, ap, subst, ◌∙◌, arith}
 use mathlib.Core.List.{IsPrefix}
 use Rattle.answer_lines.specs.declared.answer.Answer.{Answer}
 use Rattle.live_pair.proofs.CallerLemmas.{edits_more, one_less, prefix_self, prefix_trans, prefix_whole}
 use Rattle.live_pair.specs.Admins.{AdminSeen}
 use Rattle.live_pair.specs.Story.{edits_in}
-use Rattle.live_round.specs.Desks.{HasEditsOf, StandsBehind}
-use Rattle.live_round.specs.Steps.{IsPlainStep}
-use Rattle.live_rounds.specs.Administrators.{AreAt, AreDoneBeside, AreReplies, IsAdminAmid, IsAdminBehind, IsAdminStep, IsAdminStopped, list_behind}
+use Rattle.live_round.specs.Desks.{HasEditsOf}
+use Rattle.live_rounds.specs.Administrators.{AreAt, AreDoneBeside, AreReplies, IsAdminAmid, IsAdminBehind, IsAdminStep, list_behind}
 use Rattle.live_round.specs.Steps.{is_request}
 use Rattle.effect_fold.specs.declared.effect.Effect.TheVariants.{AllowOverride}
 use Rattle.matcher_read.specs.Expression.{truth}
 use Rattle.model_conf.specs.ModelText.{ModelParts}
 use Rattle.perm_base.specs.declared.shapes.Shapes.{Shapes}
-use Rattle.policy_desk.specs.Desks.{Work}
 use Rattle.policy_state.specs.States.{tables}
 use Rattle.policy_table.specs.Tables.{Policy}
 use Rattle.policy_table.specs.declared.change.Change.{Change}

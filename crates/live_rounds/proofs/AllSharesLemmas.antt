@@ -1,5 +1,5 @@
 -- What the requests of all parts are answered, and where that leaves seats and finders.
-use Rattle.std.proofs.Common.{◌≡◌, ◌⊎◌, ℕ, zero, suc, ◌+◌, ◌-◌, ◌<◌, ◌≤◌, List, [], ◌∷◌, ◌++◌, append_assoc, append-nil, drop, length, length-append, map, take, refl, sym, ap, subst, ◌∙◌, arith}
+use Rattle.std.proofs.Common.{◌≡◌, ℕ, zero, suc, ◌+◌, ◌-◌, ◌≤◌, List, [], ◌∷◌, ◌++◌, append_assoc, append-nil, drop, length, length-append, take, refl, sym, ap, subst, ◌∙◌, arith}
 use Rattle.std.specs.Prelude.{sum_by}
 use Rattle.std.specs.List.{AllByRecursion, AllZip}
 use Rattle.std.proofs.lemmas.List.{drop-drop, drop_all, take-append-drop}
@@ -9,11 +9,11 @@ use Rattle.live_pair.specs.Admins.{AdminSeen}
 use Rattle.live_pair.specs.Seats.{SeatSeen, version_of}
 use Rattle.live_rounds.proofs.EntryLemmas.{entered}
 use Rattle.live_rounds.proofs.ItemLemmas.{requests_both}
-use Rattle.live_rounds.proofs.ShareLemmas.{IsShareDone, all_weighed, at_end, end_version, share_kept, share_left}
+use Rattle.live_rounds.proofs.ShareLemmas.{IsShareDone, all_weighed, at_end, share_kept, share_left}
 use Rattle.live_rounds.specs.Administrators.{AreDoneBeside}
 use Rattle.live_rounds.specs.Answered.{AreAnsweredAt, Rise}
-use Rattle.live_rounds.specs.Done.{EachHasEntered, HasEntered, HaveRefused}
-use Rattle.live_rounds.specs.Helps.Asked.{AreShared, first_kept, others_kept}
+use Rattle.live_rounds.specs.Done.{EachHasEntered, HaveRefused}
+use Rattle.live_rounds.specs.Helps.Asked.{AreShared}
 use Rattle.live_rounds.specs.Helps.Learning.{HasLearned}
 use Rattle.live_rounds.specs.Helps.Posts.{AreKept}
 use Rattle.live_rounds.specs.Requests.{requests}

@@ -4,7 +4,7 @@ use Rattle.answer_lines.specs.declared.answer.Answer.{Answer}
 use Rattle.answer_lines.specs.declared.answer.Answer.TheVariants.{Published}
 use Rattle.live_round.proofs.CallerLemmas.{logged_more}
 use Rattle.live_round.specs.Requests.{IsAnsweredBy, Refuses}
-use Rattle.live_rounds.specs.Answered.{AreAnsweredAt, IsAnsweredAt}
+use Rattle.live_rounds.specs.Answered.{AreAnsweredAt}
 use Rattle.live_rounds.specs.Helps.Asked.{AddsAnswered, AreAnsweredOver, IsAnsweredOver}
 use Rattle.live_round.specs.Steps.{is_request}
 use Rattle.live_rounds.specs.Requests.{requests}
@@ -14,7 +14,7 @@ use Rattle.perm_base.specs.declared.shapes.Shapes.{Shapes}
 use Rattle.policy_state.specs.States.{State, tables}
 use Rattle.policy_table.specs.Tables.{Policy}
 use Rattle.regex_gate.proofs.CallerLemmas.{used_then}
-use Rattle.regex_gate.specs.Refusals.{IsUsed, Refusals, after_refusals}
+use Rattle.regex_gate.specs.Refusals.{IsUsed, Refusals}
 use Rattle.script_read.specs.Said.{Reading, Said, asks, seen}
 use Rattle.script_read.specs.declared.item.Item.{Item}
 use Rattle.session_meaning.specs.Plain.{all_refused}

@@ -1,5 +1,5 @@
 -- What was served at a seat is answered at cuts of the round.
-use Rattle.std.proofs.Common.{◌≡◌, ◌⊎◌, inl, inr, ⊎_elim, ℕ, zero, suc, ◌+◌, ◌≤◌, leb, Bool, true, false, List, [], ◌∷◌, ◌++◌, append_assoc, append-nil, length, length-append, map, take, refl, sym, ap, subst, ◌∙◌, arith}
+use Rattle.std.proofs.Common.{◌≡◌, ℕ, zero, suc, ◌≤◌, leb, Bool, true, false, List, [], ◌∷◌, ◌++◌, append_assoc, append-nil, length, length-append, map, take, refl, sym, ap, subst, ◌∙◌, arith}
 use Rattle.std.specs.Prelude.{MatchBool}
 use Rattle.std.proofs.lemmas.Bool.{leb-false, leb-true}
 use mathlib.Core.List.{IsPrefix}
@@ -8,7 +8,7 @@ use Rattle.live_pair.proofs.CallerLemmas.{edits_both, prefix_self, prefix_shorte
 use Rattle.live_pair.specs.Seats.{IsEntered, SeatSeen, version_of}
 use Rattle.live_pair.specs.Story.{edits_in}
 use Rattle.live_rounds.specs.Administrators.{AreAt}
-use Rattle.live_rounds.specs.Answered.{AreAnsweredAt, IsAnsweredAt, Rise}
+use Rattle.live_rounds.specs.Answered.{AreAnsweredAt, Rise}
 use Rattle.live_rounds.specs.Lists.{last_from}
 use Rattle.live_rounds.specs.Served.{AreServed, IsServed}
 use Rattle.live_seat.specs.Decided.{tables_behind}
@@ -19,7 +19,6 @@ use Rattle.policy_table.specs.Tables.{Policy}
 use Rattle.policy_table.specs.declared.change.Change.{Change}
 use Rattle.script_read.specs.Said.{Reading, Said, asks}
 use Rattle.session_meaning.proofs.CallerLemmas.{given_front, out_among}
-use Rattle.session_meaning.specs.Desks.{history}
 use Rattle.session_meaning.specs.Given.{given}
 use Rattle.session_meaning.specs.Replies.{IsAnswerTo, is_decided}
 use Rattle.session_meaning.specs.Rounds.{IsCut}

@@ -1,7 +1,6 @@
 -- Entries of a seat that answers requests, and what its share shows of them.
-use Rattle.std.proofs.Common.{◌≡◌, ◌⊎◌, inl, inr, ⊎_elim, ℕ, zero, suc, ◌+◌, ◌<◌, ◌≤◌, ◌==◌, min, Bool, true, false, List, [], ◌∷◌, ◌++◌, append-nil, length, length-append, Option, Some, None, Ok, Err, refl, sym, ap, subst, ◌∙◌, arith}
+use Rattle.std.proofs.Common.{◌≡◌, ⊎_elim, ℕ, ◌+◌, ◌≤◌, ◌==◌, min, Bool, true, false, List, [], ◌∷◌, ◌++◌, append-nil, length, length-append, Option, Some, None, Ok, Err, refl, sym, ap, ◌∙◌, arith}
 use Rattle.std.specs.Prelude.{MatchBool}
-use mathlib.Core.List.{IsPrefix}
 use Rattle.answer_lines.specs.declared.answer.Answer.{Answer}
 use Rattle.answer_lines.specs.declared.answer.Answer.TheVariants as answer
 use Rattle.live_pair.specs.Seats.{IsEntered, IsShut, SeatSeen, version_of}
@@ -10,17 +9,16 @@ use Rattle.live_rounds.specs.Done.{HasEntered, onto_shown, version_shown, versio
 use Rattle.live_rounds.specs.Helps.Learning.{HasLearned}
 use Rattle.live_rounds.specs.Lists.{last_from}
 use Rattle.live_rounds.specs.Requests.{requests}
-use Rattle.live_rounds.specs.Served.{AreServed, IsPartKept, IsPartServed, IsServed}
+use Rattle.live_rounds.specs.Served.{AreServed, IsPartKept, IsServed}
 use Rattle.live_seat.specs.Decided.{tables_behind}
 use Rattle.model_conf.specs.ModelText.{ModelParts}
 use Rattle.outside.specs.Faults.{Rose, most_faults}
 use Rattle.perm_base.specs.declared.shapes.Shapes.{Shapes}
-use Rattle.perm_value.specs.Datum.{Datum}
 use Rattle.policy_table.specs.Tables.{Policy}
 use Rattle.policy_table.specs.declared.change.Change.{Change}
 use Rattle.regex_gate.specs.Refusals.{Refusals}
-use Rattle.script_read.specs.Said.{Reading, Said, asks}
-use Rattle.session_meaning.specs.Replies.{IsAnswerTo, IsDecided, is_decided, rule_of}
+use Rattle.script_read.specs.Said.{Reading, Said}
+use Rattle.session_meaning.specs.Replies.{IsDecided}
 
 -- a last item that is the last of what follows
 last_again : (one last : ℕ) (xs : List ℕ) → last_from one xs ≡ last → last_from last xs ≡ last

@@ -1,5 +1,5 @@
 -- The items of a slice, one after the other.
-use Rattle.std.proofs.Common.{◌≡◌, ℕ, zero, suc, ◌+◌, ◌<◌, ◌≤◌, Bool, true, false, List, [], ◌∷◌, ◌++◌, get_or, length, length-append, map, take, take_all, drop, refl, sym, ap, subst, ◌∙◌, arith}
+use Rattle.std.proofs.Common.{◌≡◌, ℕ, zero, suc, ◌+◌, ◌<◌, ◌≤◌, Bool, true, false, List, [], ◌∷◌, ◌++◌, get_or, length, length-append, map, take, take_all, drop, refl, sym, ap, ◌∙◌, arith}
 use Rattle.std.specs.Prelude.{cond, count_by}
 use Rattle.std.proofs.lemmas.List.Recursion.{is_count_by}
 use Rattle.std.proofs.lemmas.List.{map-append, take-append-drop}
@@ -45,9 +45,17 @@ next_counted items n item within is =
     one (said.asks reading) = refl
     one _ = refl
 
+pub next_other : (items : List Item) (n : ℕ) (item : Item) → n < length items → item ≡ get_or items n item → is_request (seen item) ≡ false → length (requests (map seen (take (n + 1) items))) ≡ length (requests (map seen (take n items)))
+next_other items n item within is other =
+    let last : length (requests (map seen (take n items))) + 0 ≡ length (requests (map seen (take n items))) = omega arith in
+    next_counted items n item within is ∙ ap (λ (b : Bool). length (requests (map seen (take n items))) + cond b 1 0) other ∙ last
+
+pub next_request : (items : List Item) (n : ℕ) (item : Item) → n < length items → item ≡ get_or items n item → is_request (seen item) ≡ true → length (requests (map seen (take (n + 1) items))) ≡ length (requests (map seen (take n items))) + 1
+next_request items n item within is asks = next_counted items n item within is ∙ ap (λ (b : Bool). length (requests (map seen (take n items))) + cond b 1 0) asks
+
 -- all requests stand before the end
-pub counted_within : (items : List Item) → length (requests (map seen (take (length items) items))) ≡ length (requests (map seen items))
-counted_within items = ap (λ (l : List Item). length (requests (map seen l))) (take_all (length items) items (omega arith))
+pub counted_within : (items : List Item) (n : ℕ) → length items ≤ n → length (requests (map seen (take n items))) ≡ length (requests (map seen items))
+counted_within items n past = ap (λ (l : List Item). length (requests (map seen l))) (take_all n items past)
 
 -- how many requests there are
 pub counted : (items : List Item) → count_by (λ (item : Item). is_request (seen item)) items ≡ length (requests (map seen items))

@@ -1,20 +1,18 @@
 -- The replies to the requests of a round, at cuts of it, and those to its other items are its lines.
-use Rattle.std.proofs.Common.{◌≡◌, ℕ, zero, suc, ◌+◌, ◌≤◌, Bool, true, false, List, [], ◌∷◌, ◌++◌, append_assoc, append-nil, length, length-append, refl, sym, ap, subst, ◌∙◌, arith}
+use Rattle.std.proofs.Common.{◌≡◌, ℕ, suc, List, [], ◌∷◌, ◌++◌, length, length-append, refl, ap, subst, arith}
 use Rattle.std.specs.List.{AllByRecursion}
 use Rattle.answer_lines.specs.declared.answer.Answer.{Answer}
 use Rattle.answer_lines.specs.declared.answer.Line.{Line}
 use Rattle.live_rounds.specs.Administrators.{AreReplies}
 use Rattle.live_rounds.specs.Answered.{AreAnsweredAt}
 use Rattle.live_rounds.specs.Merged.{merged}
-use Rattle.live_round.specs.Steps.{is_request}
 use Rattle.live_rounds.specs.Requests.{requests}
 use Rattle.model_conf.specs.ModelText.{ModelParts}
 use Rattle.perm_base.specs.declared.shapes.Shapes.{Shapes}
 use Rattle.policy_table.specs.Tables.{Policy}
 use Rattle.script_read.specs.Said.{Reading, Said}
 use Rattle.script_read.specs.Said as said
-use Rattle.session_meaning.specs.Plain.{IsLineAt, all_refused}
-use Rattle.session_meaning.specs.Replies.{IsReply, IsReplyAt}
+use Rattle.session_meaning.specs.Plain.{all_refused}
 use Rattle.session_meaning.specs.Rounds.{AreLinesAt, IsCut, at_requests}
 use Rattle.session_meaning.specs.Versions.{out, tables_at}
 

@@ -1,9 +1,9 @@
 -- Posts: how they are manned, and what is kept of what was answered at them.
-use Rattle.std.proofs.Common.{◌≡◌, ◌⊎◌, ◌&&◌, inl, inr, ⊎_elim, ℕ, zero, suc, ◌+◌, ◌<◌, ◌≤◌, leb, Bool, true, false, List, [], ◌∷◌, ◌++◌, append_assoc, append-nil, get_or, length, length-append, map, take, drop, refl, sym, ap, subst, ◌∙◌, arith}
+use Rattle.std.proofs.Common.{◌≡◌, ◌⊎◌, ◌&&◌, inl, inr, ⊎_elim, ℕ, zero, suc, ◌+◌, ◌<◌, ◌≤◌, ◌^◌, leb, Bool, true, false, List, [], ◌∷◌, ◌++◌, append_assoc, append-nil, get_or, length, length-append, map, take, drop, refl, sym, ap, subst, ◌∙◌, arith}
 use Rattle.std.specs.Prelude.{All, IsTrue, if◌then◌else◌, not, slice_index_or}
 use Rattle.std.specs.List.{AllByRecursion, AllZip}
 use Rattle.std.proofs.lemmas.Bool.{leb-false, leb-true}
-use Rattle.std.proofs.lemmas.List.{drop-take, map-append}
+use Rattle.std.proofs.lemmas.List.{drop-take, get_or_default, map-append}
 use Rattle.std.proofs.lemmas.List.Elements.{All-from_recursion}
 use Rattle.answer_lines.specs.declared.answer.Answer.{Answer}
 use Rattle.live_pair.specs.Seats.{SeatSeen, version_of}
@@ -33,6 +33,12 @@ total_next (s ∷ sizes) (suc n) size within is =
     let e : suc n + 1 ≡ suc (n + 1) = omega arith in
     let rest = total_next sizes n size (omega (arith, within)) is in
     rw e (omega (arith, rest))
+
+-- a part ends within all of them
+pub until_fits : (start place : ℕ) (sizes : List ℕ) (n d : ℕ) → n < length sizes → place ≡ start + total (take n sizes) → start + total sizes < 2 ^ 64 → place + get_or sizes n d < 2 ^ 64
+until_fits start place sizes n d within here all =
+    let fits = total_within sizes n (get_or sizes n d) within (get_or_default sizes n d (get_or sizes n d) within) in
+    omega (arith, fits, here, all)
 
 spans_more : (place : ℕ) (sizes froms untils : List ℕ) (n size from until : ℕ) → AreSpans place sizes froms untils → length froms ≡ n → n < length sizes → size ≡ get_or sizes n size → from ≡ place + total (take n sizes) → until ≡ from + size
     → AreSpans place sizes (froms ++ from ∷ []) (untils ++ until ∷ [])
@@ -93,8 +99,14 @@ module _ {S F X : Type 0} (seat : X → S) (finder : X → F) (from until : X �
   pub manned_all : (n : ℕ) (left_seats : List S) (left_finders : List F) (next : ℕ) (posts : List X) → length sizes ≤ n → IsManned n left_seats left_finders next posts → length posts ≡ length sizes
   manned_all n left_seats left_finders next posts past so = let few = manned_few n left_seats left_finders next posts so in omega (arith, few, past, so.long)
 
-  module _ (n : ℕ) (size : ℕ) (left_seats more_seats : List S) (left_finders more_finders : List F) (next after : ℕ) (posts more : List X) (post : X) (within : n < length sizes) (is : size ≡ get_or sizes n size) where
-    pub manned_more : IsManned n left_seats left_finders next posts → left_seats ≡ seat post ∷ more_seats → left_finders ≡ finder post ∷ more_finders → from post ≡ next → until post ≡ after → after ≡ next + size
+  module _ (n : ℕ) (d : ℕ) (left_seats more_seats : List S) (left_finders more_finders : List F) (next after : ℕ) (posts more : List X) (post : X) (within : n < length sizes) where
+    abbrev size : ℕ
+    size = get_or sizes n d
+
+    is : size ≡ get_or sizes n size
+    is = get_or_default sizes n d size within
+
+    pub manned_more : IsManned n left_seats left_finders next posts → left_seats ≡ seat post ∷ more_seats → left_finders ≡ finder post ∷ more_finders → from post ≡ next → until post ≡ after → after ≡ next + get_or sizes n d
         → more ≡ posts ++ post ∷ [] → IsManned (n + 1) more_seats more_finders after more
     manned_more so took_seat took_finder from-is until-is after-is more-is = subst (IsManned (n + 1) more_seats more_finders after) (sym more-is) (record {
       seats_are = so.seats_are ∙ ap (λ (l : List S). map seat posts ++ l) took_seat ∙ sym (append_assoc (map seat posts) (seat post ∷ []) more_seats) ∙ ap (λ (l : List S). l ++ more_seats) (sym (map-append seat posts (post ∷ [])));

@@ -1,5 +1,5 @@
 -- The lines of a round, out of the replies to the requests of its parts and of those to its other items.
-use Rattle.std.proofs.Common.{◌≡◌, ℕ, zero, suc, ◌+◌, ◌/◌, ◌≤◌, List, [], ◌∷◌, ◌++◌, append-nil, length, length-append, take, drop, refl, sym, ap, subst, ◌∙◌, arith}
+use Rattle.std.proofs.Common.{◌≡◌, ℕ, zero, suc, List, [], ◌∷◌, ◌++◌, length, length-append, take, drop, refl, sym, ap, subst, ◌∙◌, arith}
 use Rattle.std.specs.Prelude.{All}
 use Rattle.std.specs.List.{AllByRecursion, AllZip}
 use Rattle.std.specs.List.Sorted.{IsNonDecreasing}
@@ -7,7 +7,7 @@ use Rattle.std.proofs.lemmas.List.Elements.{All-from_recursion}
 use Rattle.answer_lines.specs.declared.answer.Answer.{Answer}
 use Rattle.answer_lines.specs.declared.answer.Line.{Line}
 use Rattle.live_rounds.proofs.ItemLemmas.{requests_both}
-use Rattle.live_rounds.proofs.MergedLemmas.{AreMerged, merged_are}
+use Rattle.live_rounds.proofs.MergedLemmas.{merged_are}
 use Rattle.live_rounds.proofs.RiseLemmas.{rise_is}
 use Rattle.live_rounds.specs.Administrators.{AreReplies}
 use Rattle.live_rounds.specs.Answered.{AreAnsweredAt, Rise}

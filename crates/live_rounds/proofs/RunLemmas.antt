@@ -14,7 +14,7 @@ use Rattle.live_rounds.proofs.CutLemmas.{all_begin, took}
 use Rattle.live_rounds.proofs.EndLemmas.{round_entered, round_lines}
 use Rattle.live_rounds.proofs.ShareLemmas.{at_end}
 use Rattle.live_rounds.proofs.SharesLemmas.{map_drop, map_long, map_take}
-use Rattle.live_rounds.specs.Administrators.{AreDoneBeside, IsAdminBehind}
+use Rattle.live_rounds.specs.Administrators.{AreDoneBeside, IsAdminAmid, IsAdminBehind}
 use Rattle.live_rounds.specs.Done.{AreEntered, AreLinesOf, HaveLearned}
 use Rattle.live_rounds.specs.Helps.Asked.{AreShared}
 use Rattle.live_rounds.specs.Helps.Learning.{HasLearned}
@@ -188,6 +188,10 @@ module _ {P : Type 0} (refusals : P → Refusals) (model : ModelParts) (shapes :
         entered = subst (λ (w : ℕ). AreEntered w (items_between script from to) new s0 s3 lines) (sym workers-is) (subst (AreEntered (suc n) (items_between script from to) new s0 s3) lines_here entered);
         learned = all_learned old.list new.list s0 s1 s2 s3 one (kept_grown model shapes opening (map seen script) (versions new.desk.state.log) from sizes s1 s2 (drop 1 (map refusals f0)) (drop 1 (map refusals f1)) kepts kept) two;
       }
+
+-- an administrator amid items, where they are those of a round
+pub amid_items : (shapes : Shapes) (opening : Policy) (before : List Said) (script items : List Item) (from to : ℕ) (admin : AdminSeen) → items ≡ drop from (take to script) → IsAdminAmid shapes opening before (map seen items) admin → IsAdminAmid shapes opening before (items_between script from to) admin
+amid_items shapes opening before script items from to admin is amid = subst (λ (l : List Item). IsAdminAmid shapes opening before (map seen l) admin) is amid
 
 -- ---- what the steps want
 

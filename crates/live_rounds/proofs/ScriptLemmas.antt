@@ -1,5 +1,5 @@
 -- A pair before a script.
-use Rattle.std.proofs.Common.{◌≡◌, ℕ, ◌≤◌, List, [], ◌∷◌, Option, None, drop, length, refl, sym, ap, subst, ◌∙◌, arith}
+use Rattle.std.proofs.Common.{◌≡◌, List, [], ◌∷◌, None, refl, sym, ap, subst, ◌∙◌}
 use Rattle.live_pair.specs.Admins.{AdminSeen}
 use Rattle.live_pair.specs.Story.{edits_in}
 use Rattle.live_round.proofs.CallerLemmas.{stands_alone, stands_before}
@@ -11,7 +11,6 @@ use Rattle.policy_state.specs.States.{StandsFor, State, tables}
 use Rattle.policy_table.specs.Tables.{Policy}
 use Rattle.policy_table.specs.declared.change.Change.{Change}
 use Rattle.session_meaning.proofs.CallerLemmas.{history_none}
-use Rattle.session_meaning.specs.Desks.{history}
 use Rattle.version_log.specs.Log.{versions}
 
 -- a state at version 0 stands for no edit on its own tables

@@ -1,6 +1,6 @@
 -- What a worker answers at a seat.
-use Rattle.std.proofs.Common.{◌≡◌, ◌⊎◌, ℕ, suc, ◌+◌, ◌<◌, ◌≤◌, ◌==◌, Bool, true, false, List, [], ◌∷◌, ◌++◌, append_assoc, append-nil, inl, inr, get_or, length, length-append, map, take, take_all, drop, Ok, Err, Option, refl, sym, ap, subst, ◌∙◌, arith}
-use Rattle.std.specs.Prelude.{Contains, MatchBool}
+use Rattle.std.proofs.Common.{◌≡◌, ℕ, ◌+◌, ◌<◌, ◌≤◌, ◌==◌, Bool, true, false, List, [], ◌∷◌, ◌++◌, append-nil, inl, inr, get_or, length, length-append, map, take, take_all, drop, Ok, Err, Option, refl, sym, ap, subst, ◌∙◌, arith}
+use Rattle.std.specs.Prelude.{MatchBool}
 use Rattle.live_rounds.specs.Lists.{last_from}
 use Rattle.std.proofs.lemmas.Bool.{eq-eqb, ne_eqb}
 use Rattle.std.proofs.lemmas.List.{length-map}
@@ -25,7 +25,7 @@ use Rattle.script_read.specs.Said.{Reading, Said, seen}
 use Rattle.script_read.specs.declared.item.Item.{Item}
 use Rattle.script_read.specs.Said as said
 use Rattle.session_meaning.specs.Plain.{all_refused}
-use Rattle.session_meaning.specs.Replies.{IsDecided, rule_of}
+use Rattle.session_meaning.specs.Replies.{IsDecided}
 
 module _ (model : ModelParts) (shapes : Shapes) (opening : Policy) where
   -- ---- one request

@@ -1,34 +1,31 @@
 -- What the requests of one part are answered, at a seat and at the desk.
-use Rattle.std.proofs.Common.{◌≡◌, ◌⊎◌, inl, inr, ⊎_elim, ℕ, zero, suc, ◌+◌, ◌<◌, ◌≤◌, List, [], ◌∷◌, ◌++◌, append_assoc, append-nil, drop, length, length-append, map, refl, sym, ap, subst, ◌∙◌, arith}
-use Rattle.std.specs.Prelude.{flat_map, sum_by}
+use Rattle.std.proofs.Common.{◌≡◌, ⊎_elim, ℕ, suc, ◌+◌, ◌<◌, ◌≤◌, List, [], ◌∷◌, ◌++◌, append_assoc, append-nil, drop, length, map, refl, sym, ap, subst, ◌∙◌, arith}
+use Rattle.std.specs.Prelude.{sum_by}
 use Rattle.std.proofs.lemmas.Grind.{flat_map-append}
-use Rattle.std.proofs.lemmas.List.{length-map}
 use Rattle.std.proofs.lemmas.List.Sums.{sum_by-append}
 use mathlib.Core.List.{IsPrefix}
 use Rattle.answer_lines.specs.declared.answer.Answer.{Answer}
-use Rattle.live_pair.proofs.CallerLemmas.{prefix_self, prefix_trans}
 use Rattle.live_pair.specs.Admins.{AdminSeen}
 use Rattle.live_pair.specs.Seats.{SeatSeen, version_of}
-use Rattle.live_pair.specs.Story.{edits_in}
-use Rattle.live_rounds.proofs.AskedLemmas.{completed, completed_long, same_for}
-use Rattle.live_rounds.proofs.CutLemmas.{all_begin, served_at, served_rise, took, version_begins}
+use Rattle.live_rounds.proofs.AskedLemmas.{completed, completed_long}
+use Rattle.live_rounds.proofs.CutLemmas.{served_at, served_rise, took, version_begins}
 use Rattle.live_rounds.proofs.RiseLemmas.{rise_then}
 use Rattle.live_rounds.specs.Administrators.{AreDoneBeside}
 use Rattle.live_rounds.specs.Answered.{AreAnsweredAt, Rise}
-use Rattle.live_rounds.specs.Helps.Asked.{AddsAnswered, AreAnsweredOver, IsShared}
+use Rattle.live_rounds.specs.Helps.Asked.{AreAnsweredOver, IsShared}
 use Rattle.live_rounds.specs.Helps.Learning.{HasLearned}
 use Rattle.live_rounds.specs.Lists.{last_from}
 use Rattle.live_rounds.specs.Requests.{requests}
-use Rattle.live_rounds.specs.Served.{AreServed, IsPartKept}
+use Rattle.live_rounds.specs.Served.{IsPartKept}
 use Rattle.model_conf.specs.ModelText.{ModelParts}
 use Rattle.perm_base.specs.declared.shapes.Shapes.{Shapes}
-use Rattle.policy_state.specs.States.{State, tables}
+use Rattle.policy_state.specs.States.{tables}
 use Rattle.policy_table.specs.Tables.{Policy}
 use Rattle.policy_table.specs.declared.change.Change.{Change}
 use Rattle.regex_gate.specs.Refusals.{Refusals, after_refusals}
 use Rattle.script_read.specs.Said.{Reading, Said}
 use Rattle.session_meaning.proofs.CallerLemmas.{desk_version, out_among}
-use Rattle.session_meaning.specs.Desks.{IsBehind, history}
+use Rattle.session_meaning.specs.Desks.{IsBehind}
 use Rattle.session_meaning.specs.Given.{given}
 use Rattle.session_meaning.specs.Plain.{all_refused}
 use Rattle.session_meaning.specs.Rounds.{IsCut}

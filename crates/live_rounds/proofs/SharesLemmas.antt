@@ -5,7 +5,7 @@ use Rattle.std.proofs.lemmas.Grind.{div_ceil_times}
 use Rattle.std.proofs.lemmas.List.{length-drop, take-append-drop}
 use Rattle.std.proofs.lemmas.Nat.{div-mul-add, div_below, mul-le, row_fits}
 use Rattle.live_rounds.specs.Requests.{AreParts, requests}
-use Rattle.live_rounds.specs.Shares.{AddsParts, AreSizes, parts_by, total}
+use Rattle.live_rounds.specs.Shares.{AddsParts, AreSizes, parts_by}
 use Rattle.script_read.specs.Said.{Said, seen}
 use Rattle.script_read.specs.declared.item.Item.{Item}
 use Rattle.session_meaning.specs.Rounds.{share_size}
@@ -41,6 +41,9 @@ ceil_share others count = let both = div_ceil_times count (suc others) (omega ar
 
     by : (q : ℕ) → count ≤ q * suc others → q * suc others < count + suc others → q ≡ share_size others count
     by q low high = let r = rest (q * suc others) low high in sym (ap (λ (n : ℕ). n / suc others) r.0 ∙ div-mul-add q (suc others) (count + others - q * suc others) r.1)
+
+pub ceil_share_one : (others count : ℕ) → div_ceil count (others + 1) ≡ share_size others count
+ceil_share_one others count = let one : others + 1 ≡ suc others = omega arith in ap (div_ceil count) one ∙ ceil_share others count
 
 -- it is not more than there is
 pub share_within : (others count : ℕ) → share_size others count ≤ count

@@ -1,5 +1,5 @@
 -- What the administrator does for one item.
-use Rattle.std.proofs.Common.{◌≡◌, List, [], ◌∷◌, ◌++◌, refl}
+use Rattle.std.proofs.Common.{◌≡◌, [], ◌∷◌, ◌++◌}
 use Rattle.answer_lines.specs.declared.answer.Answer.{Answer}
 use Rattle.live_pair.specs.Admins.{AdminSeen}
 use Rattle.live_round.specs.Steps.{IsPlainStep, IsStopped, LeavesBeside}

@@ -1,5 +1,5 @@
 -- What workers and the administrator did, with seats and finders back in their places.
-use Rattle.std.proofs.Common.{◌≡◌, ℕ, ◌+◌, ◌≤◌, Bool, false, List, [], ◌∷◌, ◌++◌, append_assoc, append-nil, drop, length, map, refl, sym, take, ap, subst, ◌∙◌, arith}
+use Rattle.std.proofs.Common.{◌≡◌, ℕ, Bool, false, List, [], ◌∷◌, ◌++◌, append-nil, drop, length, map, refl, sym, take, ap, subst, ◌∙◌, arith}
 use Rattle.std.specs.Prelude.{All}
 use Rattle.std.specs.List.{AllByRecursion, AllZip}
 use Rattle.std.proofs.lemmas.List.Elements.{recursion_from_All}
@@ -9,7 +9,7 @@ use Rattle.live_pair.specs.Admins.{AdminSeen}
 use Rattle.live_pair.specs.Seats.{SeatSeen}
 use Rattle.live_rounds.proofs.RoundLemmas.{take_front}
 use Rattle.live_rounds.proofs.PostLemmas.{AreServedAt, AreUsedAt, all_kept, kept_posts, used_at}
-use Rattle.live_rounds.specs.Administrators.{AreDoneBeside, IsAdminAmid, IsAdminBehind}
+use Rattle.live_rounds.specs.Administrators.{AreDoneBeside, IsAdminAmid}
 use Rattle.live_rounds.specs.Helps.Posts.{AreAll, AreKept, AreSpans}
 use Rattle.model_conf.specs.ModelText.{ModelParts}
 use Rattle.perm_base.specs.declared.shapes.Shapes.{Shapes}

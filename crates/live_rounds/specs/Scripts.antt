@@ -1,5 +1,5 @@
 -- The lines of a whole script whose requests are answered by workers, and what the finders refused for them.
-use Rattle.std.specs.Prelude.{◌≤◌, ℕ, zero, suc, List, [], ◌∷◌, if◌then◌else◌, sum_by}
+use Rattle.std.specs.Prelude.{◌≤◌, ℕ, suc, List, [], ◌∷◌, if◌then◌else◌, sum_by}
 use Rattle.answer_lines.specs.declared.answer.Line.{Line}
 use Rattle.live_rounds.specs.Done.{HaveRefused}
 use Rattle.model_conf.specs.ModelText.{ModelParts}

@@ -56,7 +56,7 @@ pub(crate) fn muster<J: Naming, P: Finder>(
     let all_finders = mem::replace(finders, finder_room);
     let mut left_seats = all_seats.into_iter();
     let mut left_finders = all_finders.into_iter();
-    let first = next_finder(&mut left_finders);
+    let first = next_of(&mut left_finders);
     finders.push_reserved(first);
     let posts = manned(alloc, room, &mut left_seats, &mut left_finders, sizes, from);
     Ok(Crew {
@@ -94,7 +94,7 @@ fn manned<J: Naming, P: Finder>(
         let Some(seat) = seats.next() else {
             return posts;
         };
-        let finder = next_finder(finders);
+        let finder = next_of(finders);
         let until = place + *size;
         posts.push_reserved(Post::new(alloc, seat, finder, place, until));
         place = until;
@@ -102,13 +102,13 @@ fn manned<J: Naming, P: Finder>(
     posts
 }
 
-// The next finder, of which there is one.
-fn next_finder<P: Finder>(finders: &mut IntoIter<P>) -> P
-    requires { 0 < length finders.old.rest.items }
-    ensures { finders.old.rest.items ≡ result ∷ finders.new.rest.items }
+// The next value, of which there is one.
+fn next_of<T: Drop>(values: &mut IntoIter<T>) -> T
+    requires { 0 < length values.old.rest.items }
+    ensures { values.old.rest.items ≡ result ∷ values.new.rest.items }
 {
-    let Some(finder) = finders.next() else {
+    let Some(value) = values.next() else {
         unreachable!()
     };
-    finder
+    value
 }

@@ -1,8 +1,9 @@
-ghost use Rattle.std.specs.Prelude.{◌≡◌, ◌<◌, ℕ, drop, false, length, map, slice_index_or, take};
+ghost use Rattle.std.specs.Prelude.{◌≡◌};
+ghost use Rattle.std.specs.Thread.{IsSync};
+ghost use Rattle.decision.specs.contracts.program.Program as program_type;
+ghost use Rattle.script_read.specs.contracts.script.Script as script_type;
 ghost use Rattle.decision.specs.Programs.{Suits};
-ghost use Rattle.live_rounds.specs.Served.{IsPartServed};
-ghost use Rattle.regex_gate.specs.Refusals.{IsUsed};
-ghost use Rattle.script_read.specs.Said.{seen};
+ghost use Rattle.live_rounds.specs.Helps.Posts.{AreServedPosts, IsServedPost};
 
 use crate::gate::Gate;
 use crate::items::items_of;
@@ -62,27 +63,14 @@ pub(crate) fn serve_all<J: Naming + Send + Sync, R: Threads + Sync, P: Finder, G
     posts: &mut [Post<J, P>],
 )
     requires suits { Suits program.now J.shapes }
-    ensures count { length posts.new ≡ length posts.old }
-    ensures from { (i : ℕ) (d : _) → i < length posts.old
-        → (slice_index_or posts.new i d).from ≡ (slice_index_or posts.old i d).from }
-    ensures until { (i : ℕ) (d : _) → i < length posts.old
-        → (slice_index_or posts.new i d).until ≡ (slice_index_or posts.old i d).until }
-    ensures served { (i : ℕ) (d : _) → i < length posts.old
-        → (slice_index_or posts.new i d).ran_out ≡ false
-        → IsPartServed program.now J.shapes J.opening
-        (map seen (drop (slice_index_or posts.old i d).from
-        (take (slice_index_or posts.old i d).until script.now)))
-        (P.refusals (slice_index_or posts.old i d).finder)
-        (P.refusals (slice_index_or posts.new i d).finder)
-        (slice_index_or posts.old i d).seat (slice_index_or posts.new i d).seat
-        (slice_index_or posts.new i d).replies.items }
-    ensures used { (i : ℕ) (d : _) → i < length posts.old
-        → IsUsed (P.refusals (slice_index_or posts.old i d).finder)
-        (P.refusals (slice_index_or posts.new i d).finder) }
+    ensures { AreServedPosts P.refusals program.now J.shapes J.opening script.now
+        posts.old posts.new }
 {
     if posts.is_empty() {
         return;
     }
+    share_program(program);
+    share_script(script);
     let threads = posts.len();
     thread::for_each_mut(
         rt,
@@ -94,6 +82,25 @@ pub(crate) fn serve_all<J: Naming + Send + Sync, R: Threads + Sync, P: Finder, G
     );
 }
 
+/// That threads may share a program, as a fact for the calls behind this one.
+pub(crate) fn share_program(program: &Program)
+    ensures { IsSync program_type.the_row }
+{
+    share(program);
+}
+
+/// The same of a script.
+pub(crate) fn share_script(script: &Script)
+    ensures { IsSync script_type.the_row }
+{
+    share(script);
+}
+
+// The same of whatever threads may share.
+fn share<T: Sync>(_value: &T)
+    ensures { IsSync T.row }
+{}
+
 // Answers the requests of a post.
 fn serve<J: Naming, P: Finder, G: Gate>(
     alloc: Global,
@@ -104,14 +111,8 @@ fn serve<J: Naming, P: Finder, G: Gate>(
     post: &mut Post<J, P>,
 )
     requires suits { Suits program.now J.shapes }
-    ensures from { post.new.from ≡ post.old.from }
-    ensures until { post.new.until ≡ post.old.until }
-    ensures served { post.new.ran_out ≡ false
-        → IsPartServed program.now J.shapes J.opening
-        (map seen (drop post.old.from (take post.old.until script.now)))
-        (P.refusals post.old.finder) (P.refusals post.new.finder)
-        post.old.seat post.new.seat post.new.replies.items }
-    ensures used { IsUsed (P.refusals post.old.finder) (P.refusals post.new.finder) }
+    ensures { IsServedPost P.refusals program.now J.shapes J.opening script.now
+        post.old post.new }
 {
     let worker = u32::try_from(worker).unwrap_or(u32::MAX);
     let others = u32::try_from(post.from).unwrap_or(u32::MAX);

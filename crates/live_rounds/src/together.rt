@@ -1,13 +1,12 @@
-ghost use Rattle.std.specs.Prelude.{◌≡◌, ◌<◌, ℕ, IfOk, List, OnErr, drop, false, length, map, slice_index_or, take};
+ghost use Rattle.std.specs.Prelude.{IfOk, List, OnErr, map};
 ghost use Rattle.decision.specs.Programs.{Suits};
 ghost use Rattle.live_rounds.specs.Administrators.{AreDoneBeside, IsAdminAmid, IsAdminBehind};
-ghost use Rattle.live_rounds.specs.Served.{IsPartServed};
-ghost use Rattle.regex_gate.specs.Refusals.{IsUsed};
+ghost use Rattle.live_rounds.specs.Helps.Posts.{AreServedPosts};
 ghost use Rattle.script_read.specs.Said.{Said, seen};
 
 use crate::beside::answer_others;
 use crate::gate::Gate;
-use crate::posts::{Post, serve_all};
+use crate::posts::{Post, serve_all, share_program, share_script};
 use decision::Program;
 use live_pair::{Admin, Naming};
 use live_round::Answer;
@@ -39,25 +38,8 @@ pub(crate) fn work_together<J: Naming + Send + Sync, R: Threads + Wait + Sync, P
         → IsAdminBehind J.shapes J.opening before admin.old
         → IsAdminAmid J.shapes J.opening before (map seen items.now)
         admin.new) }
-    ensures count { length posts.new.items ≡ length posts.old.items }
-    ensures from { (i : ℕ) (d : _) → i < length posts.old.items
-        → (slice_index_or posts.new.items i d).from
-        ≡ (slice_index_or posts.old.items i d).from }
-    ensures until { (i : ℕ) (d : _) → i < length posts.old.items
-        → (slice_index_or posts.new.items i d).until
-        ≡ (slice_index_or posts.old.items i d).until }
-    ensures served { (i : ℕ) (d : _) → i < length posts.old.items
-        → (slice_index_or posts.new.items i d).ran_out ≡ false
-        → IsPartServed program.now J.shapes J.opening
-        (map seen (drop (slice_index_or posts.old.items i d).from
-        (take (slice_index_or posts.old.items i d).until script.now)))
-        (P.refusals (slice_index_or posts.old.items i d).finder)
-        (P.refusals (slice_index_or posts.new.items i d).finder)
-        (slice_index_or posts.old.items i d).seat (slice_index_or posts.new.items i d).seat
-        (slice_index_or posts.new.items i d).replies.items }
-    ensures used { (i : ℕ) (d : _) → i < length posts.old.items
-        → IsUsed (P.refusals (slice_index_or posts.old.items i d).finder)
-        (P.refusals (slice_index_or posts.new.items i d).finder) }
+    ensures served { AreServedPosts P.refusals program.now J.shapes J.opening script.now
+        posts.old.items posts.new.items }
 {
     let mut beside = || answer_others(rt, alloc, items, gate, admin);
     with_workers(rt, alloc, program, script, gate, posts, &mut beside)
@@ -82,26 +64,11 @@ fn with_workers<
     requires suits { Suits program.now J.shapes }
     requires called { F.pre beside.old }
     ensures called { F.step beside.old result beside.new }
-    ensures count { length posts.new.items ≡ length posts.old.items }
-    ensures from { (i : ℕ) (d : _) → i < length posts.old.items
-        → (slice_index_or posts.new.items i d).from
-        ≡ (slice_index_or posts.old.items i d).from }
-    ensures until { (i : ℕ) (d : _) → i < length posts.old.items
-        → (slice_index_or posts.new.items i d).until
-        ≡ (slice_index_or posts.old.items i d).until }
-    ensures served { (i : ℕ) (d : _) → i < length posts.old.items
-        → (slice_index_or posts.new.items i d).ran_out ≡ false
-        → IsPartServed program.now J.shapes J.opening
-        (map seen (drop (slice_index_or posts.old.items i d).from
-        (take (slice_index_or posts.old.items i d).until script.now)))
-        (P.refusals (slice_index_or posts.old.items i d).finder)
-        (P.refusals (slice_index_or posts.new.items i d).finder)
-        (slice_index_or posts.old.items i d).seat (slice_index_or posts.new.items i d).seat
-        (slice_index_or posts.new.items i d).replies.items }
-    ensures used { (i : ℕ) (d : _) → i < length posts.old.items
-        → IsUsed (P.refusals (slice_index_or posts.old.items i d).finder)
-        (P.refusals (slice_index_or posts.new.items i d).finder) }
+    ensures served { AreServedPosts P.refusals program.now J.shapes J.opening script.now
+        posts.old.items posts.new.items }
 {
+    share_program(program);
+    share_script(script);
     let mut workers = ||
         requires { Suits program.now J.shapes }
     { serve_vec(rt, alloc, program, script, gate, posts) };
@@ -119,25 +86,8 @@ fn serve_vec<J: Naming + Send + Sync, R: Threads + Sync, P: Finder, G: Gate>(
     posts: &mut Vec<Post<J, P>>,
 )
     requires suits { Suits program.now J.shapes }
-    ensures count { length posts.new.items ≡ length posts.old.items }
-    ensures from { (i : ℕ) (d : _) → i < length posts.old.items
-        → (slice_index_or posts.new.items i d).from
-        ≡ (slice_index_or posts.old.items i d).from }
-    ensures until { (i : ℕ) (d : _) → i < length posts.old.items
-        → (slice_index_or posts.new.items i d).until
-        ≡ (slice_index_or posts.old.items i d).until }
-    ensures served { (i : ℕ) (d : _) → i < length posts.old.items
-        → (slice_index_or posts.new.items i d).ran_out ≡ false
-        → IsPartServed program.now J.shapes J.opening
-        (map seen (drop (slice_index_or posts.old.items i d).from
-        (take (slice_index_or posts.old.items i d).until script.now)))
-        (P.refusals (slice_index_or posts.old.items i d).finder)
-        (P.refusals (slice_index_or posts.new.items i d).finder)
-        (slice_index_or posts.old.items i d).seat (slice_index_or posts.new.items i d).seat
-        (slice_index_or posts.new.items i d).replies.items }
-    ensures used { (i : ℕ) (d : _) → i < length posts.old.items
-        → IsUsed (P.refusals (slice_index_or posts.old.items i d).finder)
-        (P.refusals (slice_index_or posts.new.items i d).finder) }
+    ensures { AreServedPosts P.refusals program.now J.shapes J.opening script.now
+        posts.old.items posts.new.items }
 {
     serve_all(rt, alloc, program, script, gate, posts.as_mut_slice());
 }

@@ -8,6 +8,7 @@ use std::thread::yield_now;
 const MOST_TURNS: u32 = 1_000_000_000;
 
 /// Flags that steps raise, and whether a step waited too long for one.
+#[derive(Drop)]
 pub(crate) struct Flags {
     first: AtomicBool,
     second: AtomicBool,
@@ -46,6 +47,7 @@ impl Flags {
 
 /// The request of line 3 waits for the first publish, this for the request of line 4, and that for the second publish: so the
 /// requests of one worker and the publishes take turns.
+#[derive(Drop)]
 pub(crate) struct InTurn {
     pub flags: Flags,
 }
@@ -76,6 +78,7 @@ impl Gate for InTurn {
 }
 
 /// The requests of lines 3 and 4 wait for each other: two workers are at them at once.
+#[derive(Drop)]
 pub(crate) struct AtOnce {
     pub flags: Flags,
 }

@@ -8,6 +8,7 @@ use decision::Program;
 use live_pair::Places;
 use live_round::{Answer, Lines};
 use live_rounds::{Gate, run_shared};
+use live_seat::Answered;
 use perm_base::{NoMemory, Shapes};
 use regex_gate::RegexFinder;
 use script_read::{Script, read_script};
@@ -98,10 +99,25 @@ fn lines_over<R: Threads + Wait + Sync, G: Gate, H: Places>(
     Ok(lines)
 }
 
-/// The version that the line at a place shows, where that is a verdict.
-pub(crate) fn version_at(lines: &Lines, place: usize) -> Option<u32> {
+/// The verdict that the line at a place shows, with its version, where it is one.
+pub(crate) fn verdict_at(lines: &Lines, place: usize) -> Option<Answered> {
     match &lines.as_slice().get(place)?.answer {
-        Answer::Decided { version, .. } => Some(*version),
+        Answer::Decided {
+            version,
+            verdict,
+            ..
+        } => Some(Answered {
+            version: *version,
+            verdict: *verdict,
+        }),
+        _ => None,
+    }
+}
+
+/// The version that the line at a place tells as published, where it is of a publish.
+pub(crate) fn published_at(lines: &Lines, place: usize) -> Option<u32> {
+    match &lines.as_slice().get(place)?.answer {
+        Answer::Published(version) => Some(*version),
         _ => None,
     }
 }

@@ -6,7 +6,6 @@ use Rattle.model_conf.specs.ModelText.{ModelParts}
 use Rattle.outside.specs.Faults.{Rose}
 use Rattle.outside.specs.Told.{with_back}
 use Rattle.perm_base.specs.declared.shapes.Shapes.{Shapes}
-use Rattle.policy_state.specs.States.{tables}
 use Rattle.policy_table.specs.Tables as table
 use Rattle.regex_gate.specs.Refusals.{IsUsed, Refusals}
 use Rattle.run_status.specs.declared.stop.Stop.{Stop}

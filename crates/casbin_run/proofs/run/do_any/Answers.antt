@@ -1,12 +1,9 @@
-use Rattle.std.proofs.Common.{◌≡◌, ◌<◌, Bool, true, false, List, ℕ, ap, arith, length, subst, sym, ◌∙◌}
-use Rattle.std.specs.Prelude.{map, slice_set}
+use Rattle.std.proofs.Common.{◌≡◌, ◌<◌, true, false, ap, arith, length, sym, ◌∙◌}
 use Rattle.std.proofs.lemmas.Result.{IfErr-weaker, on_ok_weaker}
-
-use Rattle.casbin_run.specs.Finders.{AreUsed, Logs}
 use Rattle.casbin_run.specs.Helps.Tasks.{ground}
 use Rattle.casbin_run.specs.Jobs.{has_workers, reads_input}
 use Rattle.casbin_run.specs.declared.job.Task.{Task}
-use Rattle.casbin_run.proofs.FinderLemmas.{first_kept, first_refused, first_used}
+use Rattle.casbin_run.proofs.FinderLemmas.{first_asked, first_kept, first_logged}
 use Rattle.casbin_run.proofs.SharedWork.{on_ok_any, wrote_done}
 use Rattle.casbin_run.proofs.WorkLemmas.{all_more, stops_more}
 use Rattle.casbin_run.proofs.run.do_any.Goals as goal
@@ -14,28 +11,20 @@ use Rattle.casbin_run.proofs.run.do_any.Goals as goal
 -- one thread: the first finder alone is asked
 pub returns-in_default-clause-done : goal.returns-in_default-clause-done
 returns-in_default-clause-done g c =
-    let finders = c.args.finders.now.items in
-    let last = c.do_task.new.finder in
-    let some : 0 < length finders = omega (arith, c.requires.nine) in
-    let on = ground c.args.task c.args.loaded (g.S.Source.left c.args.input.now) in
-    let more = λ (patterns : List (List ℕ)) is. subst (λ (shared : Bool). Logs shared (map g.P.Finder.refusals finders) (map g.P.Finder.refusals (slice_set finders 0 last)) patterns) (sym c.in_default.ensures) (first_refused g.P.Finder.refusals last finders _ some c.index_mut.ensures.value patterns is) in
-    on_ok_weaker c.do_task.result (all_more on _ _ more _ _ _ _) c.do_task.ensures.done
+    let some : 0 < length c.args.finders.now.items = omega (arith, c.requires.nine) in
+    let more = first_logged g.P.Finder.refusals c.do_task.new.finder _ c.in_default.ensures c.args.finders.now.items _ some c.index_mut.ensures.value in
+    on_ok_weaker c.do_task.result (all_more (ground c.args.task c.args.loaded (g.S.Source.left c.args.input.now)) _ _ more _ _ _ _) c.do_task.ensures.done
 
 pub returns-in_default-clause-stopped : goal.returns-in_default-clause-stopped
 returns-in_default-clause-stopped g c =
-    let finders = c.args.finders.now.items in
-    let last = c.do_task.new.finder in
-    let some : 0 < length finders = omega (arith, c.requires.nine) in
-    let on = ground c.args.task c.args.loaded (g.S.Source.left c.args.input.now) in
-    let more = λ (patterns : List (List ℕ)) is. subst (λ (shared : Bool). Logs shared (map g.P.Finder.refusals finders) (map g.P.Finder.refusals (slice_set finders 0 last)) patterns) (sym c.in_default.ensures) (first_refused g.P.Finder.refusals last finders _ some c.index_mut.ensures.value patterns is) in
-    IfErr-weaker c.do_task.result _ _ (stops_more on _ _ more _ _ _ _) c.do_task.ensures.stopped
+    let some : 0 < length c.args.finders.now.items = omega (arith, c.requires.nine) in
+    let more = first_logged g.P.Finder.refusals c.do_task.new.finder _ c.in_default.ensures c.args.finders.now.items _ some c.index_mut.ensures.value in
+    IfErr-weaker c.do_task.result _ _ (stops_more (ground c.args.task c.args.loaded (g.S.Source.left c.args.input.now)) _ _ more _ _ _ _) c.do_task.ensures.stopped
 
 pub returns-in_default-clause-used : goal.returns-in_default-clause-used
 returns-in_default-clause-used g c =
-    let finders = c.args.finders.now.items in
-    let last = c.do_task.new.finder in
-    let some : 0 < length finders = omega (arith, c.requires.nine) in
-    subst (λ (shared : Bool). AreUsed shared (map g.P.Finder.refusals finders) (map g.P.Finder.refusals (slice_set finders 0 last))) (sym c.in_default.ensures) (first_used g.P.Finder.refusals last finders _ some c.index_mut.ensures.value c.do_task.ensures.used)
+    let some : 0 < length c.args.finders.now.items = omega (arith, c.requires.nine) in
+    first_asked g.P.Finder.refusals c.do_task.new.finder _ c.in_default.ensures c.args.finders.now.items _ some c.index_mut.ensures.value c.do_task.ensures.used
 
 pub returns-in_default-clause-idle : goal.returns-in_default-clause-idle
 returns-in_default-clause-idle g c =

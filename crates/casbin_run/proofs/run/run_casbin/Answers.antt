@@ -30,7 +30,7 @@ returns-clause-ends g c =
     let now = world (fetched (g.F.Shelf.calls c.args.shelf.now) (g.F.Shelf.faults c.args.shelf.now)) (pulled (g.S.Source.left c.args.input.now) (g.S.Source.ends c.args.input.now) (g.S.Source.faults c.args.input.now)) (taken (g.K.Sink.taken c.run_demo.new.out) (g.K.Sink.faults c.run_demo.new.out)) (map g.P.Finder.refusals c.run_demo.new.finders.items) in
     let err = taken (g.E.Sink.taken c.args.err.now) (g.E.Sink.faults c.args.err.now) in
     let err_now = taken (g.E.Sink.taken c.run_demo.new.err) (g.E.Sink.faults c.run_demo.new.err) in
-    ends_demo (given (texts c.args.words.now) (g.F.Shelf.files c.args.shelf.now) (g.S.Source.left c.args.input.now)) before now err err_now c.run_demo.result (c.in-Some.count, c.in-Some.workers) c.in-Some.ensures.asked
+    ends_demo (given (texts c.args.words.now) (g.F.Shelf.files c.args.shelf.now) (g.S.Source.left c.args.input.now)) before now err err_now c.run_demo.result (c.in-Some.count, c.in-Some.workers) c.in-Some.ensures.asked refl
     (demo_ends c.in-Some.count c.in-Some.workers before now err err_now c.run_demo.result c.run_demo.ensures.ends)
 
 pub returns-clause-finders : goal.returns-clause-finders

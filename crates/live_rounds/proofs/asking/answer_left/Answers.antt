@@ -1,5 +1,5 @@
 use Rattle.std.proofs.Common.{◌≡◌, ◌++◌, ◌∷◌, [], arith, map, refl, rules, take}
-use Rattle.script_read.specs.Said.{asks, seen}
+use Rattle.script_read.specs.Said.{seen}
 use Rattle.live_rounds.proofs.AskedLemmas.{asking_all, asking_next, asking_none, asking_past, asking_skip, asking_used, asking_used_then}
 use Rattle.live_rounds.proofs.asking.answer_left.Goals as goal
 

@@ -1,6 +1,6 @@
 use Rattle.std.proofs.Common.{◌≡◌, ◌≤◌, ◌∷◌, ◌++◌, [], ℕ, ap, arith, inl, inr, length, map, refl, subst, sym, ◌∙◌}
 use Rattle.std.proofs.lemmas.Grind.{common_steps}
-use Rattle.live_rounds.proofs.PostLemmas.{left_over, manned_all, manned_few, manned_more, manned_none, total_within}
+use Rattle.live_rounds.proofs.PostLemmas.{left_over, manned_all, manned_few, manned_more, manned_none, until_fits}
 use Rattle.live_rounds.proofs.crew.manned.Goals as goal
 
 pub loop-size-init : goal.loop-size-init
@@ -8,19 +8,19 @@ loop-size-init g c = (manned_none _ _ _ _ c.args.from c.args.sizes.now c.args.se
 
 pub loop-size-preserved : goal.loop-size-preserved
 loop-size-preserved g c = (
-  manned_more _ _ _ _ c.args.from c.args.sizes.now c.args.seats.now.rest.items c.args.finders.now.rest.items c.loop-size.size-index c.size-item.result c.loop-size.seats.rest.items c.next.new.self.rest.items c.loop-size.finders.rest.items c.next_finder-finder.new.finders.rest.items c.loop-size.place _
-      c.loop-size.posts.items c.push_reserved.new.self.items c.new.result c.loop-size-test.true c.size-item.is c.loop-size.invariant.0 (c.in-Some.ensures.cases.0 ∙ ap (λ seat. seat ∷ c.next.new.self.rest.items) (sym c.new.ensures.seat)) (c.next_finder-finder.ensures ∙ ap (λ finder. finder ∷ c.next_finder-finder.new.finders.rest.items) (sym c.new.ensures.finder))
+  manned_more _ _ _ _ c.args.from c.args.sizes.now c.args.seats.now.rest.items c.args.finders.now.rest.items c.loop-size.size-index _ c.loop-size.seats.rest.items c.next.new.self.rest.items c.loop-size.finders.rest.items c.next_of-finder.new.values.rest.items c.loop-size.place _
+      c.loop-size.posts.items c.push_reserved.new.self.items c.new.result c.loop-size-test.true c.loop-size.invariant.0 (c.in-Some.ensures.cases.0 ∙ ap (λ seat. seat ∷ c.next.new.self.rest.items) (sym c.new.ensures.seat)) (c.next_of-finder.ensures ∙ ap (λ finder. finder ∷ c.next_of-finder.new.values.rest.items) (sym c.new.ensures.finder))
       c.new.ensures.from c.new.ensures.until refl c.push_reserved.ensures.items,
   subst (λ (n : ℕ). length c.args.sizes.now ≤ n) (sym c.push_reserved.ensures.capacity) c.loop-size.invariant.1,
 )
 
 -- a finder is left, its part ends within all of them, and there is room for its post
-pub next_finder-finder-requires : goal.next_finder-finder-requires
-next_finder-finder-requires g c =
+pub next_of-finder-requires : goal.next_of-finder-requires
+next_of-finder-requires g c =
     left_over (λ p. p.finder) c.loop-size.posts.items c.loop-size.finders.rest.items c.args.finders.now.rest.items c.loop-size.size-index (length c.args.sizes.now) c.loop-size.invariant.0.finders_are c.loop-size.invariant.0.long c.loop-size-test.true c.requires.enough
 
 pub overflow_add-until : goal.overflow_add-until
-overflow_add-until g c = omega (arith, c.loop-size.invariant.0.next_is, total_within c.args.sizes.now c.loop-size.size-index c.size-item.result c.loop-size-test.true c.size-item.is, c.requires.places)
+overflow_add-until g c = omega (arith, until_fits c.args.from c.loop-size.place c.args.sizes.now c.loop-size.size-index 0 c.loop-size-test.true c.loop-size.invariant.0.next_is c.requires.places)
 
 pub push_reserved-requires : goal.push_reserved-requires
 push_reserved-requires g c = omega (arith, c.loop-size.invariant.1, c.loop-size.invariant.0.long, c.loop-size-test.true, c.loop-size.posts.ok.0)

@@ -13,15 +13,15 @@ loop-post-preserved g c =
     let done = c.loop-post.yielded in
     let rest : c.loop-post.post-iterator.rest.items ≡ post ∷ next = search rules in (
       inv.0 ∙ ap (λ l. done ++ l) rest ∙ sym (append_assoc done (post ∷ []) next),
-      pushed_map (λ p. p.seat) c.args.seats.now.items c.loop-post.seats.items c.push_reserved-2.new.self.items done post post.seat inv.1 c.push_reserved-2.ensures.items refl,
-      pushed_map (λ p. p.finder) c.args.finders.now.items c.loop-post.finders.items c.push_reserved-3.new.self.items done post post.finder inv.2 c.push_reserved-3.ensures.items refl,
+      pushed_map (λ p. p.seat) c.args.seats.now.items c.loop-post.seats.items c.push_reserved-in-loop-post.new.self.items done post post.seat inv.1 c.push_reserved-in-loop-post.ensures.items refl,
+      pushed_map (λ p. p.finder) c.args.finders.now.items c.loop-post.finders.items c.push_reserved-in-loop-post-2.new.self.items done post post.finder inv.2 c.push_reserved-in-loop-post-2.ensures.items refl,
       pushed_map _ _ _ _ done post _ inv.3 (ap (map (λ v. v.items)) c.push_reserved.ensures.items ∙ map-append (λ v. v.items) c.loop-post.kept.items (c.kept_of.result ∷ [])) c.kept_of.ensures,
       whole_more (λ p. p.ran_out) done post c.loop-post.whole c.is_whole-whole.result inv.4 c.is_whole-whole.ensures,
-      omega (arith, ap length rest, inv.5, c.push_reserved-2.ensures.len, c.push_reserved-2.ensures.capacity),
-      omega (arith, ap length rest, inv.6, c.push_reserved-3.ensures.len, c.push_reserved-3.ensures.capacity),
+      omega (arith, ap length rest, inv.5, c.push_reserved-in-loop-post.ensures.len, c.push_reserved-in-loop-post.ensures.capacity),
+      omega (arith, ap length rest, inv.6, c.push_reserved-in-loop-post-2.ensures.len, c.push_reserved-in-loop-post-2.ensures.capacity),
       omega (arith, ap length rest, inv.7, c.push_reserved.ensures.len, c.push_reserved.ensures.capacity),
-      c.push_reserved-2.ensures.capacity ∙ inv.8,
-      c.push_reserved-3.ensures.capacity ∙ inv.9,
+      c.push_reserved-in-loop-post.ensures.capacity ∙ inv.8,
+      c.push_reserved-in-loop-post-2.ensures.capacity ∙ inv.9,
     )
 
 -- none is left

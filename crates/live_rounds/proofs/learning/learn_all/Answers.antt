@@ -9,5 +9,5 @@ pub loop-seat-preserved : goal.loop-seat-preserved
 loop-seat-preserved g c =
     learned_more c.args.front.now c.args.seats.now c.loop-seat.seat-index c.loop-seat.seats _ c.learn.new.seat c.seat-item.result c.loop-seat-test.true c.loop-seat.invariant c.learn.ensures refl
 
-pub returns-clause-learned : goal.returns-clause-learned
-returns-clause-learned g c = learned_all c.args.front.now c.args.seats.now c.loop-seat.seat-index c.loop-seat.seats c.loop-seat-test.false c.loop-seat.invariant
+pub returns : goal.returns
+returns g c = record { learned = learned_all c.args.front.now c.args.seats.now c.loop-seat.seat-index c.loop-seat.seats c.loop-seat-test.false c.loop-seat.invariant }

@@ -1,4 +1,3 @@
-use Rattle.std.proofs.Common.{◌≡◌}
 use Rattle.live_rounds.proofs.ServedLemmas.{IsServingUpTo}
 use Rattle.live_rounds.proofs.serving.answer_part.Given as goal
 
