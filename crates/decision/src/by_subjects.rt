@@ -50,7 +50,7 @@ pub(crate) fn verdict_by_subjects<'a, P: Finder, const N: usize>(
     depth_is_one();
     order_by_depth();
     let mut first = None;
-    let mut depths: Depths = [None; PLACES];
+    let mut depths = [None; PLACES];
     let mut candidates = Candidates::of(asking, looked);
     while let Some((number, row)) = candidates.next() {
         let outcome = outcome(asking, Some(row), finder, stack)?;

@@ -6,6 +6,7 @@ pub mod Classes
 pub mod Covers
 pub mod Settled
 pub mod Parts
+pub mod Halved
 pub mod First
 pub mod Agree
 pub mod Tried

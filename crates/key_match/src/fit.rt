@@ -130,8 +130,8 @@ fn reach_rest(dialect: Dialect, pattern: &[u8], key: &[u8], from: Place) -> Reac
     }
 }
 
-// Whether the key fits from within a rest.
-fn fits_rest(dialect: Dialect, pattern: &[u8], key: &[u8], from: Place) -> bool
+/// Whether the key fits from within a rest.
+pub(crate) fn fits_rest(dialect: Dialect, pattern: &[u8], key: &[u8], from: Place) -> bool
     requires { from.key ≤ length key.now }
     ensures { result ≡ pieces_fit (Rest ∷ pieces_from dialect pattern.now from) (drop from.key key.now) }
 {

@@ -1,6 +1,7 @@
 //! The part of a key that a named segment stands for.
 
 ghost use Rattle.std.specs.Prelude.{◌≡◌, ◌≤◌, ◌<◌, ◌∷◌, ℕ, drop, length, true, MatchBool};
+ghost use Rattle.key_match.specs.Pieces.{Rest};
 ghost use Rattle.key_match.specs.Patterns.{colon_pieces, brace_pieces};
 ghost use Rattle.key_match.specs.Helps.Tokens.{piece_of, pieces_of, pieces_at};
 ghost use Rattle.key_match.specs.Helps.Fits.{pieces_fit};
@@ -20,7 +21,7 @@ ghost use Rattle.key_match.specs.Helps.Parts.{
 };
 
 use crate::bytes::place_from;
-use crate::fit::{Place, fits_from};
+use crate::fit::{Place, fits_from, fits_rest};
 use crate::token::{Dialect, Reading, Token, token_at};
 
 // Which part of a segment is taken, of those with which the rest of the key fits.
@@ -165,9 +166,35 @@ fn last_fit(dialect: Dialect, pattern: &[u8], key: &[u8], next: usize, ends: End
 {
     let mut end = ends.most;
     while end > ends.least && !fits_behind(dialect, pattern, key, next, end) {
+        if end == key.len() {
+            return last_to_end(dialect, pattern, key, next, ends);
+        }
         end -= 1;
     }
     end
+}
+
+// The same for places up to the key's end, found by halving: whether the key fits from a place or a later one is one
+// match.
+fn last_to_end(dialect: Dialect, pattern: &[u8], key: &[u8], next: usize, ends: Ends) -> usize
+    requires ordered { ends.least ≤ ends.most }
+    requires whole { ends.most ≡ length key.now }
+    ensures last { NoneLater
+        (pieces_at dialect pattern.now next) key.now ends.least ends.most result }
+    ensures fitting { ends.least < result
+        → pieces_fit (pieces_at dialect pattern.now next) (drop result key.now) ≡ true }
+{
+    let mut low = ends.least;
+    let mut high = ends.most;
+    while low < high {
+        let middle = high - (high - low) / 2;
+        if fits_later(dialect, pattern, key, next, middle) {
+            low = middle;
+        } else {
+            high = middle - 1;
+        }
+    }
+    low
 }
 
 // The first of some places of the key from which it fits the pattern from `next` on; the last place where there is
@@ -197,4 +224,16 @@ fn fits_behind(dialect: Dialect, pattern: &[u8], key: &[u8], next: usize, end: u
         key: end,
     };
     fits_from(dialect, pattern, key, from)
+}
+
+// Whether the key from a place or a later one on fits the pattern from `next` on.
+fn fits_later(dialect: Dialect, pattern: &[u8], key: &[u8], next: usize, end: usize) -> bool
+    requires { end ≤ length key.now }
+    ensures { result ≡ pieces_fit (Rest ∷ pieces_at dialect pattern.now next) (drop end key.now) }
+{
+    let from = Place {
+        pattern: next,
+        key: end,
+    };
+    fits_rest(dialect, pattern, key, from)
 }

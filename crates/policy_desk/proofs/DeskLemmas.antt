@@ -1,5 +1,5 @@
 -- What a desk keeps where an edit is drafted.
-use Rattle.std.proofs.Common.{◌≡◌, ℕ, ◌+◌, ◌<◌, true, List, [], ◌∷◌, ◌++◌, length, length-append, Ok, Some, sym, ap, subst, ◌∙◌, arith}
+use Rattle.std.proofs.Common.{◌≡◌, ℕ, ◌+◌, ◌<◌, true, List, [], ◌∷◌, ◌++◌, length, length-append, IfOk, Result, Ok, Err, Some, sym, ap, subst, ◌∙◌, arith}
 use Rattle.std.proofs.lemmas.List.{append-nil}
 use Rattle.edit_calls.specs.Admitted.{AreAdmitted, admits}
 use Rattle.perm_base.specs.declared.shapes.Shapes.{Shapes}
@@ -7,7 +7,7 @@ use Rattle.policy_desk.specs.Desks.{IsDesk, Work, edits_of, floor_after}
 use Rattle.policy_desk.specs.Ready.{IsPreparedFor}
 use Rattle.policy_desk.specs.Transitions.{IsBegun, IsPublished, after_call}
 use Rattle.policy_state.proofs.CallerLemmas.{admitted_both, stands_same}
-use Rattle.policy_state.specs.Ready.{Readied}
+use Rattle.policy_state.specs.Ready.{AreReady, Readied}
 use Rattle.policy_state.specs.States.{State, StandsFor, tables}
 use Rattle.policy_table.proofs.CallerLemmas.{are_lists, counted_edited}
 use Rattle.policy_table.specs.Changes.{edited, flat, replay}
@@ -56,6 +56,11 @@ begun_from now inside state floor is raised shapes key start tail same =
       };
       others = let here : floor ≡ floor_after inside = raised ∙ ap floor_after (sym is) in λ j. record inside { state = state; floor = here j };
     })
+
+-- what is ready for edits is so for the desk at which they are pending
+pub ready_for : {E : Type 0} (desk : Work) (result : Result Readied E) (edits : List (List Change)) → IfOk result (AreReady desk.state edits) → IfOk result (λ (ready : Readied). ready.start ≡ desk.floor) → edits ≡ desk.pending → IfOk result (IsPreparedFor desk)
+ready_for desk (Ok ready) edits are start all = record { state = subst (λ (l : List (List Change)). AreReady desk.state l ready) all are; start = start }
+ready_for desk (Err e) edits are start all = tt
 
 -- it is made
 pub made_from : (now inside : Work) (ready : Readied) (edits : List (List Change)) (state : State) (pending : List (List Change)) → inside ≡ now → edits ≡ inside.pending → pending ≡ [] → IsDesk inside → IsPreparedFor now ready

@@ -1,4 +1,4 @@
-ghost use Rattle.std.specs.Prelude.{◌≡◌, ◌≢◌, ℕ, ◌+◌, ◌<◌, ◌≤◌, ◌==◌, ◌&&◌, ◌^◌, false, get_or, length, nat_eq};
+ghost use Rattle.std.specs.Prelude.{◌≡◌, ◌≢◌, ℕ, ◌+◌, ◌<◌, ◌≤◌, ◌==◌, ◌&&◌, ◌^◌, false, get_or, length, nat_eq, vec_capacity};
 ghost use Rattle.std.specs.List.{count_by};
 ghost use Rattle.policy_index.specs.Helps.Kept.{IsAt, one_if};
 ghost use Rattle.policy_index.specs.Lists.{room_at, slots_at};
@@ -28,6 +28,7 @@ pub(crate) fn unlist(slots: &mut Slots, places: &mut Vec<u32>, hash: u64, slot: 
     ensures shorter { (other : ℕ) → length (slots_at slots.new other)
         ≤ length (slots_at slots.old other) }
     ensures sizes { length places.new.items ≡ length places.old.items }
+    ensures capacity { vec_capacity places.new ≡ vec_capacity places.old }
     ensures placed { (other held : ℕ) → held ≢ slot
         → IsAt slots.old other (get_or places.old.items held 0) held
         → IsAt slots.new other (get_or places.new.items held 0) held }

@@ -138,10 +138,10 @@ names_told name domain rows places index names are past finds =
     are ∙ ap (names_beside 0 1 name domain) (take_all index (rows_at rows places) (omega (arith, past, length-map places (λ (at : ℕ). get_or rows at [])))) ∙ found_names name domain rows places finds
 
 -- the row at one of the places
-pub row_here : (rows : List Fields) (places : List ℕ) (index place : ℕ) (rule : Fields) → index < length places → place ≡ get_or places index place → slice_get rows place ≡ Some rule → slice_get (rows_at rows places) index ≡ Some rule
-row_here rows places index place rule within is there =
+pub row_here : (rows : List Fields) (places : List ℕ) (index d : ℕ) (rule : Fields) → index < length places → slice_get rows (get_or places index d) ≡ Some rule → slice_get (rows_at rows places) index ≡ Some rule
+row_here rows places index d rule within there =
     slice_get-get_or (rows_at rows places) index [] (omega (arith, within, length-map places (λ (at : ℕ). get_or rows at [])))
-    ∙ ap (λ (row : Fields). Some row) (get_or-map (λ (at : ℕ). get_or rows at []) places index place [] within ∙ ap (λ (n : ℕ). get_or rows n []) (sym is) ∙ get_or_from_slice_get rows place rule [] there)
+    ∙ ap (λ (row : Fields). Some row) (get_or-map (λ (at : ℕ). get_or rows at []) places index d [] within ∙ get_or_from_slice_get rows (get_or places index d) rule [] there)
 
 -- it is as long as all rows are
 pub row_long : (given : ℕ) (rows : List Fields) (place : ℕ) (rule : Fields) → slice_get rows place ≡ Some rule → All (λ (row : Fields). given < length row) rows → given < length rule
@@ -165,6 +165,10 @@ pub ordered_keeps : (old sorted new : List ℕ) (at : ℕ) → IsPermutation old
 ordered_keeps old sorted new at moved is stands = subst (λ (l : List ℕ). Contains l at) (sym is) (Contains-dedup_nat sorted at (Contains-permutation old sorted at moved stands))
 
 -- ---- rules that are made
+
+-- what holds of a value where there is one
+pub if_some : {X : Type 0} (made : Option X) (value : X) → made ≡ Some value → (P : X → Type 0) → IfSome made P → P value
+if_some {X} made value is P told = subst (λ (o : Option X). IfSome o P) is told
 
 -- a rule of these fields is that of the names
 pub made_of : (made : Option Fields) (fields names : Fields) → fields ≡ names → IfSome made (λ (rule : Fields). rule ≡ fields) → IfSome made (λ (rule : Fields). rule ≡ names)

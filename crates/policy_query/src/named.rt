@@ -79,11 +79,23 @@ fn rule_of_names(
     let Some(first) = text_of(alloc, user)? else {
         return Ok(None);
     };
-    let mut fields = pair_of(alloc, first, role)?;
+    let fields = pair_of(alloc, first, role)?;
     let Some(bytes) = domain else {
         return Ok(rule_from(fields));
     };
-    let Some(last) = text_of(alloc, bytes)? else {
+    rule_in_domain(alloc, fields, bytes)
+}
+
+// The rule of two texts and a domain behind them, where there is such a rule.
+fn rule_in_domain(
+    alloc: Global,
+    mut fields: Vec<Text>,
+    domain: &[u8],
+) -> Result<Option<Rule>, NoMemory>
+    requires { length fields.items ≡ 2 }
+    ensures { IfOk result (λ made. IfSome made (λ rule. rule ≡ fields.items ++ domain.now ∷ [])) }
+{
+    let Some(last) = text_of(alloc, domain)? else {
         return Ok(None);
     };
     fields.push(last)?;

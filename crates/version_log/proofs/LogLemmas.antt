@@ -1,5 +1,5 @@
 -- What a log stands for, and edits in two parts.
-use Rattle.std.proofs.Common.{◌≡◌, ℕ, ◌-◌, ◌≤◌, List, [], ◌∷◌, ◌++◌, length, length-append, length-drop, drop, refl, sym, ap, ◌∙◌, arith}
+use Rattle.std.proofs.Common.{◌≡◌, ℕ, ◌+◌, ◌-◌, ◌<◌, ◌≤◌, List, [], ◌∷◌, ◌++◌, length, length-append, length-drop, drop, refl, sym, ap, ◌∙◌, arith}
 use Rattle.std.proofs.Math.Seq.{drop-drop}
 use Rattle.std.proofs.lemmas.List.{drop-append-le}
 use Rattle.policy_table.specs.Changes.{edited, replay}
@@ -27,3 +27,19 @@ stands_from log after history to from until start tail stands =
       within = omega (arith, stands.within, size, until, start);
       tail = tail ∙ rest ∙ ap (λ (m : ℕ). drop m history) (sym start);
     }
+
+-- an edit more that is dropped
+pub dropped_more : (tail now next : List (List Change)) (count : ℕ) → now ≡ drop count tail → next ≡ drop 1 now → next ≡ drop (count + 1) tail
+dropped_more tail now next count is step = step ∙ ap (drop 1) is ∙ drop-drop 1 count tail
+
+-- where fewer are dropped than there are, one is left
+pub some_left : (log now : Logged) (count : ℕ) → now.tail ≡ drop count log.tail → count < length log.tail → 0 < length now.tail
+some_left log now count is less =
+    let size : length now.tail ≡ length log.tail - count = ap (λ (l : List (List Change)). length l) is ∙ length-drop count log.tail in
+    omega (arith, size, less)
+
+-- a start that follows what is dropped leaves the number of versions
+pub same_versions : (log now : Logged) (count : ℕ) → now.start ≡ log.start + count → now.tail ≡ drop count log.tail → count ≤ length log.tail → versions now ≡ versions log
+same_versions log now count start is few =
+    let size : length now.tail ≡ length log.tail - count = ap (λ (l : List (List Change)). length l) is ∙ length-drop count log.tail in
+    omega (arith, start, size, few)

@@ -1,16 +1,17 @@
-ghost use Rattle.std.specs.Prelude.{◌≡◌, ◌+◌, ◌-◌, ◌<◌, ◌≤◌, ◌++◌, ◌∷◌, ℕ, List, [], IfOk, OnOk, Some, drop, slice_get};
+ghost use Rattle.std.specs.Prelude.{◌≡◌, ◌+◌, ◌-◌, ◌<◌, ◌≤◌, ◌++◌, ◌∷◌, ℕ, List, [], IfOk, OnOk, Some, drop, length, slice_get};
 ghost use Rattle.policy_table.specs.declared.change.Change.{Change};
 ghost use Rattle.version_log.specs.Log.{Stands, most_versions, versions};
 
 use perm_base::{NoMemory, Share};
 use policy_table::{Edit, copy_edit};
 use std::alloc::Global;
+use std::collections::VecDeque;
 use std::marker::Model;
 
 /// A log of edits: the version that it starts at, and the edits since, one a version. There are at most 4,000,000,000 versions.
 pub struct Log {
     start: u32,
-    tail: Vec<Edit>,
+    tail: VecDeque<Edit>,
 }
 
 // Written out, so that a caller's proof sees one call and not the drop of each field.
@@ -24,7 +25,7 @@ impl Drop for Log {
 }
 
 impl Model for Log {
-    ghost use Rattle.std.specs.Prelude.{◌+◌, ◌-◌, ◌≤◌, length, vec_capacity, vec_len};
+    ghost use Rattle.std.specs.Prelude.{◌+◌, ◌-◌, ◌≤◌, deque_capacity, deque_len, length};
     ghost use Rattle.version_log.specs.Log.{Logged, most_versions};
 
     ghost Value = { Logged };
@@ -32,7 +33,7 @@ impl Model for Log {
     ghost view = { λ l. record {
       start = l.start;
       tail = l.tail.items;
-      spare = vec_capacity l.tail - vec_len l.tail;
+      spare = deque_capacity l.tail - deque_len l.tail;
     } };
 
     ghost invariant = { λ l. l.start + length l.tail.items ≤ most_versions };
@@ -46,7 +47,7 @@ pub fn new_log(alloc: Global) -> Log
 {
     Log {
         start: 0,
-        tail: Vec::new(alloc),
+        tail: VecDeque::new(alloc),
     }
 }
 
@@ -95,7 +96,7 @@ impl Log {
         ensures stands { (history : List (List Change))
             → Stands self.old history → Stands self.new (history ++ edit ∷ []) }
     {
-        self.tail.push_reserved(edit);
+        self.tail.push_back_reserved(edit);
     }
 
     /// The same log once more, its room aside.
@@ -108,7 +109,8 @@ impl Log {
         Ok(Log { start, tail })
     }
 
-    /// Moves the start to a later version: the edits before it are dropped. It takes no memory.
+    /// Moves the start to a later version: the edits before it are dropped. It takes no memory, and its time is that of the edits
+    /// which are dropped.
     pub fn move_start(&mut self, to: u32)
         requires from { self.old.start ≤ to }
         requires until { to ≤ versions self.old }
@@ -118,21 +120,34 @@ impl Log {
         ensures versions { versions self.new ≡ versions self.old }
         ensures stands { (history : List (List Change)) → Stands self.old history → Stands self.new history }
     {
-        let count = (to - self.start) as usize;
-        self.tail.drain(..count);
-        self.start = to;
+        let count = to - self.start();
+        for _ in 0..count {
+            self.drop_first();
+        }
+    }
+
+    // Drops the first edit. The others stay where they are.
+    fn drop_first(&mut self)
+        requires { 0 < length self.old.tail }
+        ensures start { self.new.start ≡ self.old.start + 1 }
+        ensures tail { self.new.tail ≡ drop 1 self.old.tail }
+        ensures spare { self.old.spare ≤ self.new.spare }
+    {
+        let _first = self.tail.pop_front();
+        self.start += 1;
     }
 }
 
 impl Share for Log {}
 
 // The same edits once more.
-fn copy_edits(alloc: Global, edits: &[Edit]) -> Result<Vec<Edit>, NoMemory>
-    ensures { IfOk result (λ copy. copy.items ≡ edits.now) }
+fn copy_edits(alloc: Global, edits: &VecDeque<Edit>) -> Result<VecDeque<Edit>, NoMemory>
+    ensures { IfOk result (λ copy. copy.items ≡ edits.now.items) }
 {
-    let mut copy = Vec::with_capacity(alloc, edits.len())?;
-    for edit in edits {
-        copy.push(copy_edit(alloc, edit)?)?;
+    let mut copy = VecDeque::with_capacity(alloc, edits.len())?;
+    for at in 0..edits.len() {
+        let edit = copy_edit(alloc, &edits[at])?;
+        copy.push_back(edit)?;
     }
     Ok(copy)
 }

@@ -1,12 +1,12 @@
 use Rattle.std.proofs.Common.{◌≡◌, ◌+◌, ◌<◌, All, IfOk, List, ℕ, length, sym, subst, arith}
 use Rattle.std.specs.Option.{option_copied}
-use Rattle.std.specs.Prelude.{IfSome, is_some}
+use Rattle.std.specs.Prelude.{is_some}
 use Rattle.std.proofs.lemmas.List.Elements.{All-weaker}
 use Rattle.perm_base.specs.declared.shapes.TableId.TheVariants.{G}
 use Rattle.policy_table.specs.Tables.{Fields, rows}
 use Rattle.policy_query.specs.Helps.Named.{ArePlaced, FindRows}
 use Rattle.policy_query.specs.Names.{is_asked, named_columns, names_beside}
-use Rattle.policy_query.proofs.FoundLemmas.{all_found}
+use Rattle.policy_query.proofs.FoundLemmas.{all_found, if_some}
 use Rattle.policy_query.proofs.named.roles_among.Goals as goal
 
 -- rows with the columns have the places that are asked
@@ -30,5 +30,5 @@ roles_at-requires-clause-found c =
     let all : List Fields = rows c.args.tables.now.policy (G c.args.relation) in
     subst (FindRows (is_asked 0 c.args.name.now (option_copied c.args.domain)) all) (sym c.as_slice.ensures.value)
     (all_found c.args.name.now (option_copied c.args.domain) c.args.among.now all c.in-Some.places.items c.put_in_order.new.places.items c.requires.columns c.requires.among
-    (subst (λ o. IfSome o (λ places. ArePlaced c.args.name.now (option_copied c.args.domain) c.args.among.now all places.items)) c.in-Some.is c.in_ok-places.ensures)
+    (if_some _ c.in-Some.places c.in-Some.is (λ places. ArePlaced c.args.name.now (option_copied c.args.domain) c.args.among.now all places.items) c.in_ok-places.ensures)
     c.put_in_order.ensures.rising c.put_in_order.ensures.within c.put_in_order.ensures.keeps)

@@ -1,8 +1,7 @@
-use Rattle.std.proofs.Common.{◌≡◌, ◌<◌, ◌∙◌, IfOk, List, ℕ, ap, arith, length, rules, subst, sym}
-use Rattle.std.specs.List.{Contains, list_any}
+use Rattle.std.proofs.Common.{◌≡◌, ◌∙◌, IfOk, List, ℕ, ap, arith, length, rules, subst, sym}
+use Rattle.std.specs.List.{list_any}
 use Rattle.std.specs.Option.{option_copied}
 use Rattle.std.specs.Prelude.{is_some}
-use Rattle.std.proofs.lemmas.List.Elements.{All-contains, Contains-get_or}
 use Rattle.perm_base.specs.LineEnds.{has_line_end}
 use Rattle.policy_table.specs.Tables.{Fields, rows}
 use Rattle.policy_table.proofs.CallerLemmas.{different_none}
@@ -16,27 +15,24 @@ pub loop-place-init : goal.loop-place-init
 loop-place-init c = (ap shown c.new-names.ensures.empty ∙ sym different_none, ap (λ (keys : Keys). list_any has_line_end (shown keys)) c.new-names.ensures.empty)
 
 pub row-rule-requires : goal.row-rule-requires
-row-rule-requires c =
-    let all : List Fields = rows c.args.tables.now.policy c.args.table in
-    All-contains (λ (at : ℕ). at < length all) c.args.places.now c.place-item.result c.requires.found.within
-    (subst (Contains c.args.places.now) (sym c.place-item.is) (Contains-get_or c.args.places.now c.loop-place.place-index c.place-item.result c.loop-place-test.true))
+row-rule-requires c = c.requires.found.within c.loop-place.place-index _ c.loop-place-test.true
 
 pub is_asked-requires-clause-columns : goal.is_asked-requires-clause-columns
 is_asked-requires-clause-columns c =
     let all : List Fields = rows c.args.tables.now.policy c.args.table in
-    row_long (named_columns (is_some (option_copied c.args.domain))) all c.place-item.result c.row-rule.result.now c.row-rule.ensures c.requires.columns
+    row_long (named_columns (is_some (option_copied c.args.domain))) all _ c.row-rule.result.now c.row-rule.ensures c.requires.columns
 
 pub text-requires : goal.text-requires
 text-requires c =
     let all : List Fields = rows c.args.tables.now.policy c.args.table in
     has_role (is_some (option_copied c.args.domain)) (length c.row-rule.result.now)
-    (row_long (named_columns (is_some (option_copied c.args.domain))) all c.place-item.result c.row-rule.result.now c.row-rule.ensures c.requires.columns)
+    (row_long (named_columns (is_some (option_copied c.args.domain))) all _ c.row-rule.result.now c.row-rule.ensures c.requires.columns)
 
 pub loop-place-preserved : goal.loop-place-preserved
 loop-place-preserved c =
     let a = c.args in
     let all : List Fields = rows a.tables.now.policy a.table in
-    let here = row_here all a.places.now c.loop-place.place-index c.place-item.result c.row-rule.result.now c.loop-place-test.true c.place-item.is c.row-rule.ensures in (
+    let here = row_here all a.places.now c.loop-place.place-index _ c.row-rule.result.now c.loop-place-test.true c.row-rule.ensures in (
       names_same 0 1 a.name.now (option_copied a.domain) (rows_at all a.places.now) c.loop-place.place-index c.row-rule.result.now here c.loop-place.names.keys (sym c.is_asked.ensures ∙ c.if-is_asked.false) c.loop-place.invariant.0,
       c.loop-place.invariant.1,
     )
@@ -45,7 +41,7 @@ pub loop-place-preserved-then-is_asked : goal.loop-place-preserved-then-is_asked
 loop-place-preserved-then-is_asked c =
     let a = c.args in
     let all : List Fields = rows a.tables.now.policy a.table in
-    let here = row_here all a.places.now c.loop-place.place-index c.place-item.result c.row-rule.result.now c.loop-place-test.true c.place-item.is c.row-rule.ensures in (
+    let here = row_here all a.places.now c.loop-place.place-index _ c.row-rule.result.now c.loop-place-test.true c.row-rule.ensures in (
       names_next 0 1 a.name.now (option_copied a.domain) (rows_at all a.places.now) c.loop-place.place-index c.row-rule.result.now here c.loop-place.names.keys c.insert.new.self.keys c.text.result (search rules) c.text.ensures.value c.loop-place.invariant.0 (search rules),
       whole_next c.loop-place.names.keys c.insert.new.self.keys c.text.result c.loop-place.invariant.1 c.text.ensures.whole_line (search rules),
     )

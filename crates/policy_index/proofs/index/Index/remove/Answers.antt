@@ -75,6 +75,9 @@ returns-clause-spare c =
       c.swap_remove-place.ensures.len,
       c.swap_remove-place.ensures.capacity,
       c.unlist.ensures.sizes,
+      c.unlist.ensures.capacity,
+      c.unlist.new.places.ok.0,
+      c.self.inside.places.ok.0,
     )
 
 pub returns-clause-room : goal.returns-clause-room

@@ -61,3 +61,6 @@ invariant_of-self c =
 
 pub returns-clause-room : goal.returns-clause-room
 returns-clause-room c = λ hash. omega (arith, ap (λ (i : Indexed). room_at i.lists hash) c.self.view_is, c.unlist.ensures.room hash, c.put.ensures.room hash)
+
+pub returns-clause-spare : goal.returns-clause-spare
+returns-clause-spare c = omega (arith, ap (λ (i : Indexed). i.spare) c.self.view_is, c.unlist.ensures.sizes, c.unlist.ensures.capacity, c.unlist.new.places.ok.0, c.self.inside.places.ok.0)

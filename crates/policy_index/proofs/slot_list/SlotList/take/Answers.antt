@@ -19,3 +19,6 @@ returns-clause-slots c =
 pub returns-clause-last : goal.returns-clause-last
 returns-clause-last c =
     c.last_of-last.ensures ∙ ap (λ (l : List ℕ). get_or l (length l - 1) 0) c.as_slice.ensures ∙ ap (λ (l : Listed). get_or l.slots (length l.slots - 1) 0) c.self.view_is
+
+pub returns-clause-room : goal.returns-clause-room
+returns-clause-room c = omega (arith, ap (λ (l : Listed). l.room) c.self.view_is, c.len-held.ensures.value, c.len-held.ensures.fits, c.swap_remove-gone.ensures.len, c.swap_remove-gone.ensures.capacity)
