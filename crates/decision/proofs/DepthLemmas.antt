@@ -1,8 +1,8 @@
 -- The depth of a row of p.
-use Rattle.std.proofs.Common.{◌≡◌, ℕ, true, All, List, [], get_or, replicate, Option, None, Some, sym, ap, subst, ◌∙◌, arith}
+use Rattle.std.proofs.Common.{◌≡◌, ℕ, true, All, List, [], get_or, replicate, Option, None, Some, sym, ap, subst, ◌∙◌}
 use Rattle.std.specs.Prelude.{IfSome, codes, position, slice_get, unwrap_or}
 use Rattle.std.specs.Option.{option_and_then}
-use Rattle.std.proofs.lemmas.List.{get_or-replicate, length-replicate}
+use Rattle.std.proofs.lemmas.List.Elements.{All-replicate}
 use Rattle.std.proofs.lemmas.Option.{unwrap_or-slice_get}
 use Rattle.std.specs.Str.{bytes_eq}
 use Rattle.perm_base.specs.RoleShapes.{shape_of}
@@ -28,4 +28,4 @@ domain_in_column case shape fields at text place with_domain is =
 
 -- no depth is known
 pub no_depths : (case : Case) → All (λ (one : Option Known). IfSome one (IsKnownIn case)) (replicate 128 None)
-no_depths case = λ k d within. subst (λ (one : Option Known). IfSome one (IsKnownIn case)) (sym (get_or-replicate 128 k None d (omega (arith, within, length-replicate {A = Option Known} 128 None)))) tt
+no_depths case = All-replicate (λ (one : Option Known). IfSome one (IsKnownIn case)) 128 None tt

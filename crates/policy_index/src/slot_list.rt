@@ -113,8 +113,7 @@ fn write(slots: &mut SmallVec<u32, 2>, at: usize, slot: u32)
     ensures capacity { slots.new.capacity ≡ slots.old.capacity }
     ensures len { small_vec_len slots.new ≡ small_vec_len slots.old }
 {
-    let Some(held) = slots.get_mut(at) else {
-        unreachable!()
-    };
-    *held = slot;
+    if let Some(held) = slots.get_mut(at) {
+        *held = slot;
+    }
 }

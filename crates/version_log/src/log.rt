@@ -25,7 +25,8 @@ impl Drop for Log {
 }
 
 impl Model for Log {
-    ghost use Rattle.std.specs.Prelude.{◌+◌, ◌-◌, ◌≤◌, deque_capacity, deque_len, length};
+    ghost use Rattle.std.specs.Prelude.{◌+◌, ◌-◌, ◌≤◌, length};
+    ghost use Rattle.std.specs.VecDeque.{deque_capacity, deque_len};
     ghost use Rattle.version_log.specs.Log.{Logged, most_versions};
 
     ghost Value = { Logged };

@@ -1,5 +1,4 @@
-use Rattle.std.proofs.Common.{◌≡◌, ◌++◌, [], ◌∷◌, ◌∙◌, List, ap, arith, rules, sym, take}
-use Rattle.std.proofs.lemmas.Grind.{common_steps}
+use Rattle.std.proofs.Common.{◌≡◌, ◌++◌, [], ◌∷◌, ◌∙◌, List, ap, arith, sym, take}
 use Rattle.std.proofs.lemmas.List.{take_all, take_more}
 use Rattle.policy_table.specs.declared.change.Change.{Change}
 use Rattle.version_log.proofs.log.copy_edits.Goals as goal
@@ -7,7 +6,7 @@ use Rattle.version_log.proofs.log.copy_edits.Goals as goal
 pub loop-at-preserved : goal.loop-at-preserved
 loop-at-preserved c =
     let edits = c.args.edits.now.items in
-    let pushed : c.push_back.new.self.items ≡ c.loop-at.copy.items ++ c.in_ok-edit.edit ∷ [] = first_of (search rules, grind (arith, common_steps)) in
+    let pushed : c.push_back.new.self.items ≡ c.loop-at.copy.items ++ c.in_ok-edit.edit ∷ [] = c.in_ok-push_back.ensures.items in
     pushed
     ∙ ap (λ (l : List (List Change)). l ++ c.in_ok-edit.edit ∷ []) c.loop-at.invariant
     ∙ ap (λ (e : List Change). take c.loop-at.at edits ++ e ∷ []) (c.in_ok-edit.ensures ∙ c.index.ensures)
