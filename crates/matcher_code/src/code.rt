@@ -7,12 +7,23 @@ use std::marker::Model;
 
 /// Instructions of a matcher that keep the rules of code. Contracts see them, the numbers of columns of a request and of
 /// a policy that they name, and the greatest number of values that the stack holds.
-#[derive(Drop)]
 pub struct Code {
     ops: Vec<Op>,
     columns: u32,
     policy_columns: u32,
     height: u32,
+}
+
+// Written out, so that a caller's proof sees one call and not the drop of each field.
+impl Drop for Code {
+    fn drop(self) {
+        let Code {
+            ops: _ops,
+            columns: _columns,
+            policy_columns: _policy_columns,
+            height: _height,
+        } = self;
+    }
 }
 
 impl Model for Code {

@@ -14,7 +14,6 @@ use perm_base::{RoleShape, Rule};
 
 /// A model: the columns of a request and of a policy, the role relations, the effect and the matcher. Contracts see
 /// these parts, the matcher as a text and as an expression.
-#[derive(Drop)]
 pub struct Model {
     request: Rule,
     policy: Rule,
@@ -22,6 +21,20 @@ pub struct Model {
     effect: Effect,
     matcher_text: Text,
     matcher: Tree,
+}
+
+// Written out, so that a caller's proof sees one call and not the drop of each field.
+impl Drop for Model {
+    fn drop(self) {
+        let Model {
+            request: _request,
+            policy: _policy,
+            relations: _relations,
+            effect: _effect,
+            matcher_text: _matcher_text,
+            matcher: _matcher,
+        } = self;
+    }
 }
 
 impl std::marker::Model for Model {

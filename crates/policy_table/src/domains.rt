@@ -12,10 +12,19 @@ use std::alloc::Global;
 use std::marker::Model;
 
 /// The different domains of a relation's rules, each with the number of its rules, and how many rules have a pattern.
-#[derive(Drop)]
 pub(crate) struct Domains {
     counts: IndexMap<Text, u64>,
     patterns: Patterns,
+}
+
+// Written out, so that a caller's proof sees one call and not the drop of each field.
+impl Drop for Domains {
+    fn drop(self) {
+        let Domains {
+            counts: _counts,
+            patterns: _patterns,
+        } = self;
+    }
 }
 
 impl Model for Domains {

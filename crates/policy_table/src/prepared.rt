@@ -11,9 +11,17 @@ use std::alloc::Global;
 use std::marker::Model;
 
 /// Edits that are ready to be made. Contracts see the changes that they make.
-#[derive(Drop)]
 pub struct Prepared {
     steps: Vec<Step>,
+}
+
+// Written out, so that a caller's proof sees one call and not the drop of each field.
+impl Drop for Prepared {
+    fn drop(self) {
+        let Prepared {
+            steps: _steps,
+        } = self;
+    }
 }
 
 impl Model for Prepared {
@@ -74,7 +82,8 @@ impl Prepared {
     pub fn into_steps(self) -> Vec<Step>
         ensures { result.items ≡ self }
     {
-        self.steps
+        let Prepared { steps } = self;
+        steps
     }
 }
 

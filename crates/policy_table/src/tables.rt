@@ -28,12 +28,21 @@ const TABLES: usize = 9;
 /// rules, which stays whatever happens to other rules, but for one case: where a rule is taken out, that of the last slot
 /// comes into its slot. Contracts see the lists, the mark, the room of each, and the rules by their slots. A change costs
 /// about a block of 512 rows and the number of blocks, and finds the place of a rank by halving.
-#[derive(Drop)]
 pub struct Tables {
     // That of p, then those of g to g8.
     tables: [CountedTable; TABLES],
     // Whether p is ranked.
     ranked: bool,
+}
+
+// Written out, so that a caller's proof sees one call and not the drop of each field.
+impl Drop for Tables {
+    fn drop(self) {
+        let Tables {
+            tables: _tables,
+            ranked: _ranked,
+        } = self;
+    }
 }
 
 impl Model for Tables {
