@@ -21,11 +21,21 @@ pub type SideReader<J> = Reader<Side<J>, (), Unruled>;
 pub type SideReading<J> = Reading<Side<J>, (), Unruled>;
 
 /// A way into a pair. Contracts see the publishes that it knows of, and how often it was refused.
-#[derive(Drop)]
 pub struct Entrance<J: Naming> {
     reader: SideReader<J>,
     front: Front<J>,
     refused: u64,
+}
+
+// Written out, so that a caller's proof sees one call and not the drop of each field.
+impl<J: Naming> Drop for Entrance<J> {
+    fn drop(self) {
+        let Entrance {
+            reader: _reader,
+            front: _front,
+            refused: _refused,
+        } = self;
+    }
 }
 
 impl<J: Naming> Model for Entrance<J> {
