@@ -14,9 +14,7 @@ pub(crate) struct Fronts {
 // Written out, so that a caller's proof sees one call and not the drop of each field.
 impl Drop for Fronts {
     fn drop(self) {
-        let Fronts {
-            counts: _counts,
-        } = self;
+        let Fronts { counts: _counts } = self;
     }
 }
 

@@ -18,9 +18,7 @@ pub(crate) struct Slots {
 // Written out, so that a caller's proof sees one call and not the drop of each field.
 impl Drop for Slots {
     fn drop(self) {
-        let Slots {
-            lists: _lists,
-        } = self;
+        let Slots { lists: _lists } = self;
     }
 }
 

@@ -3,21 +3,11 @@ use std::marker::Model;
 
 /// What is ready in each part of a policy for edits that are handed over when they are made, and the version at which its log is
 /// to start afterwards. Contracts see that version, and what is ready in each part.
+#[derive(Drop)]
 pub struct PreparedParts {
     pub(crate) tables: policy_table::Prepared,
     pub(crate) sections: Vec<role_domain::Prepared>,
     pub(crate) start: u32,
-}
-
-// Written out, so that a caller's proof sees one call and not the drop of each field.
-impl Drop for PreparedParts {
-    fn drop(self) {
-        let PreparedParts {
-            tables: _tables,
-            sections: _sections,
-            start: _start,
-        } = self;
-    }
 }
 
 impl Model for PreparedParts {
@@ -36,19 +26,10 @@ impl Model for PreparedParts {
 
 /// Edits that are ready to be made in a policy, and the version at which its log is to start afterwards. Contracts see the
 /// edits, that version, and what is ready in each part.
+#[derive(Drop)]
 pub struct Prepared {
     pub(crate) parts: PreparedParts,
     pub(crate) edits: Vec<Edit>,
-}
-
-// Written out, so that a caller's proof sees one call and not the drop of each field.
-impl Drop for Prepared {
-    fn drop(self) {
-        let Prepared {
-            parts: _parts,
-            edits: _edits,
-        } = self;
-    }
 }
 
 impl Model for Prepared {

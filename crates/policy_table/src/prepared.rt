@@ -18,9 +18,7 @@ pub struct Prepared {
 // Written out, so that a caller's proof sees one call and not the drop of each field.
 impl Drop for Prepared {
     fn drop(self) {
-        let Prepared {
-            steps: _steps,
-        } = self;
+        let Prepared { steps: _steps } = self;
     }
 }
 

@@ -335,7 +335,10 @@ impl Tables {
     pub fn ranked(self) -> Result<Tables, NoMemory>
         ensures { IfOk result (λ tables. tables.policy ≡ ranked_policy self.policy) }
     {
-        let mut tables = self.tables;
+        let Tables {
+            mut tables,
+            ranked: _ranked,
+        } = self;
         tables[0].rank()?;
         let ranked = true;
         Ok(Tables { tables, ranked })

@@ -1,6 +1,6 @@
 -- What is asked of names in a domain of a section.
 use Rattle.std.proofs.Common.{◌≡◌, ◌⊎◌, inl, inr, ◌≤◌, ◌↔◌, ◌+◌, ◌&&◌, ◌||◌, ℕ, Bool, true, false, List, [], ◌∷◌, Option, None, Some, IsTrue, length, map, refl, sym, ap, subst, ◌∙◌, arith, le-leb, leb-true}
-use Rattle.std.specs.Prelude.{filter, if◌then◌else◌, is_some, nat_le, unwrap_or}
+use Rattle.std.specs.Prelude.{filter, is_some, nat_le, unwrap_or}
 use Rattle.std.specs.Borrow.{Bor}
 use Rattle.std.specs.List.{Contains, list_any}
 use Rattle.std.specs.Option.{option_copied}

@@ -1,13 +1,12 @@
 -- The last entry of a map by texts, once it is taken out.
-use Rattle.std.proofs.Common.{◌≡◌, ◌+◌, ℕ, Bool, true, false, cond, List, [], ◌∷◌, ◌++◌, Option, None, Some, length, refl, sym, ap, ◌∙◌, length-append}
+use Rattle.std.proofs.Common.{◌≡◌, ◌+◌, ℕ, Bool, true, false, cond, List, [], ◌∷◌, ◌++◌, Option, None, Some, length, sym, ap, ◌∙◌, length-append}
 use Rattle.std.specs.Prelude.{IfSome}
 use Rattle.std.specs.Global.{Vec}
-use Rattle.std.specs.Map.{lookup}
 use Rattle.std.specs.Option.{option_to_list}
 use Rattle.std.specs.Str.{bytes_eq}
 use Rattle.indexmap.specs.IndexMap.{IndexMap, Updates}
 use Rattle.role_domain.specs.Domains.{by_text, found}
-use Rattle.role_domain.proofs.Keyed.{found_other, found_there, is_text, same_key, text_itself}
+use Rattle.role_domain.proofs.Keyed.{found_other, found_there, same_key, text_itself}
 use Rattle.role_domain.proofs.Touching.{texts_push}
 
 found_last : {X : Type 0} (entries : List (List ℕ × X)) (text : List ℕ) (value : X) → found entries text ≡ None → found (entries ++ (text, value) ∷ []) text ≡ Some value

@@ -125,26 +125,28 @@ pub(crate) fn builders_of(
     Ok(builders)
 }
 
-/// The domain of a text, given all rows with a pattern as their domain.
-pub(crate) fn built(
-    alloc: Global,
-    terms: Terms,
-    text: &[u8],
-    builder: DomainBuilder,
-    patterns: &[Rule],
-) -> Result<Domain, NoMemory>
-    requires { (rows : List Fields) × CanBuild terms text.now rows builder patterns.now }
-    ensures { IfOk result (λ domain. (rows : List Fields)
-        → CanBuild terms text.now rows builder patterns.now
-        → IsDomain (record { terms = terms; rows = rows }) text.now domain) }
-{
-    links_are_decided();
-    let DomainBuilder { own, graph } = builder;
-    let pairs = fitting(alloc, terms.domains, text, patterns)?;
-    let mut graph = graph;
-    push_all(alloc, &mut graph, &pairs)?;
-    let graph = graph.build(alloc)?;
-    Ok(Domain { own, graph })
+impl DomainBuilder {
+    /// The domain of a text, given all rows with a pattern as their domain.
+    pub(crate) fn built(
+        self,
+        alloc: Global,
+        terms: Terms,
+        text: &[u8],
+        patterns: &[Rule],
+    ) -> Result<Domain, NoMemory>
+        requires { (rows : List Fields) × CanBuild terms text.now rows self patterns.now }
+        ensures { IfOk result (λ domain. (rows : List Fields)
+            → CanBuild terms text.now rows self patterns.now
+            → IsDomain (record { terms = terms; rows = rows }) text.now domain) }
+    {
+        links_are_decided();
+        let DomainBuilder { own, graph } = self;
+        let pairs = fitting(alloc, terms.domains, text, patterns)?;
+        let mut graph = graph;
+        push_all(alloc, &mut graph, &pairs)?;
+        let graph = graph.build(alloc)?;
+        Ok(Domain { own, graph })
+    }
 }
 
 // A domain that no row was brought to.

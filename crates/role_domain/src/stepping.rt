@@ -12,7 +12,7 @@ ghost use Rattle.role_domain.specs.Helps.Turns.{CanStep, CanTurn, IsTurnOf, Turn
 ghost use Rattle.role_domain.specs.Relations.{Relation, Tells, pair_of};
 ghost use Rattle.role_domain.specs.Steps.{AreReady, IsReady};
 
-use crate::builders::{builders_of, built};
+use crate::builders::builders_of;
 use crate::domain::{Domain, graph_of};
 use crate::domains::Domains;
 use crate::patterns::fitting;
@@ -41,7 +41,7 @@ impl Domains {
         let mut builders = builders_of(alloc, terms, rows)?;
         self.reserve(builders.len())?;
         while let Some((text, builder)) = builders.pop() {
-            let domain = built(alloc, terms, text.as_slice(), builder, patterns)?;
+            let domain = builder.built(alloc, terms, text.as_slice(), patterns)?;
             self.put(text, domain);
         }
         Ok(())

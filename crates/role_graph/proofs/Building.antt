@@ -1,5 +1,5 @@
 -- A graph that is made of rows which come one after the other.
-use Rattle.std.proofs.Common.{◌≡◌, ◌<◌, ◌≤◌, ◌+◌, ◌^◌, ℕ, List, [], ◌∷◌, ◌++◌, length, map, sym, ap, ◌∙◌, arith, length-append}
+use Rattle.std.proofs.Common.{◌≡◌, ◌<◌, ◌+◌, ◌^◌, ℕ, List, [], ◌∷◌, ◌++◌, length, map, sym, ap, ◌∙◌, arith, length-append}
 use Rattle.std.specs.Str.{bytes_eq}
 use Rattle.std.proofs.lemmas.List.{length-map}
 use Rattle.std.proofs.lemmas.List.Sums.{count_by-le-length}
@@ -9,7 +9,7 @@ use Rattle.role_graph.specs.Built.{Built, IsCounted}
 use Rattle.role_graph.specs.Groups.{Group, after, rows_of, rows_with, times}
 use Rattle.role_graph.specs.Helps.Edits.{standing}
 use Rattle.role_graph.specs.Helps.Kept.{AreApart, AreLinks, Parts, linked_of}
-use Rattle.role_graph.specs.Helps.Roles.{Counted, count_of}
+use Rattle.role_graph.specs.Helps.Roles.{count_of}
 use Rattle.role_graph.proofs.Counting.{as_long, roles_alike, rows_with_both, times_after}
 use Rattle.role_graph.proofs.Editing.{count_more, once, times_more}
 
@@ -32,7 +32,7 @@ pub pushed_roles : (old new : List Fields) (pair : Fields) → ((one : Fields) �
 pushed_roles old new pair more role =
     let alike : rows_with role new ≡ rows_with role (old ++ pair ∷ []) = roles_alike new (old ++ pair ∷ []) (λ one. more one ∙ sym (times_more one pair old)) role in
     let both : rows_with role (old ++ pair ∷ []) ≡ rows_with role old + rows_with role (pair ∷ []) = rows_with_both role old (pair ∷ []) in
-    let last : rows_with role (pair ∷ []) ≡ once (bytes_eq role (role_of pair)) = count_more role (role_of pair) [] in
+    let last : rows_with role (pair ∷ []) ≡ 0 + once (bytes_eq role (role_of pair)) = count_more role (role_of pair) [] in
     omega (arith, alike, both, last)
 
 -- and is counted

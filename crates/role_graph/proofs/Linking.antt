@@ -1,10 +1,10 @@
 -- Links that are put into a square until it is that of the graph.
-use Rattle.std.proofs.Common.{◌≡◌, ◌⊎◌, inl, inr, ◌<◌, ◌≤◌, ◌+◌, ℕ, Bool, true, false, List, [], ◌∷◌, ◌++◌, length, get_or, refl, sym, ap, subst, ◌∙◌, arith}
+use Rattle.std.proofs.Common.{◌≡◌, ◌⊎◌, inl, inr, ◌<◌, ◌≤◌, ◌+◌, ℕ, Bool, List, [], ◌∷◌, ◌++◌, length, get_or, refl, sym, ap, subst, ◌∙◌, arith}
 use Rattle.std.specs.List.{Contains, IsDistinct}
 use Rattle.std.specs.Str.{bytes_eq}
 use Rattle.std.proofs.lemmas.Bool.{cases_eq, cases_lt}
 use Rattle.std.proofs.lemmas.List.Elements.{Contains-get_or, Contains-push_cases}
-use Rattle.dist_rows.specs.Squares.{cell_of, most_nodes}
+use Rattle.dist_rows.specs.Squares.{most_nodes}
 use Rattle.role_meaning.proofs.CallerLemmas.{stands_nowhere}
 use Rattle.role_graph.specs.Helps.Squares.{Grows, IsBegun, IsClosed, IsLinking, IsMarked, IsNear, IsNodeLink, name_at}
 use Rattle.role_graph.specs.Helps.Walks.{FitsAt, IsRoleAt, Linked, no_group}

@@ -21,13 +21,13 @@ abbrev pub is_plain_text : Fit → List ℕ → List ℕ → Bool
 is_plain_text fit text domain = not (is_pattern fit domain) && bytes_eq text domain
 
 -- the domain of a text has the user and the role of each of these rows with that text, but for those with a pattern as their domain
-pub record HasTaken (terms : Terms) (text : List ℕ) (rows : List Fields) (builder : DomainBuilder) : Type 0 where
-  pub own : builder.own ≡ named text rows
+pub record HasTaken (terms : Terms) (text : List ℕ) (all : List Fields) (builder : DomainBuilder) : Type 0 where
+  pub own : builder.own ≡ named text all
   pub names : builder.graph.names ≡ terms.names
   pub limited : builder.graph.limit ≡ terms.limit
   pub counts : IsCounted builder.graph
   pub few : length builder.graph.rows ≤ builder.own
-  pub rows : (one : Fields) → times one builder.graph.rows ≡ counted (is_plain_text terms.domains text) one rows
+  pub rows : (one : Fields) → times one builder.graph.rows ≡ counted (is_plain_text terms.domains text) one all
 
 -- where no row has the text it has no domain
 abbrev pub HasTakenAt : Terms → List ℕ → List Fields → Option DomainBuilder → Type 0

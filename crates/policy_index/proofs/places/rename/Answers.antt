@@ -1,4 +1,4 @@
-use Rattle.std.proofs.Common.{◌+◌, ◌==◌, ◌&&◌, ◌∙◌, ℕ, ap, arith, length, sym, true≢false}
+use Rattle.std.proofs.Common.{◌+◌, ◌==◌, ◌&&◌, ◌∙◌, ℕ, ap, arith, sym, true≢false}
 use Rattle.std.specs.Prelude.{nat_eq}
 use Rattle.std.specs.List.{count_by}
 use Rattle.std.proofs.lemmas.Bool.{eq-eqb, ne_eqb}

@@ -1,5 +1,5 @@
-use Rattle.std.proofs.Common.{◌≡◌, ◌-◌, ◌<◌, ◌∙◌, ℕ, ap, arith, get_or, length, refl, set, subst, sym}
-use Rattle.std.proofs.lemmas.List.{get_or_read, length-set}
+use Rattle.std.proofs.Common.{◌≡◌, ◌-◌, ℕ, arith, get_or, length, refl, subst, sym}
+use Rattle.std.proofs.lemmas.List.{get_or_read}
 use Rattle.std.proofs.lemmas.Option.{slice_get_within}
 use Rattle.policy_index.specs.Helps.Kept.{IsAt}
 use Rattle.policy_index.specs.Lists.{slots_at}

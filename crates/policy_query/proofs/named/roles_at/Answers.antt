@@ -10,6 +10,7 @@ use Rattle.policy_query.specs.Names.{named_columns}
 use Rattle.policy_query.proofs.FoundLemmas.{has_role, names_told, row_here, row_long}
 use Rattle.policy_query.proofs.NameLemmas.{Keys, few_names, names_next, names_same, shown, whole_next}
 use Rattle.policy_query.proofs.named.roles_at.Goals as goal
+use Rattle.policy_query.proofs.named.roles_at.Goals.{else-is_asked, then-is_asked+in_ok-_new}
 
 pub loop-place-init : goal.loop-place-init
 loop-place-init c = (ap shown c.new-names.ensures.empty ∙ sym different_none, ap (λ (keys : Keys). list_any has_line_end (shown keys)) c.new-names.ensures.empty)
@@ -32,19 +33,17 @@ pub loop-place-preserved : goal.loop-place-preserved
 loop-place-preserved c =
     let a = c.args in
     let all : List Fields = rows a.tables.now.policy a.table in
-    let here = row_here all a.places.now c.loop-place.place-index _ c.row-rule.result.now c.loop-place-test.true c.row-rule.ensures in (
-      names_same 0 1 a.name.now (option_copied a.domain) (rows_at all a.places.now) c.loop-place.place-index c.row-rule.result.now here c.loop-place.names.keys (sym c.is_asked.ensures ∙ c.if-is_asked.false) c.loop-place.invariant.0,
-      c.loop-place.invariant.1,
-    )
-
-pub loop-place-preserved-then-is_asked : goal.loop-place-preserved-then-is_asked
-loop-place-preserved-then-is_asked c =
-    let a = c.args in
-    let all : List Fields = rows a.tables.now.policy a.table in
-    let here = row_here all a.places.now c.loop-place.place-index _ c.row-rule.result.now c.loop-place-test.true c.row-rule.ensures in (
-      names_next 0 1 a.name.now (option_copied a.domain) (rows_at all a.places.now) c.loop-place.place-index c.row-rule.result.now here c.loop-place.names.keys c.insert.new.self.keys c.text.result (search rules) c.text.ensures.value c.loop-place.invariant.0 (search rules),
-      whole_next c.loop-place.names.keys c.insert.new.self.keys c.text.result c.loop-place.invariant.1 c.text.ensures.whole_line (search rules),
-    )
+    let here = row_here all a.places.now c.loop-place.place-index _ c.row-rule.result.now c.loop-place-test.true c.row-rule.ensures in
+    elim c.if-is_asked.branch [
+      | then-is_asked+in_ok-_new w ↦ rw w.names-is (
+        names_next 0 1 a.name.now (option_copied a.domain) (rows_at all a.places.now) c.loop-place.place-index c.row-rule.result.now here c.loop-place.names.keys w.insert.new.self.keys w.text.result (sym c.is_asked.ensures ∙ w.if-is_asked.true) w.text.ensures.value c.loop-place.invariant.0 (search rules),
+        whole_next c.loop-place.names.keys w.insert.new.self.keys w.text.result c.loop-place.invariant.1 w.text.ensures.whole_line (search rules),
+      )
+      | else-is_asked w ↦ rw w.names-is (
+        names_same 0 1 a.name.now (option_copied a.domain) (rows_at all a.places.now) c.loop-place.place-index c.row-rule.result.now here c.loop-place.names.keys (sym c.is_asked.ensures ∙ w.if-is_asked.false) c.loop-place.invariant.0,
+        c.loop-place.invariant.1,
+      )
+    ]
 
 pub rule_of-requires-clause-few : goal.rule_of-requires-clause-few
 rule_of-requires-clause-few c =

@@ -1,4 +1,4 @@
-use Rattle.std.proofs.Common.{ap, arith, length, rules, ◌∙◌}
+use Rattle.std.proofs.Common.{ap, arith, length, ◌∙◌}
 use Rattle.std.specs.List.{list_any}
 use Rattle.std.proofs.lemmas.List.{length-map, take_all}
 use Rattle.perm_base.specs.LineEnds.{has_line_end}

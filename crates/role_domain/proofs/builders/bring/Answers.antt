@@ -2,7 +2,6 @@ use Rattle.std.proofs.Common.{◌≡◌, ◌∙◌, Bool, true, false, cond, ap,
 use Rattle.perm_base.specs.Patterns.{is_pattern}
 use Rattle.policy_table.specs.Tables.{same}
 use Rattle.role_domain.specs.Relations.{pair_of}
-use Rattle.role_graph.specs.Groups.{times}
 use Rattle.role_graph.proofs.CallerLemmas.{once}
 use Rattle.role_meaning.specs.Links.{domain_of}
 use Rattle.role_domain.proofs.builders.bring.Goals as goal

@@ -6,8 +6,8 @@ use Rattle.role_graph.proofs.closure.square_of.Goals as goal
 pub returns-then-not-has_links : goal.returns-then-not-has_links
 returns-then-not-has_links c = λ some. absurd (omega (arith, some, ap (λ (square : Square). length square.cells) c.empty-square.ensures))
 
-pub returns-then-MOST_NODES-lt-len : goal.returns-then-MOST_NODES-lt-len
-returns-then-MOST_NODES-lt-len c = λ some. absurd (omega (arith, some, ap (λ (square : Square). length square.cells) c.empty-square.ensures))
+pub returns-then-len-gt-MOST_NODES : goal.returns-then-len-gt-MOST_NODES
+returns-then-len-gt-MOST_NODES c = λ some. absurd (omega (arith, some, ap (λ (square : Square). length square.cells) c.empty-square.ensures))
 
 pub reserve_node-requires : goal.reserve_node-requires
 reserve_node-requires c = omega (arith, ap (λ (square : Square). length square.cells) c.empty-square.ensures, c.len-2.ensures.count, c.len.ensures.count, c.if-len-gt-MOST_NODES.false)

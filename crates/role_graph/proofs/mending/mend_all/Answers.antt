@@ -1,4 +1,4 @@
-use Rattle.std.proofs.Common.{◌≡◌, ◌<◌, ◌∙◌, arith, length, refl}
+use Rattle.std.proofs.Common.{◌∙◌, arith, refl}
 use Rattle.role_graph.proofs.Mended.{by_all_begins, by_all_more, by_all_skips, told_more, unmarked}
 use Rattle.role_graph.proofs.mending.mend_all.Goals as goal
 

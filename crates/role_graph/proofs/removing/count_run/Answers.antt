@@ -1,4 +1,4 @@
-use Rattle.std.proofs.Common.{◌∙◌, arith, refl, sym}
+use Rattle.std.proofs.Common.{arith, refl}
 use Rattle.role_graph.proofs.Removals.{counting_begins, counting_ends, counting_few, counting_on, counting_stops}
 use Rattle.role_graph.proofs.removing.count_run.Goals as goal
 
@@ -15,7 +15,7 @@ pub count_role-requires-in-loop-at-clause-few : goal.count_role-requires-in-loop
 count_role-requires-in-loop-at-clause-few c = counting_few c.args.user.now c.args.rows.now c.args.from c.loop-at.at c.loop-at.gone (omega (arith, c.loop-at-test.true)) c.loop-at.invariant
 
 pub loop-at-preserved : goal.loop-at-preserved
-loop-at-preserved c = counting_on c.args.user.now c.args.rows.now c.args.from c.loop-at.at c.loop-at.gone c.count_role-2.new.gone c.loop-at.invariant c.in_ok-count_role-2.ensures
+loop-at-preserved c = counting_on c.args.user.now c.args.rows.now c.args.from c.loop-at.at c.loop-at.gone c.count_role-in-loop-at.new.gone c.loop-at.invariant c.in_ok-count_role-2.ensures
 
 pub returns : goal.returns
 returns c = counting_ends c.args.user.now c.args.rows.now c.args.from c.loop-at.at _ c.loop-at.gone c.requires.from refl (omega (arith, c.loop-at-test.false)) c.loop-at.invariant

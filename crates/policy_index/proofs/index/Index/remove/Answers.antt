@@ -1,4 +1,4 @@
-use Rattle.std.proofs.Common.{◌≡◌, ◌+◌, ◌<◌, ◌∙◌, List, ℕ, ap, arith, get_or, length, subst, sym}
+use Rattle.std.proofs.Common.{◌≡◌, ◌+◌, ◌<◌, ◌∙◌, List, ap, arith, get_or, length, subst, sym}
 use Rattle.std.specs.List.{swap_remove}
 use Rattle.policy_index.specs.Helps.Kept.{IsAt, IsIndex, is_front, one_if}
 use Rattle.policy_index.specs.Indexed.{Indexed}

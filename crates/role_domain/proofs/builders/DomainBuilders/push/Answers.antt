@@ -1,8 +1,6 @@
-use Rattle.std.proofs.Common.{◌≡◌, ◌<◌, ◌++◌, ◌∷◌, [], ◌∙◌, ℕ, List, Option, None, Some, cond, refl, ap, subst, sym}
-use Rattle.std.specs.Prelude.{IsSome, length}
-use Rattle.std.specs.Str.{bytes_eq}
-use Rattle.policy_table.specs.Tables.{Fields}
-use Rattle.role_domain.specs.Domains.{by_text, found}
+use Rattle.std.proofs.Common.{◌≡◌, ◌∙◌, ℕ, List, Some, refl, ap, subst}
+use Rattle.std.specs.Prelude.{IsSome}
+use Rattle.role_domain.specs.Domains.{by_text}
 use Rattle.role_domain.specs.Helps.Taking.{HasTaken, HasTakenAt}
 use Rattle.role_domain.specs.declared.builders.DomainBuilder.{DomainBuilder}
 use Rattle.role_domain.proofs.Keyed.{seen_after, seen_at}
@@ -49,6 +47,6 @@ returns c = λ rows have.
     let first : HasTaken c.args.terms c.domain_of-text.result.now rows c.fresh-first.result =
     taken_first c.args.terms c.domain_of-text.result.now rows c.fresh-first.result none c.fresh-first.ensures.own c.fresh-first.ensures.rows c.fresh-first.ensures.names c.fresh-first.ensures.limit c.fresh-first.ensures.counted in
     taken_all c.args.terms rows c.args.row.now c.args.self.now (by_text c.insert.new.self.entries) c.bring-2.new.builder
-    (λ name. seen_after (domain_of c.args.row.now) c.in_ok-from_slice.field-0.items name c.self.inside.entries.entries c.insert.new.self.entries c.args.self.now (Some c.bring-2.new.builder) c.self.view_is (c.in_ok-from_slice.ensures.items ∙ text) c.in_ok-_none.ensures.updates.3 c.in_ok-_none.ensures.updates.1)
+    (λ name. seen_after (domain_of c.args.row.now) c.in_ok-from_slice.field-0.items name c.get_mut.follows.lender-at-none.entries c.insert.new.self.entries c.args.self.now (Some c.bring-2.new.builder) (ap (λ m. by_text m.entries) c.get_mut.follows.holds-at-none ∙ c.self.view_is) (c.in_ok-from_slice.ensures.items ∙ text) c.in_ok-_none.ensures.updates.3 c.in_ok-_none.ensures.updates.1)
     (taken_more c.args.terms (domain_of c.args.row.now) rows c.args.row.now c.fresh-first.result c.bring-2.new.builder refl (subst (λ (t : List ℕ). HasTaken c.args.terms t rows c.fresh-first.result) text first) c.in_ok-bring-2.ensures)
     have

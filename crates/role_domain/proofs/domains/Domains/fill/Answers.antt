@@ -1,9 +1,7 @@
-use Rattle.std.proofs.Common.{◌≡◌, ◌∙◌, List, ℕ, [], None, Some, ap, arith, length, refl, subst, sym}
-use Rattle.std.specs.Str.{bytes_eq}
+use Rattle.std.proofs.Common.{◌∙◌, List, ℕ, [], Some, ap, arith, subst, sym}
 use Rattle.role_domain.specs.Domains.{IsDomain, IsRight, found}
 use Rattle.role_domain.specs.Helps.Taking.{Builders, CanBuild, HasTakenAt}
 use Rattle.role_domain.specs.Relations.{Relation}
-use Rattle.role_domain.specs.declared.builders.DomainBuilder.{DomainBuilder}
 use Rattle.role_domain.proofs.Keyed.{same_text}
 use Rattle.role_domain.proofs.Taken.{IsFilling, filling_first, filling_next}
 use Rattle.role_domain.proofs.domains.Domains.fill.Goals as goal

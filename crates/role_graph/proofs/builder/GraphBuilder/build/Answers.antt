@@ -23,7 +23,8 @@ pub graph_of-requires-clause-few : goal.graph_of-requires-clause-few
 graph_of-requires-clause-few c =
     let same : rows_of (linked_of c.reserve.new.self).groups ≡ rows_of (linked_of c.self.inside.links).groups = rows_stay c.self.inside.links c.reserve.new.self c.in_ok-reserve.ensures.plain c.in_ok-reserve.ensures.patterned in
     let alike : (one : Fields) → times one (rows_of (linked_of c.change.new.self).groups) ≡ times one (after c.self.inside.edits (rows_of (linked_of c.self.inside.links).groups)) = λ one. c.change.ensures.rows one ∙ ap (λ (rows : List Fields). times one (after c.self.inside.edits rows)) same in
-    omega (arith, as_long _ _ alike, (subst IsCounted (sym c.self.view_is) c.requires).few)
+    let few : length (after c.self.inside.edits (rows_of (linked_of c.self.inside.links).groups)) ≤ 200000 = (subst IsCounted (sym c.self.view_is) c.requires).few in
+    omega (arith, as_long (rows_of (linked_of c.change.new.self).groups) (after c.self.inside.edits (rows_of (linked_of c.self.inside.links).groups)) alike, few)
 
 pub graph_of-requires-clause-counted : goal.graph_of-requires-clause-counted
 graph_of-requires-clause-counted c = λ role.

@@ -1,4 +1,4 @@
-use Rattle.std.proofs.Common.{◌≡◌, ◌+◌, ◌∙◌, ap}
+use Rattle.std.proofs.Common.{◌+◌, ◌∙◌, ap}
 use Rattle.policy_table.specs.Tables.{Fields, same}
 use Rattle.role_graph.specs.Helps.Edits.{standing}
 use Rattle.role_graph.proofs.Editing.{once, pair_is}

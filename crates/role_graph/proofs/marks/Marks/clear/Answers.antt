@@ -1,4 +1,4 @@
-use Rattle.std.proofs.Common.{◌≡◌, ◌<◌, ◌∙◌, length, length-set, arith}
+use Rattle.std.proofs.Common.{◌∙◌, length-set, arith}
 use Rattle.role_graph.proofs.Marking.{word_cleared}
 use Rattle.role_graph.proofs.marks.Marks.clear.Goals as goal
 

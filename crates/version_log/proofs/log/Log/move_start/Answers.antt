@@ -1,4 +1,4 @@
-use Rattle.std.proofs.Common.{◌≡◌, ◌+◌, ◌-◌, ◌≤◌, ◌∙◌, ℕ, ap, arith, drop, refl}
+use Rattle.std.proofs.Common.{◌≡◌, ◌-◌, ◌∙◌, ℕ, ap, arith, drop, refl}
 use Rattle.version_log.proofs.LogLemmas.{dropped_more, same_versions, some_left, stands_from}
 use Rattle.version_log.proofs.log.Log.move_start.Goals as goal
 
