@@ -17,9 +17,7 @@ pub struct Front<J: Naming> {
 // Written out, so that a caller's proof sees one call and not the drop of each field.
 impl<J: Naming> Drop for Front<J> {
     fn drop(self) {
-        let Front {
-            told: _told,
-        } = self;
+        let Front { told: _told } = self;
     }
 }
 
