@@ -14,7 +14,7 @@ import sys
 
 ROOT = os.path.dirname(os.path.dirname(os.path.abspath(__file__)))
 DESK = f"{ROOT}/crates/cases_policy/out/cases_policy"
-PAIR = f"{ROOT}/crates/live_pair_tests/out/live_pair_tests_tests"
+PAIR = f"{ROOT}/crates/live_tests/out/live_tests_tests"
 
 PATIENCE = 60
 

@@ -1,4 +1,4 @@
-//! What seats decide beside an administrator that publishes, as tests.
+//! What no stored run shows of seats and workers beside an administrator, as tests.
 #![tactic(auto)]
 
 #[cfg(test)]
@@ -6,10 +6,14 @@ mod asking;
 #[cfg(test)]
 mod caching;
 #[cfg(test)]
-mod deciding;
+mod entering;
+#[cfg(test)]
+mod meeting;
 #[cfg(test)]
 mod opening;
 #[cfg(test)]
 mod publishing;
 #[cfg(test)]
 mod trial;
+#[cfg(test)]
+mod working;

@@ -1,8 +1,9 @@
 //! A program, and a desk that its requests are asked at.
-ghost use Rattle.std.specs.Prelude.{◌≡◌, [], IfOk};
+ghost use Rattle.std.specs.Prelude.{◌≡◌, [], IfOk, None};
 ghost use Rattle.decision.specs.Programs.{Suits};
 ghost use Rattle.perm_base.specs.Shapes.{AreValid};
 ghost use Rattle.policy_state.specs.States.{StandsFor, tables};
+ghost use Rattle.version_log.specs.Log.{versions};
 
 use decision::{Program, make_program};
 use model_conf::{Model, read_model, shapes_of};
@@ -23,7 +24,7 @@ m = r.sub == p.sub && r.obj == p.obj && r.act == p.act
 ";
 
 /// The program of a model of three equalities, and the shapes of its policies.
-pub fn program(alloc: Global) -> Result<(Program, Shapes), NoMemory>
+pub(crate) fn program(alloc: Global) -> Result<(Program, Shapes), NoMemory>
     ensures suits { IfOk result (λ made. Suits made.0 made.1) }
     ensures valid { IfOk result (λ made. AreValid made.1) }
 {
@@ -47,11 +48,13 @@ fn shapes(alloc: Global, model: &Model) -> Result<Shapes, NoMemory>
 }
 
 /// A desk over a policy without rules.
-pub fn desk(alloc: Global, shapes: Shapes) -> Result<Desk, NoMemory>
+pub(crate) fn desk(alloc: Global, shapes: Shapes) -> Result<Desk, NoMemory>
     requires valid { AreValid shapes }
     ensures shapes { IfOk result (λ desk. desk.state.shapes ≡ shapes) }
     ensures stands { IfOk result (λ desk. StandsFor desk.state (tables desk.state) []) }
+    ensures opening { IfOk result (λ desk. versions desk.state.log ≡ 0) }
     ensures pending { IfOk result (λ desk. desk.pending ≡ []) }
+    ensures kept { IfOk result (λ desk. desk.kept ≡ None) }
 {
     let Ok(tables) = read_policy(alloc, b"", &shapes) else {
         return Err(NoMemory);

@@ -1,10 +1,10 @@
-//! Answers at a seat by way of its cache.
+//! Answers at a seat by way of its cache, and without it.
 ghost use Rattle.std.specs.Prelude.{◌≡◌, [], IfOk};
 ghost use Rattle.decision.specs.Programs.{Suits};
 ghost use Rattle.live_seat.specs.Caches.{ServesAt};
 
 use crate::asking::Asking;
-use crate::publishing::publish;
+use crate::publishing::publish_at_last;
 use crate::trial::{Trial, tried};
 use answer_cache::{Cache, CachedAnswer, Kept};
 use decision::Program;
@@ -23,8 +23,23 @@ fn a_cache_follows_its_seat_over_a_publish(rt: HostRuntime) -> Result<(), Fail> 
     tried(&rt, rt.alloc(), Trial::Cached)
 }
 
+// Opens what the seat asks with.
+pub(crate) fn asks_by_cache<J: Naming, R: Wait + Abort>(
+    rt: &R,
+    alloc: Global,
+    admin: &mut Admin<J>,
+    seat: Seat<J>,
+    program: &Program,
+) -> Result<(), Fail>
+    requires suits { Suits program.now J.shapes }
+{
+    let mut seat = seat;
+    let mut asking = Asking::open(alloc, program)?;
+    follows(rt, alloc, admin, &mut seat, program, &mut asking)
+}
+
 // Opens the cache of the seat.
-pub(crate) fn follows<J: Naming, R: Wait + Abort>(
+fn follows<J: Naming, R: Wait + Abort>(
     rt: &R,
     alloc: Global,
     admin: &mut Admin<J>,
@@ -45,7 +60,7 @@ fn new_cache(alloc: Global, state: &PolicyState) -> Result<Cache, NoMemory>
     Cache::open(alloc, state, 10)
 }
 
-// The seat answers twice before the publish of a rule, and twice after it.
+// The seat answers before the publish of a rule and twice after it, and then decides without the cache.
 fn answers<J: Naming, R: Wait + Abort>(
     rt: &R,
     alloc: Global,
@@ -60,15 +75,15 @@ fn answers<J: Naming, R: Wait + Abort>(
 {
     let before = asking.answer(seat, cache, program)?;
     assert_eq!(rt; before, found(0, Verdict::Deny(None), false));
-    let before = asking.answer(seat, cache, program)?;
-    assert_eq!(rt; before, found(0, Verdict::Deny(None), true));
-    let _front = publish(rt, alloc, admin)?;
+    let failed = publish_at_last(rt, alloc, admin, 0);
+    assert_eq!(rt; failed, 0);
     let after = asking.answer(seat, cache, program)?;
     assert_eq!(rt; after, found(1, Verdict::Allow(Some(1)), false));
     let after = asking.answer(seat, cache, program)?;
     assert_eq!(rt; after, found(1, Verdict::Allow(Some(1)), true));
-    assert_eq!(rt; seat.entries(), 4);
-    assert_eq!(rt; cache.len(), 1);
+    let told = asking.verdict(seat, program)?;
+    assert_eq!(rt; told.version, 1);
+    assert_eq!(rt; told.verdict, Verdict::Allow(Some(1)));
     Ok(())
 }
 

@@ -2,20 +2,19 @@
 ghost use Rattle.decision.specs.Programs.{Suits};
 ghost use Rattle.live_seat.specs.Caches.{ServesAt};
 
-use crate::publishing::rule;
 use answer_cache::Cache;
 use decision::{Program, Scratch};
 use live_pair::{Naming, Seat};
-use live_seat::{Answered, SeatAnswer, decide_seat, decide_seat_cached, explain_seat};
+use live_seat::{Answered, SeatAnswer, decide_seat, decide_seat_cached};
 use perm_base::NoMemory;
 use perm_value::{Request, request_of_fields};
 use regex_gate::RegexFinder;
 use std::alloc::Global;
 use std::test::Fail;
 
-/// The request of alice to read data1, and what it is judged with.
+/// The request of user0 to read data1, and what it is judged with.
 #[derive(Drop)]
-pub struct Asking {
+pub(crate) struct Asking {
     request: Request,
     finder: RegexFinder,
     scratch: Scratch,
@@ -23,8 +22,8 @@ pub struct Asking {
 
 impl Asking {
     /// By a finder that has refused nothing.
-    pub fn open(alloc: Global, program: &Program) -> Result<Asking, NoMemory> {
-        let Ok(request) = request_of_fields(alloc, "alice, data1, read") else {
+    pub(crate) fn open(alloc: Global, program: &Program) -> Result<Asking, NoMemory> {
+        let Ok(request) = request_of_fields(alloc, "user0, data1, read") else {
             return Err(NoMemory);
         };
         Ok(Asking {
@@ -35,7 +34,7 @@ impl Asking {
     }
 
     /// The verdict at a seat.
-    pub fn verdict<J: Naming>(
+    pub(crate) fn verdict<J: Naming>(
         &mut self,
         seat: &mut Seat<J>,
         program: &Program,
@@ -58,35 +57,8 @@ impl Asking {
         Ok(told)
     }
 
-    /// The verdict at a seat, and whether it comes with the rule that alice may read data1.
-    pub fn explained<J: Naming>(
-        &mut self,
-        alloc: Global,
-        seat: &mut Seat<J>,
-        program: &Program,
-    ) -> Result<(Answered, bool), Fail>
-        requires suits { Suits program.now J.shapes }
-    {
-        let Ok(()) = program.takes(&self.request) else {
-            return Err(Fail::new("another number of values"));
-        };
-        let told = explain_seat(
-            alloc,
-            seat,
-            program,
-            &self.request,
-            &mut self.finder,
-            &mut self.scratch,
-        );
-        let Ok((answered, named)) = told else {
-            return Err(Fail::new("no verdict"));
-        };
-        let rule = rule(alloc)?;
-        Ok((answered, named == Some(rule)))
-    }
-
     /// The answer by way of a cache that serves the seat, and serves it afterwards.
-    pub fn answer<J: Naming>(
+    pub(crate) fn answer<J: Naming>(
         &mut self,
         seat: &mut Seat<J>,
         cache: &mut Cache,
