@@ -1,7 +1,8 @@
 #!/usr/bin/env bash
 # Prints what reading a policy costs while it is edited, in two parts.
 # `requests`: how many requests a second a session answers with one, two and four workers beside an administrator who publishes all the
-# time, as a ratio of one run to what one worker answers, and what a request costs there as a ratio of one run to a request of `enforce`:
+# time, as a ratio of one run to what one worker answers, and what a request costs there as a ratio of one run to a request of `enforce`,
+# with the reading and writing of its line, which one thread does for all workers, and without them:
 # once for requests that are found by equalities over 1,000 rules, and once for a matcher that looks at each of 1,000 rules. Each session
 # is one round, with so many publishes that the last requests show one of the last versions: it says which.
 # `entries`: what entering a seat of a pair and leaving it costs, with one thread of a seat and with two and four beside each other,
@@ -78,6 +79,15 @@ def beside(name, requests, workers):
     return seconds - others, publishes, shown
 
 
+# The seconds in which so many lines of as many bytes are read, handed to workers, refused for their fields, and answered.
+def passed_on(name, requests, workers):
+    idle, _ = took(name, "session", [], [])
+    seconds, answers = took(name, "session", ["--workers", str(workers)], [f"ask {request.replace(', ', '. ')}" for request in requests])
+    if not all("refused" in line for line in answers[: len(requests)]):
+        sys.exit(f"{name}: a line is not refused")
+    return seconds - idle
+
+
 def compare(what, name, requests):
     idle, _ = took(name, "enforce", [], [])
     whole, answers = took(name, "enforce", [], requests)
@@ -88,8 +98,9 @@ def compare(what, name, requests):
     for workers in (1, 2, 4):
         seconds, publishes, shown = beside(name, requests, workers)
         each = seconds / len(requests)
+        decided = (seconds - passed_on(name, requests, workers)) / len(requests)
         one = one or each
-        print(f"{what}, {workers} workers: {1 / each:.0f} requests a second, as a ratio to one worker {one / each:.2f}, beside {publishes} publishes, version {shown} is shown; a request of a worker {workers * each * 1e6:.2f} us, of enforce {alone * 1e6:.2f} us, ratio {workers * each / alone:.2f}", flush=True)
+        print(f"{what}, {workers} workers: {1 / each:.0f} requests a second, as a ratio to one worker {one / each:.2f}, beside {publishes} publishes, version {shown} is shown; a request of a worker {workers * each * 1e6:.2f} us, of enforce {alone * 1e6:.2f} us, ratio {workers * each / alone:.2f}; without the reading and writing of its line that one thread does {workers * decided * 1e6:.2f} us, ratio {workers * decided / alone:.2f}", flush=True)
 
 
 files("equal", "r.sub == p.sub && r.obj == p.obj && r.act == p.act", (f"p, user{i}, data{i}, read" for i in range(RULES)))
