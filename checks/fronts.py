@@ -395,9 +395,9 @@ def built():
     """The program, which is built where it is not told."""
     if "PROGRAM" in os.environ:
         return os.path.realpath(os.environ["PROGRAM"])
-    # Without words the program only says how it is used.
-    quiet = {name: subprocess.DEVNULL for name in ("stdin", "stdout", "stderr")}
-    subprocess.run(f"{ROOT}/casbin_cli", check=False, **quiet)
+    # A command that reads no input builds the program where it is not built yet.
+    words = [f"{ROOT}/casbin_cli", "check", f"{ROOT}/examples/basic/model.conf", f"{ROOT}/examples/basic/policy.csv"]
+    subprocess.run(words, stdin=subprocess.DEVNULL, stdout=subprocess.DEVNULL, check=False)
     return PROGRAM
 
 

@@ -7,7 +7,7 @@ and then, and to `follow`. It fails where the rules of a version are not the lea
 than docs/FOLLOWERS.md says, and where `follow` writes another policy than `format` of the leader's. Outside the gate. The program must be
 built: it runs ./casbin_cli once; PROGRAM is a program that is built elsewhere.
 
-Usage: [PROGRAM=PATH] checks/ship.py [CALLS [SEED]]
+Usage: [PROGRAM=PATH] python3 checks/ship.py [CALLS [SEED]]
 """
 
 import os
