@@ -61,20 +61,23 @@ pub(crate) fn publish_at_last<J: Naming, R: Wait>(
     admin: &mut Admin<J>,
     number: u64,
 ) -> u64 {
-    let mut failed = 0u64;
-    for _ in 0..3 {
-        if adds(alloc, admin, number) {
-            break;
-        }
-        failed = failed.saturating_add(1);
-    }
-    for _ in 0..3 {
+    let failed = add_at_last(alloc, admin, number);
+    for attempt in 0..3u64 {
         if admin.publish(rt, alloc).is_ok() {
-            break;
+            return failed.saturating_add(attempt);
         }
-        failed = failed.saturating_add(1);
     }
-    failed
+    failed.saturating_add(3)
+}
+
+// Tries to add the rule with this number, at most three times, and says how often that failed.
+fn add_at_last<J: Naming>(alloc: Global, admin: &mut Admin<J>, number: u64) -> u64 {
+    for attempt in 0..3u64 {
+        if adds(alloc, admin, number) {
+            return attempt;
+        }
+    }
+    3
 }
 
 fn adds<J: Naming>(alloc: Global, admin: &mut Admin<J>, number: u64) -> bool {
