@@ -1,9 +1,11 @@
 """Prints texts that one hash of the kit takes for the same: its hasher for maps in order has a fixed seed, multiplies two words of
 eight bytes at a time, and so forgets the second where the first is the state it stands at.
 
-Usage: colliding.py rules COUNT COLUMNS | names COUNT
+Usage: colliding.py rules COUNT COLUMNS | requests COUNT | names COUNT
 
-`rules` prints rules of p with so many columns, of which the first differs in eight bytes, and `names` such names, one a line.
+`rules` prints rules of p with so many columns, of which the first differs in eight bytes, `requests` such requests of three texts,
+and `names` such names, one a line. Each is hashed as a key of its own: a rule as a list of texts, a request as values, a name as a
+text. A name that is a key by its bytes alone, as in a role graph, is hashed byte by byte, and these do not meet there.
 """
 
 import itertools
@@ -59,14 +61,16 @@ def colliding(state, count):
 def main():
     kind, count = sys.argv[1], int(sys.argv[2])
     if kind == "names":
-        for text in colliding(INITIAL, count):
-            sys.stdout.buffer.write(text + b"\n")
-        return
-    columns = int(sys.argv[3])
-    state = write(INITIAL, columns.to_bytes(8, "little"))
-    rest = b", data1, read"[: {1: 0, 2: 7}.get(columns, 13)]
+        front, state, rest = b"", INITIAL, b""
+    elif kind == "requests":
+        # The mark of a text stands before each.
+        front, state, rest = b"", write(INITIAL, b"\x03"), b", data1, read"
+    else:
+        columns = int(sys.argv[3])
+        front, state = b"p, ", write(INITIAL, columns.to_bytes(8, "little"))
+        rest = b", data1, read"[: {1: 0, 2: 7}.get(columns, 13)]
     for text in colliding(state, count):
-        sys.stdout.buffer.write(b"p, " + text + rest + b"\n")
+        sys.stdout.buffer.write(front + text + rest + b"\n")
 
 
 if __name__ == "__main__":

@@ -1,9 +1,10 @@
 #!/usr/bin/env bash
 # Prints how many requests a second `enforce` answers for a model of three equalities over 10, 1,000 and 10,000 rules,
 # from inputs of 4 MiB, the time to load model, policy and program taken out. Each request matches the last rule or none
-# by turns, so the rows are evaluated to the end. The last columns are the time of one row, as a ratio to that over the
+# by turns, so that no row in front ends the evaluation. The last columns are the time of one row, as a ratio to that over the
 # smallest policy and, where another checkout of this repository is given, to that of its program, which runs by turns
-# with this one over the same files. It takes some ten minutes a program, nearly all of them over 10,000 rules.
+# with this one over the same files. The index leaves most rows out; a checkout from before it takes some ten minutes, nearly all
+# of them over 10,000 rules.
 # Usage: bench/enforce.sh [BYTES [CHECKOUT]], the size of the inputs and the folder of the other checkout.
 source "$(dirname "${BASH_SOURCE[0]}")/timing.sh"
 bytes="${1:-4194304}"

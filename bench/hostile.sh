@@ -2,8 +2,9 @@
 # Prints what the built program spends on texts that are made to cost much, beside what it spends on harmless texts of the same
 # size and kind, and marks each ratio above 20; docs/RELIABILITY.md has the reasons of those that stay so. Each line names the
 # text, the milliseconds of processor time and the MiB of both, the ratio of the times, and the status of the hostile run: -9 where
-# it was ended after 100 seconds. With a WORD only the parts whose names have it. It needs python3; PROGRAM is a program that is
-# built elsewhere. Usage: [PROGRAM=PATH] bench/hostile.sh [WORD]
+# it was ended after 100 seconds. With a WORD only the parts whose names have it: `one byte`, `JSON`, `matcher`, `pattern`, `key`,
+# `rules`, `explain`, `roles`, `hash`, `script`, `packets`, `workers`. It needs python3; PROGRAM is a program that is built elsewhere.
+# Usage: [PROGRAM=PATH] bench/hostile.sh [WORD]
 source "$(dirname "${BASH_SOURCE[0]}")/timing.sh"
 word="${1:-}"
 most=20
@@ -280,23 +281,37 @@ if wanted "roles"; then
 fi
 
 if wanted "hash"; then
+  # Names that are as long as those that meet.
+  apart='%08d/aaaaaadr/service/text/text/a/text/be/is'
   reset
   python3 "$root/bench/colliding.py" rules 20000 3 >"$work/h.csv"
-  lines 'p, %08d/aaaaaadr/service/text/text/a/text/behind/is, data1, read' 100000000 20000 >"$work/p.csv"
+  lines "p, $apart, data1, read" 100000000 20000 >"$work/p.csv"
   compare "hash, 20,000 rules of one" check
-  cp "$work/h.csv" "$work/h.in"
-  cp "$work/p.csv" "$work/p.in"
-  sed -i 's/^/add /' "$work/h.in" "$work/p.in"
+  sed 's/^/add /' "$work/h.csv" >"$work/h.in"
+  sed 's/^/add /' "$work/p.csv" >"$work/p.in"
   : | tee "$work/h.csv" >"$work/p.csv"
   compare "hash, 20,000 rules of one that are added" session
-  sed -i 's/^add p, //' "$work/h.in" "$work/p.in"
-  compare "hash, requests of 20,000 names of one from a cache" enforce --cache 10000
+  python3 "$root/bench/colliding.py" requests 20000 >"$work/h.in"
+  lines "$apart, data1, read" 100000000 20000 >"$work/p.in"
+  compare "hash, 20,000 requests of one from a cache" enforce --cache 10000
   model 'g(r.sub, p.sub) && r.obj == p.obj && r.act == p.act' '' $'[role_definition]\ng = _, _\n' | tee "$work/h.conf" >"$work/p.conf"
-  python3 "$root/bench/colliding.py" names 20000 | sed 's/^/g, /; s/$/, role/' >"$work/h.csv"
-  lines 'g, %08d/aaaaaadr/service/text/text/a/text/behind/is, role' 100000000 20000 >"$work/p.csv"
-  echo 'bob, data1, read' | tee "$work/h.in" >"$work/p.in"
-  compare "hash, 20,000 users of one" enforce
-  compare "hash, 20,000 users of one that are reported" report
+  : | tee "$work/h.in" >"$work/p.in"
+  python3 "$root/bench/colliding.py" rules 20000 2 | sed 's/^p/g/' >"$work/h.csv"
+  lines "g, $apart, data1" 100000000 20000 >"$work/p.csv"
+  compare "hash, 20,000 rows of roles of one" check
+  python3 "$root/bench/colliding.py" names 20000 | tee "$work/names" | sed 's/^/g, /; s/$/, role/' >"$work/h.csv"
+  lines "g, $apart, role" 100000000 20000 >"$work/p.csv"
+  behind=(role)
+  compare "hash, 20,000 users of one that are implied" implicit
+  sed 's/^/g, user, /' "$work/names" >"$work/h.csv"
+  lines "g, user, $apart" 100000000 20000 >"$work/p.csv"
+  behind=(user)
+  compare "hash, 20,000 roles of one that are implied" implicit
+  behind=()
+  model 'g(r.sub, p.sub, r.dom) && r.dom == p.dom' 'sub, dom' $'[role_definition]\ng = _, _, _\n' | tee "$work/h.conf" >"$work/p.conf"
+  head -n 16000 "$work/names" | sed 's/^/g, user, role, /' >"$work/h.csv"
+  lines "g, user, role, $apart" 100000000 16000 >"$work/p.csv"
+  compare "hash, 16,000 domains of one" check
 fi
 
 if wanted "script"; then
@@ -313,7 +328,8 @@ if wanted "script"; then
   awk 'BEGIN { for (i = 1; i <= 190000; i++) printf "add p, user%06d, data1, read\n", i; for (i = 190000; i > 0; i--) printf "remove p, user%06d, data1, read\n", 190001 - i; print "publish" }' >"$work/h.in"
   awk 'BEGIN { for (i = 1; i <= 190000; i++) printf "add p, user%06d, data1, read\n", i; for (i = 190000; i > 0; i--) printf "remove p, user%06d, data1, read\n", i; print "publish" }' >"$work/p.in"
   compare "script of 190,000 rules that go from the front" session
-  model 'r.sub == p.sub && r.obj != p.obj' | tee "$work/h.conf" >"$work/p.conf"
+  # To delete a user wants a relation g.
+  model 'r.sub == p.sub && r.obj != p.obj' '' $'[role_definition]\ng = _, _\n' | tee "$work/h.conf" >"$work/p.conf"
   lines 'p, user, data%06d, read' 100000000 190000 >"$work/h.csv"
   lines 'p, user%06d, data%06d, read' 100000000 190000 >"$work/p.csv"
   printf 'delete-user user\npublish\n' >"$work/h.in"

@@ -1,9 +1,11 @@
 #!/usr/bin/env bash
 # Prints what reading a policy costs while it is edited, in two parts.
 # `requests`: how many requests a second a session answers with one, two and four workers beside an administrator who publishes all the
-# time, as a ratio of one run to what one worker answers, and what a request costs there as a ratio of one run to a request of `enforce`:
-# once for requests that are found by equalities over 1,000 rules, and once for a matcher that looks at each of 1,000 rules. Each session
-# is one round, with so many publishes that the last requests show one of the last versions: it says which.
+# time, as a ratio of one run to what one worker answers, and what a request costs there as a ratio of one run to a request of `enforce`,
+# with the reading and writing of its line, which one thread does for all workers, and without them:
+# for requests whose rules an index finds among 1,000, by equalities and by the front of a key pattern, and for a matcher without an
+# index, which looks at each of 1,000 rules. Each session is one round, with so many publishes that the last requests show one of the
+# last versions: it says which.
 # `entries`: what entering a seat of a pair and leaving it costs, with one thread of a seat and with two and four beside each other,
 # each without an administrator and with one who publishes an edit all the time in a thread of its own: the nanoseconds of an
 # entry, how many entries a second all threads make together, and the time of an entry as a ratio of one run to that of one
@@ -78,6 +80,15 @@ def beside(name, requests, workers):
     return seconds - others, publishes, shown
 
 
+# The seconds in which so many lines of as many bytes are read, handed to workers, refused for their fields, and answered.
+def passed_on(name, requests, workers):
+    idle, _ = took(name, "session", [], [])
+    seconds, answers = took(name, "session", ["--workers", str(workers)], [f"ask {request.replace(', ', '. ')}" for request in requests])
+    if not all("refused" in line for line in answers[: len(requests)]):
+        sys.exit(f"{name}: a line is not refused")
+    return seconds - idle
+
+
 def compare(what, name, requests):
     idle, _ = took(name, "enforce", [], [])
     whole, answers = took(name, "enforce", [], requests)
@@ -88,21 +99,24 @@ def compare(what, name, requests):
     for workers in (1, 2, 4):
         seconds, publishes, shown = beside(name, requests, workers)
         each = seconds / len(requests)
+        decided = (seconds - passed_on(name, requests, workers)) / len(requests)
         one = one or each
-        print(f"{what}, {workers} workers: {1 / each:.0f} requests a second, as a ratio to one worker {one / each:.2f}, beside {publishes} publishes, version {shown} is shown; a request of a worker {workers * each * 1e6:.2f} us, of enforce {alone * 1e6:.2f} us, ratio {workers * each / alone:.2f}", flush=True)
+        print(f"{what}, {workers} workers: {1 / each:.0f} requests a second, as a ratio to one worker {one / each:.2f}, beside {publishes} publishes, version {shown} is shown; a request of a worker {workers * each * 1e6:.2f} us, of enforce {alone * 1e6:.2f} us, ratio {workers * each / alone:.2f}; without the reading and writing of its line that one thread does {workers * decided * 1e6:.2f} us, ratio {workers * decided / alone:.2f}", flush=True)
 
 
 files("equal", "r.sub == p.sub && r.obj == p.obj && r.act == p.act", (f"p, user{i}, data{i}, read" for i in range(RULES)))
 compare("found by equalities", "equal", [f"user{i % RULES}, data{i % RULES}, {'write' if i % 2 else 'read'}" for i in range(most)])
 files("paths", "keyMatch2(r.obj, p.obj) && r.act == p.act", (f"p, user, /data{i}/:id, read" for i in range(RULES)))
-compare("1000 rules looked at", "paths", [f"user, /data{RULES - 1}/7, {'write' if i % 2 else 'read'}" for i in range(most // 20)])
+compare("found by the front of a pattern", "paths", [f"user, /data{RULES - 1}/7, {'write' if i % 2 else 'read'}" for i in range(most // 20)])
+files("each", "!(r.obj != p.obj) && !(r.act != p.act)", (f"p, user, /data{i}, read" for i in range(RULES)))
+compare("1000 rules looked at", "each", [f"user, /data{RULES - 1}, {'write' if i % 2 else 'read'}" for i in range(most // 20)])
 PYTHON
 }
 
 [ "$part" = entries ] || requests "${2:-120000}"
 [ "$part" != requests ] || exit 0
 
-make_program pair_costs edit_calls live_pair perm_base policy_desk policy_state policy_table
+make_program pair_costs edit_calls live_pair perm_base policy_desk policy_index policy_state policy_table
 mkdir -p "$program/proofs/pairs/measured"
 cat > "$program/src/main.rt" <<'RATTLE'
 //! Prints what entering a seat and leaving it costs, as ratios of times of one run.
@@ -143,17 +157,20 @@ fn say(rt: &HostRuntime, threads: u8, took: &Took, one: &Took) -> Result<()> {
 RATTLE
 cat > "$program/src/desks.rt" <<'RATTLE'
 //! A desk without rules.
-ghost use Rattle.std.specs.Prelude.{◌≡◌, [], IfOk};
+ghost use Rattle.std.specs.Prelude.{◌≡◌, [], IfOk, false};
+ghost use Rattle.policy_state.specs.States.{StandsFor};
+ghost use Rattle.policy_table.specs.Tables.{without_rules};
 
 use perm_base::{NoMemory, RoleShapes, Shapes};
 use policy_desk::{Desk, open_desk};
+use policy_index::RowKey;
 use policy_state::make_state;
 use policy_table::no_tables;
 use std::alloc::Global;
 
 /// A desk over a policy without rules, whose p has a subject, an object and an action.
 pub fn desk(alloc: Global) -> Result<Desk, NoMemory>
-    ensures start { IfOk result (λ desk. desk.state.log.start ≡ 0) }
+    ensures stands { IfOk result (λ desk. StandsFor desk.state (without_rules false) []) }
     ensures pending { IfOk result (λ desk. desk.pending ≡ []) }
 {
     let shapes = Shapes {
@@ -164,17 +181,22 @@ pub fn desk(alloc: Global) -> Result<Desk, NoMemory>
         limit: 10,
         ranked: false,
     };
-    open_desk(alloc, make_state(alloc, shapes, Some(0), no_tables(alloc))?)
+    let key = RowKey::of_column(alloc, 0)?;
+    open_desk(
+        alloc,
+        make_state(alloc, shapes, Some(key), no_tables(alloc))?,
+    )
 }
 RATTLE
 cat > "$program/src/pairs.rt" <<'RATTLE'
 //! Pairs whose seats are entered.
 ghost use Rattle.std.specs.Prelude.{◌≡◌, ◌<◌, ◌≤◌, []};
+ghost use Rattle.policy_state.specs.States.{StandsFor};
 
 use crate::desks::desk;
 use crate::edits::edits_until;
 use crate::entries::{ENTRIES, all_enter};
-use anyhow::{Result, bail, ensure};
+use anyhow::{Result, bail};
 use live_pair::{Admin, Naming, Opened, PairPlaces, Seat, open_pair};
 use policy_desk::Desk;
 use std::alloc::Global;
@@ -203,7 +225,10 @@ pub fn measured<R: Clock + Threads + Wait + Sync>(
     let Ok(desk) = desk(alloc) else {
         bail!("no memory");
     };
-    measured_over::<Brand, R>(rt, alloc, Opened::new(), desk, threads, is_edited)
+    match measured_over::<Brand, R>(rt, alloc, Opened::new(), desk, threads, is_edited) {
+        Some(took) => Ok(took),
+        None => bail!("a seat is missing, an entry or an edit is refused, or there is no memory or clock"),
+    }
 }
 
 fn measured_over<J: Naming + Send + Sync, R: Clock + Threads + Wait + Sync>(
@@ -213,12 +238,10 @@ fn measured_over<J: Naming + Send + Sync, R: Clock + Threads + Wait + Sync>(
     desk: Desk,
     threads: u8,
     is_edited: bool,
-) -> Result<Took>
+) -> Option<Took>
     requires book { opened ≡ J.book }
     requires shapes { desk.state.shapes ≡ J.shapes }
-    requires start { desk.state.log.start ≡ 0 }
-    requires base { desk.state.log.base ≡ J.opening }
-    requires tail { desk.state.log.tail ≡ J.first }
+    requires stands { StandsFor desk.state J.opening J.first }
     requires pending { desk.pending ≡ [] }
     requires some { 0 < threads }
     requires few { threads ≤ 8 }
@@ -226,7 +249,7 @@ fn measured_over<J: Naming + Send + Sync, R: Clock + Threads + Wait + Sync>(
     let mut places = PairPlaces::new();
     let pair = open_pair::<J, R, PairPlaces>(rt, alloc, opened, desk, threads, &mut places);
     let Ok((mut admin, seats)) = pair else {
-        bail!("no memory");
+        return None;
     };
     let is_whole = seats.len() == threads as usize;
     let took = if is_edited {
@@ -235,11 +258,7 @@ fn measured_over<J: Naming + Send + Sync, R: Clock + Threads + Wait + Sync>(
         run(rt, seats)
     };
     drop(admin.close(rt));
-    ensure!(is_whole, "a seat is missing");
-    match took {
-        Some(took) => Ok(took),
-        None => bail!("an entry or an edit is refused, or there is no clock"),
-    }
+    if is_whole { took } else { None }
 }
 
 // The entries with no edit beside them.
@@ -425,10 +444,12 @@ fn is_published<J: Naming, R: Wait>(rt: &R, alloc: Global, admin: &mut Admin<J>)
 }
 RATTLE
 cat > "$program/proofs/pairs/measured/Invariants.antt" <<'ANTT'
+use Rattle.std.proofs.Common.{false, []}
+use Rattle.policy_table.specs.Tables.{without_rules}
 use Rattle.pair_costs.proofs.pairs.measured.Given as goal
 
--- the pair of the book that was just opened, over the desk's policy
+-- the pair of the book that was just opened, over a policy without rules
 abbrev pub ghosts-measured_over : goal.ghosts-measured_over
-ghosts-measured_over g a = record { book = a.opened; shapes = a.desk.state.shapes; opening = a.desk.state.log.base; first = a.desk.state.log.tail }
+ghosts-measured_over g a = record { book = a.opened; shapes = a.desk.state.shapes; opening = without_rules false; first = [] }
 ANTT
 run_program

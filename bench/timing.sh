@@ -22,9 +22,9 @@ model() {
   printf '[policy_effect]\ne = some(where (p.eft == allow))\n[matchers]\nm = %s\n' "$1"
 }
 
-# Builds the program of a checkout where it is not built yet. Without words it only says how it is used.
+# Builds the program of a checkout where it is not built yet, by a command that reads no input.
 build() {
-  "$1/casbin_cli" </dev/null >/dev/null 2>&1 || true
+  "$1/casbin_cli" check "$1/examples/basic/model.conf" "$1/examples/basic/policy.csv" >/dev/null
 }
 
 # The milliseconds of a run by a model over a policy and an input, all of them files in `work`: the least of three runs, or

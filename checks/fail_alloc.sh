@@ -1,7 +1,7 @@
 #!/usr/bin/env bash
 # Runs the built program over the small cases of crates/cases_runs and those of checks/runs with one call after the other
 # refused: each allocation (alloc), each allocation and all behind it (on), each open, read and write (io). Each run must
-# come to what checks/refusals.py says at its head. Then the desk and the pair: a publish that is refused is tried again
+# come to what checks/refusals.py says at its head. Then the pair: a publish that is refused is tried again
 # (again). Outside the gate; it needs gcc and python3. Without a KIND it does all four, some minutes on four processors. PROGRAM is
 # a program that is built elsewhere, and JOBS how many runs are made at once; with EACH only the first of so many allocations is refused.
 # Usage: [PROGRAM=PATH] [JOBS=N] [EACH=N] checks/fail_alloc.sh [alloc|on|io|again [WORD]], WORD being a part of the names of the cases.
@@ -15,8 +15,8 @@ trap 'rm -rf "$object" "$work"' EXIT
 export PYTHONDONTWRITEBYTECODE=1
 gcc -O2 -shared -fPIC -o "$object/refuse.so" "$root/checks/refuse.c" || exit 1
 
-# Without words the program only says how it is used.
-[ -n "${PROGRAM:-}" ] || "$root/casbin_cli" </dev/null >/dev/null 2>&1
+# A command that reads no input builds the program where it is not built yet.
+[ -n "${PROGRAM:-}" ] || "$root/casbin_cli" check "$root/examples/basic/model.conf" "$root/examples/basic/policy.csv" >/dev/null
 [ -x "$program" ] || { echo "the program is not built" >&2; exit 1; }
 
 failed=0

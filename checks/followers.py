@@ -6,6 +6,10 @@ import sys
 import tempfile
 import time
 
+# The programs say on standard error what they serve; of that only what goes wrong here is wanted.
+sys.stderr = os.fdopen(os.dup(2), "w")
+os.dup2(os.open(os.devnull, os.O_WRONLY), 2)
+
 sys.path.insert(0, "examples/followers")
 import redis
 from carrier import KEPT, TABLES, Follower, Leader, TooFarBehind
@@ -114,7 +118,7 @@ class Run:
         self.carry(chance.randrange(lively))
         if number % 10 == 0:
             self.compare(chance.randrange(3))
-        if number % (count // 7) == 0:
+        if number % max(count // 7, 1) == 0:
             self.open(chance.randrange(3))
         if number == count // 5:
             self.store.kill()
@@ -149,6 +153,8 @@ with tempfile.TemporaryDirectory() as folder:
         version, late = run.end()
     finally:
         store.kill()
+    if run.anew == 0 and count > 6 * KEPT:
+        sys.exit("no follower was ever too far behind")
 print(f"{version} edits; {run.anew} times a follower was opened anew; all had the last one after {late:.3f} seconds")
-if late > LONGEST or count > 6 * KEPT and run.anew == 0:
-    sys.exit("too late, or no follower was ever too far behind")
+if late > LONGEST:
+    sys.exit("too late")

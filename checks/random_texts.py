@@ -5,8 +5,8 @@ Usage: random_texts.py PROGRAM WORK SEED FIRST COUNT
 The runs are numbered, and each depends on the seed and its number alone, so that one is made again by itself. A run takes the
 files of an example, one of its inputs or another's, a command, options, and changes up to eight places of these texts: bytes
 that go, come, stand twice or in another place, words of the formats, and parts of other texts. None may end by a signal, run
-for ten seconds, print with a status above 0, say that a file, the output or memory failed, end with another status, or tell
-another line than its status has.
+for ten seconds, print with a status above 0 but what `lint` finds, say that a file, the output or memory failed, end with another
+status, or tell another line than its status has.
 """
 
 import collections
@@ -35,8 +35,8 @@ WORDS = [
     b"edit 1\n", b"edit 2\n", b".\n", b"+ p, ", b"- p, ", b"< p, ", b"> p, ", b"[", b"]", b"{", b"}", b'{"a": 1}', b"null", b"1.5",
 ]
 
-# What the line on `err` begins with, by status; with status 0 it is the line of a cache, or there is none. No file, stream or
-# allocation fails here, so that no run has the statuses that say so.
+# What the line on `err` begins with, by status; with status 0 it is the line of a cache, or of a stream that is served, or there is
+# none. No file, stream or allocation fails here, so that no run has the statuses that say so.
 LINES = {2: b"usage: ", 3: b"model: ", 4: b"policy: ", 5: b"script: ", 8: b"too long: "}
 
 FITS = ["keyMatch", "keyMatch2", "keyMatch3", "globMatch"]
@@ -45,22 +45,20 @@ FITS = ["keyMatch", "keyMatch2", "keyMatch3", "globMatch"]
 COMMANDS = {
     "requests.csv": ["enforce", "enforce", "explain"],
     "requests.json": ["enforce", "enforce", "explain"],
-    "script.txt": ["session", "session", "ship"],
-    "packets.txt": ["follow"],
-    "none": ["check", "format", "implicit", "report"],
+    "script.txt": ["session", "session", "ship", "serve"],
+    "packets.txt": ["follow", "serve --follow"],
+    "none": ["check", "format", "implicit", "report", "lint"],
 }
 
 
 def read_examples():
-    """The texts of the examples: of each its model, its policy, and its inputs with their names."""
+    """The texts of the examples that have a model: of each this, its policy, and its inputs with their names."""
     examples = []
     for folder in sorted(os.listdir(f"{ROOT}/examples")):
-        texts = {}
-        for name in sorted(os.listdir(f"{ROOT}/examples/{folder}")):
-            with open(f"{ROOT}/examples/{folder}/{name}", "rb") as file:
-                texts[name] = file.read()
-        inputs = [(name, text) for name, text in texts.items() if name in COMMANDS]
-        examples.append((texts["model.conf"], texts["policy.csv"], inputs or [("none", b"")]))
+        files = f"{ROOT}/examples/{folder}"
+        if os.path.exists(f"{files}/model.conf"):
+            inputs = [(name, read(f"{files}/{name}")) for name in sorted(COMMANDS) if os.path.exists(f"{files}/{name}")]
+            examples.append((read(f"{files}/model.conf"), read(f"{files}/policy.csv"), inputs or [("none", b"")]))
     return examples
 
 
@@ -87,12 +85,12 @@ def mutated(chance, text, others):
 def words_of(chance, name):
     """A command with options, of three runs two with one that reads inputs of this name."""
     command = chance.choice(COMMANDS[name] if chance.random() < 0.67 else sum(COMMANDS.values(), []))
-    words = [command, "model.conf", "policy.csv"]
+    words = [*command.split(" "), "model.conf", "policy.csv"]
     if command == "implicit":
         words += [chance.choice(("alice", "admin", "", "bob"))] + chance.choice(([], ["acme"]))
     if command not in ("check", "format"):
         words += roles_words(chance)
-    if command in ("enforce", "explain", "session") and chance.random() < (0.8 if name == "requests.json" else 0.1):
+    if words[0] in ("enforce", "explain", "session", "serve") and chance.random() < (0.8 if name == "requests.json" else 0.1):
         words.append("--json")
     if command == "enforce" and chance.random() < 0.3:
         words += ["--cache", str(chance.choice((1, 2, 10000)))]
@@ -114,11 +112,20 @@ def roles_words(chance):
     return words
 
 
-def what_is_wrong(status, out, err):
+def is_linted(status, out):
+    """Whether the last line of a lint counts what its status says."""
+    counts = re.search(rb"(?:\A|\n)([0-9]+) errors, [0-9]+ warnings\n\Z", out)
+    return counts is not None and status in ((0,) if counts[1] == b"0" else (3, 4))
+
+
+def what_is_wrong(command, status, out, err):
     if status < 0:
         return f"signal {-status}, or no end"
+    if command == "lint" and not err:
+        return None if is_linted(status, out) else "another text of a lint"
     if status == 0:
-        return None if re.fullmatch(rb"(cache: hits [0-9]+\n)?", err) else "a line on err with status 0"
+        told = rb"serving model\.conf: [0-9]+ rules\n" if command == "serve" else rb"(cache: hits [0-9]+\n)?"
+        return None if re.fullmatch(told, err) else "another line on err with status 0"
     if status not in LINES:
         return "another status"
     if not err.startswith(LINES[status]) or err.count(b"\n") != 1 or not err.endswith(b"\n"):
@@ -147,7 +154,7 @@ def try_some(program, work, seed, numbers):
         words = words_of(chance, name)
         status = running.run(program, words, {}, "input", "out", "err")
         statuses[status] += 1
-        wrong = what_is_wrong(status, read("out"), read("err"))
+        wrong = what_is_wrong(words[0], status, read("out"), read("err"))
         if wrong:
             faults.append(f"run {number} of seed {seed}: {wrong}: {words}")
     return statuses, faults

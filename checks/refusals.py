@@ -9,11 +9,14 @@ What a run may come to, where the plain run of the same words, files and input e
 
 - an allocation is refused (`alloc`), or it and all behind it (`on`): the same, or status 9, `no memory`, and on `out` the whole
   lines of the first so many items;
-- a file cannot be opened, or a read of it or of the input fails: status 6, the line that names it, and nothing on `out`;
+- a file cannot be opened, or a read of it or of the input fails: status 6, the line that names it, and nothing on `out`, but the
+  answers of the sections that had ended where a stream is served;
 - a write to `out` fails, or takes nothing: status 7, `cannot write`, and on `out` just what was written before;
 - a write to `err` fails: the same, but that `err` has just what was written before;
 - an open, a read or a write is cut off by a signal (EINTR): the same, or what it comes to where it fails;
 - a read or a write takes one byte, or each takes 1, 2, 3 or 7 at most: the same.
+
+Where a stream is served, the line that tells so stands on `err` before that of a stop, as soon as it was written.
 
 A session with workers may print several texts, so that the same is any of those that round_texts.py tells; and since its threads
 take memory in another order each time, each number is refused three times, up to some above those of a plain run.
@@ -47,7 +50,10 @@ AGAIN, ABOVE = 3, 8
 ROOM = 1 << 16
 
 # The commands that print the lines of their items as they come; the others print their text once it is whole.
-BY_ITEMS = (b"enforce", b"explain", b"session")
+BY_ITEMS = (b"enforce", b"explain", b"session", b"serve")
+
+# What an item is answered: a line, and those below it, which begin with two blanks.
+ANSWER = rb"[0-9]+ .*\n(?:  .*\n)*"
 
 NO_MEMORY, CANNOT_READ, CANNOT_WRITE = 9, 6, 7
 
@@ -125,6 +131,41 @@ def fronts(case, text):
     return ends
 
 
+def serving_line(case, plain):
+    """What a run that serves a stream tells before it reads it; nothing of any other run."""
+    return plain.err if case.words[:1] == [b"serve"] and plain.status == 0 else b""
+
+
+def kind_of(line, follow):
+    """Whether a line of a stream is passed over, begins a section of several lines, and ends one; in a follower's there are packets."""
+    try:
+        line.decode()
+    except UnicodeDecodeError:
+        return False, False, False
+    line = line.removesuffix(b"\r")
+    bare = line.strip(b" \t")
+    begins = re.split(rb"[ \t]", line)[0] == b"begin" or follow and line.startswith(b"edit ")
+    ends = line.rstrip(b" \t") == b"end" or follow and line == b"."
+    return not bare or bare.startswith(b"#"), begins, ends
+
+
+def whole_sections(text, follow):
+    """How many sections of a stream have ended in a text."""
+    ended, is_open = 0, False
+    for line in text.split(b"\n")[:-1]:
+        passed, begins, ends = kind_of(line, follow)
+        if not passed:
+            is_open = not ends if is_open else begins
+            ended += not is_open
+    return ended
+
+
+def answered(case, plain, count):
+    """The answers of the sections that have ended in the first so many bytes of a stream."""
+    ended = whole_sections(case.input[:count], b"--follow" in case.words)
+    return b"".join(re.findall(ANSWER, plain.out)[:ended])
+
+
 def without_hits(err):
     """The line of a cache that had no room for a verdict tells fewer hits."""
     return re.sub(rb"^cache: hits [0-9]+\n$", b"cache\n", err)
@@ -135,7 +176,7 @@ def is_same(plain, texts):
     return lambda got: got.status == plain.status and texts.is_whole(got.out) and without_hits(got.err) == without_hits(plain.err)
 
 
-def after_refusal(plain, texts):
+def after_refusal(plain, texts, serving):
     """Says what is wrong with what a run comes to where memory is refused."""
     same = is_same(plain, texts)
 
@@ -144,8 +185,10 @@ def after_refusal(plain, texts):
             return None
         if got.status != NO_MEMORY:
             return "neither the same nor status 9"
-        if got.err != b"no memory\n":
+        if got.err not in (b"no memory\n", serving + b"no memory\n"):
             return "another line on err"
+        if got.out and not got.err.startswith(serving):
+            return "answers before it was told what is served"
         if not texts.is_of_items(got.out):
             return "out has not the lines of the first so many items"
         return None
@@ -177,18 +220,25 @@ def written(before, descriptor):
     return sum(given for call, to, given in before if call == "w" and to == descriptor)
 
 
-def outside_refusals(plain, texts, calls):
+def taken(before, descriptor):
+    return sum(given for call, of, given in before if call == "r" and of == descriptor)
+
+
+def outside_refusals(case, plain, texts, calls):
     """For each open, read and write that fails: what refuse.c is told, and what the run has to come to."""
     names = {"o": "open", "r": "read", "w": "write"}
     same = is_same(plain, texts)
+    serving = serving_line(case, plain)
     for call, at, descriptor, before in refused_calls(calls):
+        told = plain.err[: written(before, 2)]
         if call != "w":
-            line = f"cannot read: {of_input(descriptor, before, call)}\n".encode()
-            wanted, hows = Outcome(CANNOT_READ, b"", line), ["fail"]
+            part = of_input(descriptor, before, call)
+            out = answered(case, plain, taken(before, 0)) if serving and part == "input" else b""
+            wanted, hows = Outcome(CANNOT_READ, out, told + f"cannot read: {part}\n".encode()), ["fail"]
         elif descriptor == 1:
-            wanted, hows = Outcome(CANNOT_WRITE, plain.out[: written(before, 1)], b"cannot write\n"), ["fail", "none"]
+            wanted, hows = Outcome(CANNOT_WRITE, plain.out[: written(before, 1)], told + b"cannot write\n"), ["fail", "none"]
         else:
-            wanted, hows = plain._replace(err=plain.err[: written(before, 2)]), ["fail", "none"]
+            wanted, hows = plain._replace(err=told), ["fail", "none"]
         fails = fails_so(wanted, texts)
         for how in hows:
             yield {"call": names[call], "at": at, "how": how}, is_one_of(wanted, fails)
@@ -206,14 +256,14 @@ def fails_so(wanted, texts):
         if (got.status, got.err) != (wanted.status, wanted.err):
             return False
         if wanted.status == CANNOT_READ:
-            return not got.out
+            return got.out == wanted.out
         return texts.is_whole(got.out) if wanted.status == 0 else texts.is_written(got.out, len(wanted.out))
 
     return holds
 
 
 def memory_refusals(case, plain, texts, count, how):
-    wrong = after_refusal(plain, texts)
+    wrong = after_refusal(plain, texts, serving_line(case, plain))
     times, last = (AGAIN, count + ABOVE) if has_threads(case) else (1, count)
     for at in range(1, last + 1, EACH):
         for _ in range(times):
@@ -237,7 +287,7 @@ def try_case(program, shim, case, folder, kind, wanted):
     if kind != "io" and count > MOST:
         return statuses, faults, [f"{case.name}: left out, {count} allocations"]
     if kind == "io":
-        refusals = outside_refusals(plain, texts, calls)
+        refusals = outside_refusals(case, plain, texts, calls)
     else:
         refusals = memory_refusals(case, plain, texts, count, {"alloc": "fail"}.get(kind, kind))
     for refused, wrong in refusals:

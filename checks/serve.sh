@@ -5,5 +5,6 @@
 # are answered, or where memory grows. The program must be built: it runs ./casbin_cli once. Usage: checks/serve.sh [REQUESTS]
 set -u
 cd "$(dirname "${BASH_SOURCE[0]}")/.." || exit 1
+export PYTHONDONTWRITEBYTECODE=1
 ./casbin_cli check examples/basic/model.conf examples/basic/policy.csv >/dev/null || exit 1
 exec python3 checks/serve.py crates/casbin_cli/out/casbin_cli "${1:-1000000}"

@@ -9,8 +9,8 @@ set -euo pipefail
 cd "$(dirname "${BASH_SOURCE[0]}")/.."
 work="$(mktemp -d)"
 trap 'rm -rf "$work"' EXIT
-# Without words the program only says how it is used, once it is built.
-[ -n "${CASBIN_CLI:-}" ] || ./casbin_cli </dev/null >/dev/null 2>&1 || true
+# A command that reads no input builds the program where it is not built yet.
+[ -n "${CASBIN_CLI:-}" ] || ./casbin_cli check examples/basic/model.conf examples/basic/policy.csv >/dev/null
 python3 - "${CASBIN_CLI:-crates/casbin_cli/out/casbin_cli}" "$work" "${1:-10}" "${2:-8}" <<'PYTHON'
 import random, subprocess, sys, time
 

@@ -1,5 +1,0 @@
-use Rattle.cases_cache.proofs.OpeningLemmas.{suits_plain}
-use Rattle.cases_cache.proofs.opening.shapes.Goals as goal
-
-pub returns-clause-suits : goal.returns-clause-suits
-returns-clause-suits c = suits_plain c.args.model.now _ c.in-Ok.ensures.found
