@@ -11,11 +11,11 @@ pub with_name-named-requires-clause-knows : goal.with_name-named-requires-clause
 with_name-named-requires-clause-knows g c = knows_asked c.name_asked-name.result c.as_ref.result c.asking-asking.result.state.now c.as_ref.ensures.value c.name_asked-name.ensures
 
 pub on_narrow_stack-requires-clause-leaves : goal.on_narrow_stack-requires-clause-leaves
-on_narrow_stack-requires-clause-leaves g c =
+on_narrow_stack-requires-clause-leaves g c = λ lifetimes outlive.
     leaves_asked c.asking-asking.result c.with_name-named.result c.looked_at-looked.result c.with_name-named.ensures.model c.with_name-named.ensures.state c.with_name-named.ensures.request c.looked_at-looked.ensures
 
 pub on_wide_stack-requires-clause-leaves : goal.on_wide_stack-requires-clause-leaves
-on_wide_stack-requires-clause-leaves g c =
+on_wide_stack-requires-clause-leaves g c = λ lifetimes outlive.
     leaves_asked c.asking-asking.result c.with_name-named.result c.looked_at-looked.result c.with_name-named.ensures.model c.with_name-named.ensures.state c.with_name-named.ensures.request c.looked_at-looked.ensures
 
 pub returns-then-height-le-NARROW-clause-refused : goal.returns-then-height-le-NARROW-clause-refused
