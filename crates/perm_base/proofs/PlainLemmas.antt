@@ -11,7 +11,7 @@ use Rattle.std.proofs.lemmas.Str.{IsCharBoundary-before_ascii}
 use Rattle.text_parts.specs.Lines.{has_byte}
 use Rattle.text_parts.proofs.CallerLemmas.{position-None, position-none_before}
 use Rattle.perm_base.specs.LineEnds.{has_line_end, is_line_end}
-use Rattle.perm_base.specs.Helps.FieldSteps.{before_comma, behind_comma, ends_plain}
+use Rattle.perm_base.specs.Helps.FieldSteps.{before_comma, behind_comma, ends_plain, is_mark}
 use Rattle.perm_base.proofs.QuotedLemmas.{before_comma-cut, before_comma-none}
 
 -- such bytes are ASCII
@@ -86,3 +86,14 @@ plain_bad text end at place back other =
     let front = plain_front (take at text) (position-none_before ends_plain text at place) in
     let whole : text ≡ take at text ++ byte ∷ rest = sym (take-append-drop at text) ∙ ap (λ (t : List ℕ). take at text ++ t) from in
     ap (λ (t : List ℕ). has_line_end (before_comma t)) whole ∙ stays_before (take at text) rest byte front.0 no_comma line_end
+
+-- a comma or a quote is looked for once
+pub either_mark : (text : List ℕ) → list_any is_mark text ≡ (has_byte 44 text || has_byte 34 text)
+either_mark [] = refl
+either_mark (byte ∷ text) = ap (λ (b : Bool). (eqb byte 44 || eqb byte 34) || b) (either_mark text) ∙ apart (eqb byte 44) (eqb byte 34) (has_byte 44 text) (has_byte 34 text)
+  where
+    apart : (a b c d : Bool) → ((a || b) || (c || d)) ≡ ((a || c) || (b || d))
+    apart true b c d = refl
+    apart false true true d = refl
+    apart false true false d = refl
+    apart false false c d = refl

@@ -116,3 +116,7 @@ Fails (Quote column) read = read ≡ Err (Quote column)
 abbrev pub Gives : {X Y : Type 0} → (X → Y) → Result X FieldFault → Result Y FieldFault → Type 0
 Gives view (Ok x) read = read ≡ Ok (view x)
 Gives view (Err fault) read = Fails fault read
+
+-- a comma or a double quote, for which a field is quoted when it is printed
+abbrev pub is_mark : ℕ → Bool
+is_mark byte = byte == 44 || byte == 34
