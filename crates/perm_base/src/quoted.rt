@@ -100,8 +100,13 @@ fn fields_of(alloc: Global, line: &str) -> Result<Vec<Text>, FieldFault>
     Err(FieldFault::TooMany)
 }
 
-// The field at the front of the last bytes of a line of this size, and what stands behind its comma.
-fn first_field(alloc: Global, size: usize, rest: &str) -> Result<(Text, Option<&str>), FieldFault>
+/// The field at the front of the last bytes of a line of this size, and what stands behind its comma: what `read_fields` reads
+/// 34 times at most, for a caller that wants no list of the fields.
+pub fn first_field(
+    alloc: Global,
+    size: usize,
+    rest: &str,
+) -> Result<(Text, Option<&str>), FieldFault>
     ensures { Gives seen result (first_field size rest.now) }
 {
     let field = behind_blanks(rest);
