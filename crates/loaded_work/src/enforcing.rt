@@ -18,12 +18,13 @@ use decision::{Program, Scratch};
 use live_round::push_request;
 use matcher_meaning::case_verdict_is_there;
 use perm_base::{NoMemory, Sink, push_all};
-use perm_value::RequestFault;
+use perm_value::{RequestFault, Value};
 use policy_state::PolicyState;
 use regex_gate::Finder;
 use run_status::Stop;
-use script_read::{Asked, next_request, read_request, texts_are_read_in_one_way};
+use script_read::{Asked, next_request, read_request_over, texts_are_read_in_one_way};
 use std::alloc::Global;
+use std::mem;
 
 /// What requests are answered by: a program, a policy that suits it, and whether requests are JSON.
 #[derive(Clone, Copy)]
@@ -80,12 +81,22 @@ fn print_answers<K: Sink, P: Finder>(
     texts_are_read_in_one_way();
     case_verdict_is_there();
     let mut scratch = Scratch::for_program(alloc, court.program);
+    let mut values = Vec::new(alloc);
     let mut text = String::new(alloc);
     let mut rest = input;
     let mut number = 0;
     while let Some((line, after)) = next_request(rest) {
         number = next_number(number);
-        push_answer(alloc, &mut text, number, court, line, finder, &mut scratch)?;
+        push_answer(
+            alloc,
+            &mut text,
+            number,
+            court,
+            line,
+            finder,
+            &mut scratch,
+            &mut values,
+        )?;
         push_full(out, &mut text)?;
         rest = after;
     }
@@ -100,7 +111,7 @@ pub fn next_number(number: u32) -> u32
     number.saturating_add(1)
 }
 
-// Appends the line of the request with this number.
+// Appends the line of the request with this number. Its values take the place of others, and stand there afterwards.
 fn push_answer<P: Finder>(
     alloc: Global,
     text: &mut String,
@@ -109,6 +120,7 @@ fn push_answer<P: Finder>(
     line: &str,
     finder: &mut P,
     scratch: &mut Scratch,
+    values: &mut Vec<Value>,
 ) -> Result<(), NoMemory>
     requires suits { Suits court.now.program.now court.now.state.now.shapes }
     ensures answered { OnOk result (AnswersLine court.now.program.now court.now.state.now
@@ -118,8 +130,9 @@ fn push_answer<P: Finder>(
         court.now.json (P.refusals finder.old) (P.refusals finder.new) line.now) }
 {
     texts_are_read_in_one_way();
-    let asked = ask(alloc, court.json, line)?;
-    push_request(
+    let others = mem::replace(values, Vec::new(alloc));
+    let asked = ask_over(alloc, others, court.json, line)?;
+    let told = push_request(
         text,
         number,
         court.state,
@@ -127,7 +140,9 @@ fn push_answer<P: Finder>(
         &asked,
         finder,
         scratch,
-    )
+    );
+    *values = values_of(alloc, asked);
+    told
 }
 
 /// What a line asks, or why it is no request.
@@ -135,9 +150,25 @@ pub fn ask(alloc: Global, json: bool, line: &str) -> Result<Asked, NoMemory>
     ensures says { IfOk result (λ asked. Says json line.now (reading asked)) }
     ensures named { IfOk result (λ asked. is_named (asks (reading asked)) ≡ true) }
 {
-    match read_request(alloc, json, line) {
+    ask_over(alloc, Vec::new(alloc), json, line)
+}
+
+// The same, with values that take the place of others.
+fn ask_over(alloc: Global, others: Vec<Value>, json: bool, line: &str) -> Result<Asked, NoMemory>
+    ensures says { IfOk result (λ asked. Says json line.now (reading asked)) }
+    ensures named { IfOk result (λ asked. is_named (asks (reading asked)) ≡ true) }
+{
+    match read_request_over(alloc, others, json, line) {
         Ok(request) => Ok(Asked::Request(request)),
         Err(RequestFault::NoMemory) => Err(NoMemory),
         Err(fault) => Ok(Asked::Refused(fault)),
+    }
+}
+
+// The values of what was asked.
+fn values_of(alloc: Global, asked: Asked) -> Vec<Value> {
+    match asked {
+        Asked::Request(request) => request.into_vec(),
+        Asked::Refused(_) => Vec::new(alloc),
     }
 }

@@ -3,6 +3,7 @@ mod CheckLemmas
 mod StepLemmas
 mod RunLemmas
 mod RunStops
+mod ComparedLemmas
 mod EvalLemmas
 mod BuildCode
 mod BuildHeights

@@ -5,3 +5,4 @@ pub mod Placing
 pub mod Ends
 pub mod Steps
 pub mod Runs
+pub mod Compared

@@ -10,6 +10,7 @@ mod building;
 mod calls;
 mod checking;
 mod code;
+mod comparing;
 mod doing;
 mod eval;
 mod faults;

@@ -6,11 +6,12 @@ ghost use Rattle.matcher_code.specs.Helps.Runs.{IsAt, RunEnds};
 
 use crate::asked::Asked;
 use crate::code::Code;
+use crate::comparing::advance;
 use crate::halt::Halt;
 use crate::links::Links;
 use crate::pause::Pause;
 use crate::stack::Stack;
-use crate::step::{Step, execute};
+use crate::step::Step;
 use regex_gate::Finder;
 
 /// Runs code from a place on, to its end or to an `eval`. It copies nothing.
@@ -34,7 +35,7 @@ pub(crate) fn run_on<'a, K: Links, P: Finder, const N: usize>(
     let mut reached = place;
     while reached < ops.len() {
         let op = &ops[reached];
-        match execute(reached, op, asked, links, finder, stack)? {
+        match advance(ops, reached, op, asked, links, finder, stack)? {
             Step::Goes(to) => reached = to,
             Step::Eval(column) => {
                 return Ok(Pause::Eval {

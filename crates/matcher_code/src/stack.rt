@@ -3,7 +3,6 @@
 ghost use Rattle.std.specs.Prelude.{◌≡◌, ◌<◌, ◌≤◌, ◌-◌, [], ◌∷◌, length};
 
 use perm_value::View;
-use std::array;
 use std::marker::Model;
 
 /// A stack of at most `N` values, which lie in it. Contracts see them, the top first. It takes no memory.
@@ -36,7 +35,7 @@ impl<T: Copy, const N: usize> Places<T, N> {
         ensures { result ≡ [] }
     {
         Places {
-            places: array::from_fn(|_| value),
+            places: [value; N],
             top: N,
         }
     }

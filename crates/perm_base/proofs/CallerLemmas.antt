@@ -2,6 +2,7 @@
 pub use Rattle.perm_base.proofs.FieldLineLemmas.{LineIs, fields_of-fault, fields_of-is, line_is}
 pub use Rattle.perm_base.proofs.LastLemmas.{front_of, last_before, last_here}
 pub use Rattle.perm_base.proofs.PrintLemmas.{printed_is}
+pub use Rattle.perm_base.proofs.QuotedLemmas.{begin_fields, fault_passes, field_fault, field_last, field_more, no_room}
 pub use Rattle.perm_base.proofs.RoleLemmas.{found_number}
 pub use Rattle.perm_base.proofs.TableLemmas.{name_from_named, named_from_name, plain_name}
 pub use Rattle.perm_base.proofs.WrittenLemmas.{first_read}

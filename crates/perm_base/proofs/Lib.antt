@@ -1,5 +1,6 @@
 pub mod FieldLemmas
 pub mod QuotedLemmas
+mod PlainLemmas
 pub mod PrintLemmas
 pub mod SpellingLemmas
 pub mod ReadLemmas

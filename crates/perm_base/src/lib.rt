@@ -20,7 +20,7 @@ pub use outside::{
 pub use patterns::is_pattern;
 pub use quoted::{
     FieldFault, every_line_is_fields_or_at_fault, fault_of_a_line_is_unique,
-    fields_of_a_line_are_unique, line_at_fault_is_no_fields, read_fields,
+    fields_of_a_line_are_unique, first_field, line_at_fault_is_no_fields, read_fields,
 };
 pub use quoted_print::{print_fields, printed_fields_are_read, push_fields, push_named};
 pub use role_shapes::RoleShapes;

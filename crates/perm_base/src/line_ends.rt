@@ -1,5 +1,6 @@
 ghost use Rattle.std.specs.Prelude.{◌≡◌, position};
 ghost use Rattle.perm_base.specs.LineEnds.{has_line_end, is_line_end};
+ghost use Rattle.perm_base.specs.Helps.FieldSteps.{ends_plain};
 
 /// The text holds CR or LF.
 pub(crate) fn has_line_end(text: &str) -> bool
@@ -13,6 +14,19 @@ pub(crate) fn first_line_end(text: &str) -> Option<usize>
     ensures { result ≡ position is_line_end text.now }
 {
     text.as_bytes().iter().position(|byte| is_line_end(*byte))
+}
+
+/// The place of the first comma, CR or LF.
+pub(crate) fn plain_end(text: &str) -> Option<usize>
+    ensures { result ≡ position ends_plain text.now }
+{
+    text.as_bytes().iter().position(|byte| ends_plain(*byte))
+}
+
+fn ends_plain(byte: u8) -> bool
+    ensures { result ≡ ends_plain byte }
+{
+    byte == b',' || is_line_end(byte)
 }
 
 fn is_line_end(byte: u8) -> bool

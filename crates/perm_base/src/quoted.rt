@@ -1,10 +1,10 @@
-ghost use Rattle.std.specs.Prelude.{◌≡◌, ◌<◌, ◌≤◌, ◌⊎◌, ℕ, List, ◌∷◌, IfOk, IsErrOf, MatchOption, MatchResult, length, option_map};
+ghost use Rattle.std.specs.Prelude.{◌≡◌, ◌<◌, ◌≤◌, ◌⊎◌, ℕ, List, ◌∷◌, IfNone, IfOk, IfSome, IsErrOf, MatchOption, MatchResult, false, length, option_map, true};
 ghost use Rattle.perm_base.specs.FieldFaults.{HasTooMany, IsBadAt, IsFault, IsQuoteFault};
 ghost use Rattle.perm_base.specs.FieldLine.{IsFields};
-ghost use Rattle.perm_base.specs.LineEnds.{AreFields};
+ghost use Rattle.perm_base.specs.LineEnds.{AreFields, has_line_end};
 ghost use Rattle.perm_base.specs.Helps.FieldSteps.{Gives, before_comma, behind_comma, column_of, closed_field, fields_of, first_field, line_end_column, plain_field, quoted_field, quoted_text, seen};
 
-use crate::line_ends::{first_line_end, has_line_end};
+use crate::line_ends::{first_line_end, has_line_end, plain_end};
 use outside::{NoMemory, Text};
 use std::alloc::Global;
 use text_parts::{before_blanks, behind, behind_blanks, cut_at};
@@ -100,8 +100,13 @@ fn fields_of(alloc: Global, line: &str) -> Result<Vec<Text>, FieldFault>
     Err(FieldFault::TooMany)
 }
 
-// The field at the front of the last bytes of a line of this size, and what stands behind its comma.
-fn first_field(alloc: Global, size: usize, rest: &str) -> Result<(Text, Option<&str>), FieldFault>
+/// The field at the front of the last bytes of a line of this size, and what stands behind its comma: what `read_fields` reads
+/// 34 times at most, for a caller that wants no list of the fields.
+pub fn first_field(
+    alloc: Global,
+    size: usize,
+    rest: &str,
+) -> Result<(Text, Option<&str>), FieldFault>
     ensures { Gives seen result (first_field size rest.now) }
 {
     let field = behind_blanks(rest);
@@ -115,11 +120,10 @@ fn first_field(alloc: Global, size: usize, rest: &str) -> Result<(Text, Option<&
 fn plain_field(alloc: Global, size: usize, field: &str) -> Result<(Text, Option<&str>), FieldFault>
     ensures { Gives seen result (plain_field size field.now) }
 {
-    let (text, behind) = comma_parts(field);
-    if has_line_end(text) {
+    let Some((text, behind)) = clean_parts(field) else {
         let column = line_end_column(size, field);
         return Err(FieldFault::Quote { column });
-    }
+    };
     let text = Text::from_str(alloc, before_blanks(text))?;
     Ok((text, behind))
 }
@@ -176,15 +180,22 @@ fn quoted_text(alloc: Global, inside: &str) -> Result<Option<(Text, &str)>, NoMe
     Ok(None)
 }
 
-// What stands before the first comma, or all, and what stands behind that comma.
-fn comma_parts(text: &str) -> (&str, Option<&str>)
-    ensures before { result.0.now ≡ before_comma text.now }
-    ensures behind { option_map (λ behind. behind.now) result.1 ≡ behind_comma text.now }
+// What stands before the first comma, or all, and what stands behind that comma; none where CR or LF stands before it.
+fn clean_parts(text: &str) -> Option<(&str, Option<&str>)>
+    ensures none { IfNone result (has_line_end (before_comma text.now) ≡ true) }
+    ensures clean { IfSome result (λ parts. has_line_end parts.0.now ≡ false) }
+    ensures before { IfSome result (λ parts. parts.0.now ≡ before_comma text.now) }
+    ensures behind { IfSome result
+        (λ parts. option_map (λ behind. behind.now) parts.1 ≡ behind_comma text.now) }
 {
-    match cut_at(text, b',') {
-        Some((before, behind)) => (before, Some(behind)),
-        None => (text, None),
-    }
+    let Some(at) = plain_end(text) else {
+        return Some((text, None));
+    };
+    let (before, end) = text.split_at(at);
+    let Some(rest) = behind(end, b',') else {
+        return None;
+    };
+    Some((before, Some(rest)))
 }
 
 // The column of the first CR or LF of the last bytes of a line of this size.

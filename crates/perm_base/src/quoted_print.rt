@@ -1,13 +1,14 @@
-ghost use Rattle.std.specs.Prelude.{◌≡◌, ◌<◌, ◌≤◌, ◌++◌, ◌∷◌, ℕ, List, IfOk, IsUtf8, Ok, OnOk, length, string_bytes};
+ghost use Rattle.std.specs.Prelude.{◌≡◌, ◌<◌, ◌≤◌, ◌++◌, ◌||◌, ◌∷◌, ℕ, List, IfOk, IsUtf8, Ok, OnOk, length, string_bytes};
 ghost use Rattle.text_parts.specs.Blanks.{is_blank};
 ghost use Rattle.text_parts.specs.Lines.{has_byte};
 ghost use Rattle.perm_base.specs.LineEnds.{AreFields};
 ghost use Rattle.perm_base.specs.FieldLine.{IsFields, doubled, has_odd_ends, needs_quotes, printed, printed_field};
+ghost use Rattle.perm_base.specs.Helps.FieldSteps.{is_mark};
 
 use crate::rule::Rule;
 use outside::{NoMemory, Text};
 use std::alloc::Global;
-use text_parts::{cut_at, has_byte, is_blank};
+use text_parts::{cut_at, is_blank};
 
 /// Prints the fields of a rule, joined by a comma and a blank. A field that is empty, begins or ends with a space or
 /// a tab, begins with `#`, or holds a comma or a double quote is quoted, and a quote in it is doubled.
@@ -87,7 +88,20 @@ fn push_doubled(text: &mut String, field: &str) -> Result<(), NoMemory>
 fn needs_quotes(field: &str) -> bool
     ensures { result ≡ needs_quotes field.now }
 {
-    field.is_empty() || has_odd_ends(field) || has_byte(field, b',') || has_byte(field, b'"')
+    field.is_empty() || has_odd_ends(field) || has_mark(field)
+}
+
+// The field holds a comma or a double quote.
+fn has_mark(field: &str) -> bool
+    ensures { result ≡ (has_byte 44 field.now || has_byte 34 field.now) }
+{
+    field.as_bytes().iter().any(|byte| is_mark(*byte))
+}
+
+fn is_mark(byte: u8) -> bool
+    ensures { result ≡ is_mark byte }
+{
+    byte == b',' || byte == b'"'
 }
 
 // The field begins or ends with a blank, or begins with `#`.

@@ -1,2 +1,3 @@
 -- What proofs need, and no public clause cites.
 pub mod EqualityLaws
+pub mod Texts

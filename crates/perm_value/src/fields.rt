@@ -1,13 +1,18 @@
-ghost use Rattle.std.specs.Prelude.{◌≡◌, IfOk, IfErr, List, MatchResult, map};
+ghost use Rattle.std.specs.Prelude.{◌≡◌, ◌≤◌, IfOk, IfErr, List, MatchResult, length, map};
+ghost use Rattle.perm_base.specs.Helps.FieldSteps.{Gives, fields_of};
 ghost use Rattle.perm_value.specs.Datum.{Datum, text};
 ghost use Rattle.perm_value.specs.Fields.{AreTexts, IsLineFault};
+ghost use Rattle.perm_value.specs.Helps.Texts.{as_texts};
 ghost use Rattle.perm_value.specs.Seen.{datum};
 ghost use Rattle.perm_value.specs.declared.request.RequestFault.TheVariants as fault;
 
 use crate::request::{Request, RequestFault};
 use crate::value::Value;
-use perm_base::{NoMemory, Text, read_fields};
+use perm_base::{FieldFault, NoMemory, Text, first_field};
 use std::alloc::Global;
+
+// How many fields a line has at most.
+const MOST_FIELDS: usize = 34;
 
 /// The request of the fields of a line, which are joined by commas and may be quoted. Each field is a text.
 pub fn request_of_fields(alloc: Global, line: &str) -> Result<Request, RequestFault>
@@ -16,19 +21,42 @@ pub fn request_of_fields(alloc: Global, line: &str) -> Result<Request, RequestFa
         → MatchResult result (λ request. map datum request ≡ values) (λ e. e ≡ fault.NoMemory) }
     ensures fault { IfErr result (IsLineFault line.now) }
 {
-    let fields = read_fields(alloc, line)?;
-    Ok(Request::from_vec(text_values(alloc, fields)?))
+    request_over_fields(alloc, Vec::new(alloc), line)
 }
 
-// The fields as values.
-fn text_values(alloc: Global, fields: Vec<Text>) -> Result<Vec<Value>, NoMemory>
-    ensures { IfOk result (λ values. map datum values.items ≡ map text fields.items) }
+/// The same request, whose values take the place of others. Where there were as many of these, it takes memory for long texts
+/// alone.
+pub fn request_over_fields(
+    alloc: Global,
+    others: Vec<Value>,
+    line: &str,
+) -> Result<Request, RequestFault>
+    ensures found { IfOk result (λ request. AreTexts line.now (map datum request)) }
+    ensures only { (values : List Datum) → AreTexts line.now values
+        → MatchResult result (λ request. map datum request ≡ values) (λ e. e ≡ fault.NoMemory) }
+    ensures fault { IfErr result (IsLineFault line.now) }
 {
-    let mut values = Vec::new(alloc);
-    for field in fields {
-        values.push(text_value(field))?;
+    let values = values_over(alloc, others, line)?;
+    Ok(Request::from_vec(values))
+}
+
+// The fields of a line as values, in the place of others.
+fn values_over(alloc: Global, others: Vec<Value>, line: &str) -> Result<Vec<Value>, FieldFault>
+    ensures exact { Gives (λ values. map datum values.items) result (as_texts (fields_of line.now)) }
+    ensures few { IfOk result (λ values. length values.items ≤ 34) }
+{
+    let mut values = others;
+    values.clear();
+    let mut rest = line;
+    for at in 0..MOST_FIELDS {
+        let (field, behind) = first_field(alloc, line.len(), rest)?;
+        values.push(text_value(field)).map_err(NoMemory::from)?;
+        let Some(next) = behind else {
+            return Ok(values);
+        };
+        rest = next;
     }
-    Ok(values)
+    Err(FieldFault::TooMany)
 }
 
 // The field as a value.

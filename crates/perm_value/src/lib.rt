@@ -9,7 +9,7 @@ mod json;
 mod request;
 mod value;
 
-pub use fields::request_of_fields;
+pub use fields::{request_of_fields, request_over_fields};
 pub use json::request_of_json;
 pub use request::{Request, RequestFault};
 pub use value::{Value, View};

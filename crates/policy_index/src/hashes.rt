@@ -8,6 +8,9 @@ const START: u64 = 14_695_981_039_346_656_037;
 
 const FACTOR: u64 = 1_099_511_628_211;
 
+// Its square, as far as 64 bits hold it.
+const SQUARE: u64 = 956_575_116_354_345;
+
 // Signs of what follows, which are no bytes.
 const TEXT: u64 = 256;
 
@@ -77,10 +80,23 @@ fn hash_bytes(hash: u64, bytes: &[u8]) -> u64
     ensures { result ≡ bytes_hash hash bytes.now }
 {
     let mut so_far = hash;
-    for byte in bytes {
-        so_far = hash_byte(so_far, *byte);
+    let mut at = 0;
+    'pairs: while bytes.len() - at >= 2 {
+        so_far = hash_two(so_far, bytes[at], bytes[at + 1]);
+        at += 2;
+    }
+    if at < bytes.len() {
+        return hash_byte(so_far, bytes[at]);
     }
     so_far
+}
+
+// A hash with two bytes more, of which one product waits for the hash before.
+fn hash_two(hash: u64, first: u8, second: u8) -> u64
+    ensures { result ≡ hash_step (hash_step hash first) second }
+{
+    let both = (first as u64 + 1) * FACTOR + (second as u64 + 1);
+    hash.wrapping_mul(SQUARE).wrapping_add(both)
 }
 
 // A hash with a byte or a sign more.

@@ -55,10 +55,12 @@ pub(crate) fn cell_at(
     ensures low { length (live (take result cells.now)) ≤ place }
     ensures high { place < length (live (take (result + 1) cells.now)) }
 {
-    let mut low = 0;
+    // At most so many ids stand before this cell.
+    let first = place as usize;
+    let mut low = first;
     let mut high = tail;
     while high - low > 1 {
-        let middle = low + (high - low) / 2;
+        let middle = tested_next(low, high, first);
         if number_at(rank, before, middle) <= place {
             low = middle;
         } else {
@@ -66,6 +68,19 @@ pub(crate) fn cell_at(
         }
     }
     low
+}
+
+// The cell that is tested next between two: at first the one behind the lower, which tells the place where no cell before
+// it is empty, and then the one halfway.
+fn tested_next(low: usize, high: usize, first: usize) -> usize
+    requires { low + 1 < high }
+    ensures behind { low < result }
+    ensures before { result < high }
+{
+    if low == first {
+        return low + 1;
+    }
+    low + (high - low) / 2
 }
 
 // Empties a cell.

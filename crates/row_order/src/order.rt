@@ -96,7 +96,7 @@ impl RowOrder {
         Some(number_at(&self.rank, &self.before, cell))
     }
 
-    /// The id at a place, by halving the cells.
+    /// The id at a place: at once where no cell before it is empty, else by halving the cells.
     pub fn at(&self, place: u32) -> Option<u32>
         ensures { result ≡ slice_get self.now.ids place }
     {

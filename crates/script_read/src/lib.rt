@@ -23,5 +23,5 @@ pub use laws::{
     text_has_one_script_fault, text_says_one_script, texts_are_read_in_one_way,
 };
 pub use reading::read_script;
-pub use requests::{next_request, read_request};
+pub use requests::{next_request, read_request, read_request_over};
 pub use script::Script;

@@ -8,7 +8,7 @@ ghost use Rattle.script_read.specs.Said.{reading};
 
 use crate::item::Asked;
 use perm_base::NoMemory;
-use perm_value::{Request, RequestFault, request_of_fields, request_of_json};
+use perm_value::{Request, RequestFault, Value, request_of_json, request_over_fields};
 use std::alloc::Global;
 use text_parts::{is_passed, next_text_line};
 
@@ -34,10 +34,23 @@ pub fn read_request(alloc: Global, json: bool, line: &str) -> Result<Request, Re
     ensures found { IfOk result (λ request. Says json line.now (Ok (map datum request))) }
     ensures fault { IfErr result (λ e. e ≢ fault.NoMemory → Says json line.now (Err e)) }
 {
+    read_request_over(alloc, Vec::new(alloc), json, line)
+}
+
+/// Reads the line of a request whose values take the place of others, where they are fields.
+pub fn read_request_over(
+    alloc: Global,
+    others: Vec<Value>,
+    json: bool,
+    line: &str,
+) -> Result<Request, RequestFault>
+    ensures found { IfOk result (λ request. Says json line.now (Ok (map datum request))) }
+    ensures fault { IfErr result (λ e. e ≢ fault.NoMemory → Says json line.now (Err e)) }
+{
     if json {
         request_of_json(alloc, line)
     } else {
-        request_of_fields(alloc, line)
+        request_over_fields(alloc, others, line)
     }
 }
 

@@ -1,6 +1,6 @@
 -- What proofs here and in the crates above cite of bytes, lines, lines that are passed over, and identifiers.
-use Rattle.std.proofs.Common.{◌≡◌, ◌≢◌, ℕ, zero, suc, ◌+◌, ◌-◌, ◌<◌, ◌≤◌, ◌||◌, ◌&&◌, Bool, true, false, cond, List, [], ◌∷◌, ◌++◌, length, take, drop, get_or, eqb, Some, None, IsUtf8, refl, sym, ap, ◌∙◌, subst, arith, rules, tests}
-use Rattle.std.specs.Prelude.{position}
+use Rattle.std.proofs.Common.{◌≡◌, ◌≢◌, ℕ, zero, suc, ◌+◌, ◌-◌, ◌<◌, ◌≤◌, ◌||◌, ◌&&◌, Bool, true, false, cond, List, [], ◌∷◌, ◌++◌, length, take, drop, get_or, eqb, Option, Some, None, Bor, IsUtf8, refl, sym, ap, ◌∙◌, subst, arith, rules, tests}
+use Rattle.std.specs.Prelude.{IfNone, IfSome, position}
 use Rattle.std.specs.Char.{is_ascii_digit}
 use Rattle.std.specs.List.{onto_first, list_any, list_all, position_from, prefix_len, AllByRecursion}
 use Rattle.std.specs.Str.{IsCharBoundary}
@@ -12,6 +12,7 @@ use Rattle.std.proofs.lemmas.List.Folds.{list_any-append, list_any_none}
 use Rattle.std.proofs.lemmas.List.Quantifiers.{position-Some}
 use Rattle.std.proofs.lemmas.List.Sums.{list_all-from_AllPass, prefix_len-le-length, prefix_len_passes}
 use Rattle.std.proofs.lemmas.Str.{IsCharBoundary-start, IsCharBoundary-after_ascii, IsUtf8-append, IsUtf8-from_ascii, IsUtf8-nil}
+use Rattle.std.proofs.lemmas.Str.Pattern.{IsSplitOnceResult, split_parts}
 use Rattle.text_parts.specs.Blanks.{is_blank, behind_blanks}
 use Rattle.text_parts.specs.Lines.{has_byte, lines_of, with_ends, without_cr}
 use Rattle.text_parts.specs.Names.{is_identifier, is_letter, is_word}
@@ -75,17 +76,23 @@ boundary-passing p bytes ascii utf8 = boundary_behind bytes (prefix_len p bytes)
 
 -- ---- a text, cut at its first such byte
 
--- behind it a text may be cut
-pub behind_position : (byte : ℕ) (text : List ℕ) (at : ℕ) → IsUtf8 text → byte < 128 → position (λ b. eqb b byte) text ≡ Some at → IsCharBoundary text (at + 1)
-behind_position byte text at utf8 ascii found =
-    let there = position-Some (λ b. eqb b byte) text at 0 found in
-    let same : get_or text at 0 ≡ byte = eqb-true (get_or text at 0) byte there.1 in
-    IsCharBoundary-after_ascii text at utf8 there.0 (omega arith)
-
 -- a text that lacks the byte at each place
 pub lacks_byte : (byte : ℕ) (text : List ℕ) → ((i : ℕ) → i < length text → get_or text i 0 ≢ byte) → has_byte byte text ≡ false
 lacks_byte byte [] lacks = refl
 lacks_byte byte (b ∷ text) lacks = rw (ne_eqb b byte (lacks 0 (omega arith))) (lacks_byte byte text (λ i within. lacks (suc i) (omega arith)))
+
+-- what `split_once` gives at a byte of ASCII
+pub byte_lacks : (sign byte : ℕ) (text : List ℕ) (r : Option (Bor (List ℕ) × Bor (List ℕ))) → IsSplitOnceResult sign text r → sign ≡ byte → byte < 128 → IfNone r (has_byte byte text ≡ false)
+byte_lacks sign byte text None split same low = lacks_byte byte text (λ i within e. split_parts sign text None split (omega arith) i within (e ∙ sym same))
+byte_lacks sign byte text (Some cut) split same low = tt
+
+pub byte_cuts : (sign byte : ℕ) (text : List ℕ) (r : Option (Bor (List ℕ) × Bor (List ℕ))) → IsSplitOnceResult sign text r → sign ≡ byte → byte < 128 → IfSome r (λ cut. text ≡ cut.0.now ++ byte ∷ cut.1.now)
+byte_cuts sign byte text None split same low = tt
+byte_cuts sign byte text (Some cut) split same low = (split_parts sign text (Some cut) split (omega arith)).0 ∙ ap (λ (b : ℕ). cut.0.now ++ b ∷ cut.1.now) same
+
+pub byte_first : (sign byte : ℕ) (text : List ℕ) (r : Option (Bor (List ℕ) × Bor (List ℕ))) → IsSplitOnceResult sign text r → sign ≡ byte → byte < 128 → IfSome r (λ cut. has_byte byte cut.0.now ≡ false)
+byte_first sign byte text None split same low = tt
+byte_first sign byte text (Some cut) split same low = lacks_byte byte cut.0.now (λ i within e. (split_parts sign text (Some cut) split (omega arith)).1 i within (e ∙ sym same))
 
 -- a byte stands where it is put
 pub has_byte-here : (byte : ℕ) (front back : List ℕ) → has_byte byte (front ++ byte ∷ back) ≡ true

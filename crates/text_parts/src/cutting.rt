@@ -8,8 +8,7 @@ pub fn cut_at(text: &str, byte: u8) -> Option<(&str, &str)>
     ensures parts { IfSome result (λ cut. text.now ≡ cut.0.now ++ byte ∷ cut.1.now) }
     ensures first { IfSome result (λ cut. has_byte byte cut.0.now ≡ false) }
 {
-    let at = text.as_bytes().iter().position(|b| *b == byte)?;
-    Some((&text[..at], &text[at + 1..]))
+    text.split_once(char::from(byte))
 }
 
 /// What stands behind this byte of ASCII, if the text begins with it.

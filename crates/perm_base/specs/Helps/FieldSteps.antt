@@ -1,5 +1,5 @@
 -- The fields of a line that may stand in double quotes, as they are read from left to right.
-use Rattle.std.specs.Prelude.{◌≡◌, ℕ, zero, suc, ◌+◌, ◌-◌, ◌==◌, false, if◌then◌else◌, min, List, [], ◌∷◌, ◌++◌, length, position, Option, Some, None, option_map, Result, Ok, Err}
+use Rattle.std.specs.Prelude.{◌≡◌, ℕ, zero, suc, ◌+◌, ◌-◌, ◌==◌, ◌||◌, Bool, false, if◌then◌else◌, min, List, [], ◌∷◌, ◌++◌, length, position, Option, Some, None, option_map, Result, Ok, Err}
 use Rattle.std.specs.Borrow.{Bor}
 use Rattle.text_parts.specs.Blanks.{before_blanks, behind_blanks}
 use Rattle.text_parts.specs.Lines.{has_byte}
@@ -37,6 +37,10 @@ before_comma (byte ∷ bytes) = if byte == 44 then [] else byte ∷ before_comma
 unfoldable pub behind_comma : List ℕ → Option (List ℕ)
 behind_comma [] = None
 behind_comma (byte ∷ bytes) = if byte == 44 then Some bytes else behind_comma bytes
+
+-- a comma ends a field that does not begin with a quote, and a CR or LF before it makes it bad
+abbrev pub ends_plain : ℕ → Bool
+ends_plain byte = byte == 44 || is_line_end byte
 
 -- a field that does not begin with a quote: up to the comma or the end, without the blanks at its back
 unfoldable pub plain_field : ℕ → List ℕ → Result Read FieldFault
@@ -112,3 +116,7 @@ Fails (Quote column) read = read ≡ Err (Quote column)
 abbrev pub Gives : {X Y : Type 0} → (X → Y) → Result X FieldFault → Result Y FieldFault → Type 0
 Gives view (Ok x) read = read ≡ Ok (view x)
 Gives view (Err fault) read = Fails fault read
+
+-- a comma or a double quote, for which a field is quoted when it is printed
+abbrev pub is_mark : ℕ → Bool
+is_mark byte = byte == 44 || byte == 34

@@ -10,8 +10,8 @@ returns-in_err-asked-clause-stopped g c =
 
 pub returns-clause-answered : goal.returns-clause-answered
 returns-clause-answered g c =
-    on_ok_weaker c.push_request.result (λ told. record { reading = reading c.in_ok-asked.asked; says = c.in_ok-asked.ensures.says; told = told }) c.push_request.ensures.told
+    on_ok_weaker c.push_request-told.result (λ told. record { reading = reading c.in_ok-asked.asked; says = c.in_ok-asked.ensures.says; told = told }) c.push_request-told.ensures.told
 
 pub returns-clause-stopped : goal.returns-clause-stopped
 returns-clause-stopped g c =
-    on_err_weaker c.push_request.result (λ asked. record { reading = reading c.in_ok-asked.asked; says = c.in_ok-asked.ensures.says; asked = asked }) c.push_request.ensures.stopped
+    on_err_weaker c.push_request-told.result (λ asked. record { reading = reading c.in_ok-asked.asked; says = c.in_ok-asked.ensures.says; asked = asked }) c.push_request-told.ensures.stopped

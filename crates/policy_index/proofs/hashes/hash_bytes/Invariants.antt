@@ -1,6 +1,9 @@
-use Rattle.std.proofs.Common.{◌≡◌, drop}
+use Rattle.std.proofs.Common.{◌≡◌, ◌-◌, ◌≤◌, drop, length}
 use Rattle.policy_index.specs.Hashes.{bytes_hash}
 use Rattle.policy_index.proofs.hashes.hash_bytes.Given as goal
 
-abbrev pub invariant-loop-byte : goal.invariant-loop-byte
-invariant-loop-byte l = bytes_hash l.so_far (drop l.byte-index l.bytes) ≡ bytes_hash l.hash l.bytes
+abbrev pub invariant-pairs : goal.invariant-pairs
+invariant-pairs l = record { within : l.at ≤ length l.bytes; same : bytes_hash l.so_far (drop l.at l.bytes) ≡ bytes_hash l.hash l.bytes }
+
+abbrev pub decreases-pairs : goal.decreases-pairs
+decreases-pairs l = length l.bytes - l.at
