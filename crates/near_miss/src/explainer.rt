@@ -16,9 +16,7 @@ pub struct Explainer {
 // Written out, so that a caller's proof sees one call and not the drop of each field.
 impl Drop for Explainer {
     fn drop(self) {
-        let Explainer {
-            parts: _parts,
-        } = self;
+        let Explainer { parts: _parts } = self;
     }
 }
 
