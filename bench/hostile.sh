@@ -356,6 +356,12 @@ if wanted "script"; then
   printf 'delete-user user\npublish\n' >"$work/h.in"
   printf 'remove-filtered p, 2, read\npublish\n' >"$work/p.in"
   compare "script that deletes a user with 190,000 rules" session
+  # A script that removes the rules of a policy in one block.
+  at_once() {
+    echo 'begin remove-all'
+    cat "$1"
+    printf 'end\npublish\n'
+  }
   # A script whose removals go through the rules of a policy from its last on.
   backward() {
     awk '{ line[NR] = "remove " $0 } END { for (i = NR; i > 0; i--) print line[i]; print "publish" }' "$1"
@@ -373,8 +379,22 @@ if wanted "script"; then
   backward "$work/h.csv" >"$work/h.in"
   compare "script of 190,000 users of one role that go from the end" session
   printf 'delete-role role\npublish\n' >"$work/h.in"
-  { echo 'begin remove-all'; cat "$work/p.csv"; printf 'end\npublish\n'; } >"$work/p.in"
+  at_once "$work/p.csv" >"$work/p.in"
   compare "script that deletes a role of 190,000 users" session
+  # A script that removes the rules of a policy and publishes behind each.
+  one_by_one() {
+    awk '{ print "remove " $0; print "publish" }' "$1"
+  }
+  lines 'g, user, role%06d' 100000000 20000 >"$work/h.csv"
+  lines 'g, user%06d, role%06d' 100000000 20000 >"$work/p.csv"
+  one_by_one "$work/h.csv" >"$work/h.in"
+  one_by_one "$work/p.csv" >"$work/p.in"
+  compare "script of 20,000 publishes, each of one role less of one user" session
+  awk 'BEGIN { for (i = 1; i <= 20000; i++) printf "g, one, role%06d\ng, two, role%06d\n", i, i }' >"$work/h.csv"
+  lines 'g, user%06d, role%06d' 100000000 40000 >"$work/p.csv"
+  at_once "$work/h.csv" >"$work/h.in"
+  at_once "$work/p.csv" >"$work/p.in"
+  compare "script of one block that takes 20,000 roles each of two users by turns" session
   reset
   lines 'p, user%06d, data1, read' 100000000 100000 | tee "$work/h.csv" >"$work/p.csv"
   repeated 'rows p
