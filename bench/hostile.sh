@@ -466,8 +466,8 @@ if wanted "limits"; then
   both in 'has p, user%09d, data%09d, read' 399000
   compare "limits, a script of 16 MiB of queries" session
   compare "limits, a stream of 16 MiB of queries" serve
-  for lines in 199999 19999; do
-    awk -v n="$lines" 'BEGIN { for (i = 1; i <= n; i++) printf "edit %d\n+ p, user%06d, data%06d, read\n.\n", i, i, i }' >"$work/$lines"
+  for count in 199999 19999; do
+    awk -v n="$count" 'BEGIN { for (i = 1; i <= n; i++) printf "edit %d\n+ p, user%06d, data%06d, read\n.\n", i, i, i }' >"$work/$count"
   done
   mv "$work/199999" "$work/h.in"
   mv "$work/19999" "$work/p.in"
