@@ -169,7 +169,17 @@ if wanted "pattern"; then
   searched "pattern of 100 open classes over 100,000 bytes, ten times" "$search" "$(repeated '[a-z]*' 100)b" "$long" 10
   searched "pattern (.*)(.*)(.*)x over 100,000 bytes, ten times" "$search" '(.*)(.*)(.*)x' "$long" 10
   searched "pattern of 1,000 brackets" "$search" "$(repeated '(' 1000)a$(repeated ')' 1000)" aaa 10
-  searched "pattern of 4,000 classes" "$search" "$(repeated '\w' 2000)" aaa 10
+  searched "pattern of 2,000 classes" "$search" "$(repeated '\w' 2000)" aaa 10
+  reset
+  model "$search" | tee "$work/h.conf" >"$work/p.conf"
+  # Each pattern has a number of its own, so that no two are one.
+  many() {
+    REST="$1" awk 'BEGIN { for (i = 1; i <= 200; i++) printf "p, %03d%s, data1, read\n", i, ENVIRON["REST"] }'
+  }
+  many "$(repeated '\w' 2000)" >"$work/h.csv"
+  many "$(repeated a 4000)" >"$work/p.csv"
+  echo 'bob, data1, read' | tee "$work/h.in" >"$work/p.in"
+  compare "pattern of 2,000 classes, 200 of them, asked once" enforce
 fi
 
 if wanted "key"; then
