@@ -169,17 +169,17 @@ if wanted "pattern"; then
   searched "pattern of 100 open classes over 100,000 bytes, ten times" "$search" "$(repeated '[a-z]*' 100)b" "$long" 10
   searched "pattern (.*)(.*)(.*)x over 100,000 bytes, ten times" "$search" '(.*)(.*)(.*)x' "$long" 10
   searched "pattern of 1,000 brackets" "$search" "$(repeated '(' 1000)a$(repeated ')' 1000)" aaa 10
-  searched "pattern of 2,000 classes" "$search" "$(repeated '\w' 2000)" aaa 10
+  searched "pattern of 2,000 classes, which is refused" "$search" "$(repeated '\w' 2000)" aaa 10
   reset
   model "$search" | tee "$work/h.conf" >"$work/p.conf"
   # Each pattern has a number of its own, so that no two are one.
   many() {
-    REST="$1" awk 'BEGIN { for (i = 1; i <= 200; i++) printf "p, %03d%s, data1, read\n", i, ENVIRON["REST"] }'
+    REST="$1" awk 'BEGIN { for (i = 1; i <= 20; i++) printf "p, %03d%s, data1, read\n", i, ENVIRON["REST"] }'
   }
-  many "$(repeated '\w' 2000)" >"$work/h.csv"
-  many "$(repeated a 4000)" >"$work/p.csv"
+  many "$(repeated '\w' 400)" >"$work/h.csv"
+  many "$(repeated a 800)" >"$work/p.csv"
   echo 'bob, data1, read' | tee "$work/h.in" >"$work/p.in"
-  compare "pattern of 2,000 classes, 200 of them, asked once" enforce
+  compare "pattern of 400 classes, 20 of them, asked once" enforce
 fi
 
 if wanted "key"; then
@@ -259,7 +259,6 @@ if wanted "lint"; then
   repeated $'q\n' 1000000 >"$work/h.csv"
   lines 'p, %d, d, r' 2000000 >"$work/p.csv"
   compare "lint, 1,000,000 lines of a table that is none" lint
-  reset
   repeated $'p, a, b, c\n' 180000 >"$work/h.csv"
   compare "lint, a rule that stands 180,000 times" lint
 fi
@@ -501,13 +500,13 @@ if wanted "limits"; then
   for names in h p; do
     awk 'BEGIN { for (i = 0; i < 64; i++) printf "g, user%02d, role%02d, dom*\n", i, i }' >>"$work/$names.csv"
   done
-  compare "limits, 64 rules that count in each of 16,380 domains" check --domain-match g=keyMatch
+  compare "limits, 64 rules that count in each of 16,380 domains" enforce --domain-match g=keyMatch
   for domains in 195 19; do
     awk -v n="$domains" 'BEGIN { for (d = 1; d <= n; d++) for (i = 1024; i > 1; i--) printf "g, role%04d, role%04d, d%03d\n", i, i - 1, d }' >"$work/$domains"
   done
   mv "$work/195" "$work/h.csv"
   mv "$work/19" "$work/p.csv"
-  compare "limits, the distances of 195 domains of 1,023 roles" check --limit 250
+  compare "limits, the distances of 195 domains of 1,023 roles" enforce --limit 250
 fi
 
 echo "$above above $most"
