@@ -22,7 +22,7 @@ no_farther one other near far Else (inr same) first second = let level = same.0 
 
 module _ (shape : RoleShape) (rules : List Fields) (subject : Subject) (names : List (List ℕ)) where
   -- how far the role at a place is
-  abbrev Far : ℕ → ℕ → Type 0
+  abbrev pub Far : ℕ → ℕ → Type 0
   Far at links = IsFar shape rules (asked shape subject.domain) subject.user (get_or names at []) links
 
   pub as_far_none : (at links : ℕ) → AreAsFar shape rules subject names at at links

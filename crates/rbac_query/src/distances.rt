@@ -53,8 +53,8 @@ pub(crate) fn run_at(
     Run { links, end }
 }
 
-// Up to which place the listed roles from a place on are as far as the one there. It is found by steps that double, and by
-// halving.
+// Up to which place the listed roles from a place on are as far as the one there: those of one distance rise by bytes, so
+// the last that does is asked first.
 fn end_of(
     section: &RoleSection,
     user: &str,
@@ -72,8 +72,58 @@ fn end_of(
         → AreAsFar section.now.shape rows (user_in user.now domain.now) names.now at result
         links }
 {
+    let last = last_rising(names, at);
+    if last == at {
+        return at + 1;
+    }
+    let far = links_at(section, user, domain, names, last);
+    if far == links {
+        return last + 1;
+    }
+    end_between(section, user, domain, names, at, last, links)
+}
+
+// The last place up to which texts rise by bytes from a place on.
+fn last_rising(texts: &[Text], from: usize) -> usize
+    requires { from < length texts.now }
+    ensures from { from ≤ result }
+    ensures within { result < length texts.now }
+{
+    for at in from + 1..texts.len() {
+        if !is_before(text_at(texts, at - 1), text_at(texts, at)) {
+            return at - 1;
+        }
+    }
+    texts.len() - 1
+}
+
+// Whether the one text comes before the other by bytes.
+fn is_before(one: &[u8], other: &[u8]) -> bool {
+    one.cmp(other).is_lt()
+}
+
+// The same where the one at a later place is farther. It is found by steps that double, and by halving.
+fn end_between(
+    section: &RoleSection,
+    user: &str,
+    domain: &str,
+    names: &[Text],
+    at: usize,
+    farther: usize,
+    links: u8,
+) -> usize
+    requires behind { at < farther }
+    requires within { farther < length names.now }
+    ensures end { at < result }
+    ensures far { (rows : List Fields) → IsSectionOf section.now rows
+        → AreInOrder section.now.shape rows (user_in user.now domain.now) names.now
+        → IsFar section.now.shape rows (asked section.now.shape domain.now) user.now
+        (get_or names.now at []) links
+        → AreAsFar section.now.shape rows (user_in user.now domain.now) names.now at result
+        links }
+{
     let mut low = at;
-    let mut high = names.len();
+    let mut high = farther;
     while high - low > 1 {
         let middle = tested_next(at, low, high);
         let far = links_at(section, user, domain, names, middle);

@@ -27,8 +27,8 @@ const REPORTED: u8 = 1;
 /// and domain of one and the same row that are no patterns, by bytes of the user, then of the domain, a record for each role
 /// that the user has there by links, as `implicit_roles` lists them, with the number of links. Where g has no domains, that
 /// field is empty. The report is refused where there is no relation g, and where it has more than `most` bytes. The roles of a
-/// user are found at once, and how far they are by some questions for each distance, as the logarithm of the roles that are
-/// so far. It takes memory for the report and for a user and domain of each row.
+/// user are found at once, and how far they are by some questions for each distance: three, or as the logarithm of the roles
+/// that are so far. It takes memory for the report and for a user and domain of each row.
 pub fn report(alloc: Global, state: &PolicyState, most: u64) -> Result<Vec<u8>, ReportStop>
     ensures report { IfOk result (λ text.
         IsReport state.now.shapes (tables state.now) text.items) }

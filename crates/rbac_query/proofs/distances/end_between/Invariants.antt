@@ -3,7 +3,7 @@ use Rattle.policy_table.specs.Tables.{Fields}
 use Rattle.role_domain.specs.Sections.{IsSectionOf}
 use Rattle.role_meaning.specs.Distances.{IsFar}
 use Rattle.rbac_query.specs.Report.{asked}
-use Rattle.rbac_query.proofs.distances.end_of.Given as goal
+use Rattle.rbac_query.proofs.distances.end_between.Given as goal
 
 abbrev pub invariant-loop-high : goal.invariant-loop-high
 invariant-loop-high l = record {
