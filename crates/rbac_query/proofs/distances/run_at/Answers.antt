@@ -2,8 +2,8 @@ use Rattle.rbac_query.specs.Helps.Entries.{user_in}
 use Rattle.rbac_query.proofs.RunLemmas.{as_far_alone}
 use Rattle.rbac_query.proofs.distances.run_at.Goals as goal
 
-pub returns-then-at-lt-so_far-clause-far : goal.returns-then-at-lt-so_far-clause-far
-returns-then-at-lt-so_far-clause-far c = λ rows of ordered known. known
+pub returns-then-at-so_far-clause-far : goal.returns-then-at-so_far-clause-far
+returns-then-at-so_far-clause-far c = λ rows of ordered known. known
 
 pub returns-then-links-before-clause-far : goal.returns-then-links-before-clause-far
 returns-then-links-before-clause-far c =
