@@ -4,3 +4,4 @@ mod CountLemmas
 mod SubjectLemmas
 mod EntryLemmas
 mod ReportLemmas
+mod RunLemmas

@@ -2,4 +2,5 @@
 pub mod Tests
 pub mod Subjects
 pub mod Entries
+pub mod Runs
 pub mod Stops

@@ -2,6 +2,7 @@
 //! all users with all their roles.
 #![tactic(auto)]
 
+mod distances;
 mod fields;
 mod law;
 mod names;

@@ -1,26 +1,24 @@
-ghost use Rattle.std.specs.Prelude.{◌≡◌, ◌++◌, ◌≤◌, ◌<◌, IfErr, IfOk, List, OnOk, is_some, length, map};
-ghost use Rattle.std.specs.Option.{option_copied};
+ghost use Rattle.std.specs.Prelude.{◌≡◌, ◌++◌, ◌≤◌, IfErr, IfOk, List, OnOk, length, map};
 ghost use Rattle.csv.specs.Writing.{default_writer, row_text};
 ghost use Rattle.policy_state.specs.States.{tables};
 ghost use Rattle.policy_table.specs.Tables.{Fields};
 ghost use Rattle.role_domain.specs.Sections.{IsSectionOf};
-ghost use Rattle.role_meaning.specs.Distances.{IsFar};
 ghost use Rattle.rbac_query.specs.Helps.Entries.{AddsEntries, AddsRoles, AddsSubject, StopsEntries, StopsRoles, StopsSubject, user_in};
+ghost use Rattle.rbac_query.specs.Helps.Runs.{AreInOrder};
 ghost use Rattle.rbac_query.specs.Helps.Stops.{IsStop};
 ghost use Rattle.rbac_query.specs.Helps.Subjects.{shown};
-ghost use Rattle.rbac_query.specs.Report.{IsReport, IsReportStop, asked, header};
+ghost use Rattle.rbac_query.specs.Report.{IsReport, IsReportStop, header};
 
+use crate::distances::{Run, asked, run_at};
 use crate::law::relation_has_one_report;
 use crate::records::{push_record, push_role};
 use crate::stop::ReportStop;
 use crate::subjects::subjects_of;
-use perm_base::{RoleShape, TableId, Text};
+use perm_base::{TableId, Text};
 use policy_state::PolicyState;
-use role_domain::{RoleSection, Steps};
+use role_domain::RoleSection;
 use std::alloc::Global;
 use std::collections::BTreeSet;
-use std::marker::Brand;
-use std::sync::ledger::{Blank, Ledger};
 
 /// The number of the relation `g`, which is reported.
 const REPORTED: u8 = 1;
@@ -28,8 +26,9 @@ const REPORTED: u8 = 1;
 /// The report of g as records of CSV (RFC 4180, each line ended by LF): a header `user,domain,role,links`, and for each user
 /// and domain of one and the same row that are no patterns, by bytes of the user, then of the domain, a record for each role
 /// that the user has there by links, as `implicit_roles` lists them, with the number of links. Where g has no domains, that
-/// field is empty. The report is refused where there is no relation g, and where it has more than `most` bytes. It takes
-/// memory for the report and for a user and domain of each row.
+/// field is empty. The report is refused where there is no relation g, and where it has more than `most` bytes. The roles of a
+/// user are found at once, and how far they are by some questions for each distance: three, or as the logarithm of the roles
+/// that are so far. It takes memory for the report and for a user and domain of each row.
 pub fn report(alloc: Global, state: &PolicyState, most: u64) -> Result<Vec<u8>, ReportStop>
     ensures report { IfOk result (λ text.
         IsReport state.now.shapes (tables state.now) text.items) }
@@ -104,7 +103,7 @@ fn push_subject(
     push_roles(alloc, text, section, user, domain, names.fields(), most)
 }
 
-// Appends a record for each of these roles of a user in a domain.
+// Appends a record for each of these roles of a user in a domain, of which the nearer are listed first.
 fn push_roles(
     alloc: Global,
     text: &mut Vec<u8>,
@@ -116,57 +115,19 @@ fn push_roles(
 ) -> Result<(), ReportStop>
     requires { length text.old.items ≤ most }
     ensures took { OnOk result ((rows : List Fields) → IsSectionOf section.now rows
+        → AreInOrder section.now.shape rows (user_in user.now domain.now) names.now
         → AddsRoles section.now.shape rows (user_in user.now domain.now) text.old.items
         names.now text.new.items) }
     ensures within { OnOk result (length text.new.items ≤ most) }
     ensures stop { IfErr result (λ stop. (rows : List Fields) → IsSectionOf section.now rows
+        → AreInOrder section.now.shape rows (user_in user.now domain.now) names.now
         → StopsRoles section.now.shape rows (user_in user.now domain.now) most text.old.items
         names.now stop) }
 {
-    for name in names {
-        let links = links_to(section, user, domain, name.bytes());
-        push_role(alloc, text, user, domain, name.as_str(), links, most)?;
+    let mut run = Run { links: 0, end: 0 };
+    for (at, name) in names.iter().enumerate() {
+        run = run_at(section, user, domain, names, at, run);
+        push_role(alloc, text, user, domain, name.as_str(), run.links, most)?;
     }
     Ok(())
-}
-
-// By how many links a user reaches a role in a domain.
-fn links_to(section: &RoleSection, user: &str, domain: &str, role: &[u8]) -> u8
-    ensures { (rows : List Fields) → IsSectionOf section.now rows
-        → IsFar section.now.shape rows (asked section.now.shape domain.now) user.now role.now
-        result }
-{
-    let asked = asked(section.shape(), domain);
-    far::<Brand>(section, user.as_bytes(), role, asked, Blank::new(1))
-}
-
-// How far the one name is from the other; the steps are counted from nothing.
-fn far<L: Ledger>(
-    section: &RoleSection,
-    x: &[u8],
-    y: &[u8],
-    domain: Option<&[u8]>,
-    blank: Blank,
-) -> u8
-    requires name { blank.name ≡ L.name }
-    requires parts { blank.parts ≡ L.parts }
-    requires some { 0 < L.parts }
-    requires asked { is_some domain ≡ section.now.shape.with_domain }
-    ensures { (rows : List Fields) → IsSectionOf section.now rows
-        → IsFar section.now.shape rows (option_copied domain.entry) x.now y.now result }
-{
-    let mut steps = Steps::<L>::new(blank);
-    section.far(x, y, domain, &mut steps)
-}
-
-// The domain that is asked for, where rows have one.
-fn asked<'a>(shape: RoleShape, domain: &'a str) -> Option<&'a [u8]>
-    ensures domain { option_copied result ≡ asked shape domain.now }
-    ensures there { is_some result ≡ shape.with_domain }
-{
-    if shape.with_domain {
-        Some(domain.as_bytes())
-    } else {
-        None
-    }
 }

@@ -1,4 +1,4 @@
-use Rattle.rbac_query.proofs.reporting.links_to.Given as goal
+use Rattle.rbac_query.proofs.distances.links_at.Given as goal
 
 abbrev pub ghosts-far : goal.ghosts-far
 ghosts-far a = record { name = a.blank.name; parts = a.blank.parts }
