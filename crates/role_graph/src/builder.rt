@@ -105,6 +105,10 @@ impl GraphBuilder {
             roles,
             count,
         } = self;
+        let mut links = links;
+        let mut roles = roles;
+        links.fit();
+        roles.fit();
         let graph = graph_of(alloc, links, limit, roles, count)?;
         Ok(graph)
     }

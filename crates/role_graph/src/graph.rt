@@ -149,9 +149,11 @@ impl RoleGraph {
         ensures names { IfOk result (λ copy. copy.names ≡ self.now.names) }
         ensures limit { IfOk result (λ copy. copy.limit ≡ self.now.limit) }
     {
-        let links = self.links.copy(alloc)?;
-        let roles = self.roles.copy(alloc)?;
+        let mut links = self.links.copy(alloc)?;
+        let mut roles = self.roles.copy(alloc)?;
         let square = self.square.copy(alloc)?;
+        links.fit();
+        roles.fit();
         let limit = self.limit;
         let count = self.count;
         Ok(RoleGraph {

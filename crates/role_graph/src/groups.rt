@@ -125,7 +125,14 @@ impl Groups {
         Ok(self.entries.reserve(count)?)
     }
 
-    /// Gives a user one role more. Its time does not grow with the roles that it has.
+    /// Gives back the room for further groups.
+    pub(crate) fn fit(&mut self)
+        ensures { self.new.groups ≡ self.old.groups }
+    {
+        self.entries.shrink_to_fit();
+    }
+
+    /// Gives a user one role more.
     pub(crate) fn add(&mut self, alloc: Global, user: &[u8], role: Text) -> Result<(), NoMemory>
         ensures roles { OnOk result ((name : List ℕ) → roles_under name self.new.groups
             ≡ (if bytes_eq name user.now then roles_under user.now self.old.groups ++ role ∷ []

@@ -135,6 +135,16 @@ impl Links {
         self.patterned.reserve(count)
     }
 
+    /// Gives back the room for further groups.
+    pub(crate) fn fit(&mut self)
+        ensures plain { self.new.plain.groups ≡ self.old.plain.groups }
+        ensures patterned { self.new.patterned.groups ≡ self.old.patterned.groups }
+        ensures names { self.new.names ≡ self.old.names }
+    {
+        self.plain.fit();
+        self.patterned.fit();
+    }
+
     /// Gives each user of an edit the roles that it has afterwards.
     pub(crate) fn change(&mut self, mut edits: Edits)
         requires once { AreApart edits }
