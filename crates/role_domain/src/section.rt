@@ -104,7 +104,7 @@ impl RoleSection {
         let table = TableId::G(shape.number);
         let patterns = patterns_of(alloc, terms.domains, tables.rows(table))?;
         let mut domains = Domains::new(alloc);
-        domains.fill(alloc, terms, tables.rows(table), &patterns)?;
+        domains.fill(alloc, terms, tables, table, &patterns)?;
         Ok(RoleSection {
             shape,
             limit,
