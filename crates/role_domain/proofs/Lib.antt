@@ -8,7 +8,7 @@ mod MoveLemmas
 mod ChangeLemmas
 mod Bringing
 mod StepLemmas
-mod Taken
+mod Placed
 mod Popped
 mod Touching
 mod Turning

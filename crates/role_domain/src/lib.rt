@@ -2,11 +2,11 @@
 //! what is asked of names in a domain.
 #![tactic(auto)]
 
-mod builders;
 mod domain;
 mod domains;
 mod moves;
 mod patterns;
+mod places;
 mod prepared;
 mod rows;
 mod section;

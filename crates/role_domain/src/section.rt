@@ -104,7 +104,7 @@ impl RoleSection {
         let table = TableId::G(shape.number);
         let patterns = patterns_of(alloc, terms.domains, tables.rows(table))?;
         let mut domains = Domains::new(alloc);
-        domains.fill(alloc, terms, tables.rows(table), &patterns)?;
+        domains.fill(alloc, terms, tables, table, &patterns)?;
         Ok(RoleSection {
             shape,
             limit,
@@ -388,7 +388,8 @@ impl RoleSection {
 
     /// Makes the edits that were prepared for this section as it stands. It takes no memory. Its time
     /// grows with the edits and, in each domain that they touch, with the distances that are kept there
-    /// and change: where the last row of a role goes, with all of them.
+    /// and change: where the last row of a role goes, with all of them. Where a role gets a role in a
+    /// domain without distances, its roles are gone over, 1,024 at most.
     pub fn commit(&mut self, prepared: Prepared)
         requires { (after : List Fields) × IsPreparedFor self.old after prepared }
         ensures shape { self.new.shape ≡ self.old.shape }

@@ -4,7 +4,7 @@ ghost use Rattle.std.specs.Prelude.{◌≡◌, ◌+◌, ◌<◌, ◌≤◌, ◌^
 ghost use Rattle.std.specs.List.{IsDistinct};
 ghost use Rattle.std.specs.Map.{keys_of};
 ghost use Rattle.std.specs.Str.{bytes_eq};
-ghost use Rattle.policy_table.specs.Tables.{Fields};
+ghost use Rattle.policy_table.specs.Tables.{Fields, rows};
 ghost use Rattle.role_meaning.specs.Links.{domain_of};
 ghost use Rattle.role_domain.specs.Domains.{AreDomains, IsDomain, IsRight, by_text, found};
 ghost use Rattle.role_domain.specs.Helps.Tallies.{Brings, Tallies, has_text, own_at, rows_at};
@@ -12,36 +12,39 @@ ghost use Rattle.role_domain.specs.Helps.Turns.{CanStep, CanTurn, IsTurnOf, Turn
 ghost use Rattle.role_domain.specs.Relations.{Relation, Tells, pair_of};
 ghost use Rattle.role_domain.specs.Steps.{AreReady, IsReady};
 
-use crate::builders::builders_of;
-use crate::domain::{Domain, graph_of};
+use crate::domain::{Domain, domain_at, graph_of};
 use crate::domains::Domains;
 use crate::patterns::fitting;
+use crate::places::places_of;
 use crate::prepared::Step;
 use crate::rows::domain_of;
 use crate::tallies::Tallies;
 use crate::terms::Terms;
-use perm_base::{Fit, NoMemory, Rule, is_pattern};
-use policy_table::Rows;
+use perm_base::{Fit, NoMemory, Rule, TableId, is_pattern};
+use policy_table::Tables;
 use role_meaning::{fits, links_are_decided};
 use std::alloc::Global;
 
 impl Domains {
-    /// Makes the domains of rows where there are none, given those of the rows that have a pattern as their domain.
+    /// Makes the domains of the rows of a table where there are none, one after the other, given those of the rows that have a
+    /// pattern as their domain.
     pub(crate) fn fill(
         &mut self,
         alloc: Global,
         terms: Terms,
-        rows: Rows<'_>,
+        tables: &Tables,
+        table: TableId,
         patterns: &[Rule],
     ) -> Result<(), NoMemory>
-        requires { CanTurn (first_turn terms rows) self.old patterns.now }
-        ensures { OnOk result
-            (AreDomains (after_of (first_turn terms rows.entry)) self.new.entries) }
+        requires { CanTurn (first_turn terms (rows tables.now.policy table)) self.old
+            patterns.now }
+        ensures { OnOk result (AreDomains
+            (after_of (first_turn terms (rows tables.now.policy table))) self.new.entries) }
     {
-        let mut builders = builders_of(alloc, terms, rows)?;
-        self.reserve(builders.len())?;
-        while let Some((text, builder)) = builders.pop() {
-            let domain = builder.built(alloc, terms, text.as_slice(), patterns)?;
+        let mut places = places_of(alloc, tables.rows(table))?;
+        self.reserve(places.len())?;
+        while let Some((text, own)) = places.pop() {
+            let domain = domain_at(alloc, terms, text.as_slice(), tables, table, &own, patterns)?;
             self.put(text, domain);
         }
         Ok(())

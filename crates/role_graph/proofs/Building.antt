@@ -4,27 +4,19 @@ use Rattle.std.specs.Str.{bytes_eq}
 use Rattle.std.proofs.lemmas.List.{length-map}
 use Rattle.std.proofs.lemmas.List.Sums.{count_by-le-length}
 use Rattle.policy_table.specs.Tables.{Fields, same}
-use Rattle.role_meaning.specs.Links.{role_of}
+use Rattle.role_meaning.specs.Links.{role_of, user_of}
 use Rattle.role_graph.specs.Built.{Built, IsCounted}
-use Rattle.role_graph.specs.Groups.{Group, after, rows_of, rows_with, times}
-use Rattle.role_graph.specs.Helps.Edits.{standing}
-use Rattle.role_graph.specs.Helps.Kept.{AreApart, AreLinks, Parts, linked_of}
+use Rattle.role_graph.specs.Groups.{row, rows_with, times}
 use Rattle.role_graph.specs.Helps.Roles.{count_of}
-use Rattle.role_graph.proofs.Counting.{as_long, roles_alike, rows_with_both, times_after}
+use Rattle.role_graph.proofs.Counting.{as_long, roles_alike, rows_with_both}
 use Rattle.role_graph.proofs.Editing.{count_more, once, times_more}
 
--- before the first row
-pub none_after : (links : Parts) (edits : List Group) → links.plain.groups ≡ [] → links.patterned.groups ≡ [] → edits ≡ [] → after edits (rows_of (linked_of links).groups) ≡ []
-unfolding rows_of
-none_after links edits one two three =
-    ap (λ (groups : List Group). after groups (rows_of (links.plain.groups ++ links.patterned.groups))) three ∙ ap (λ (groups : List Group). after [] (rows_of (groups ++ links.patterned.groups))) one
-    ∙ ap (λ (groups : List Group). after [] (rows_of groups)) two
+-- a row that is put in by its user and its role
+pub pushed_pair : (rule : Fields) (user role : List ℕ) (old new : List Fields) → user_of rule ≡ user → role_of rule ≡ role → ((one : Fields) → times one new ≡ times one old + once (same one (row user role))) → (one : Fields) → times one new ≡ times one old + once (same one (row (user_of rule) (role_of rule)))
+pushed_pair rule user role old new first second more one =
+    more one ∙ ap (λ (pair : Fields). times one old + once (same one pair)) (sym (ap (λ (u : List ℕ). row u (role_of rule)) first ∙ ap (row user) second))
 
 -- a row more stands as often as it is put in
-pub pushed_rows : (parts : Parts) (old new : List Group) (pair : Fields) → AreLinks parts.names parts.plain.groups parts.patterned.groups → AreApart old → AreApart new → ((one : Fields) → standing parts new one ≡ standing parts old one + once (same one pair)) → (one : Fields) → times one (after new (rows_of (linked_of parts).groups)) ≡ times one (after old (rows_of (linked_of parts).groups)) + once (same one pair)
-pushed_rows parts old new pair sound apart apart_still more one =
-    omega (arith, times_after parts old sound apart one, times_after parts new sound apart_still one, more one)
-
 pub pushed_long : (old new : List Fields) (pair : Fields) → ((one : Fields) → times one new ≡ times one old + once (same one pair)) → length new ≡ length old + 1
 pushed_long old new pair more = as_long new (old ++ pair ∷ []) (λ one. more one ∙ sym (times_more one pair old)) ∙ length-append old (pair ∷ [])
 
@@ -46,12 +38,3 @@ pushed_counted old new pair is few more counts number = record {
 -- a role can be counted once more
 pub can_count_more : (built : Built) (role : List ℕ) → IsCounted built → count_of built.roles role + 1 < 2 ^ 64
 can_count_more built role is = omega (arith, is.counted role, count_by-le-length (bytes_eq role) (map role_of built.rows), length-map built.rows role_of, is.few)
-
--- the same rows in another order
-pub as_counted : (built : Built) (rows : List Fields) (role : List ℕ) → IsCounted built → ((one : Fields) → times one rows ≡ times one built.rows) → count_of built.roles role ≡ rows_with role rows
-as_counted built rows role is alike = is.counted role ∙ sym (roles_alike rows built.rows alike role)
-
--- the rows of links whose groups are the same
-pub rows_stay : (old new : Parts) → new.plain.groups ≡ old.plain.groups → new.patterned.groups ≡ old.patterned.groups → rows_of (linked_of new).groups ≡ rows_of (linked_of old).groups
-rows_stay old new plain patterned =
-    ap (λ (groups : List Group). rows_of (groups ++ new.patterned.groups)) plain ∙ ap (λ (groups : List Group). rows_of (old.plain.groups ++ groups)) patterned

@@ -45,7 +45,7 @@ pub record Puts (old new : Parts) (last : Group) : Type 0 where
   pub names : new.names ≡ old.names
   pub roles : (user : List ℕ) → roles_in new user ≡ cond (bytes_eq user last.user) last.roles (roles_in old user)
 
-put_text : (names : Fit) (old new : Kept) (patterned : Kept) (last : Group) → is_pattern names last.user ≡ false → ((name : List ℕ) → roles_under name new.groups ≡ cond (bytes_eq name last.user) last.roles (roles_under name old.groups)) → (user : List ℕ) → roles_in (record { plain = new; patterned = patterned; names = names }) user ≡ cond (bytes_eq user last.user) last.roles (roles_in (record { plain = old; patterned = patterned; names = names }) user)
+pub put_text : (names : Fit) (old new : Kept) (patterned : Kept) (last : Group) → is_pattern names last.user ≡ false → ((name : List ℕ) → roles_under name new.groups ≡ cond (bytes_eq name last.user) last.roles (roles_under name old.groups)) → (user : List ℕ) → roles_in (record { plain = new; patterned = patterned; names = names }) user ≡ cond (bytes_eq user last.user) last.roles (roles_in (record { plain = old; patterned = patterned; names = names }) user)
 put_text names old new patterned last is put user = by (is_pattern names user) refl (bytes_eq user last.user) refl
   where
     by : (test : Bool) → is_pattern names user ≡ test → (here : Bool) → bytes_eq user last.user ≡ here → cond test (roles_under user patterned.groups) (roles_under user new.groups) ≡ cond here last.roles (cond test (roles_under user patterned.groups) (roles_under user old.groups))
@@ -53,7 +53,7 @@ put_text names old new patterned last is put user = by (is_pattern names user) r
     by true pattern false same = refl
     by true pattern true same = absurd (false≢true (sym is ∙ ap (is_pattern names) (sym (same_text user last.user same)) ∙ pattern))
 
-put_pattern : (names : Fit) (plain : Kept) (old new : Kept) (last : Group) → is_pattern names last.user ≡ true → ((name : List ℕ) → roles_under name new.groups ≡ cond (bytes_eq name last.user) last.roles (roles_under name old.groups)) → (user : List ℕ) → roles_in (record { plain = plain; patterned = new; names = names }) user ≡ cond (bytes_eq user last.user) last.roles (roles_in (record { plain = plain; patterned = old; names = names }) user)
+pub put_pattern : (names : Fit) (plain : Kept) (old new : Kept) (last : Group) → is_pattern names last.user ≡ true → ((name : List ℕ) → roles_under name new.groups ≡ cond (bytes_eq name last.user) last.roles (roles_under name old.groups)) → (user : List ℕ) → roles_in (record { plain = plain; patterned = new; names = names }) user ≡ cond (bytes_eq user last.user) last.roles (roles_in (record { plain = plain; patterned = old; names = names }) user)
 put_pattern names plain old new last is put user = by (is_pattern names user) refl (bytes_eq user last.user) refl
   where
     by : (test : Bool) → is_pattern names user ≡ test → (here : Bool) → bytes_eq user last.user ≡ here → cond test (roles_under user new.groups) (roles_under user plain.groups) ≡ cond here last.roles (cond test (roles_under user old.groups) (roles_under user plain.groups))

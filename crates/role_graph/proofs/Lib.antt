@@ -1,3 +1,4 @@
+mod Adding
 mod Among
 mod Answering
 mod Bridging

@@ -7,7 +7,6 @@ ghost use Rattle.role_graph.specs.Graph.{most_rows};
 ghost use Rattle.role_graph.specs.Groups.{row, times};
 ghost use Rattle.role_meaning.specs.Links.{role_of, user_of};
 
-use crate::edits::Edits;
 use crate::graph::{RoleGraph, graph_of};
 use crate::links::Links;
 use crate::roles::Roles;
@@ -18,9 +17,7 @@ use std::marker::Model;
 /// A graph that is being made: rows come one after the other, and the distances between roles are found once all are there.
 /// Contracts see the rows, how names are compared with users, the hierarchy limit, and what is counted of the rows.
 pub struct GraphBuilder {
-    // Without rows; those that come are edits of it.
     links: Links,
-    edits: Edits,
     limit: u8,
     roles: Roles,
     count: usize,
@@ -31,7 +28,6 @@ impl Drop for GraphBuilder {
     fn drop(self) {
         let GraphBuilder {
             links: _links,
-            edits: _edits,
             limit: _limit,
             roles: _roles,
             count: _count,
@@ -42,13 +38,13 @@ impl Drop for GraphBuilder {
 impl Model for GraphBuilder {
     ghost use Rattle.std.specs.Prelude.{◌≤◌};
     ghost use Rattle.role_graph.specs.Built.{Built};
-    ghost use Rattle.role_graph.specs.Groups.{after, rows_of};
+    ghost use Rattle.role_graph.specs.Groups.{rows_of};
     ghost use Rattle.role_graph.specs.Helps.Kept.{linked_of};
 
     ghost Value = { Built };
 
     ghost view = { λ b. record {
-      rows = after b.edits (rows_of (linked_of b.links).groups);
+      rows = rows_of (linked_of b.links).groups;
       names = b.links.names;
       limit = b.limit;
       roles = b.roles;
@@ -70,7 +66,6 @@ impl GraphBuilder {
     {
         GraphBuilder {
             links: Links::new(alloc, names),
-            edits: Edits::new(alloc),
             limit,
             roles: Roles::new(alloc),
             count: 0,
@@ -90,10 +85,7 @@ impl GraphBuilder {
         ensures names { self.new.names ≡ self.old.names }
         ensures limit { self.new.limit ≡ self.old.limit }
     {
-        let _sound = self.links.len();
-        let _apart = self.edits.len();
-        self.edits.add_row(&self.links, alloc, rule)?;
-        let _apart_still = self.edits.len();
+        self.links.add(alloc, rule.field(0), rule.text(1))?;
         self.roles.add_text(alloc, rule.field(1))?;
         self.count += 1;
         Ok(())
@@ -109,14 +101,14 @@ impl GraphBuilder {
     {
         let GraphBuilder {
             links,
-            edits,
             limit,
             roles,
             count,
         } = self;
         let mut links = links;
-        links.reserve(edits.len())?;
-        links.change(edits);
+        let mut roles = roles;
+        links.fit();
+        roles.fit();
         let graph = graph_of(alloc, links, limit, roles, count)?;
         Ok(graph)
     }

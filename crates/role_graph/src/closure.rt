@@ -10,6 +10,7 @@ ghost use Rattle.role_graph.specs.Helps.Squares.{AreNodes, Grows, IsBefore, IsBe
 use crate::inserting::insert_link;
 use crate::links::Links;
 use crate::mending::drop_gone;
+use crate::reserving::{FEW_LINKED, FEW_ROLES, count_linked};
 use crate::roles::Roles;
 use crate::touching::{MOST_NODES, NodeMarks, nodes_from};
 use dist_rows::DistRows;
@@ -17,8 +18,8 @@ use perm_base::{NoMemory, Text};
 use std::alloc::Global;
 
 /// Makes the square follow an edit that was made: `whole` tells that no role is gone, and `touched`
-/// which nodes may have other links. No distances are kept where no role is below another, or there
-/// is no room, as among more than 1,024 roles.
+/// which nodes may have other links. No distances are kept where no role is below another, or few of many
+/// roles are, or there is no room, as among more than 1,024 roles.
 pub(crate) fn refresh(
     square: &mut DistRows,
     alloc: Global,
@@ -51,23 +52,33 @@ pub(crate) fn square_of(alloc: Global, links: &Links, roles: &Roles) -> Result<D
         → IsExact (linked_of links.now) (nodes_of roles.now) square.cells) }
 {
     let mut square = DistRows::empty(alloc);
-    let all = nodes_from(0);
-    if !has_links(links, roles, &all) {
+    if !are_kept(links, roles) {
         return Ok(square);
     }
     if roles.len() > MOST_NODES {
         return Ok(square);
     }
     square.reserve_node(roles.len() as u32)?;
-    refresh(&mut square, alloc, links, roles, false, all);
+    refresh(&mut square, alloc, links, roles, false, nodes_from(0));
     Ok(square)
 }
 
-// Whether no distances are kept, and no touched node has a link.
+// Whether no distances are kept, and none are to be.
 fn is_flat(square: &DistRows, links: &Links, roles: &Roles, touched: &NodeMarks) -> bool
     ensures { IsTrue result → length square.now.cells ≡ 0 }
 {
-    square.size() == 0 && !has_links(links, roles, touched)
+    square.size() == 0 && !gets_links(links, roles, touched)
+}
+
+// Whether a touched node has a link, and distances are to be kept.
+fn gets_links(links: &Links, roles: &Roles, touched: &NodeMarks) -> bool {
+    has_links(links, roles, touched) && are_kept(links, roles)
+}
+
+// Whether distances are to be kept: some role has links of its own, and either the roles are few, or those with links are not.
+fn are_kept(links: &Links, roles: &Roles) -> bool {
+    let linked = count_linked(links, roles);
+    linked > 0 && (roles.len() <= FEW_ROLES || linked >= FEW_LINKED)
 }
 
 // Whether a touched node has a link.

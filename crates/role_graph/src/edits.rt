@@ -3,8 +3,7 @@
 ghost use Rattle.std.specs.Prelude.{◌≡◌, ◌+◌, ◌<◌, ◌≤◌, ◌++◌, ◌∷◌, ℕ, List, [], true, false, IfOk, OnOk, IfSome, IfNone, get_or, count_by, if◌then◌else◌, length};
 ghost use Rattle.std.specs.Str.{bytes_eq};
 ghost use Rattle.policy_table.specs.Tables.{Fields, same};
-ghost use Rattle.role_meaning.specs.Links.{role_of, user_of};
-ghost use Rattle.role_graph.specs.Groups.{Group, row};
+ghost use Rattle.role_graph.specs.Groups.{Group};
 ghost use Rattle.role_graph.specs.Helps.Kept.{AreApart, roles_in};
 ghost use Rattle.role_graph.specs.Helps.Edits.{counted_rows, overlay, standing};
 ghost use Rattle.role_graph.specs.Helps.Roles.{count_of};
@@ -88,21 +87,6 @@ impl Edits {
         requires { length rule.now ≡ 2 }
         ensures { OnOk result ((one : Fields) → standing links.now self.new one
             ≡ standing links.now self.old one + (if same one rule.now then 1 else 0)) }
-    {
-        self.add_row(links, alloc, rule)
-    }
-
-    /// Adds the user and the role of a row, given the graph that is edited.
-    pub(crate) fn add_row(
-        &mut self,
-        links: &Links,
-        alloc: Global,
-        rule: &Rule,
-    ) -> Result<(), NoMemory>
-        requires { 2 ≤ length rule.now }
-        ensures { OnOk result ((one : Fields) → standing links.now self.new one
-            ≡ standing links.now self.old one
-            + (if same one (row (user_of rule.now) (role_of rule.now)) then 1 else 0)) }
     {
         let mut roles = self.take(links, alloc, rule.field(0))?;
         roles.push(Text::from_str(alloc, rule.text(1))?)?;

@@ -47,7 +47,8 @@ const TOO_FAR: u8 = 255;
 /// graph's own, how names are compared with users, the hierarchy limit, and the room for more.
 ///
 /// Where some role is below another, and at most 1,024 different roles stand, the distances between these
-/// are kept, a byte for each pair, and questions read them; else questions walk the rows.
+/// are kept, a byte for each pair, and questions read them; else questions walk the rows, and also where of
+/// more than 128 roles fewer than 32 have roles of their own.
 pub struct RoleGraph {
     alloc: Global,
     links: Links,
@@ -149,9 +150,11 @@ impl RoleGraph {
         ensures names { IfOk result (λ copy. copy.names ≡ self.now.names) }
         ensures limit { IfOk result (λ copy. copy.limit ≡ self.now.limit) }
     {
-        let links = self.links.copy(alloc)?;
-        let roles = self.roles.copy(alloc)?;
+        let mut links = self.links.copy(alloc)?;
+        let mut roles = self.roles.copy(alloc)?;
         let square = self.square.copy(alloc)?;
+        links.fit();
+        roles.fit();
         let limit = self.limit;
         let count = self.count;
         Ok(RoleGraph {

@@ -1,6 +1,6 @@
 //! Rows by their users.
 
-ghost use Rattle.std.specs.Prelude.{◌≡◌, ◌+◌, ◌<◌, ◌≤◌, ℕ, Bool, List, [], All, true, IfOk, IfSome, IfNone, IsOk, OnErr, OnOk, MatchOption, get_or, if◌then◌else◌, length, vec_len};
+ghost use Rattle.std.specs.Prelude.{◌≡◌, ◌+◌, ◌<◌, ◌≤◌, ◌++◌, ◌∷◌, ℕ, Bool, List, [], All, true, IfOk, IfSome, IfNone, IsOk, OnErr, OnOk, MatchOption, get_or, if◌then◌else◌, length, vec_len};
 ghost use Rattle.std.specs.List.{Contains, IsDistinct};
 ghost use Rattle.std.specs.Str.{bytes_eq};
 ghost use Rattle.role_graph.specs.Groups.{Group};
@@ -125,6 +125,34 @@ impl Groups {
         Ok(self.entries.reserve(count)?)
     }
 
+    /// Gives back the room for further groups.
+    pub(crate) fn fit(&mut self)
+        ensures { self.new.groups ≡ self.old.groups }
+    {
+        self.entries.shrink_to_fit();
+    }
+
+    /// Gives a user one role more.
+    pub(crate) fn add(&mut self, alloc: Global, user: &[u8], role: Text) -> Result<(), NoMemory>
+        ensures roles { OnOk result ((name : List ℕ) → roles_under name self.new.groups
+            ≡ (if bytes_eq name user.now then roles_under user.now self.old.groups ++ role ∷ []
+            else roles_under name self.old.groups)) }
+        ensures kept { AreKept self.new.groups }
+        ensures users { (test : List ℕ → Bool) → test user.now ≡ true
+            → All (λ group. test group.user ≡ true) self.old.groups
+            → All (λ group. test group.user ≡ true) self.new.groups }
+        ensures few { length self.new.groups ≤ length self.old.groups + 1 }
+    {
+        if let Some(roles) = self.entries.get_mut(user) {
+            return push_role(roles, role);
+        }
+        // Most users have few roles, and a list that grows takes room for four.
+        let mut first = Vec::with_capacity(alloc, 1)?;
+        first.push_reserved(role);
+        self.entries.insert(Vec::from_slice(alloc, user)?, first)?;
+        Ok(())
+    }
+
     /// Gives a user these roles in place of those that it had; a user without roles has no group.
     pub(crate) fn put(&mut self, user: Vec<u8>, roles: Vec<Text>)
         requires { 0 < self.old.spare }
@@ -145,3 +173,12 @@ impl Groups {
 }
 
 impl Share for Groups {}
+
+// Puts a role behind the others.
+fn push_role(roles: &mut Vec<Text>, role: Text) -> Result<(), NoMemory>
+    ensures pushed { OnOk result (roles.new.items ≡ roles.old.items ++ role ∷ []) }
+    ensures longer { length roles.old.items ≤ length roles.new.items }
+{
+    roles.push(role)?;
+    Ok(())
+}

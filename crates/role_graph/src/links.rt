@@ -1,9 +1,9 @@
 //! The groups of a graph: those whose users are patterns apart from the others.
 
-ghost use Rattle.std.specs.Prelude.{◌≡◌, ◌+◌, ◌<◌, ◌≤◌, ◌⊎◌, ◌++◌, ◌↔◌, ℕ, List, [], OnOk, IfNone, IfOk, IfSome, IsTrue, Some, get_or, length, true};
+ghost use Rattle.std.specs.Prelude.{◌≡◌, ◌+◌, ◌<◌, ◌≤◌, ◌⊎◌, ◌++◌, ◌↔◌, ℕ, List, [], OnOk, IfNone, IfOk, IfSome, IsTrue, Some, get_or, if◌then◌else◌, length, true};
 ghost use Rattle.std.specs.List.{Contains};
-ghost use Rattle.policy_table.specs.Tables.{Fields};
-ghost use Rattle.role_graph.specs.Groups.{after, rows_of, times};
+ghost use Rattle.policy_table.specs.Tables.{Fields, same};
+ghost use Rattle.role_graph.specs.Groups.{after, row, rows_of, times};
 ghost use Rattle.role_graph.specs.Helps.Kept.{AreApart, AreLinks, HasRoom, linked_of, roles_in};
 ghost use Rattle.role_graph.specs.Helps.Lists.{Lists};
 ghost use Rattle.role_graph.specs.Helps.Marks.{Extends, IsSet};
@@ -105,6 +105,22 @@ impl Links {
         }
     }
 
+    /// Adds a row of a user.
+    pub(crate) fn add(&mut self, alloc: Global, user: &[u8], role: &str) -> Result<(), NoMemory>
+        requires { length (rows_of (linked_of self.old).groups) < 200000 }
+        ensures rows { OnOk result ((one : Fields) → times one (rows_of (linked_of self.new).groups)
+            ≡ times one (rows_of (linked_of self.old).groups)
+            + (if same one (row user.now role.now) then 1 else 0)) }
+        ensures names { self.new.names ≡ self.old.names }
+    {
+        let text = Text::from_str(alloc, role)?;
+        if is_pattern(self.names, user) {
+            self.patterned.add(alloc, user, text)
+        } else {
+            self.plain.add(alloc, user, text)
+        }
+    }
+
     /// Makes room for so many further groups in each part.
     pub(crate) fn reserve(&mut self, count: usize) -> Result<(), NoMemory>
         ensures plain { self.new.plain.groups ≡ self.old.plain.groups }
@@ -117,6 +133,16 @@ impl Links {
     {
         self.plain.reserve(count)?;
         self.patterned.reserve(count)
+    }
+
+    /// Gives back the room for further groups.
+    pub(crate) fn fit(&mut self)
+        ensures plain { self.new.plain.groups ≡ self.old.plain.groups }
+        ensures patterned { self.new.patterned.groups ≡ self.old.patterned.groups }
+        ensures names { self.new.names ≡ self.old.names }
+    {
+        self.plain.fit();
+        self.patterned.fit();
     }
 
     /// Gives each user of an edit the roles that it has afterwards.

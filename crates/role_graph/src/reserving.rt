@@ -12,8 +12,14 @@ use indexmap::IndexSet;
 use perm_base::{NoMemory, is_pattern};
 use std::alloc::Global;
 
+/// Up to so many roles the distances between all of them take little memory.
+pub(crate) const FEW_ROLES: usize = 128;
+
+/// Where fewer roles have links of their own, a walk comes to few groups.
+pub(crate) const FEW_LINKED: usize = 32;
+
 /// Makes room for the distances between all roles that may stand after these edits, by which roles come
-/// and so many rows go. None is needed where no role is below another, or there are too many roles.
+/// and so many rows go. None is needed where no distances are to be kept.
 pub(crate) fn reserve_square(
     square: &mut DistRows,
     alloc: Global,
@@ -28,7 +34,7 @@ pub(crate) fn reserve_square(
     if roles.len() > MOST_NODES.saturating_add(gone) {
         return Ok(());
     }
-    if square.size() == 0 && !may_link(links, roles, edits, added) {
+    if square.size() == 0 && !are_wanted(links, roles, edits, added) {
         return Ok(());
     }
     let most = roles.len() + count_new(alloc, roles, added)?;
@@ -36,32 +42,51 @@ pub(crate) fn reserve_square(
     square.reserve_node(wanted.saturating_sub(square.size()))
 }
 
-// Whether a role may be below another after an edit, where none is before it: a user whose rows change is a role, or a pattern, or a
-// role that comes has rows of its own.
-fn may_link(links: &Links, roles: &Roles, edits: &Edits, added: &Names) -> bool {
-    changes_role(links, roles, edits) || adds_user(links, edits, added)
+// Whether distances may have to be kept after an edit, where none are before it: roles get links, and with these either the roles are
+// few, or those with links are not.
+fn are_wanted(links: &Links, roles: &Roles, edits: &Edits, added: &Names) -> bool {
+    let more = changed_roles(links, roles, edits).saturating_add(added_users(links, edits, added));
+    more > 0
+        && (roles.len() <= FEW_ROLES
+            || count_linked(links, roles).saturating_add(more) >= FEW_LINKED)
 }
 
-// Whether a user whose rows change is a role, or a pattern.
-fn changes_role(links: &Links, roles: &Roles, edits: &Edits) -> bool {
-    for place in 0..edits.len() {
-        let user = edits.user_at(place);
-        if is_pattern(links.names(), user) || roles.place_of(user).is_some() {
-            return true;
+/// How many of the roles have links of their own, of the first that may be nodes.
+pub(crate) fn count_linked(links: &Links, roles: &Roles) -> usize {
+    let mut count = 0usize;
+    for node in 0..roles.len().min(MOST_NODES) {
+        if links.has_fitting(roles.name_at(node)) {
+            count = count.saturating_add(1);
         }
     }
-    false
+    count
 }
 
-// Whether a role that comes has rows of its own.
-fn adds_user(links: &Links, edits: &Edits, added: &Names) -> bool {
+// How many users whose rows change are roles. A pattern may be many.
+fn changed_roles(links: &Links, roles: &Roles, edits: &Edits) -> usize {
+    let mut count = 0usize;
+    for place in 0..edits.len() {
+        let user = edits.user_at(place);
+        if is_pattern(links.names(), user) {
+            return FEW_LINKED;
+        }
+        if roles.place_of(user).is_some() {
+            count = count.saturating_add(1);
+        }
+    }
+    count
+}
+
+// How many of the roles that come have rows of their own.
+fn added_users(links: &Links, edits: &Edits, added: &Names) -> usize {
+    let mut count = 0usize;
     for at in 0..added.len() {
         let name = added.at(at);
         if links.has_fitting(name) || edits.has_user(name) {
-            return true;
+            count = count.saturating_add(1);
         }
     }
-    false
+    count
 }
 
 // How many of the names are no roles yet, each counted once.

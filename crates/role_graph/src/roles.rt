@@ -138,6 +138,13 @@ impl Roles {
         Ok(self.counts.reserve(count)?)
     }
 
+    /// Gives back the room for further roles.
+    pub(crate) fn fit(&mut self)
+        ensures { self.new.entries ≡ self.old.entries }
+    {
+        self.counts.shrink_to_fit();
+    }
+
     /// Counts a role once more; a new one gets the last place.
     pub(crate) fn add(&mut self, role: Vec<u8>)
         requires few { count_of self.old role.items + 1 < 2 ^ 64 }

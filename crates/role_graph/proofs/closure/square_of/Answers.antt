@@ -3,8 +3,8 @@ use Rattle.std.proofs.lemmas.Bool.{false≢true}
 use Rattle.dist_rows.specs.Squares.{Square}
 use Rattle.role_graph.proofs.closure.square_of.Goals as goal
 
-pub returns-then-not-has_links : goal.returns-then-not-has_links
-returns-then-not-has_links c = λ some. absurd (omega (arith, some, ap (λ (square : Square). length square.cells) c.empty-square.ensures))
+pub returns-then-not-are_kept : goal.returns-then-not-are_kept
+returns-then-not-are_kept c = λ some. absurd (omega (arith, some, ap (λ (square : Square). length square.cells) c.empty-square.ensures))
 
 pub returns-then-len-gt-MOST_NODES : goal.returns-then-len-gt-MOST_NODES
 returns-then-len-gt-MOST_NODES c = λ some. absurd (omega (arith, some, ap (λ (square : Square). length square.cells) c.empty-square.ensures))

@@ -15,9 +15,8 @@ fill-requires c =
     let are : ArePatterns relation c.in_ok-patterns.patterns.items =
     first_patterns c.args.shape c.terms_of-terms.result c.args.limit (rows c.args.tables.now.policy (G c.args.shape.number)) c.in_ok-patterns.patterns.items c.terms_of-terms.ensures
     (c.in_ok-patterns.ensures ∙ ap (filter (has_pattern c.terms_of-terms.result.domains)) c.rows.ensures.value) c.requires.patterns in
-    subst (CanTurn (first_turn c.terms_of-terms.result c.rows-2.result) c.new-domains.result) (sym c.deref.ensures.value)
-    (subst (λ (l : List Fields). CanTurn (first_turn c.terms_of-terms.result l) c.new-domains.result c.in_ok-patterns.patterns.items) (sym c.rows-2.ensures.value)
-    (first_can c.args.shape c.terms_of-terms.result c.args.limit all c.in_ok-patterns.patterns.items c.new-domains.result c.terms_of-terms.ensures c.new-domains.ensures c.requires.some c.requires.most c.requires.columns c.requires.few are))
+    subst (CanTurn (first_turn c.terms_of-terms.result all) c.new-domains.result) (sym c.deref.ensures.value)
+    (first_can c.args.shape c.terms_of-terms.result c.args.limit all c.in_ok-patterns.patterns.items c.new-domains.result c.terms_of-terms.ensures c.new-domains.ensures c.requires.some c.requires.most c.requires.columns c.requires.few are)
 
 pub invariant_of-result : goal.invariant_of-result
 invariant_of-result c =
@@ -40,8 +39,7 @@ returns-clause-section c =
     record {
       columns = c.requires.columns;
       few = c.requires.few;
-      domains = subst (λ (t : Terms). AreDomains (record { terms = t; rows = all }) c.fill.new.self.entries) c.terms_of-terms.ensures
-          (subst (λ (l : List Fields). AreDomains (record { terms = c.terms_of-terms.result; rows = l }) c.fill.new.self.entries) c.rows-2.ensures.value c.in_ok-fill.ensures);
+      domains = subst (λ (t : Terms). AreDomains (record { terms = t; rows = all }) c.fill.new.self.entries) c.terms_of-terms.ensures c.in_ok-fill.ensures;
       patterns = first_patterns c.args.shape c.terms_of-terms.result c.args.limit (rows c.args.tables.now.policy (G c.args.shape.number)) c.in_ok-patterns.patterns.items c.terms_of-terms.ensures
           (c.in_ok-patterns.ensures ∙ ap (filter (has_pattern c.terms_of-terms.result.domains)) c.rows.ensures.value) c.requires.patterns;
     }

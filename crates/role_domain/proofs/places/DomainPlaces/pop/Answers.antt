@@ -1,5 +1,5 @@
 use Rattle.role_domain.proofs.Popped.{pop_fewer, pop_gone, pop_others, pop_there}
-use Rattle.role_domain.proofs.builders.DomainBuilders.pop.Goals as goal
+use Rattle.role_domain.proofs.places.DomainPlaces.pop.Goals as goal
 
 pub returns-clause-there : goal.returns-clause-there
 returns-clause-there c = pop_there c.pop.result c.self.inside.entries c.pop.new.self c.args.self.now c.self.view_is c.pop.ensures.entries c.pop.ensures.updates
