@@ -27,6 +27,8 @@ answers_of() {
 compared=0
 for file in examples/*/*; do
   folder="${file%/*}"
+  # Programs that call the library for C, which checks/embedding.sh runs.
+  [ "$folder" != examples/embedding ] || continue
   if [ "${file##*/}" = answers.txt ]; then
     copy="$(answers_of "$folder"; echo .)"
   else

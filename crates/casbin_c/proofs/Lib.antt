@@ -1,0 +1,3 @@
+pub mod EnforcerValues
+pub mod SnapshotValues
+mod ShowLemmas

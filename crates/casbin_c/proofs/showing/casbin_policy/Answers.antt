@@ -1,0 +1,13 @@
+use Rattle.std.proofs.Common.{Some, ap, sym, ◌∙◌}
+use Rattle.casbin_c.proofs.ShowLemmas.{shows_policy}
+use Rattle.casbin_c.proofs.showing.casbin_policy.Goals as goal
+
+pub returns-clause-opened : goal.returns-clause-opened
+returns-clause-opened c = λ _. record {
+  before = _;
+  behind = _;
+  had = c.in-Some.ensures.taken ∙ ap Some (sym c.deref_mut.ensures.value);
+  has = c.give.ensures;
+  holds = shows_policy c.deref_mut.result.now c.show_policy.new.self c.show_policy.result c.tell_policy.result c.args.room.now c.tell_policy.new.room c.args.size.now c.tell_policy.new.size
+      c.show_policy.ensures.shown c.show_policy.ensures.refused (rw (c.told.ensures.told, c.deref.ensures) at c.tell_policy.ensures);
+}

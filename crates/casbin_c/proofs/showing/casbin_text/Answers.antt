@@ -1,0 +1,11 @@
+use Rattle.std.proofs.Common.{Some, ap, refl, sym, ◌∙◌}
+use Rattle.casbin_c.proofs.showing.casbin_text.Goals as goal
+
+pub returns-clause-opened : goal.returns-clause-opened
+returns-clause-opened c = λ _. record {
+  before = _;
+  behind = _;
+  had = c.in-Some.ensures.taken;
+  has = c.give.ensures;
+  holds = (refl, rw (c.told.ensures.told, c.deref.ensures) at c.write_text.ensures.code, rw (c.told.ensures.told, c.deref.ensures) at c.write_text.ensures.written);
+}
