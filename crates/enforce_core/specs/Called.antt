@@ -1,9 +1,9 @@
 -- What one call of an enforcer comes to: the text of one item of a script, that is no request (Casbin, management API).
-use Rattle.std.specs.Prelude.{◌≡◌, ◌≢◌, ℕ, Bool, true, false, List, [], ◌∷◌, length}
+use Rattle.std.specs.Prelude.{◌≡◌, ◌≢◌, ℕ, false, List, [], ◌∷◌, length}
 use Rattle.answer_lines.specs.LineText.{line_text}
 use Rattle.answer_lines.specs.declared.answer.Answer.{Answer}
 use Rattle.answer_lines.specs.declared.answer.Answer.TheVariants as answer
-use Rattle.live_round.specs.Steps.{IsStep, IsStopped}
+use Rattle.live_round.specs.Steps.{IsStep, IsStopped, is_request}
 use Rattle.script_read.specs.Script.{IsScript, IsScriptFault}
 use Rattle.script_read.specs.Said.{Reading, Said, asks}
 use Rattle.script_read.specs.declared.fault.ScriptFault.{ScriptFault}
@@ -27,15 +27,10 @@ called_of (answer.Call refused) = called.Refused
 called_of (answer.Query refused) = called.Refused
 called_of _ = called.Done
 
--- a request
-abbrev pub is_asked : Said → Bool
-is_asked (asks reading) = true
-is_asked _ = false
-
 -- the text says one item, which is no request
 pub record SaysOne (text : List ℕ) (item : Said) : Type 0 where
   pub says : IsScript false text (item ∷ [])
-  pub no_request : is_asked item ≡ false
+  pub no_request : is_request item ≡ false
 
 -- the one item that the text says was done at the desk, as in a session, and answered so
 pub record IsDone (old new : Enforcing) (text : List ℕ) : Type 0 where

@@ -4,3 +4,4 @@ pub mod Lines
 pub mod Words
 pub mod Making
 pub mod Items
+pub mod Rules

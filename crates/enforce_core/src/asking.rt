@@ -106,8 +106,8 @@ fn judged(
     finder: &mut KeepingFinder,
     scratch: &mut Scratch,
 ) -> Result<Decided, AskStop>
-    requires suits { Suits program.now state.now.shapes }
-    ensures asks { AsksValues program.now state.now finder.old finder.new
+    requires { Suits program.now state.now.shapes }
+    ensures { AsksValues program.now state.now finder.old finder.new
         (map datum request.now) result }
 {
     if let Err(arity) = program.takes(request) {
@@ -124,8 +124,9 @@ fn request_of_json(alloc: Global, line: &[u8]) -> Result<Request, AskStop>
     ensures found { IfOk result (λ request. Says true line.now (Ok (map datum request))) }
     ensures stopped { IfErr result (LineStops line.now) }
 {
-    let Ok(line) = str::from_utf8(line) else {
+    let Ok(text) = str::from_utf8(line) else {
         return Err(AskStop::NotUtf8 { field: 1 });
     };
-    Ok(read_request(alloc, true, line)?)
+    let request = read_request(alloc, true, text)?;
+    Ok(request)
 }

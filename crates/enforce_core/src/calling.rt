@@ -1,15 +1,15 @@
-ghost use Rattle.std.specs.Prelude.{◌≡◌, ◌∷◌, [], IfErr, IfOk, OnErr, false, map};
+ghost use Rattle.std.specs.Prelude.{◌≡◌, ◌∷◌, [], IfErr, IfOk, OnErr, false, map, string_bytes};
 ghost use Rattle.answer_lines.specs.LineText.{line_text};
-ghost use Rattle.live_round.specs.Steps.{IsStep, IsStopped};
+ghost use Rattle.live_round.specs.Steps.{IsStep, IsStopped, is_request};
 ghost use Rattle.script_read.specs.Said.{seen};
-ghost use Rattle.enforce_core.specs.Called.{CallStops, IsCalled, called_of, is_asked};
+ghost use Rattle.enforce_core.specs.Called.{CallStops, IsCalled, called_of};
 ghost use Rattle.enforce_core.specs.Helps.Items.{ItemStops};
 
 use crate::enforcer::Enforcer;
 use crate::stops::{CallStop, Called};
-use answer_lines::{Answer, Line, print_line};
-use live_round::answer_item;
-use perm_base::{NoMemory, Text};
+use answer_lines::{Answer, Line, push_line};
+use live_round::{answer_item, asked_in};
+use perm_base::NoMemory;
 use script_read::{Item, Script, read_script};
 use std::alloc::Global;
 
@@ -28,7 +28,7 @@ impl Enforcer {
         let Ok(line) = line_of(alloc, answer) else {
             return Err(CallStop::Untold);
         };
-        self.told = line;
+        self.tell(line);
         Ok(called)
     }
 
@@ -56,7 +56,7 @@ impl Enforcer {
 // The one item of a script, which is no request.
 fn only_item(script: &Script) -> Result<&Item, CallStop>
     ensures only { IfOk result (λ item. script.now ≡ item.now ∷ []) }
-    ensures no_request { IfOk result (λ item. is_asked (seen item.now) ≡ false) }
+    ensures no_request { IfOk result (λ item. is_request (seen item.now) ≡ false) }
     ensures stopped { IfErr result (ItemStops (map seen script.now)) }
 {
     let Some((item, others)) = script.as_slice().split_first() else {
@@ -65,28 +65,10 @@ fn only_item(script: &Script) -> Result<&Item, CallStop>
     if !others.is_empty() {
         return Err(CallStop::Items);
     }
-    if is_asked(item) {
+    let None = asked_in(item) else {
         return Err(CallStop::Asks);
-    }
+    };
     Ok(item)
-}
-
-// Whether an item is a request.
-fn is_asked(item: &Item) -> bool
-    ensures { result ≡ is_asked (seen item.now) }
-{
-    match item {
-        Item::Ask(_) => true,
-        Item::Edit(_)
-        | Item::Publish
-        | Item::Sync
-        | Item::Has { .. }
-        | Item::Rows { .. }
-        | Item::Roles { .. }
-        | Item::Users { .. }
-        | Item::Keep(_)
-        | Item::History(_) => false,
-    }
 }
 
 // Whether an answer is a refusal.
@@ -111,9 +93,9 @@ fn called_of(answer: &Answer) -> Called
 }
 
 // The line that tells an answer; what no item of a script is answered has none.
-fn line_of(alloc: Global, reply: Answer) -> Result<Text, NoMemory>
-    ensures line { IfOk result (λ text.
-        text ≡ line_text (record { number = 1; answer = reply })) }
+fn line_of(alloc: Global, reply: Answer) -> Result<String, NoMemory>
+    ensures { IfOk result (λ text.
+        string_bytes text ≡ line_text (record { number = 1; answer = reply })) }
 {
     if !reply.is_printable() {
         return Err(NoMemory);
@@ -122,5 +104,7 @@ fn line_of(alloc: Global, reply: Answer) -> Result<Text, NoMemory>
         number: 1,
         answer: reply,
     };
-    print_line(alloc, &line)
+    let mut text = String::new(alloc);
+    push_line(&mut text, &line)?;
+    Ok(text)
 }

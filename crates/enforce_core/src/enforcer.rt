@@ -1,5 +1,4 @@
-ghost use Rattle.std.specs.Prelude.{◌≡◌, [], IfOk, OnErr, OnOk};
-ghost use Rattle.std.specs.Arc.{arc_value};
+ghost use Rattle.std.specs.Prelude.{◌≡◌, [], IfOk, OnErr, OnOk, string_bytes};
 ghost use Rattle.answer_lines.specs.declared.answer.Answer.TheVariants.{Published};
 ghost use Rattle.decision.specs.Programs.{Suits};
 ghost use Rattle.live_round.specs.Steps.{IsStep};
@@ -7,11 +6,11 @@ ghost use Rattle.policy_desk.specs.Desks.{floor_after};
 ghost use Rattle.policy_desk.specs.Transitions.{IsBegun, IsPublished};
 ghost use Rattle.script_read.specs.Said.{publishes};
 ghost use Rattle.version_log.specs.Log.{versions};
-ghost use Rattle.enforce_core.specs.Seen.{IsTakenFrom};
+ghost use Rattle.enforce_core.specs.Seen.{IsTakenFrom, none_refused};
 
 use crate::snapshot::Snapshot;
 use decision::{Program, Scratch};
-use perm_base::{NoMemory, Text};
+use perm_base::NoMemory;
 use policy_desk::Desk;
 use regex_keep::KeepingFinder;
 use std::alloc::Global;
@@ -26,67 +25,67 @@ pub struct Enforcer {
     pub(crate) desk: Desk,
     pub(crate) finder: KeepingFinder,
     pub(crate) scratch: Scratch,
-    pub(crate) told: Text,
+    pub(crate) told: String,
 }
 
 impl Model for Enforcer {
+    ghost use Rattle.std.specs.Prelude.{string_bytes};
     ghost use Rattle.std.specs.Arc.{arc_value};
-    ghost use Rattle.std.specs.Coded.{codes};
+    ghost use Rattle.std.specs.Coded.{Coded, codes};
     ghost use Rattle.decision.specs.Programs.{Suits};
-    ghost use Rattle.decision.specs.contracts.program.Program as program;
+    ghost use Rattle.model_conf.specs.Helps.ExpressionCode.{Sign, expression_code};
     ghost use Rattle.enforce_core.specs.Seen.{Enforcing};
 
     ghost Value = { Enforcing };
 
-    ghost coded = { Prim.hlevel (codes, program.the_row.coded) };
+    ghost coded = { let s : Coded Sign = Prim.hlevel codes in Prim.hlevel (codes, expression_code s) };
 
     ghost view = { λ e. record {
       model = arc_value e.program;
       desk = e.desk;
       refusals = e.finder;
-      told = e.told;
+      told = string_bytes e.told;
     } };
 
     ghost invariant = { λ e. Suits (arc_value e.program) e.desk.state.shapes };
 }
 
 impl Enforcer {
-    pub(crate) fn new(
-        program: Arc<Program>,
-        desk: Desk,
-        finder: KeepingFinder,
-        scratch: Scratch,
-        told: Text,
-    ) -> Enforcer
-        requires suits { Suits (arc_value program) desk.state.shapes }
-        ensures made { result ≡ record {
-          model = arc_value program;
+    // An enforcer at this desk, which has refused and told nothing yet.
+    pub(crate) fn over(alloc: Global, program: Program, desk: Desk) -> Result<Enforcer, NoMemory>
+        requires { Suits program desk.state.shapes }
+        ensures { IfOk result (λ made. made ≡ record {
+          model = program;
           desk = desk;
-          refusals = finder;
-          told = told;
-        } }
+          refusals = none_refused;
+          told = [];
+        }) }
     {
-        Enforcer {
+        let finder = KeepingFinder::new(alloc)?;
+        let scratch = Scratch::for_program(alloc, &program);
+        let program = Arc::new(alloc, program)?;
+        let told = String::new(alloc);
+        Ok(Enforcer {
             program,
             desk,
             finder,
             scratch,
             told,
-        }
+        })
     }
 
     /// The published version.
     pub fn version(&self) -> u32
-        ensures version { result ≡ versions self.now.desk.state.log }
+        ensures { result ≡ versions self.now.desk.state.log }
     {
         self.desk.state().version()
     }
 
     /// The text that it told last.
     pub fn told(&self) -> &[u8]
-        ensures told { result.now ≡ self.now.told }
+        ensures { result.now ≡ self.now.told }
     {
-        self.told.bytes()
+        self.told.as_bytes()
     }
 
     /// Publishes the pending edits (`Desk::publish`), as the item of a script does, and says the new version. Where memory runs
@@ -105,14 +104,19 @@ impl Enforcer {
 
     /// A snapshot of what is published. Its time and memory grow with the rows, and with the edits that are kept.
     pub fn snapshot(&self, alloc: Global) -> Result<Snapshot, NoMemory>
-        ensures taken { IfOk result (IsTakenFrom self.now) }
+        ensures { IfOk result (IsTakenFrom self.now) }
     {
         let program = Arc::try_clone(&self.program)?;
-        let state = Arc::new(alloc, self.desk.state().copy(alloc)?)?;
-        let finder = KeepingFinder::new(alloc)?;
-        let scratch = Scratch::for_program(alloc, &self.program);
-        let told = Text::from_str(alloc, "")?;
-        Ok(Snapshot::new(program, state, finder, scratch, told))
+        let copy = self.desk.state().copy(alloc)?;
+        let state = Arc::new(alloc, copy)?;
+        Snapshot::over(alloc, program, state)
+    }
+
+    // Tells a text.
+    pub(crate) fn tell(&mut self, text: String)
+        ensures { self.new ≡ record self.old { told = string_bytes text } }
+    {
+        self.told = text;
     }
 }
 

@@ -30,12 +30,10 @@ impl Sink for Gathering {
 
 /// The line by which the program tells a stop, with its LF.
 pub fn line_of_stop(alloc: Global, stop: Stop) -> Result<Vec<u8>, NoMemory>
-    ensures line { IfOk result (λ line. line.items ≡ line_of stop) }
+    ensures { IfOk result (λ line. line.items ≡ line_of stop) }
 {
-    let mut gathering = Gathering {
-        bytes: Vec::new(alloc),
-        faults: 0,
-    };
+    let bytes = Vec::new(alloc);
+    let mut gathering = Gathering { bytes, faults: 0 };
     let Ok(()) = push_stop(&mut gathering, stop) else {
         return Err(NoMemory);
     };

@@ -6,22 +6,19 @@ ghost use Rattle.policy_state.specs.States.{StandsFor, tables};
 ghost use Rattle.policy_table.specs.Limits.{AreSound};
 ghost use Rattle.enforce_core.specs.Helps.Making.{AreMade, PolicyStops, ShapeStops};
 ghost use Rattle.enforce_core.specs.Opening.{AreOpenedFrom, IsOpenedFrom, OpeningStops, shapes_under};
-ghost use Rattle.enforce_core.specs.Seen.{none_refused};
 
 use crate::enforcer::Enforcer;
 use crate::options::read_options;
 use command_words::Options;
-use decision::{Program, Scratch, make_program};
+use decision::{Program, make_program};
 use model_conf::{Model, read_model, shapes_of};
-use perm_base::{NoMemory, Shapes, Text};
+use perm_base::{NoMemory, Shapes};
 use policy_csv::read_policy;
 use policy_desk::{Desk, open_desk};
 use policy_state::{make_state, states_stand_for_their_history};
 use policy_table::Tables;
-use regex_keep::KeepingFinder;
 use run_status::{Part, Stop};
 use std::alloc::Global;
-use std::sync::Arc;
 
 /// The enforcer of a model and a policy, given as texts, with options as the program takes them, one a line. What the program
 /// refuses is refused by the same stop: first the options are read, then the model, what the options name, and the policy.
@@ -36,8 +33,10 @@ pub fn open_enforcer(
     ensures stopped { IfErr result (OpeningStops
         (record { model = model.now; policy = policy.now; options = options.now })) }
 {
-    let (program, desk) = open_parts(alloc, model, policy, options)?;
-    Ok(enforcer_over(alloc, program, desk)?)
+    let parts = open_parts(alloc, model, policy, options)?;
+    let (program, desk) = parts;
+    let enforcer = Enforcer::over(alloc, program, desk)?;
+    Ok(enforcer)
 }
 
 /// The program of a model and a desk over a policy, for a caller that puts them together in its own way, as with a pair.
@@ -60,29 +59,31 @@ pub fn open_parts(
     let model = read_model(alloc, model)?;
     let shapes = shapes_under(alloc, &model, &options)?;
     let tables = read_tables(alloc, policy, &shapes)?;
-    Ok(parts_of(alloc, model, shapes, tables)?)
+    let parts = parts_of(alloc, model, shapes, tables)?;
+    Ok(parts)
 }
 
 // The shapes of the model's policies, where it has what the options name.
 fn shapes_under(alloc: Global, model: &Model, options: &Options) -> Result<Shapes, Stop>
-    requires limit { (0 < options.now.limit) × (options.now.limit ≤ 250) }
+    requires { (0 < options.now.limit) × (options.now.limit ≤ 250) }
     ensures found { IfOk result (λ shapes. shapes ≡ shapes_under options.now model.now) }
     ensures suits { IfOk result (λ shapes. Suits model.now shapes) }
     ensures valid { IfOk result (λ shapes. AreValid shapes) }
     ensures stopped { ShapeStops model.now options.now result }
 {
-    Ok(shapes_of(
+    let shapes = shapes_of(
         alloc,
         model,
         options.names.as_slice(),
         options.domains.as_slice(),
         options.limit,
-    )?)
+    )?;
+    Ok(shapes)
 }
 
 // The tables that the policy's text says.
 fn read_tables(alloc: Global, bytes: &[u8], shapes: &Shapes) -> Result<Tables, Stop>
-    requires valid { AreValid shapes.now }
+    requires { AreValid shapes.now }
     ensures read { IfOk result (λ tables. IsPolicy shapes.now bytes.now tables.policy) }
     ensures sound { IfOk result (λ tables. AreSound shapes.now tables.policy) }
     ensures stopped { IfErr result (PolicyStops shapes.now bytes.now) }
@@ -110,24 +111,8 @@ fn parts_of(
     states_stand_for_their_history();
     let program = make_program(alloc, model)?;
     let key = program.index_key(alloc)?;
-    let desk = open_desk(alloc, make_state(alloc, shapes, key, tables)?)?;
+    let state = make_state(alloc, shapes, key, tables)?;
+    let desk = open_desk(alloc, state)?;
     desk.holds();
     Ok((program, desk))
-}
-
-// The enforcer of a program and a desk.
-fn enforcer_over(alloc: Global, program: Program, desk: Desk) -> Result<Enforcer, NoMemory>
-    requires suits { Suits program desk.state.shapes }
-    ensures made { IfOk result (λ enforcer. enforcer ≡ record {
-      model = program;
-      desk = desk;
-      refusals = none_refused;
-      told = [];
-    }) }
-{
-    let finder = KeepingFinder::new(alloc)?;
-    let scratch = Scratch::for_program(alloc, &program);
-    let program = Arc::new(alloc, program)?;
-    let told = Text::from_str(alloc, "")?;
-    Ok(Enforcer::new(program, desk, finder, scratch, told))
 }

@@ -1,4 +1,4 @@
-ghost use Rattle.std.specs.Prelude.{◌≡◌, ◌<◌, ◌≤◌, IfErr, IfOk};
+ghost use Rattle.std.specs.Prelude.{◌≡◌, ◌<◌, ◌≤◌, ◌++◌, ◌∷◌, [], IfErr, IfOk, OnOk};
 ghost use Rattle.command_words.specs.Items.{texts};
 ghost use Rattle.enforce_core.specs.Helps.Words.{OptionStops};
 ghost use Rattle.enforce_core.specs.Opening.{SaysOptions, option_words, options_asked};
@@ -28,12 +28,12 @@ pub(crate) fn read_options(alloc: Global, text: &[u8]) -> Result<Options, Stop>
 
 // The words of a report with these options.
 fn words_of(alloc: Global, text: &str) -> Result<Vec<String>, NoMemory>
-    ensures words { IfOk result (λ words. texts words.items ≡ option_words text.now) }
+    ensures { IfOk result (λ words. texts words.items ≡ option_words text.now) }
 {
     let mut words = first_words(alloc)?;
     let mut rest = text;
     while let Some((line, after)) = next_text_line(rest) {
-        words.push(String::from_str(alloc, line)?)?;
+        push_word(alloc, &mut words, line)?;
         rest = after;
     }
     Ok(words)
@@ -41,13 +41,22 @@ fn words_of(alloc: Global, text: &str) -> Result<Vec<String>, NoMemory>
 
 // The words before the options.
 fn first_words(alloc: Global) -> Result<Vec<String>, NoMemory>
-    ensures words { IfOk result (λ words. texts words.items ≡ words_before) }
+    ensures { IfOk result (λ words. texts words.items ≡ words_before) }
 {
     let mut words = Vec::new(alloc);
-    words.push(String::from_str(alloc, "report")?)?;
-    words.push(String::from_str(alloc, "model")?)?;
-    words.push(String::from_str(alloc, "policy")?)?;
+    push_word(alloc, &mut words, "report")?;
+    push_word(alloc, &mut words, "model")?;
+    push_word(alloc, &mut words, "policy")?;
     Ok(words)
+}
+
+// Puts a word behind the others.
+fn push_word(alloc: Global, words: &mut Vec<String>, text: &str) -> Result<(), NoMemory>
+    ensures { OnOk result (texts words.new.items ≡ texts words.old.items ++ text.now ∷ []) }
+{
+    let word = String::from_str(alloc, text)?;
+    words.push(word)?;
+    Ok(())
 }
 
 // The options of words that ask for a report.

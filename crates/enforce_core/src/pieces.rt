@@ -34,7 +34,7 @@ pub(crate) fn request_of_texts(
 
 // The texts as values.
 fn values_of(alloc: Global, bytes: &[u8], ends: &[usize]) -> Result<Vec<Value>, AskStop>
-    requires few { length ends.now ≤ 34 }
+    requires { length ends.now ≤ 34 }
     ensures cut { OnOk result (AreEnds bytes.now ends.now) }
     ensures found { IfOk result (λ values.
         map datum values.items ≡ map text (pieces_of bytes.now ends.now)) }
@@ -42,6 +42,7 @@ fn values_of(alloc: Global, bytes: &[u8], ends: &[usize]) -> Result<Vec<Value>, 
     ensures stopped { IfErr result (CutStops bytes.now ends.now) }
 {
     let mut values = room_for(alloc, ends.len())?;
+    let mut number: u32 = 0;
     let mut from = 0;
     for end in ends {
         if *end < from {
@@ -50,7 +51,7 @@ fn values_of(alloc: Global, bytes: &[u8], ends: &[usize]) -> Result<Vec<Value>, 
         if *end > bytes.len() {
             return Err(AskStop::Ends);
         }
-        let number = values.len() as u32 + 1;
+        number += 1;
         let value = value_of(alloc, piece(bytes, from, *end), number)?;
         push_value(&mut values, value)?;
         from = *end;
@@ -60,14 +61,14 @@ fn values_of(alloc: Global, bytes: &[u8], ends: &[usize]) -> Result<Vec<Value>, 
 
 // No values, with room for so many.
 fn room_for(alloc: Global, count: usize) -> Result<Vec<Value>, NoMemory>
-    ensures none { IfOk result (λ values. values.items ≡ []) }
+    ensures { IfOk result (λ values. values.items ≡ []) }
 {
     Ok(Vec::with_capacity(alloc, count)?)
 }
 
 // Puts a value behind the others.
 fn push_value(values: &mut Vec<Value>, value: Value) -> Result<(), NoMemory>
-    ensures pushed { OnOk result (values.new.items ≡ values.old.items ++ value ∷ []) }
+    ensures { OnOk result (values.new.items ≡ values.old.items ++ value ∷ []) }
 {
     values.push(value)?;
     Ok(())
@@ -78,17 +79,25 @@ fn value_of(alloc: Global, piece: &[u8], number: u32) -> Result<Value, AskStop>
     ensures value { IfOk result (λ value. datum value ≡ text piece.now) }
     ensures stopped { IfErr result (PieceStops piece.now number) }
 {
-    let Ok(piece) = str::from_utf8(piece) else {
+    let Ok(content) = str::from_utf8(piece) else {
         return Err(AskStop::NotUtf8 { field: number });
     };
-    Ok(Value::Text(Text::from_str(alloc, piece)?))
+    let held = Text::from_str(alloc, content)?;
+    Ok(text_value(held))
+}
+
+// A text as a value.
+fn text_value(held: Text) -> Value
+    ensures { datum result ≡ text held }
+{
+    Value::Text(held)
 }
 
 // The bytes from one place to another.
 fn piece(bytes: &[u8], from: usize, end: usize) -> &[u8]
     requires rising { from ≤ end }
     requires within { end ≤ length bytes.now }
-    ensures piece { result.now ≡ take (end - from) (drop from bytes.now) }
+    ensures { result.now ≡ take (end - from) (drop from bytes.now) }
 {
     &bytes[from..end]
 }

@@ -1,12 +1,12 @@
-ghost use Rattle.std.specs.Prelude.{◌≡◌, IfOk, OnErr, OnOk, is_some, option_map};
-ghost use Rattle.perm_base.specs.FieldLine.{printed as line_of};
+ghost use Rattle.std.specs.Prelude.{◌≡◌, IfOk, OnErr, OnOk, is_some, string_bytes};
 ghost use Rattle.policy_csv.specs.Printed.{printed};
 ghost use Rattle.policy_state.specs.States.{tables};
+ghost use Rattle.enforce_core.specs.Helps.Rules.{IsRuleText};
 ghost use Rattle.enforce_core.specs.Shown.{numbered_rule, told_rule};
 
 use crate::enforcer::Enforcer;
 use crate::snapshot::Snapshot;
-use perm_base::{NoMemory, TableId, Text, print_fields};
+use perm_base::{NoMemory, TableId, push_fields};
 use policy_csv::print_policy;
 use policy_table::Tables;
 use std::alloc::Global;
@@ -18,7 +18,8 @@ impl Enforcer {
             ≡ record self.old { told = printed (tables self.old.desk.state) }) }
         ensures refused { OnErr result (self.new ≡ self.old) }
     {
-        self.told = print_policy(alloc, self.desk.state().tables())?;
+        let text = self.policy_text(alloc)?;
+        self.tell(text);
         Ok(())
     }
 
@@ -31,11 +32,27 @@ impl Enforcer {
         }) }
         ensures refused { OnErr result (self.new ≡ self.old) }
     {
-        let Some(text) = rule_text(alloc, self.desk.state().tables(), row)? else {
+        let found = self.rule_text(alloc, row)?;
+        let Some(text) = found else {
             return Ok(false);
         };
-        self.told = text;
+        self.tell(text);
         Ok(true)
+    }
+
+    // The text of the published policy.
+    fn policy_text(&self, alloc: Global) -> Result<String, NoMemory>
+        ensures { IfOk result (λ text. string_bytes text ≡ printed (tables self.now.desk.state)) }
+    {
+        text_of_policy(alloc, self.desk.state().tables())
+    }
+
+    // The text of a rule of the published policy.
+    fn rule_text(&self, alloc: Global, row: u32) -> Result<Option<String>, NoMemory>
+        ensures { IfOk result (λ text. IsRuleText text
+            (numbered_rule (tables self.now.desk.state) row)) }
+    {
+        text_of_rule(alloc, self.desk.state().tables(), row)
     }
 }
 
@@ -49,18 +66,35 @@ impl Snapshot {
         }) }
         ensures refused { OnErr result (self.new ≡ self.old) }
     {
-        let Some(text) = rule_text(alloc, self.state.tables(), row)? else {
+        let found = self.rule_text(alloc, row)?;
+        let Some(text) = found else {
             return Ok(false);
         };
-        self.told = text;
+        self.tell(text);
         Ok(true)
+    }
+
+    // The text of a rule of its policy.
+    fn rule_text(&self, alloc: Global, row: u32) -> Result<Option<String>, NoMemory>
+        ensures { IfOk result (λ text. IsRuleText text
+            (numbered_rule (tables self.now.state) row)) }
+    {
+        text_of_rule(alloc, self.state.tables(), row)
     }
 }
 
-// The text of the rule of p with this number.
-fn rule_text(alloc: Global, tables: &Tables, row: u32) -> Result<Option<Text>, NoMemory>
-    ensures text { IfOk result (λ text. text
-        ≡ option_map line_of (numbered_rule tables.now.policy row)) }
+// The text of a policy.
+fn text_of_policy(alloc: Global, tables: &Tables) -> Result<String, NoMemory>
+    ensures { IfOk result (λ text. string_bytes text ≡ printed tables.now.policy) }
+{
+    let text = print_policy(alloc, tables)?;
+    let copy = String::from_str(alloc, text.as_str())?;
+    Ok(copy)
+}
+
+// The text of the rule of p with this number, where there is one.
+fn text_of_rule(alloc: Global, tables: &Tables, row: u32) -> Result<Option<String>, NoMemory>
+    ensures { IfOk result (λ text. IsRuleText text (numbered_rule tables.now.policy row)) }
 {
     if row == 0 {
         return Ok(None);
@@ -68,5 +102,7 @@ fn rule_text(alloc: Global, tables: &Tables, row: u32) -> Result<Option<Text>, N
     let Some(rule) = tables.get(TableId::P, row - 1) else {
         return Ok(None);
     };
-    Ok(Some(print_fields(alloc, rule)?))
+    let mut text = String::new(alloc);
+    push_fields(&mut text, rule)?;
+    Ok(Some(text))
 }

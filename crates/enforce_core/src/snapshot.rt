@@ -1,11 +1,11 @@
-ghost use Rattle.std.specs.Prelude.{◌≡◌, [], IfOk, OnErr, OnOk};
+ghost use Rattle.std.specs.Prelude.{◌≡◌, [], IfOk, OnErr, OnOk, string_bytes};
 ghost use Rattle.std.specs.Arc.{arc_value};
 ghost use Rattle.decision.specs.Programs.{Suits};
 ghost use Rattle.version_log.specs.Log.{versions};
-ghost use Rattle.enforce_core.specs.Seen.{Follows, IsAlike};
+ghost use Rattle.enforce_core.specs.Seen.{Follows, IsAlike, none_refused};
 
 use decision::{Program, Scratch};
-use perm_base::{NoMemory, Text};
+use perm_base::NoMemory;
 use policy_state::PolicyState;
 use regex_keep::KeepingFinder;
 use std::alloc::Global;
@@ -21,79 +21,79 @@ pub struct Snapshot {
     pub(crate) state: Arc<PolicyState>,
     pub(crate) finder: KeepingFinder,
     pub(crate) scratch: Scratch,
-    pub(crate) told: Text,
+    pub(crate) told: String,
 }
 
 impl Model for Snapshot {
+    ghost use Rattle.std.specs.Prelude.{string_bytes};
     ghost use Rattle.std.specs.Arc.{arc_value};
-    ghost use Rattle.std.specs.Coded.{codes};
+    ghost use Rattle.std.specs.Coded.{Coded, codes};
     ghost use Rattle.decision.specs.Programs.{Suits};
-    ghost use Rattle.decision.specs.contracts.program.Program as program;
+    ghost use Rattle.model_conf.specs.Helps.ExpressionCode.{Sign, expression_code};
     ghost use Rattle.enforce_core.specs.Seen.{Snapped};
 
     ghost Value = { Snapped };
 
-    ghost coded = { Prim.hlevel (codes, program.the_row.coded) };
+    ghost coded = { let s : Coded Sign = Prim.hlevel codes in Prim.hlevel (codes, expression_code s) };
 
     ghost view = { λ s. record {
       model = arc_value s.program;
       state = arc_value s.state;
       refusals = s.finder;
-      told = s.told;
+      told = string_bytes s.told;
     } };
 
     ghost invariant = { λ s. Suits (arc_value s.program) (arc_value s.state).shapes };
 }
 
 impl Snapshot {
-    pub(crate) fn new(
+    // A snapshot of this policy, which has asked and told nothing yet. It takes memory for its finder alone.
+    pub(crate) fn over(
+        alloc: Global,
         program: Arc<Program>,
         state: Arc<PolicyState>,
-        finder: KeepingFinder,
-        scratch: Scratch,
-        told: Text,
-    ) -> Snapshot
-        requires suits { Suits (arc_value program) (arc_value state).shapes }
-        ensures made { result ≡ record {
+    ) -> Result<Snapshot, NoMemory>
+        requires { Suits (arc_value program) (arc_value state).shapes }
+        ensures { IfOk result (λ made. made ≡ record {
           model = arc_value program;
           state = arc_value state;
-          refusals = finder;
-          told = told;
-        } }
+          refusals = none_refused;
+          told = [];
+        }) }
     {
-        Snapshot {
+        let finder = KeepingFinder::new(alloc)?;
+        let scratch = Scratch::for_program(alloc, &program);
+        let told = String::new(alloc);
+        Ok(Snapshot {
             program,
             state,
             finder,
             scratch,
             told,
-        }
+        })
     }
 
     /// The version of its policy.
     pub fn version(&self) -> u32
-        ensures version { result ≡ versions self.now.state.log }
+        ensures { result ≡ versions self.now.state.log }
     {
         self.state.version()
     }
 
     /// The text that it told last.
     pub fn told(&self) -> &[u8]
-        ensures told { result.now ≡ self.now.told }
+        ensures { result.now ≡ self.now.told }
     {
-        self.told.bytes()
+        self.told.as_bytes()
     }
 
     /// A snapshot of the same policy, which the two then share. It takes memory for its finder alone.
     pub fn share(&self, alloc: Global) -> Result<Snapshot, NoMemory>
-        ensures alike { IfOk result (IsAlike self.now) }
+        ensures { IfOk result (IsAlike self.now) }
     {
         let program = Arc::try_clone(&self.program)?;
         let state = Arc::try_clone(&self.state)?;
-        let finder = KeepingFinder::new(alloc)?;
-        let scratch = Scratch::for_program(alloc, &self.program);
-        let told = Text::from_str(alloc, "")?;
-        Ok(Snapshot::new(program, state, finder, scratch, told))
+        Snapshot::over(alloc, program, state)
     }
 
     /// Becomes a snapshot of the other's policy, and keeps its own finder. It takes no memory, and is refused only where a
@@ -108,10 +108,17 @@ impl Snapshot {
         Ok(())
     }
 
+    // Tells a text.
+    pub(crate) fn tell(&mut self, text: String)
+        ensures { self.new ≡ record self.old { told = string_bytes text } }
+    {
+        self.told = text;
+    }
+
     // Takes another policy with the program that it suits.
     fn turn(&mut self, program: Arc<Program>, state: Arc<PolicyState>)
-        requires suits { Suits (arc_value program) (arc_value state).shapes }
-        ensures turned { self.new ≡ record self.old {
+        requires { Suits (arc_value program) (arc_value state).shapes }
+        ensures { self.new ≡ record self.old {
           model = arc_value program;
           state = arc_value state;
         } }

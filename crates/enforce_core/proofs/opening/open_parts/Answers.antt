@@ -33,7 +33,7 @@ pub returns-clause-opened : goal.returns-clause-opened
 returns-clause-opened c =
     let given : Given = record { model = c.args.model.now; policy = c.args.policy.now; options = c.args.options.now } in
     let fits : Fits given c.in_ok-model.model c.in_ok-options.options = record { said = c.in_ok-options.ensures.said; is_model = c.in_ok-model.ensures.found; present = c.in_ok-shapes.ensures.stopped.present } in
-    opened_from given c.in_ok-options.options c.in_ok-model.model c.in_ok-shapes.shapes c.in_ok-tables.tables.policy _ _ fits c.in_ok-shapes.ensures.found c.in_ok-tables.ensures.read c.in_ok-parts_of.ensures.made
+    opened_from given c.in_ok-options.options c.in_ok-model.model c.in_ok-shapes.shapes c.in_ok-tables.tables.policy c.in_ok-parts.parts.0 c.in_ok-parts.parts.1 fits c.in_ok-shapes.ensures.found c.in_ok-tables.ensures.read c.in_ok-parts.ensures.made
 
 pub returns-clause-suits : goal.returns-clause-suits
-returns-clause-suits c = made_suits c.in_ok-model.model c.in_ok-shapes.shapes c.in_ok-tables.tables.policy _ _ c.in_ok-parts_of.ensures.made c.in_ok-shapes.ensures.suits
+returns-clause-suits c = made_suits c.in_ok-model.model c.in_ok-shapes.shapes c.in_ok-tables.tables.policy c.in_ok-parts.parts.0 c.in_ok-parts.parts.1 c.in_ok-parts.ensures.made c.in_ok-shapes.ensures.suits

@@ -10,8 +10,7 @@ use Rattle.enforce_core.proofs.SuitLemmas.{suits_same}
 use Rattle.enforce_core.proofs.enforcer.Enforcer.answer.Goals as goal
 
 pub answer_item-requires : goal.answer_item-requires
-answer_item-requires c =
-    suits_same (arc_value c.self.inside.program) c.deref.result.now c.self.inside.desk.state.shapes c.self.inside.desk.state.shapes c.deref.ensures refl c.self.invariant
+answer_item-requires c = record { suits = suits_same (arc_value c.self.inside.program) c.deref.result.now c.self.inside.desk.state.shapes c.self.inside.desk.state.shapes c.deref.ensures refl c.self.invariant }
 
 pub invariant_of-self : goal.invariant_of-self
 invariant_of-self c = subst (Suits (arc_value c.self.inside.program)) (sym c.answer_item.ensures.shapes) c.self.invariant
