@@ -23,7 +23,7 @@ pub extern "C" fn casbin_open(
     line: &mut [u8],
     length: &mut usize,
 ) -> u32
-    ensures opens { OpensFrom
+    ensures { OpensFrom
         (record { model = model.now; policy = policy.now; options = options.now }) result
         handle.old.held.inside handle.new.held.inside line.old line.new length.new }
 {
@@ -64,7 +64,7 @@ fn open_box(
 /// Closes the handle; a closed one stays so.
 #[unsafe(no_mangle)]
 pub extern "C" fn casbin_close(alloc: Global, handle: &mut EnforcerHandle)
-    ensures closed { handle.new.held.inside ≡ None }
+    ensures { handle.new.held.inside ≡ None }
 {
     drop(handle.take(alloc));
 }
@@ -72,7 +72,7 @@ pub extern "C" fn casbin_close(alloc: Global, handle: &mut EnforcerHandle)
 /// Closes the handle of a snapshot; a closed one stays so.
 #[unsafe(no_mangle)]
 pub extern "C" fn casbin_snapshot_close(alloc: Global, handle: &mut SnapshotHandle)
-    ensures closed { handle.new.held.inside ≡ None }
+    ensures { handle.new.held.inside ≡ None }
 {
     drop(handle.take(alloc));
 }

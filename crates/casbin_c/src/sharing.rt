@@ -40,7 +40,7 @@ pub extern "C" fn casbin_snapshot(
 
 // A snapshot of an enforcer, in a box.
 fn taken_box(alloc: Global, enforcer: &Enforcer) -> Result<Box<Snapshot>, NoMemory>
-    ensures taken { IfOk result (λ snapshot. IsTakenFrom enforcer.now snapshot.value) }
+    ensures { IfOk result (λ snapshot. IsTakenFrom enforcer.now snapshot.value) }
 {
     let snapshot = enforcer.snapshot(alloc)?;
     match Box::new(alloc, snapshot) {
@@ -73,7 +73,7 @@ pub extern "C" fn casbin_share(
 
 // Makes a handle one of the same policy.
 fn share_to(alloc: Global, from: &Snapshot, to: &mut SnapshotHandle) -> u32
-    ensures shares { Shares from.now result to.old.held.inside to.new.held.inside }
+    ensures { Shares from.now result to.old.held.inside to.new.held.inside }
 {
     match to.take(alloc) {
         Some(snapshot) => follow_to(from, snapshot, to),
@@ -83,8 +83,8 @@ fn share_to(alloc: Global, from: &Snapshot, to: &mut SnapshotHandle) -> u32
 
 // Gives a closed handle a snapshot that goes over to the same policy.
 fn follow_to(from: &Snapshot, snapshot: Box<Snapshot>, to: &mut SnapshotHandle) -> u32
-    requires closed { IsNone to.old.held.inside }
-    ensures follows { FollowsTo from.now result snapshot.value to.new.held.inside }
+    requires { IsNone to.old.held.inside }
+    ensures { FollowsTo from.now result snapshot.value to.new.held.inside }
 {
     let mut snapshot = snapshot;
     let followed = snapshot.follow(from);
@@ -97,8 +97,8 @@ fn follow_to(from: &Snapshot, snapshot: Box<Snapshot>, to: &mut SnapshotHandle) 
 
 // Gives a closed handle a new snapshot of the same policy.
 fn share_first(alloc: Global, from: &Snapshot, to: &mut SnapshotHandle) -> u32
-    requires closed { IsNone to.old.held.inside }
-    ensures shares { SharesFirst from.now result to.new.held.inside }
+    requires { IsNone to.old.held.inside }
+    ensures { SharesFirst from.now result to.new.held.inside }
 {
     let Ok(snapshot) = alike_box(alloc, from) else {
         return NO_MEMORY;
@@ -109,7 +109,7 @@ fn share_first(alloc: Global, from: &Snapshot, to: &mut SnapshotHandle) -> u32
 
 // A snapshot of the same policy, in a box.
 fn alike_box(alloc: Global, from: &Snapshot) -> Result<Box<Snapshot>, NoMemory>
-    ensures alike { IfOk result (λ snapshot. IsAlike from.now snapshot.value) }
+    ensures { IfOk result (λ snapshot. IsAlike from.now snapshot.value) }
 {
     let snapshot = from.share(alloc)?;
     match Box::new(alloc, snapshot) {

@@ -155,7 +155,7 @@ pub extern "C" fn casbin_snapshot_version(
 
 // Writes a rule that was told, where there is one.
 fn tell_rule(shown: Result<bool, NoMemory>, told: &[u8], room: &mut [u8], size: &mut usize) -> u32
-    ensures ends { RuleEnds shown told.now result room.old room.new size.old size.new }
+    ensures { RuleEnds shown told.now result room.old room.new size.old size.new }
 {
     match shown {
         Ok(true) => write_text(told, room, size),
@@ -166,7 +166,7 @@ fn tell_rule(shown: Result<bool, NoMemory>, told: &[u8], room: &mut [u8], size: 
 
 // Writes a policy that was told.
 fn tell_policy(shown: Result<(), NoMemory>, told: &[u8], room: &mut [u8], size: &mut usize) -> u32
-    ensures ends { PolicyEnds shown told.now result room.old room.new size.old size.new }
+    ensures { PolicyEnds shown told.now result room.old room.new size.old size.new }
 {
     match shown {
         Ok(()) => write_text(told, room, size),
@@ -189,7 +189,7 @@ pub(crate) fn write_text(text: &[u8], room: &mut [u8], size: &mut usize) -> u32
 
 /// Writes the line by which the program tells a stop; for want of memory there is none.
 pub(crate) fn write_stop(alloc: Global, stop: Stop, room: &mut [u8], size: &mut usize)
-    ensures written { WritesStop stop room.old room.new size.new }
+    ensures { WritesStop stop room.old room.new size.new }
 {
     let Ok(line) = line_of_stop(alloc, stop) else {
         *size = 0;

@@ -7,5 +7,5 @@ returns-clause-opened c = λ _. record {
   behind = _;
   had = c.in-Some.ensures.taken;
   has = c.give.ensures;
-  holds = (refl, refl, rw c.deref.ensures at c.version.ensures.version);
+  holds = (refl, refl, rw c.deref.ensures at c.version.ensures);
 }

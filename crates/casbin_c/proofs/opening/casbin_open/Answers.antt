@@ -6,4 +6,4 @@ pub returns-in-Ok : goal.returns-in-Ok
 returns-in-Ok c = inl (record { code_is = refl; opens = record { behind = _; has = c.give.ensures; holds = c.in-Ok.ensures.opened }; line = (refl, refl) })
 
 pub returns-in-Err : goal.returns-in-Err
-returns-in-Err c = inr (record { stop = c.in-Err.stop; stops = c.in-Err.ensures.stopped; code_is = c.code.ensures ∙ ap code_of c.status.ensures; handle = refl; line = c.write_stop.ensures.written })
+returns-in-Err c = inr (record { stop = c.in-Err.stop; stops = c.in-Err.ensures.stopped; code_is = c.code.ensures ∙ ap code_of c.status.ensures; handle = refl; line = c.write_stop.ensures })

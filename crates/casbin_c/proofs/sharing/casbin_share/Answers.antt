@@ -7,5 +7,5 @@ returns-clause-opened c = λ _. record {
   behind = _;
   had = c.in-Some.ensures.taken;
   has = c.give.ensures;
-  holds = (refl, rw c.deref.ensures at c.share_to.ensures.shares);
+  holds = (refl, rw c.deref.ensures at c.share_to.ensures);
 }

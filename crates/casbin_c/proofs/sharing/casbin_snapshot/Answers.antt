@@ -16,5 +16,5 @@ returns-clause-opened c = λ _. record {
   behind = _;
   had = c.in-Some.ensures.taken;
   has = c.give.ensures;
-  holds = (refl, inl (refl, record { behind = _; has = c.give-2.ensures; holds = rw c.deref.ensures at c.in-Ok.ensures.taken }));
+  holds = (refl, inl (refl, record { behind = _; has = c.give-2.ensures; holds = rw c.deref.ensures at c.in-Ok.ensures }));
 }

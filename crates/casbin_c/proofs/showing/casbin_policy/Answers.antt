@@ -9,5 +9,5 @@ returns-clause-opened c = λ _. record {
   had = c.in-Some.ensures.taken ∙ ap Some (sym c.deref_mut.ensures.value);
   has = c.give.ensures;
   holds = shows_policy c.deref_mut.result.now c.show_policy.new.self c.show_policy.result c.tell_policy.result c.args.room.now c.tell_policy.new.room c.args.size.now c.tell_policy.new.size
-      c.show_policy.ensures.shown c.show_policy.ensures.refused (rw (c.told.ensures.told, c.deref.ensures) at c.tell_policy.ensures);
+      c.show_policy.ensures.shown c.show_policy.ensures.refused (rw (c.told.ensures, c.deref.ensures) at c.tell_policy.ensures);
 }

@@ -9,5 +9,5 @@ returns-clause-opened c = λ _. record {
   had = c.in-Some.ensures.taken ∙ ap Some (sym c.deref_mut.ensures.value);
   has = c.give.ensures;
   holds = shows_rule c.deref_mut.result.now c.show_rule.new.self c.args.row c.show_rule.result c.tell_rule.result c.args.room.now c.tell_rule.new.room c.args.size.now c.tell_rule.new.size
-      c.show_rule.ensures.there c.show_rule.ensures.shown c.show_rule.ensures.refused (rw (c.told.ensures.told, c.deref.ensures) at c.tell_rule.ensures);
+      c.show_rule.ensures.there c.show_rule.ensures.shown c.show_rule.ensures.refused (rw (c.told.ensures, c.deref.ensures) at c.tell_rule.ensures);
 }
