@@ -32,6 +32,7 @@ fn main(rt: HostRuntime) -> io::Result<()> {
 
 // Opens the service and lets it serve.
 fn served<R: Threads + Wait + Sync>(rt: &R, alloc: Global) -> Result<Summary, Stop> {
-    let (program, desk) = open_service(alloc)?;
+    let opened = open_service(alloc)?;
+    let (program, desk) = opened;
     serve(rt, alloc, &program, desk)
 }

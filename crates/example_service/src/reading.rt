@@ -17,6 +17,9 @@ use std::sync::{Mutex, Wait};
 // How often a reader asks two requests.
 const ROUNDS: u32 = 1000;
 
+// Before the first request.
+const NOTHING: Count = Count { asked: 0, wrong: 0 };
+
 /// How many requests were judged, and how many of them in a wrong way.
 #[derive(Clone, Copy)]
 pub(crate) struct Count {
@@ -34,8 +37,7 @@ impl Count {
     }
 }
 
-/// Learns the front that was told last, before each round, and asks whether the user that it made a reader may read, which is
-/// so from then on, and whether one may that nobody makes a reader.
+/// Asks at a seat, with a finder of its own.
 pub(crate) fn read_on<J: Naming, R: Wait>(
     rt: &R,
     alloc: Global,
@@ -45,38 +47,59 @@ pub(crate) fn read_on<J: Naming, R: Wait>(
 ) -> Result<Count, Stop>
     requires suits { Suits program.now J.shapes }
 {
-    let mut count = Count { asked: 0, wrong: 0 };
     let Some(mut seat) = seat else {
-        return Ok(count);
+        return Ok(NOTHING);
     };
     let mut finder = KeepingFinder::new(alloc)?;
+    read_rounds(rt, alloc, program, &mut seat, &mut finder, told)
+}
+
+// Asks round after round.
+fn read_rounds<J: Naming, R: Wait>(
+    rt: &R,
+    alloc: Global,
+    program: &Program,
+    seat: &mut Seat<J>,
+    finder: &mut KeepingFinder,
+    told: &Mutex<Front<J>>,
+) -> Result<Count, Stop>
+    requires suits { Suits program.now J.shapes }
+{
     let mut scratch = Scratch::for_program(alloc, program);
-    let stranger = reading(alloc, USERS.saturating_add(1))?;
+    let mut count = NOTHING;
     for _ in 0..ROUNDS {
-        let front = told.lock(rt).again();
-        seat.learn(&front);
-        let user = reading(alloc, front.version())?;
-        let known = asked(
-            &mut seat,
-            program,
-            &user,
-            &mut finder,
-            &mut scratch,
-            front.version(),
-            true,
-        );
-        let unknown = asked(
-            &mut seat,
-            program,
-            &stranger,
-            &mut finder,
-            &mut scratch,
-            front.version(),
-            false,
-        );
-        count = count.and(known).and(unknown);
+        let round = read_round(rt, alloc, program, seat, finder, &mut scratch, told)?;
+        count = count.and(round);
     }
     Ok(count)
+}
+
+// Learns the front that was told last, and asks whether the user that it made a reader may read, which is so from then on, and
+// whether one may that nobody makes a reader.
+fn read_round<J: Naming, R: Wait>(
+    rt: &R,
+    alloc: Global,
+    program: &Program,
+    seat: &mut Seat<J>,
+    finder: &mut KeepingFinder,
+    scratch: &mut Scratch,
+    told: &Mutex<Front<J>>,
+) -> Result<Count, Stop>
+    requires suits { Suits program.now J.shapes }
+{
+    let version = learn_last(rt, seat, told);
+    let user = reading(alloc, version)?;
+    let known = asked(seat, program, &user, finder, scratch, version, true);
+    let stranger = reading(alloc, USERS.saturating_add(1))?;
+    let unknown = asked(seat, program, &stranger, finder, scratch, version, false);
+    Ok(known.and(unknown))
+}
+
+// Learns the front that was told last, and gives its version.
+fn learn_last<J: Naming, R: Wait>(rt: &R, seat: &mut Seat<J>, told: &Mutex<Front<J>>) -> u32 {
+    let front = told.lock(rt).again();
+    seat.learn(&front);
+    front.version()
 }
 
 // Asks a request, whose answer is wrong where it is of a version before this one, or another than this.

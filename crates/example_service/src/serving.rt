@@ -1,5 +1,7 @@
 //! The pair, its readers and its administrator.
 ghost use Rattle.std.specs.Prelude.{◌≡◌, []};
+ghost use Rattle.std.specs.Thread.{IsSync};
+ghost use Rattle.decision.specs.contracts.program.Program as program_type;
 ghost use Rattle.decision.specs.Programs.{Suits};
 ghost use Rattle.policy_state.specs.States.{StandsFor, tables};
 
@@ -36,7 +38,8 @@ pub(crate) fn serve<R: Threads + Wait + Sync>(
     requires stands { StandsFor desk.state (tables desk.state) [] }
     requires pending { desk.pending ≡ [] }
 {
-    serve_pair::<Brand, R>(rt, alloc, program, Opened::new(), desk)
+    let opened = Opened::new();
+    serve_pair::<Brand, R>(rt, alloc, program, opened, desk)
 }
 
 // The same for the pair that `J` names.
@@ -54,8 +57,8 @@ fn serve_pair<J: Naming + Send + Sync, R: Threads + Wait + Sync>(
     requires suits { Suits program.now J.shapes }
 {
     let mut places = PairPlaces::new();
-    let pair = open_pair::<J, R, PairPlaces>(rt, alloc, opened, desk, SEATS, &mut places);
-    let (mut admin, seats) = pair?;
+    let pair = open_pair::<J, R, PairPlaces>(rt, alloc, opened, desk, SEATS, &mut places)?;
+    let (mut admin, seats) = pair;
     let told = Mutex::new(admin.front());
     let summary = serve_seats(rt, alloc, program, &mut admin, seats, &told);
     drop(admin.close(rt));
@@ -73,6 +76,7 @@ fn serve_seats<J: Naming + Send + Sync, R: Threads + Wait + Sync>(
 ) -> Result<Summary, Stop>
     requires suits { Suits program.now J.shapes }
 {
+    share_program(program);
     let (counted, published) = join(
         rt,
         ||
@@ -104,6 +108,7 @@ fn read_pairwise<J: Naming + Send + Sync, R: Threads + Wait + Sync>(
     let second = seats.pop();
     let third = seats.pop();
     let fourth = seats.pop();
+    share_program(program);
     let (front, back) = join(
         rt,
         ||
@@ -127,6 +132,7 @@ fn read_two<J: Naming + Send + Sync, R: Threads + Wait + Sync>(
 ) -> Result<Count, Stop>
     requires suits { Suits program.now J.shapes }
 {
+    share_program(program);
     let (one, other) = join(
         rt,
         ||
@@ -138,3 +144,15 @@ fn read_two<J: Naming + Send + Sync, R: Threads + Wait + Sync>(
     );
     Ok(one?.and(other?))
 }
+
+// That threads may share a program, as a fact for the calls behind this one.
+fn share_program(program: &Program)
+    ensures { IsSync program_type.the_row }
+{
+    share(program);
+}
+
+// The same of whatever threads may share.
+fn share<T: Sync>(_value: &T)
+    ensures { IsSync T.row }
+{}
