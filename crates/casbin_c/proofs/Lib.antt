@@ -1,3 +1,4 @@
 pub mod EnforcerValues
 pub mod SnapshotValues
 mod ShowLemmas
+mod HandleLemmas

@@ -112,11 +112,13 @@ pub extern "C" fn casbin_publish(
     };
     let published = enforcer.publish(alloc);
     handle.give(enforcer);
-    let Ok(number) = published else {
-        return NO_MEMORY;
-    };
-    *version = number;
-    OK
+    match published {
+        Ok(number) => {
+            *version = number;
+            OK
+        }
+        Err(_) => NO_MEMORY,
+    }
 }
 
 /// Tells the published version.

@@ -30,12 +30,14 @@ pub extern "C" fn casbin_snapshot(
     };
     let taken = taken_box(alloc, &enforcer);
     handle.give(enforcer);
-    let Ok(snapshot) = taken else {
-        return NO_MEMORY;
-    };
-    drop(to.take(alloc));
-    to.give(snapshot);
-    OK
+    match taken {
+        Ok(snapshot) => {
+            drop(to.take(alloc));
+            to.give(snapshot);
+            OK
+        }
+        Err(_) => NO_MEMORY,
+    }
 }
 
 // A snapshot of an enforcer, in a box.
@@ -100,11 +102,13 @@ fn share_first(alloc: Global, from: &Snapshot, to: &mut SnapshotHandle) -> u32
     requires { IsNone to.old.held.inside }
     ensures { SharesFirst from.now result to.new.held.inside }
 {
-    let Ok(snapshot) = alike_box(alloc, from) else {
-        return NO_MEMORY;
-    };
-    to.give(snapshot);
-    OK
+    match alike_box(alloc, from) {
+        Ok(snapshot) => {
+            to.give(snapshot);
+            OK
+        }
+        Err(_) => NO_MEMORY,
+    }
 }
 
 // A snapshot of the same policy, in a box.

@@ -1,4 +1,4 @@
-ghost use Rattle.std.specs.Prelude.{◌≡◌, IsNone, IsSome};
+ghost use Rattle.std.specs.Prelude.{◌≡◌, IsNone, IsSome, Ok};
 ghost use Rattle.casbin_c.specs.Codes.{IsRoomCode, closed};
 ghost use Rattle.casbin_c.specs.Handles.{StaysOpen};
 ghost use Rattle.casbin_c.specs.Helps.Ends.{PolicyEnds, RuleEnds};
@@ -158,10 +158,19 @@ fn tell_rule(shown: Result<bool, NoMemory>, told: &[u8], room: &mut [u8], size: 
     ensures { RuleEnds shown told.now result room.old room.new size.old size.new }
 {
     match shown {
-        Ok(true) => write_text(told, room, size),
-        Ok(false) => NO_RULE,
+        Ok(there) => tell_there(there, told, room, size),
         Err(_) => NO_MEMORY,
     }
+}
+
+// Writes it where there is one.
+fn tell_there(there: bool, told: &[u8], room: &mut [u8], size: &mut usize) -> u32
+    ensures { RuleEnds (Ok there) told.now result room.old room.new size.old size.new }
+{
+    if there {
+        return write_text(told, room, size);
+    }
+    NO_RULE
 }
 
 // Writes a policy that was told.

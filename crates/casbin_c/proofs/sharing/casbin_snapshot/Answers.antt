@@ -1,8 +1,9 @@
 use Rattle.std.proofs.Common.{inl, inr, refl}
+use Rattle.casbin_c.proofs.HandleLemmas.{none_open, some_closed}
 use Rattle.casbin_c.proofs.sharing.casbin_snapshot.Goals as goal
 
-pub returns-in_default-2-clause-opened : goal.returns-in_default-2-clause-opened
-returns-in_default-2-clause-opened c = λ _. record {
+pub returns-in-Err-clause-opened : goal.returns-in-Err-clause-opened
+returns-in-Err-clause-opened c = λ _. record {
   before = _;
   behind = _;
   had = c.in-Some.ensures.taken;
@@ -10,11 +11,20 @@ returns-in_default-2-clause-opened c = λ _. record {
   holds = (refl, inr (refl, refl));
 }
 
-pub returns-clause-opened : goal.returns-clause-opened
-returns-clause-opened c = λ _. record {
+pub returns-in-Ok-clause-opened : goal.returns-in-Ok-clause-opened
+returns-in-Ok-clause-opened c = λ _. record {
   before = _;
   behind = _;
   had = c.in-Some.ensures.taken;
   has = c.give.ensures;
   holds = (refl, inl (refl, record { behind = _; has = c.give-2.ensures; holds = rw c.deref.ensures at c.in-Ok.ensures }));
 }
+
+pub returns-in_default-clause-opened : goal.returns-in_default-clause-opened
+returns-in_default-clause-opened c = none_open _ c.in_default.ensures.taken
+
+pub returns-in-Err-clause-closed : goal.returns-in-Err-clause-closed
+returns-in-Err-clause-closed c = some_closed _ _ c.in-Some.ensures.taken
+
+pub returns-in-Ok-clause-closed : goal.returns-in-Ok-clause-closed
+returns-in-Ok-clause-closed c = some_closed _ _ c.in-Some.ensures.taken

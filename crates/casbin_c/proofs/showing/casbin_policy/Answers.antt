@@ -1,4 +1,5 @@
 use Rattle.std.proofs.Common.{Some, ap, sym, ◌∙◌}
+use Rattle.casbin_c.proofs.HandleLemmas.{none_open, some_closed}
 use Rattle.casbin_c.proofs.ShowLemmas.{shows_policy}
 use Rattle.casbin_c.proofs.showing.casbin_policy.Goals as goal
 
@@ -11,3 +12,9 @@ returns-clause-opened c = λ _. record {
   holds = shows_policy c.deref_mut.result.now c.show_policy.new.self c.show_policy.result c.tell_policy.result c.args.room.now c.tell_policy.new.room c.args.size.now c.tell_policy.new.size
       c.show_policy.ensures.shown c.show_policy.ensures.refused (rw (c.told.ensures, c.deref.ensures) at c.tell_policy.ensures);
 }
+
+pub returns-in_default-clause-opened : goal.returns-in_default-clause-opened
+returns-in_default-clause-opened c = none_open _ c.in_default.ensures.taken
+
+pub returns-clause-closed : goal.returns-clause-closed
+returns-clause-closed c = some_closed _ _ c.in-Some.ensures.taken

@@ -1,4 +1,5 @@
 use Rattle.std.proofs.Common.{Some, ap, sym, ◌∙◌}
+use Rattle.casbin_c.proofs.HandleLemmas.{none_open, some_closed}
 use Rattle.casbin_c.proofs.ShowLemmas.{shows_rule_of}
 use Rattle.casbin_c.proofs.showing.casbin_snapshot_rule.Goals as goal
 
@@ -11,3 +12,9 @@ returns-clause-opened c = λ _. record {
   holds = shows_rule_of c.deref_mut.result.now c.show_rule.new.self c.args.row c.show_rule.result c.tell_rule.result c.args.room.now c.tell_rule.new.room c.args.size.now c.tell_rule.new.size
       c.show_rule.ensures.there c.show_rule.ensures.shown c.show_rule.ensures.refused (rw (c.told.ensures, c.deref.ensures) at c.tell_rule.ensures);
 }
+
+pub returns-in_default-clause-opened : goal.returns-in_default-clause-opened
+returns-in_default-clause-opened c = none_open _ c.in_default.ensures.taken
+
+pub returns-clause-closed : goal.returns-clause-closed
+returns-clause-closed c = some_closed _ _ c.in-Some.ensures.taken
