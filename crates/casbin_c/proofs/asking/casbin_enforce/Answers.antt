@@ -8,7 +8,7 @@ returns-clause-opened c = λ _. record {
   behind = _;
   had = c.in-Some.ensures.taken ∙ ap Some (sym c.deref_mut.ensures.value);
   has = c.give.ensures;
-  holds = (c.enforce.ensures.only, record { answered = c.enforce.result; answers = c.enforce.ensures.asks; code_is = c.tell.ensures.code; decision_is = c.tell.ensures.decision });
+  holds = (c.enforce-answered.ensures.only, record { answered = c.enforce-answered.result; answers = c.enforce-answered.ensures.asks; code_is = c.tell.ensures.code; decision_is = c.tell.ensures.decision });
 }
 
 pub returns-in_default-clause-opened : goal.returns-in_default-clause-opened

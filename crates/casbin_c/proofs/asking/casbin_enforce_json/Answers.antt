@@ -8,7 +8,7 @@ returns-clause-opened c = λ _. record {
   behind = _;
   had = c.in-Some.ensures.taken ∙ ap Some (sym c.deref_mut.ensures.value);
   has = c.give.ensures;
-  holds = (c.enforce_json.ensures.only, record { answered = c.enforce_json.result; answers = c.enforce_json.ensures.asks; code_is = c.tell.ensures.code; decision_is = c.tell.ensures.decision });
+  holds = (c.enforce_json-answered.ensures.only, record { answered = c.enforce_json-answered.result; answers = c.enforce_json-answered.ensures.asks; code_is = c.tell.ensures.code; decision_is = c.tell.ensures.decision });
 }
 
 pub returns-in_default-clause-opened : goal.returns-in_default-clause-opened

@@ -8,7 +8,7 @@ returns-clause-opened c = λ _. record {
   behind = _;
   had = c.in-Some.ensures.taken ∙ ap Some (sym c.deref_mut.ensures.value);
   has = c.give.ensures;
-  holds = record { called = c.call.result; done = c.call.ensures.called; stopped = c.call.ensures.stopped; code_is = c.tell_call.ensures.code; written = rw (c.told.ensures, c.deref.ensures) at c.tell_call.ensures.written };
+  holds = record { called = c.call-called.result; done = c.call-called.ensures.called; stopped = c.call-called.ensures.stopped; code_is = c.tell_call-code.ensures.code; written = rw (c.told.ensures, c.deref.ensures) at c.tell_call-code.ensures.written };
 }
 
 pub returns-in_default-clause-opened : goal.returns-in_default-clause-opened

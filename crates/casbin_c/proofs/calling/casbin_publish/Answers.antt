@@ -8,7 +8,7 @@ returns-in-Err-clause-opened c = λ _. record {
   behind = _;
   had = c.in-Some.ensures.taken ∙ ap Some (sym c.deref_mut.ensures.value);
   has = c.give.ensures;
-  holds = (inr (record { code_is = refl; version_is = refl; begun = c.in-Err.ensures.refused }), c.publish.ensures.others);
+  holds = (inr (record { code_is = refl; version_is = refl; begun = c.in-Err.ensures.refused }), c.publish-published.ensures.others);
 }
 
 pub returns-in-Ok-clause-opened : goal.returns-in-Ok-clause-opened
@@ -17,7 +17,7 @@ returns-in-Ok-clause-opened c = λ _. record {
   behind = _;
   had = c.in-Some.ensures.taken ∙ ap Some (sym c.deref_mut.ensures.value);
   has = c.give.ensures;
-  holds = (inl (record { code_is = refl; version_is = c.in-Ok.ensures.version; published = c.in-Ok.ensures.published; step = c.in-Ok.ensures.step }), c.publish.ensures.others);
+  holds = (inl (record { code_is = refl; version_is = c.in-Ok.ensures.version; published = c.in-Ok.ensures.published; step = c.in-Ok.ensures.step }), c.publish-published.ensures.others);
 }
 
 pub returns-in_default-clause-opened : goal.returns-in_default-clause-opened

@@ -8,7 +8,7 @@ returns-clause-opened c = λ _. record {
   behind = _;
   had = c.in-Some.ensures.taken;
   has = c.give.ensures;
-  holds = (refl, refl, rw c.deref.ensures at c.version.ensures);
+  holds = (refl, refl, rw c.deref.ensures at c.version-version.ensures);
 }
 
 pub returns-in_default-clause-opened : goal.returns-in_default-clause-opened

@@ -8,7 +8,7 @@ returns-clause-opened c = λ _. record {
   behind = _;
   had = c.in-Some.ensures.taken;
   has = c.give.ensures;
-  holds = (refl, rw c.deref.ensures at c.share_to.ensures);
+  holds = (refl, rw c.deref.ensures at c.share_to-code.ensures);
 }
 
 pub returns-in_default-clause-opened : goal.returns-in_default-clause-opened

@@ -9,8 +9,8 @@ returns-clause-opened c = λ _. record {
   behind = _;
   had = c.in-Some.ensures.taken ∙ ap Some (sym c.deref_mut.ensures.value);
   has = c.give.ensures;
-  holds = shows_policy c.deref_mut.result.now c.show_policy.new.self c.show_policy.result c.tell_policy.result c.args.room.now c.tell_policy.new.room c.args.size.now c.tell_policy.new.size
-      c.show_policy.ensures.shown c.show_policy.ensures.refused (rw (c.told.ensures, c.deref.ensures) at c.tell_policy.ensures);
+  holds = shows_policy c.deref_mut.result.now c.show_policy-shown.new.self c.show_policy-shown.result c.tell_policy-code.result c.args.room.now c.tell_policy-code.new.room c.args.size.now c.tell_policy-code.new.size
+      c.show_policy-shown.ensures.shown c.show_policy-shown.ensures.refused (rw (c.told.ensures, c.deref.ensures) at c.tell_policy-code.ensures);
 }
 
 pub returns-in_default-clause-opened : goal.returns-in_default-clause-opened

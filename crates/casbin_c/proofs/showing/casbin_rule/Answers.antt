@@ -9,8 +9,8 @@ returns-clause-opened c = λ _. record {
   behind = _;
   had = c.in-Some.ensures.taken ∙ ap Some (sym c.deref_mut.ensures.value);
   has = c.give.ensures;
-  holds = shows_rule c.deref_mut.result.now c.show_rule.new.self c.args.row c.show_rule.result c.tell_rule.result c.args.room.now c.tell_rule.new.room c.args.size.now c.tell_rule.new.size
-      c.show_rule.ensures.there c.show_rule.ensures.shown c.show_rule.ensures.refused (rw (c.told.ensures, c.deref.ensures) at c.tell_rule.ensures);
+  holds = shows_rule c.deref_mut.result.now c.show_rule-shown.new.self c.args.row c.show_rule-shown.result c.tell_rule-code.result c.args.room.now c.tell_rule-code.new.room c.args.size.now c.tell_rule-code.new.size
+      c.show_rule-shown.ensures.there c.show_rule-shown.ensures.shown c.show_rule-shown.ensures.refused (rw (c.told.ensures, c.deref.ensures) at c.tell_rule-code.ensures);
 }
 
 pub returns-in_default-clause-opened : goal.returns-in_default-clause-opened

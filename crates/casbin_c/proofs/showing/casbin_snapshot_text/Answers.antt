@@ -8,7 +8,7 @@ returns-clause-opened c = λ _. record {
   behind = _;
   had = c.in-Some.ensures.taken;
   has = c.give.ensures;
-  holds = (refl, rw (c.told.ensures, c.deref.ensures) at c.write_text.ensures.code, rw (c.told.ensures, c.deref.ensures) at c.write_text.ensures.written);
+  holds = (refl, rw (c.told.ensures, c.deref.ensures) at c.write_text-code.ensures.code, rw (c.told.ensures, c.deref.ensures) at c.write_text-code.ensures.written);
 }
 
 pub returns-in_default-clause-opened : goal.returns-in_default-clause-opened

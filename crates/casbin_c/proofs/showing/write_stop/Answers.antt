@@ -6,4 +6,4 @@ pub returns-in_default : goal.returns-in_default
 returns-in_default c = inr (refl, refl)
 
 pub returns : goal.returns
-returns c = inl (subst (λ (text : List ℕ). Writes text c.args.room.now c.write_text.new.room c.write_text.new.size) c.in-Ok.ensures (subst (λ (text : List ℕ). Writes text c.args.room.now c.write_text.new.room c.write_text.new.size) c.deref.ensures.value c.write_text.ensures.written))
+returns c = inl (subst (λ (text : List ℕ). Writes text c.args.room.now c.write_text-_code.new.room c.write_text-_code.new.size) c.in-Ok.ensures (subst (λ (text : List ℕ). Writes text c.args.room.now c.write_text-_code.new.room c.write_text-_code.new.size) c.deref.ensures.value c.write_text-_code.ensures.written))

@@ -31,7 +31,7 @@ returns-in_default-clause-stopped c =
 pub returns-clause-called : goal.returns-clause-called
 returns-clause-called c =
     let end : Enforcing = record c.answer.new.self { told = string_bytes c.in-Ok.line } in
-    subst (λ (e : Enforcing). IsCalled c.args.self.now e c.args.text.now c.called_of.result) (sym c.tell.ensures)
-    (called_is c.args.self.now end c.args.text.now (seen c.in_ok-item.item.now) c.in_ok-answer.answer c.called_of.result
+    subst (λ (e : Enforcing). IsCalled c.args.self.now e c.args.text.now c.called_of-called.result) (sym c.tell.ensures)
+    (called_is c.args.self.now end c.args.text.now (seen c.in_ok-item.item.now) c.in_ok-answer.answer c.called_of-called.result
     (says_one c.args.text.now c.in_ok-script.script c.in_ok-item.item.now c.in_ok-script.ensures.found c.in_ok-item.ensures.only c.in_ok-item.ensures.no_request)
-    c.in_ok-answer.ensures.step (ap (λ (e : Enforcing). e.model) c.answer.ensures.others) c.in-Ok.ensures c.called_of.ensures)
+    c.in_ok-answer.ensures.step (ap (λ (e : Enforcing). e.model) c.answer.ensures.others) c.in-Ok.ensures c.called_of-called.ensures)

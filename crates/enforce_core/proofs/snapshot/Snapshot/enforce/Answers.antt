@@ -1,4 +1,4 @@
-use Rattle.std.proofs.Common.{◌≡◌, Err, ap, rules, subst}
+use Rattle.std.proofs.Common.{◌≡◌, Err, ap, refl, rules, subst}
 use Rattle.std.specs.Arc.{arc_value}
 use Rattle.policy_state.specs.States.{State}
 use Rattle.enforce_core.specs.Asked.{AsksTexts}
@@ -24,3 +24,6 @@ returns-clause-asks c =
 
 pub returns-clause-only : goal.returns-clause-only
 returns-clause-only c = ap (λ (e : Snapped). record e { refusals = c.judged.new.finder }) c.self.view_is
+
+pub returns-in_err-request-clause-only : goal.returns-in_err-request-clause-only
+returns-in_err-request-clause-only c = refl
