@@ -24,8 +24,8 @@ pub no_more : (text rest : List ℕ) (words : List (List ℕ)) → AreUnderWay t
 no_more text rest words is none = sym (append-nil words) ∙ ap (λ (ls : List (List ℕ)). words ++ ls) (sym none) ∙ is
 
 -- the options that are said
-pub says_options : (text : List ℕ) (words : List (List ℕ)) (options : Options) (asked : Option Options) → IsUtf8 text → words ≡ option_words text → asked ≡ options_asked words → asked ≡ Some options → SaysOptions text options
-says_options text words options asked utf8 are told is = record { utf8 = utf8; says = ap options_asked (sym are) ∙ sym told ∙ is }
+pub says_options : (text : List ℕ) (words : List (List ℕ)) (options : Options) → IsUtf8 text → words ≡ option_words text → Some options ≡ options_asked words → SaysOptions text options
+says_options text words options utf8 are told = record { utf8 = utf8; says = ap options_asked (sym are) ∙ sym told }
 
 -- a limit is one to 250
 abbrev LimitHas : Option Options → Type 0
@@ -51,5 +51,5 @@ said_limit text options said =
     option_and_then_some report_options (command_of words) options said.says (λ found told made. subst LimitHas made (report_has found (command_of-ranges words found told)))
 
 -- none are said
-pub says_none : (text : List ℕ) (words : List (List ℕ)) (asked : Option Options) → words ≡ option_words text → asked ≡ options_asked words → asked ≡ None → (options : Options) → SaysOptions text options → ⊥
-says_none text words asked are told is options said = let both : None ≡ Some options = sym is ∙ told ∙ ap options_asked are ∙ said.says in cc
+pub says_none : (text : List ℕ) (words : List (List ℕ)) → words ≡ option_words text → None ≡ options_asked words → (options : Options) → SaysOptions text options → ⊥
+says_none text words are told options said = let both : None ≡ Some options = told ∙ ap options_asked are ∙ said.says in cc

@@ -16,14 +16,14 @@ pub(crate) fn read_options(alloc: Global, text: &[u8]) -> Result<Options, Stop>
     ensures limit { IfOk result (λ options. (0 < options.limit) × (options.limit ≤ 250)) }
     ensures stopped { IfErr result (OptionStops text.now) }
 {
-    let Ok(text) = str::from_utf8(text) else {
+    let Ok(content) = str::from_utf8(text) else {
         return Err(Stop::Words);
     };
-    let words = words_of(alloc, text)?;
-    match report_of(&words) {
-        Some(options) => Ok(options),
-        None => Err(Stop::Words),
-    }
+    let words = words_of(alloc, content)?;
+    let Some(options) = report_of(&words) else {
+        return Err(Stop::Words);
+    };
+    Ok(options)
 }
 
 // The words of a report with these options.
