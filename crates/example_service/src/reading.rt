@@ -17,9 +17,6 @@ use std::sync::{Mutex, Wait};
 // How often a reader asks two requests.
 const ROUNDS: u32 = 1000;
 
-// Before the first request.
-const NOTHING: Count = Count { asked: 0, wrong: 0 };
-
 /// How many requests were judged, and how many of them in a wrong way.
 #[derive(Clone, Copy)]
 pub(crate) struct Count {
@@ -28,6 +25,11 @@ pub(crate) struct Count {
 }
 
 impl Count {
+    // Before the first request.
+    fn none() -> Count {
+        Count { asked: 0, wrong: 0 }
+    }
+
     /// Both together.
     pub(crate) fn and(self, other: Count) -> Count {
         Count {
@@ -48,7 +50,7 @@ pub(crate) fn read_on<J: Naming, R: Wait>(
     requires suits { Suits program.now J.shapes }
 {
     let Some(mut seat) = seat else {
-        return Ok(NOTHING);
+        return Ok(Count::none());
     };
     let mut finder = KeepingFinder::new(alloc)?;
     read_rounds(rt, alloc, program, &mut seat, &mut finder, told)
@@ -66,7 +68,7 @@ fn read_rounds<J: Naming, R: Wait>(
     requires suits { Suits program.now J.shapes }
 {
     let mut scratch = Scratch::for_program(alloc, program);
-    let mut count = NOTHING;
+    let mut count = Count::none();
     for _ in 0..ROUNDS {
         let round = read_round(rt, alloc, program, seat, finder, &mut scratch, told)?;
         count = count.and(round);
