@@ -1,7 +1,8 @@
 -- Texts that are cut out of bytes one after the other.
 use Rattle.std.proofs.Common.{◌≡◌, ℕ, zero, suc, ◌+◌, ◌-◌, ◌<◌, ◌≤◌, ◌&&◌, nat_le, Bool, true, false, List, [], ◌∷◌, ◌++◌, Some, drop, length, map, slice_get, take, refl, sym, ap, subst, ◌∙◌, arith}
-use Rattle.std.specs.Prelude.{get_or, IsUtf8}
+use Rattle.std.specs.Prelude.{IsUtf8}
 use Rattle.std.proofs.lemmas.Bool.{le-leb, lt-leb}
+use Rattle.std.proofs.lemmas.Option.{get_or_from_slice_get}
 use Rattle.std.proofs.lemmas.List.{append-nil, append_assoc, drop_more, length-append, map_push}
 use Rattle.perm_value.specs.Datum.{Datum, text}
 use Rattle.perm_value.specs.Seen.{datum, datum_step}
@@ -88,10 +89,10 @@ module _ (bytes ends : List ℕ) where
   })
 
   -- one end on
-  pub cut_next : (index number from end : ℕ) (values more : List Value) (value : Value) → IsCut bytes ends index number from values → index < length ends → end ≡ get_or ends index end
+  pub cut_next : (index number from end : ℕ) (values more : List Value) (value : Value) → IsCut bytes ends index number from values → index < length ends → slice_get ends index ≡ Some end
       → from ≤ end → end ≤ length bytes → datum value ≡ text (take (end - from) (drop from bytes)) → more ≡ values ++ value ∷ [] → IsCut bytes ends (index + 1) (number + 1) end more
   cut_next index number from end values more value is inside read above most made pushed =
-      let here : drop index ends ≡ end ∷ drop (index + 1) ends = drop_more ends index end inside ∙ ap (λ (e : ℕ). e ∷ drop (index + 1) ends) (sym read) in
+      let here : drop index ends ≡ end ∷ drop (index + 1) ends = drop_more ends index end inside ∙ ap (λ (e : ℕ). e ∷ drop (index + 1) ends) (get_or_from_slice_get ends index end end read) in
       let piece : List ℕ = take (end - from) (drop from bytes) in
       let cut : pieces bytes from (drop index ends) ≡ piece ∷ pieces bytes end (drop (index + 1) ends) = next_piece bytes from end (drop (index + 1) ends) (drop index ends) here in
       let on : suc index ≡ index + 1 = omega arith in
@@ -118,19 +119,19 @@ module _ (bytes ends : List ℕ) where
   cut_rises index number from values is none = sym is.rises ∙ ap (rise from (length bytes)) none
 
   -- an end that is out of order
-  pub cut_below : (index number from end : ℕ) (values : List Value) → IsCut bytes ends index number from values → index < length ends → end ≡ get_or ends index end → end < from → rise 0 (length bytes) ends ≡ false
+  pub cut_below : (index number from end : ℕ) (values : List Value) → IsCut bytes ends index number from values → index < length ends → slice_get ends index ≡ Some end → end < from → rise 0 (length bytes) ends ≡ false
   cut_below index number from end values is inside read below =
-      sym is.rises ∙ bad_rise_from from (length bytes) end (drop (index + 1) ends) (drop index ends) (drop_more ends index end inside ∙ ap (λ (e : ℕ). e ∷ drop (index + 1) ends) (sym read)) (lt-leb from end below)
+      sym is.rises ∙ bad_rise_from from (length bytes) end (drop (index + 1) ends) (drop index ends) (drop_more ends index end inside ∙ ap (λ (e : ℕ). e ∷ drop (index + 1) ends) (get_or_from_slice_get ends index end end read)) (lt-leb from end below)
 
-  pub cut_past : (index number from end : ℕ) (values : List Value) → IsCut bytes ends index number from values → index < length ends → end ≡ get_or ends index end → length bytes < end → rise 0 (length bytes) ends ≡ false
+  pub cut_past : (index number from end : ℕ) (values : List Value) → IsCut bytes ends index number from values → index < length ends → slice_get ends index ≡ Some end → length bytes < end → rise 0 (length bytes) ends ≡ false
   cut_past index number from end values is inside read past =
-      sym is.rises ∙ bad_rise_past from (length bytes) end (drop (index + 1) ends) (drop index ends) (drop_more ends index end inside ∙ ap (λ (e : ℕ). e ∷ drop (index + 1) ends) (sym read)) (lt-leb end (length bytes) past)
+      sym is.rises ∙ bad_rise_past from (length bytes) end (drop (index + 1) ends) (drop index ends) (drop_more ends index end inside ∙ ap (λ (e : ℕ). e ∷ drop (index + 1) ends) (get_or_from_slice_get ends index end end read)) (lt-leb end (length bytes) past)
 
   -- a piece that is no text
-  pub cut_bad : (index number from end : ℕ) (values : List Value) → IsCut bytes ends index number from values → index < length ends → end ≡ get_or ends index end → (field : ℕ) → field ≡ number + 1
+  pub cut_bad : (index number from end : ℕ) (values : List Value) → IsCut bytes ends index number from values → index < length ends → slice_get ends index ≡ Some end → (field : ℕ) → field ≡ number + 1
       → (IsUtf8 (take (end - from) (drop from bytes)) → ⊥) → IsBadPiece bytes ends field
   cut_bad index number from end values is inside read field next bad =
-      let here : drop index ends ≡ end ∷ drop (index + 1) ends = drop_more ends index end inside ∙ ap (λ (e : ℕ). e ∷ drop (index + 1) ends) (sym read) in
+      let here : drop index ends ≡ end ∷ drop (index + 1) ends = drop_more ends index end inside ∙ ap (λ (e : ℕ). e ∷ drop (index + 1) ends) (get_or_from_slice_get ends index end end read) in
       let piece : List ℕ = take (end - from) (drop from bytes) in
       let place : index ≡ field - 1 = omega (arith, next, is.numbered) in
       let first : drop index (pieces_of bytes ends) ≡ piece ∷ pieces bytes end (drop (index + 1) ends) = sym is.left ∙ next_piece bytes from end (drop (index + 1) ends) (drop index ends) here in

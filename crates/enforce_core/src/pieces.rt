@@ -1,5 +1,5 @@
 ghost use Rattle.std.specs.Prelude.{◌≡◌, ◌-◌, ◌≤◌, ◌++◌, ◌∷◌, [], IfErr, IfOk, OnOk};
-ghost use Rattle.std.specs.Prelude.{drop, length, map, take};
+ghost use Rattle.std.specs.Prelude.{◌<◌, Some, drop, length, map, slice_get, take};
 ghost use Rattle.perm_value.specs.Datum.{text};
 ghost use Rattle.perm_value.specs.Seen.{datum};
 ghost use Rattle.enforce_core.specs.Helps.Cut.{CutStops, PieceStops};
@@ -44,19 +44,28 @@ fn values_of(alloc: Global, bytes: &[u8], ends: &[usize]) -> Result<Vec<Value>, 
     let mut values = room_for(alloc, ends.len())?;
     let mut number: u32 = 0;
     let mut from = 0;
-    for end in ends {
-        if *end < from {
+    for at in 0..ends.len() {
+        let end = end_at(ends, at);
+        if end < from {
             return Err(AskStop::Ends);
         }
-        if *end > bytes.len() {
+        if end > bytes.len() {
             return Err(AskStop::Ends);
         }
         number += 1;
-        let value = value_of(alloc, piece(bytes, from, *end), number)?;
+        let value = value_of(alloc, piece(bytes, from, end), number)?;
         push_value(&mut values, value)?;
-        from = *end;
+        from = end;
     }
     Ok(values)
+}
+
+// The end at a place.
+fn end_at(ends: &[usize], at: usize) -> usize
+    requires { at < length ends.now }
+    ensures { slice_get ends.now at ≡ Some result }
+{
+    ends[at]
 }
 
 // No values, with room for so many.
