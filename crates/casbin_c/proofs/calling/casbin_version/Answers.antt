@@ -1,4 +1,6 @@
 use Rattle.std.proofs.Common.{Some, ap, refl, sym, ◌∙◌}
+use Rattle.enforce_core.specs.Seen.{Enforcing}
+use Rattle.version_log.specs.Log.{versions}
 use Rattle.casbin_c.proofs.HandleLemmas.{none_open, some_closed}
 use Rattle.casbin_c.proofs.calling.casbin_version.Goals as goal
 
@@ -8,7 +10,7 @@ returns-clause-opened c = λ _. record {
   behind = _;
   had = c.in-Some.ensures.taken;
   has = c.give.ensures;
-  holds = (refl, refl, rw c.deref.ensures at c.version-version.ensures);
+  holds = (refl, refl, c.version-version.ensures ∙ ap (λ (e : Enforcing). versions e.desk.state.log) c.deref.ensures);
 }
 
 pub returns-in_default-clause-opened : goal.returns-in_default-clause-opened

@@ -1,4 +1,6 @@
-use Rattle.std.proofs.Common.{refl}
+use Rattle.std.proofs.Common.{refl, subst}
+use Rattle.enforce_core.specs.Seen.{Snapped}
+use Rattle.casbin_c.specs.Shared.{Shares}
 use Rattle.casbin_c.proofs.HandleLemmas.{none_open, some_closed}
 use Rattle.casbin_c.proofs.sharing.casbin_share.Goals as goal
 
@@ -8,7 +10,7 @@ returns-clause-opened c = λ _. record {
   behind = _;
   had = c.in-Some.ensures.taken;
   has = c.give.ensures;
-  holds = (refl, rw c.deref.ensures at c.share_to-code.ensures);
+  holds = (refl, subst (λ (s : Snapped). Shares s c.share_to-code.result c.args.to.now.held.inside c.share_to-code.new.to.held.inside) c.deref.ensures c.share_to-code.ensures);
 }
 
 pub returns-in_default-clause-opened : goal.returns-in_default-clause-opened

@@ -1,4 +1,5 @@
-use Rattle.std.proofs.Common.{inl, inr, refl}
+use Rattle.std.proofs.Common.{inl, inr, refl, subst}
+use Rattle.enforce_core.specs.Seen.{Enforcing, IsTakenFrom}
 use Rattle.casbin_c.proofs.HandleLemmas.{none_open, some_closed}
 use Rattle.casbin_c.proofs.sharing.casbin_snapshot.Goals as goal
 
@@ -17,7 +18,7 @@ returns-in-Ok-clause-opened c = λ _. record {
   behind = _;
   had = c.in-Some.ensures.taken;
   has = c.give.ensures;
-  holds = (refl, inl (refl, record { behind = _; has = c.give-2.ensures; holds = rw c.deref.ensures at c.in-Ok.ensures }));
+  holds = (refl, inl (refl, record { behind = _; has = c.give-2.ensures; holds = subst (λ (e : Enforcing). IsTakenFrom e c.in-Ok.snapshot.value) c.deref.ensures c.in-Ok.ensures }));
 }
 
 pub returns-in_default-clause-opened : goal.returns-in_default-clause-opened
