@@ -99,19 +99,19 @@ fn parts_of(
     alloc: Global,
     model: Model,
     shapes: Shapes,
-    tables: Tables,
+    rules: Tables,
 ) -> Result<(Program, Desk), NoMemory>
     requires valid { AreValid shapes }
-    requires sound { AreSound shapes tables.policy }
+    requires sound { AreSound shapes rules.policy }
     requires suits { Suits model shapes }
-    ensures made { IfOk result (λ parts. AreMade model shapes tables.policy parts.0 parts.1) }
+    ensures made { IfOk result (λ parts. AreMade model shapes rules.policy parts.0 parts.1) }
     ensures stands { IfOk result (λ parts.
         StandsFor parts.1.state (tables parts.1.state) []) }
 {
     states_stand_for_their_history();
     let program = make_program(alloc, model)?;
     let key = program.index_key(alloc)?;
-    let state = make_state(alloc, shapes, key, tables)?;
+    let state = make_state(alloc, shapes, key, rules)?;
     let desk = open_desk(alloc, state)?;
     desk.holds();
     Ok((program, desk))
