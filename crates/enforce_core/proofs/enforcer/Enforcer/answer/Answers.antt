@@ -4,13 +4,14 @@ use Rattle.std.specs.Prelude.{IfOk, OnErr}
 use Rattle.decision.specs.Programs.{Suits}
 use Rattle.live_round.specs.Steps.{IsStep, IsStopped}
 use Rattle.model_conf.specs.ModelText.{ModelParts}
+use Rattle.regex_keep.proofs.CallerLemmas.{keeping_finder_send}
 use Rattle.script_read.specs.Said.{seen}
 use Rattle.enforce_core.specs.Seen.{Enforcing}
 use Rattle.enforce_core.proofs.SuitLemmas.{suits_same}
 use Rattle.enforce_core.proofs.enforcer.Enforcer.answer.Goals as goal
 
 pub answer_item-requires : goal.answer_item-requires
-answer_item-requires c = record { suits = suits_same (arc_value c.self.inside.program) c.deref.result.now c.self.inside.desk.state.shapes c.self.inside.desk.state.shapes c.deref.ensures refl c.self.invariant }
+answer_item-requires c = (keeping_finder_send, suits_same (arc_value c.self.inside.program) c.deref.result.now c.self.inside.desk.state.shapes c.self.inside.desk.state.shapes c.deref.ensures refl c.self.invariant)
 
 pub invariant_of-self : goal.invariant_of-self
 invariant_of-self c = subst (Suits (arc_value c.self.inside.program)) (sym c.answer_item.ensures.shapes) c.self.invariant
