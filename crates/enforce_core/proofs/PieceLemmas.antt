@@ -22,10 +22,10 @@ text_datum held = ap datum (sym (kind.rolls-Text held)) ∙ fold-roll-Value Datu
 
 -- the first of what is left of a list stands in it
 pub head_of_drop : {X : Type 0} (xs : List X) (i : ℕ) (x : X) (rest : List X) → drop i xs ≡ x ∷ rest → slice_get xs i ≡ Some x
-head_of_drop [] zero x rest is = absurd cc
-head_of_drop [] (suc i) x rest is = absurd cc
-head_of_drop (y ∷ ys) zero x rest is = ap (λ (l : List X). slice_get l 0) is
-head_of_drop (y ∷ ys) (suc i) x rest is = head_of_drop ys i x rest is
+head_of_drop {X} [] zero x rest is = absurd cc
+head_of_drop {X} [] (suc i) x rest is = absurd cc
+head_of_drop {X} (y ∷ ys) zero x rest is = ap (λ (l : List X). slice_get l 0) is
+head_of_drop {X} (y ∷ ys) (suc i) x rest is = head_of_drop ys i x rest is
 
 -- one step on in what is left
 pub tail_of_drop : {X : Type 0} (xs : List X) (i : ℕ) (x : X) (rest : List X) → drop i xs ≡ x ∷ rest → drop (suc i) xs ≡ rest

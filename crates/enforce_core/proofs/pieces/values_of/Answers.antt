@@ -19,8 +19,8 @@ pub returns-then-end-from-clause-stopped : goal.returns-then-end-from-clause-sto
 returns-then-end-from-clause-stopped c =
     cut_below c.args.bytes.now c.args.ends.now c.loop-at.at c.loop-at.number c.loop-at.from c.end_at-end.result c.loop-at.values.items c.loop-at.invariant c.loop-at-test.true c.end_at-end.ensures (search (rules, arith))
 
-pub returns-then-end-len-clause-stopped : goal.returns-then-end-len-clause-stopped
-returns-then-end-len-clause-stopped c =
+pub returns-then-end-bytes-clause-stopped : goal.returns-then-end-bytes-clause-stopped
+returns-then-end-bytes-clause-stopped c =
     cut_past c.args.bytes.now c.args.ends.now c.loop-at.at c.loop-at.number c.loop-at.from c.end_at-end.result c.loop-at.values.items c.loop-at.invariant c.loop-at-test.true c.end_at-end.ensures (search (rules, arith))
 
 pub returns-in_err-value-clause-stopped : goal.returns-in_err-value-clause-stopped
