@@ -1,0 +1,4 @@
+pub mod EnforcerValues
+pub mod SnapshotValues
+mod ShowLemmas
+mod HandleLemmas

@@ -1,0 +1,10 @@
+pub mod Held
+pub mod Handles
+pub mod Codes
+pub mod Decisions
+pub mod Told
+pub mod Opened
+pub mod Calls
+pub mod Shown
+pub mod Shared
+pub mod Helps

@@ -1,0 +1,10 @@
+mod AskLemmas
+mod CallLemmas
+mod LineLemmas
+mod OpeningLemmas
+mod OptionLemmas
+mod PieceLemmas
+mod ShowLemmas
+mod StepLemmas
+mod SuitLemmas
+mod TakenLemmas

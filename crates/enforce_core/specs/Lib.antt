@@ -1,0 +1,7 @@
+pub mod Seen
+pub mod Pieces
+pub mod Asked
+pub mod Called
+pub mod Opening
+pub mod Shown
+pub mod Helps
