@@ -4,7 +4,5 @@ mod LineLemmas
 mod OpeningLemmas
 mod OptionLemmas
 mod PieceLemmas
+mod PlaceLemmas
 mod ShowLemmas
-mod StepLemmas
-mod SuitLemmas
-mod TakenLemmas

@@ -1,5 +1,5 @@
 -- What a request is answered, given as texts or as a line of JSON (Casbin, enforce).
-use Rattle.std.specs.Prelude.{◌≡◌, ◌≢◌, ℕ, ◌<◌, ⊤, true, false, List, Result, Ok, Err, IfErr, IfOk, OnOk, IsUtf8, length, map}
+use Rattle.std.specs.Prelude.{◌≡◌, ◌≢◌, ℕ, ◌<◌, ⊤, false, true, List, Result, Ok, Err, IfErr, IfOk, IsUtf8, length, map}
 use Rattle.decision.specs.Judging.{IsJudgedWith, RefusedIn}
 use Rattle.matcher_meaning.specs.Verdicts.{IsJudged}
 use Rattle.model_conf.specs.ModelText.{ModelParts}
@@ -15,14 +15,47 @@ use Rattle.enforce_core.specs.declared.stops.AskStop.{AskStop}
 use Rattle.enforce_core.specs.declared.stops.AskStop.TheVariants as stop
 use Rattle.enforce_core.specs.declared.stops.Decided.{Decided}
 
+-- what is read as a request: its values, or why there are none
+abbrev pub Reading : Type 0
+Reading = Result (List Datum) AskStop
+
+-- ---- readings
+
 -- the greatest number of texts of a request
 abbrev pub most_texts : ℕ
 most_texts = 34
+
+-- why texts are no request
+abbrev pub CutStops : (bytes ends : List ℕ) → AskStop → Type 0
+CutStops bytes ends stop.Ends = rise 0 (length bytes) ends ≡ false
+CutStops bytes ends (stop.NotUtf8 field) = IsBadPiece bytes ends field
+CutStops bytes ends (stop.Request fault.TooMany) = most_texts < length ends
+CutStops bytes ends stop.NoMemory = ⊤
+CutStops bytes ends _ = ⊥
+
+-- texts that lie one behind the other are these values, a text each
+abbrev pub ReadsTexts : (bytes ends : List ℕ) → Reading → Type 0
+ReadsTexts bytes ends (Ok values) = AreEnds bytes ends × (values ≡ map text (pieces_of bytes ends))
+ReadsTexts bytes ends (Err why) = CutStops bytes ends why
 
 -- the stop that comes of a line that is no request
 abbrev pub ask_stop_of : RequestFault → AskStop
 ask_stop_of fault.NoMemory = stop.NoMemory
 ask_stop_of other = stop.Request other
+
+-- why a line of JSON is no request
+abbrev pub LineStops : List ℕ → AskStop → Type 0
+LineStops line (stop.NotUtf8 field) = (field ≡ 1) × ¬ (IsUtf8 line)
+LineStops line (stop.Request why) = Says true line (Err why)
+LineStops line stop.NoMemory = ⊤
+LineStops line _ = ⊥
+
+-- the line says these values
+abbrev pub ReadsLine : (line : List ℕ) → Reading → Type 0
+ReadsLine line (Ok values) = Says true line (Ok values)
+ReadsLine line (Err why) = LineStops line why
+
+-- ---- answers
 
 -- the verdict is judged over the policy, whose version is told (PERM: request, policy, matchers, effect), and the finder refused in
 -- between what the verdict says
@@ -44,38 +77,13 @@ pub record AsksValues (model : ModelParts) (state : State) (before now : Refusal
   pub stopped : IfErr result (ValuesStop model before now values)
   pub used : IsUsed before now
 
--- why texts were not judged, their ends being told
-abbrev pub TextsStop : ModelParts → (before now : Refusals) → (bytes ends : List ℕ) → AskStop → Type 0
-TextsStop model before now bytes ends stop.Ends = (rise 0 (length bytes) ends ≡ false) × (now ≡ before)
-TextsStop model before now bytes ends (stop.NotUtf8 field) = IsBadPiece bytes ends field × (now ≡ before)
-TextsStop model before now bytes ends (stop.Request fault.TooMany) = (most_texts < length ends) × (now ≡ before)
-TextsStop model before now bytes ends (stop.Arity got want) = (length ends ≢ length model.request) × (got ≡ length ends) × (want ≡ length model.request) × (now ≡ before)
-TextsStop model before now bytes ends stop.NoMemory = ⊤
-TextsStop model before now bytes ends _ = ⊥
+-- what a reading comes to: where there are no values it is told why, and the finder is not asked
+abbrev pub AsksReading : ModelParts → State → (before now : Refusals) → Reading → Result Decided AskStop → Type 0
+AsksReading model state before now (Ok values) result = AsksValues model state before now values result
+AsksReading model state before now (Err why) result = (result ≡ Err why) × (now ≡ before)
 
--- what texts come to: they are the values
-pub record AsksTexts (model : ModelParts) (state : State) (before now : Refusals) (bytes ends : List ℕ) (result : Result Decided AskStop) : Type 0 where
-  pub cut : OnOk result (AreEnds bytes ends)
-  pub decided : IfOk result (IsDecidedBy model state before now (map text (pieces_of bytes ends)))
-  pub stopped : IfErr result (TextsStop model before now bytes ends)
-  pub used : IsUsed before now
-
--- why a line of JSON was not judged
-abbrev pub JsonStop : ModelParts → (before now : Refusals) → (line : List ℕ) → AskStop → Type 0
-JsonStop model before now line (stop.NotUtf8 field) = (field ≡ 1) × ¬ (IsUtf8 line) × (now ≡ before)
-JsonStop model before now line (stop.Request why) = Says true line (Err why) × (now ≡ before)
-JsonStop model before now line (stop.Arity got want) = (values : List Datum) × Says true line (Ok values) × ValuesStop model before now values (stop.Arity got want)
-JsonStop model before now line stop.NoMemory = ⊤
-JsonStop model before now line stop.Ends = ⊥
-
--- the values that a line of JSON says, and what they come to
-pub record IsDecidedLine (model : ModelParts) (state : State) (before now : Refusals) (line : List ℕ) (decided : Decided) : Type 0 where
-  pub values : List Datum
-  pub says : Says true line (Ok values)
-  pub is : IsDecidedBy model state before now values decided
-
--- what a line of JSON comes to
-pub record AsksJson (model : ModelParts) (state : State) (before now : Refusals) (line : List ℕ) (result : Result Decided AskStop) : Type 0 where
-  pub decided : IfOk result (IsDecidedLine model state before now line)
-  pub stopped : IfErr result (JsonStop model before now line)
-  pub used : IsUsed before now
+-- what is asked is read, and answered by this policy
+pub record Asks (Reads : Reading → Type 0) (model : ModelParts) (state : State) (before now : Refusals) (result : Result Decided AskStop) : Type 0 where
+  pub reading : Reading
+  pub reads : Reads reading
+  pub answered : AsksReading model state before now reading result

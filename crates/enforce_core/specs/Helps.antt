@@ -1,7 +1,6 @@
 -- What only private functions and proofs say.
+pub mod Held
 pub mod Cut
-pub mod Lines
+pub mod Items
 pub mod Words
 pub mod Making
-pub mod Items
-pub mod Rules

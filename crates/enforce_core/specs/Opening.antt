@@ -8,18 +8,18 @@ use Rattle.command_words.specs.declared.command.Options.{Options}
 use Rattle.live_round.specs.Desks.{StandsBehind}
 use Rattle.model_conf.specs.Faults.{IsModelFault}
 use Rattle.model_conf.specs.ModelText.{IsModel, ModelParts}
-use Rattle.model_conf.specs.Shapes.{first_absent, shapes_of}
-use Rattle.perm_base.specs.declared.shapes.Shapes.{Shapes}
 use Rattle.policy_csv.specs.Faults.{IsPolicyFault}
 use Rattle.policy_csv.specs.Policy.{IsPolicy}
 use Rattle.policy_desk.specs.Desks.{Work}
 use Rattle.policy_state.specs.States.{tables}
+use Rattle.run_files.specs.Files.{absent_in, shapes_with}
 use Rattle.run_status.specs.Parts.{limit_of}
 use Rattle.run_status.specs.declared.part.Part.TheVariants as part
 use Rattle.run_status.specs.declared.stop.Stop.{Stop}
 use Rattle.run_status.specs.declared.stop.Stop.TheVariants.{Words, NoModel, NoRelation, NoPolicy, TooLong, NoMemory}
 use Rattle.text_parts.specs.Numbered.{text_lines}
 use Rattle.version_log.specs.Log.{versions}
+use Rattle.enforce_core.specs.Places.{at_desk}
 use Rattle.enforce_core.specs.Seen.{Enforcing, none_refused}
 
 -- the texts of the model, of the policy and of the options
@@ -54,15 +54,11 @@ pub record SaysOptions (text : List ℕ) (options : Options) : Type 0 where
 
 -- ---- the model with its options
 
--- the shapes of a model's policies under options
-abbrev pub shapes_under : Options → ModelParts → Shapes
-shapes_under options model = shapes_of model options.names options.domains options.limit
-
 -- the texts say this model and these options, and the model has what the options name
 pub record Fits (given : Given) (model : ModelParts) (options : Options) : Type 0 where
   pub said : SaysOptions given.options options
   pub is_model : IsModel given.model model
-  pub present : first_absent model.relations options.names options.domains ≡ None
+  pub present : absent_in (Some options) model ≡ None
 
 -- ---- opening
 
@@ -71,18 +67,18 @@ pub record Fits (given : Given) (model : ModelParts) (options : Options) : Type 
 pub record AreOpenedFrom (given : Given) (model : ModelParts) (desk : Work) : Type 0 where
   pub options : Options
   pub fits : Fits given model options
-  pub shapes : desk.state.shapes ≡ shapes_under options model
+  pub shapes : desk.state.shapes ≡ shapes_with (Some options) model
   pub policy : IsPolicy desk.state.shapes given.policy (tables desk.state)
   pub version : versions desk.state.log ≡ 0
   pub pending : desk.pending ≡ []
   pub kept : desk.kept ≡ None
   pub first : StandsBehind (tables desk.state) [] desk
 
--- an enforcer of these, which has refused and told nothing
+-- an enforcer of these, which has refused nothing
 pub record IsOpenedFrom (given : Given) (opened : Enforcing) : Type 0 where
-  pub parts : AreOpenedFrom given opened.model opened.desk
-  pub refusals : opened.refusals ≡ none_refused
-  pub told : opened.told ≡ []
+  pub desk : Work
+  pub parts : AreOpenedFrom given opened.model desk
+  pub is : opened ≡ record { model = opened.model; place = at_desk desk; refusals = none_refused }
 
 -- of some options that are said, and the model, this holds
 abbrev pub BehindModel : Given → (Options → ModelParts → Type 0) → Type 0
@@ -96,8 +92,8 @@ BehindOptions given Holds = (options : Options) × (model : ModelParts) × Fits 
 abbrev pub OpeningStops : Given → Stop → Type 0
 OpeningStops given Words = (options : Options) → SaysOptions given.options options → ⊥
 OpeningStops given (NoModel fault) = IsModelFault given.model fault
-OpeningStops given (NoRelation relation) = BehindModel given (λ options model. first_absent model.relations options.names options.domains ≡ Some relation)
+OpeningStops given (NoRelation relation) = BehindModel given (λ options model. absent_in (Some options) model ≡ Some relation)
 OpeningStops given (TooLong part.Policy) = BehindOptions given (λ options model. limit_of part.Policy < length given.policy)
-OpeningStops given (NoPolicy fault) = BehindOptions given (λ options model. IsPolicyFault (shapes_under options model) given.policy fault)
+OpeningStops given (NoPolicy fault) = BehindOptions given (λ options model. IsPolicyFault (shapes_with (Some options) model) given.policy fault)
 OpeningStops given NoMemory = ⊤
 OpeningStops given _ = ⊥

@@ -19,7 +19,7 @@ pieces_of bytes ends = pieces bytes 0 ends
 abbrev pub AreEnds : List ℕ → List ℕ → Type 0
 AreEnds bytes ends = rise 0 (length bytes) ends ≡ true
 
--- the piece of this number is not UTF-8
+-- the piece of this number, counted from 1, is not UTF-8
 pub record IsBadPiece (bytes ends : List ℕ) (field : ℕ) : Type 0 where
   pub piece : List ℕ
   pub is : slice_get (pieces_of bytes ends) (field - 1) ≡ Some piece

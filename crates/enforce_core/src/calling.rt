@@ -1,84 +1,67 @@
-ghost use Rattle.std.specs.Prelude.{◌≡◌, ◌∷◌, [], IfErr, IfOk, OnErr, false, map, string_bytes};
+ghost use Rattle.std.specs.Prelude.{◌≡◌, ◌∷◌, [], IfSome, MatchOption, false, map};
 ghost use Rattle.answer_lines.specs.LineText.{line_text};
-ghost use Rattle.live_round.specs.Steps.{IsStep, IsStopped, is_request};
+ghost use Rattle.live_round.specs.Steps.{is_request};
 ghost use Rattle.script_read.specs.Said.{seen};
-ghost use Rattle.enforce_core.specs.Called.{CallStops, IsCalled, called_of};
-ghost use Rattle.enforce_core.specs.Helps.Items.{ItemStops};
+ghost use Rattle.enforce_core.specs.Called.{CallsAt, PublishesAt, are_one, is_refused};
+ghost use Rattle.enforce_core.specs.Helps.Items.{DoesItem};
 
-use crate::enforcer::Enforcer;
 use crate::stops::{CallStop, Called};
-use answer_lines::{Answer, Line, push_line};
-use live_round::{answer_item, asked_in};
-use perm_base::NoMemory;
+use answer_lines::{Answer, Line, print_line};
+use live_round::{answer_other, asked_in};
+use perm_base::Text;
+use policy_desk::Desk;
 use script_read::{Item, Script, read_script};
 use std::alloc::Global;
 
-impl Enforcer {
-    /// Does the one item that the text says: a call, a batch, a query or a publish, as in a script (Casbin, management API; here
-    /// its calls wait for a publish). Calls are answered by the drafts, queries by what is published; the line of a session of
-    /// this item is then what it told last. A refused call changes nothing.
-    pub fn call(&mut self, alloc: Global, text: &[u8]) -> Result<Called, CallStop>
-        ensures called { IfOk result (IsCalled self.old self.new text.now) }
-        ensures stopped { IfErr result (CallStops self.old self.new text.now) }
-    {
-        let script = read_script(alloc, text, false)?;
-        let item = only_item(&script)?;
-        let answer = self.answer(alloc, item)?;
-        let called = called_of(&answer);
-        let Ok(line) = line_of(alloc, answer) else {
-            return Err(CallStop::Untold);
-        };
-        self.tell(line);
-        Ok(called)
-    }
-
-    // Does an item at the desk.
-    fn answer(&mut self, alloc: Global, item: &Item) -> Result<Answer, NoMemory>
-        ensures step { IfOk result (IsStep self.old.model self.old.refusals self.new.refusals
-            (seen item.now) self.old.desk self.new.desk) }
-        ensures stopped { OnErr result (IsStopped self.old.desk self.new.desk) }
-        ensures others { self.new ≡ record self.old {
-          desk = self.new.desk;
-          refusals = self.new.refusals;
-        } }
-    {
-        answer_item(
-            alloc,
-            &mut self.desk,
-            &self.program,
-            item,
-            &mut self.finder,
-            &mut self.scratch,
-        )
-    }
+/// Does the one item that a text says, at a desk.
+pub(crate) fn call_at(alloc: Global, desk: &mut Desk, text: &[u8]) -> Result<Called, CallStop>
+    ensures ends { CallsAt desk.old desk.new text.now result }
+    ensures shapes { desk.new.state.shapes ≡ desk.old.state.shapes }
+{
+    let script = read_script(alloc, text, false)?;
+    let Some(item) = only_item(&script) else {
+        return Err(CallStop::NoItem);
+    };
+    do_item(alloc, desk, item)
 }
 
-// The one item of a script, which is no request.
-fn only_item(script: &Script) -> Result<&Item, CallStop>
-    ensures only { IfOk result (λ item. script.now ≡ item.now ∷ []) }
-    ensures no_request { IfOk result (λ item. is_request (seen item.now) ≡ false) }
-    ensures stopped { IfErr result (ItemStops (map seen script.now)) }
+// The one item of a script, where it is no request.
+fn only_item(script: &Script) -> Option<&Item>
+    ensures { MatchOption result (are_one (map seen script.now) ≡ false)
+        (λ item. (script.now ≡ item.now ∷ []) × (is_request (seen item.now) ≡ false)) }
 {
     let Some((item, others)) = script.as_slice().split_first() else {
-        return Err(CallStop::Items);
+        return None;
     };
     if !others.is_empty() {
-        return Err(CallStop::Items);
+        return None;
     }
     let None = asked_in(item) else {
-        return Err(CallStop::Asks);
+        return None;
     };
-    Ok(item)
+    Some(item)
+}
+
+// Does an item that is no request, and tells it.
+fn do_item(alloc: Global, desk: &mut Desk, item: &Item) -> Result<Called, CallStop>
+    requires other { is_request (seen item.now) ≡ false }
+    ensures does { DoesItem (seen item.now) desk.old desk.new result }
+    ensures shapes { desk.new.state.shapes ≡ desk.old.state.shapes }
+{
+    let answer = answer_other(&(), alloc, desk, item)?;
+    let refused = is_refused(&answer);
+    let Some(line) = line_of(alloc, answer) else {
+        return Err(CallStop::Untold);
+    };
+    Ok(Called { refused, line })
 }
 
 // Whether an answer is a refusal.
-fn called_of(answer: &Answer) -> Called
-    ensures { result ≡ called_of answer.now }
+fn is_refused(answer: &Answer) -> bool
+    ensures { result ≡ is_refused answer.now }
 {
     match answer {
-        Answer::Arity { .. } | Answer::Request(_) | Answer::Call(_) | Answer::Query(_) => {
-            Called::Refused
-        }
+        Answer::Arity { .. } | Answer::Request(_) | Answer::Call(_) | Answer::Query(_) => true,
         Answer::Decided { .. }
         | Answer::Truth(_)
         | Answer::Published(_)
@@ -88,23 +71,33 @@ fn called_of(answer: &Answer) -> Called
         | Answer::Roles { .. }
         | Answer::Users { .. }
         | Answer::Kept(_)
-        | Answer::Recorded { .. } => Called::Done,
+        | Answer::Recorded { .. } => false,
     }
 }
 
-// The line that tells an answer; what no item of a script is answered has none.
-fn line_of(alloc: Global, reply: Answer) -> Result<String, NoMemory>
-    ensures { IfOk result (λ text.
-        string_bytes text ≡ line_text (record { number = 1; answer = reply })) }
+// The line that tells an answer, where memory lasts. What no item of a script is answered has none.
+fn line_of(alloc: Global, reply: Answer) -> Option<Text>
+    ensures { IfSome result (λ line.
+        line ≡ line_text (record { number = 1; answer = reply })) }
 {
     if !reply.is_printable() {
-        return Err(NoMemory);
+        return None;
     }
     let line = Line {
         number: 1,
         answer: reply,
     };
-    let mut text = String::new(alloc);
-    push_line(&mut text, &line)?;
-    Ok(text)
+    let Ok(text) = print_line(alloc, &line) else {
+        return None;
+    };
+    Some(text)
+}
+
+/// Publishes the pending edits of a desk, and says the new version.
+pub(crate) fn publish_at(alloc: Global, desk: &mut Desk) -> Result<u32, CallStop>
+    ensures ends { PublishesAt desk.old desk.new result }
+    ensures shapes { desk.new.state.shapes ≡ desk.old.state.shapes }
+{
+    let version = desk.publish(alloc)?;
+    Ok(version)
 }

@@ -1,5 +1,5 @@
-//! An enforcer as one value: the program of a model, the desk of its administrator and a finder, opened from texts; and
-//! snapshots of what it has published, which other threads may ask.
+//! An enforcer as one value: the program of a model, a policy and a finder, opened from texts; and snapshots of what it has
+//! published, which other threads may ask.
 #![tactic(auto)]
 
 mod asking;
@@ -9,12 +9,10 @@ mod lines;
 mod opening;
 mod options;
 mod pieces;
-mod showing;
-mod snapshot;
+mod place;
 mod stops;
 
 pub use enforcer::Enforcer;
 pub use lines::line_of_stop;
 pub use opening::{open_enforcer, open_parts};
-pub use snapshot::Snapshot;
 pub use stops::{AskStop, CallStop, Called, Decided};

@@ -1,21 +1,23 @@
-ghost use Rattle.std.specs.Prelude.{◌≡◌, ◌<◌, ◌≤◌, [], IfErr, IfOk};
+ghost use Rattle.std.specs.Prelude.{◌≡◌, ◌<◌, ◌≤◌, IfErr, IfOk, None, Some};
 ghost use Rattle.decision.specs.Programs.{Suits};
+ghost use Rattle.loaded_work.specs.Helps.Working.{IsReady};
 ghost use Rattle.perm_base.specs.Shapes.{AreValid};
 ghost use Rattle.policy_csv.specs.Policy.{IsPolicy};
-ghost use Rattle.policy_state.specs.States.{StandsFor, tables};
 ghost use Rattle.policy_table.specs.Limits.{AreSound};
-ghost use Rattle.enforce_core.specs.Helps.Making.{AreMade, PolicyStops, ShapeStops};
-ghost use Rattle.enforce_core.specs.Opening.{AreOpenedFrom, IsOpenedFrom, OpeningStops, shapes_under};
+ghost use Rattle.run_files.specs.Files.{absent_in, shapes_with};
+ghost use Rattle.run_files.specs.Helps.Reading.{ShapesStop};
+ghost use Rattle.enforce_core.specs.Helps.Making.{AreMade, PolicyStops};
+ghost use Rattle.enforce_core.specs.Opening.{AreOpenedFrom, IsOpenedFrom, OpeningStops};
 
 use crate::enforcer::Enforcer;
 use crate::options::read_options;
 use command_words::Options;
-use decision::{Program, make_program};
+use decision::Program;
+use loaded_work::{Loaded, open_loaded};
 use model_conf::{Model, read_model, shapes_of};
 use perm_base::{NoMemory, Shapes};
 use policy_csv::read_policy;
 use policy_desk::{Desk, open_desk};
-use policy_state::{make_state, states_stand_for_their_history};
 use policy_table::Tables;
 use run_status::{Part, Stop};
 use std::alloc::Global;
@@ -35,7 +37,7 @@ pub fn open_enforcer(
 {
     let parts = open_parts(alloc, model, policy, options)?;
     let (program, desk) = parts;
-    let enforcer = Enforcer::over(alloc, program, desk)?;
+    let enforcer = Enforcer::owning(alloc, program, desk)?;
     Ok(enforcer)
 }
 
@@ -50,8 +52,6 @@ pub fn open_parts(
         (record { model = model.now; policy = policy.now; options = options.now })
         parts.0 parts.1) }
     ensures suits { IfOk result (λ parts. Suits parts.0 parts.1.state.shapes) }
-    ensures stands { IfOk result (λ parts.
-        StandsFor parts.1.state (tables parts.1.state) []) }
     ensures stopped { IfErr result (OpeningStops
         (record { model = model.now; policy = policy.now; options = options.now })) }
 {
@@ -59,26 +59,31 @@ pub fn open_parts(
     let model = read_model(alloc, model)?;
     let shapes = shapes_under(alloc, &model, &options)?;
     let tables = read_tables(alloc, policy, &shapes)?;
-    let parts = parts_of(alloc, model, shapes, tables)?;
+    let loaded = Loaded {
+        model,
+        shapes,
+        tables,
+    };
+    let parts = parts_of(alloc, loaded)?;
     Ok(parts)
 }
 
 // The shapes of the model's policies, where it has what the options name.
 fn shapes_under(alloc: Global, model: &Model, options: &Options) -> Result<Shapes, Stop>
     requires { (0 < options.now.limit) × (options.now.limit ≤ 250) }
-    ensures found { IfOk result (λ shapes. shapes ≡ shapes_under options.now model.now) }
-    ensures suits { IfOk result (λ shapes. Suits model.now shapes) }
+    ensures found { IfOk result (λ shapes. shapes ≡ shapes_with (Some options.now) model.now) }
+    ensures fits { IfOk result (λ _. absent_in (Some options.now) model.now ≡ None) }
     ensures valid { IfOk result (λ shapes. AreValid shapes) }
-    ensures stopped { ShapeStops model.now options.now result }
+    ensures suits { IfOk result (λ shapes. Suits model.now shapes) }
+    ensures stopped { IfErr result (ShapesStop (Some options.now) model.now) }
 {
-    let shapes = shapes_of(
+    Ok(shapes_of(
         alloc,
         model,
         options.names.as_slice(),
         options.domains.as_slice(),
         options.limit,
-    )?;
-    Ok(shapes)
+    )?)
 }
 
 // The tables that the policy's text says.
@@ -94,25 +99,13 @@ fn read_tables(alloc: Global, bytes: &[u8], shapes: &Shapes) -> Result<Tables, S
     Ok(read_policy(alloc, bytes, shapes)?)
 }
 
-// The program of a model, and a desk over tables of its shapes.
-fn parts_of(
-    alloc: Global,
-    model: Model,
-    shapes: Shapes,
-    rules: Tables,
-) -> Result<(Program, Desk), NoMemory>
-    requires valid { AreValid shapes }
-    requires sound { AreSound shapes rules.policy }
-    requires suits { Suits model shapes }
-    ensures made { IfOk result (λ parts. AreMade model shapes rules.policy parts.0 parts.1) }
-    ensures stands { IfOk result (λ parts.
-        StandsFor parts.1.state (tables parts.1.state) []) }
+// The program of what was loaded, and a desk over its policy.
+fn parts_of(alloc: Global, loaded: Loaded) -> Result<(Program, Desk), NoMemory>
+    requires { IsReady loaded }
+    ensures { IfOk result (λ parts. AreMade loaded parts.0 parts.1) }
 {
-    states_stand_for_their_history();
-    let program = make_program(alloc, model)?;
-    let key = program.index_key(alloc)?;
-    let state = make_state(alloc, shapes, key, rules)?;
-    let desk = open_desk(alloc, state)?;
+    let opened = open_loaded(alloc, loaded)?;
+    let desk = open_desk(alloc, opened.state)?;
     desk.holds();
-    Ok((program, desk))
+    Ok((opened.program, desk))
 }

@@ -1,6 +1,6 @@
-ghost use Rattle.std.specs.Prelude.{◌≡◌, ◌<◌, ◌≤◌, ◌++◌, ◌∷◌, [], IfErr, IfOk, OnOk};
+ghost use Rattle.std.specs.Prelude.{◌≡◌, ◌<◌, ◌≤◌, ◌++◌, ◌∷◌, [], IfErr, IfOk, IfSome, OnOk};
 ghost use Rattle.command_words.specs.Items.{texts};
-ghost use Rattle.enforce_core.specs.Helps.Words.{OptionStops};
+ghost use Rattle.enforce_core.specs.Helps.Words.{OptionStops, all_texts};
 ghost use Rattle.enforce_core.specs.Opening.{SaysOptions, option_words, options_asked};
 ghost use Rattle.enforce_core.specs.Opening.{report_options, words_before};
 
@@ -20,7 +20,8 @@ pub(crate) fn read_options(alloc: Global, text: &[u8]) -> Result<Options, Stop>
         return Err(Stop::Words);
     };
     let words = words_of(alloc, content)?;
-    let Some(options) = report_of(&words) else {
+    let found = report_of(alloc, &words)?;
+    let Some(options) = found else {
         return Err(Stop::Words);
     };
     Ok(options)
@@ -28,7 +29,7 @@ pub(crate) fn read_options(alloc: Global, text: &[u8]) -> Result<Options, Stop>
 
 // The words of a report with these options.
 fn words_of(alloc: Global, text: &str) -> Result<Vec<String>, NoMemory>
-    ensures { IfOk result (λ words. texts words.items ≡ option_words text.now) }
+    ensures { IfOk result (λ words. all_texts words ≡ option_words text.now) }
 {
     let mut words = first_words(alloc)?;
     let mut rest = text;
@@ -41,7 +42,7 @@ fn words_of(alloc: Global, text: &str) -> Result<Vec<String>, NoMemory>
 
 // The words before the options.
 fn first_words(alloc: Global) -> Result<Vec<String>, NoMemory>
-    ensures { IfOk result (λ words. texts words.items ≡ words_before) }
+    ensures { IfOk result (λ words. all_texts words ≡ words_before) }
 {
     let mut words = Vec::new(alloc);
     push_word(alloc, &mut words, "report")?;
@@ -51,19 +52,24 @@ fn first_words(alloc: Global) -> Result<Vec<String>, NoMemory>
 }
 
 // Puts a word behind the others.
-fn push_word(alloc: Global, words: &mut Vec<String>, text: &str) -> Result<(), NoMemory>
-    ensures { OnOk result (texts words.new.items ≡ texts words.old.items ++ text.now ∷ []) }
+fn push_word(alloc: Global, words: &mut Vec<String>, word: &str) -> Result<(), NoMemory>
+    ensures { OnOk result (all_texts words.new ≡ all_texts words.old ++ word.now ∷ []) }
 {
-    let word = String::from_str(alloc, text)?;
-    words.push(word)?;
+    let copy = String::from_str(alloc, word)?;
+    words.push(copy)?;
     Ok(())
 }
 
 // The options of words that ask for a report.
-fn report_of(words: &[String]) -> Option<Options>
-    ensures { result ≡ options_asked (texts words.now) }
+fn report_of(alloc: Global, words: &[String]) -> Result<Option<Options>, NoMemory>
+    ensures asked { IfOk result (λ found. found ≡ options_asked (texts words.now)) }
+    ensures limit { IfOk result (λ found. IfSome found (λ options.
+        (0 < options.limit) × (options.limit ≤ 250))) }
 {
-    options_of(read_words(words)?)
+    let Some(command) = read_words(alloc, words)? else {
+        return Ok(None);
+    };
+    Ok(options_of(command))
 }
 
 // The options of a report.
@@ -71,7 +77,10 @@ fn options_of(command: Command<'_>) -> Option<Options>
     ensures { result ≡ report_options command.entry }
 {
     match command {
-        Command::Report { files: _, options } => Some(options),
+        Command::Report {
+            files: _files,
+            options,
+        } => Some(options),
         Command::Enforce { .. }
         | Command::Explain { .. }
         | Command::Session { .. }
@@ -80,6 +89,7 @@ fn options_of(command: Command<'_>) -> Option<Options>
         | Command::Implicit { .. }
         | Command::Ship { .. }
         | Command::Follow { .. }
+        | Command::Lint { .. }
         | Command::Demo { .. } => None,
     }
 }

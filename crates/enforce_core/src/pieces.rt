@@ -1,9 +1,9 @@
-ghost use Rattle.std.specs.Prelude.{◌≡◌, ◌-◌, ◌≤◌, ◌++◌, ◌∷◌, [], IfErr, IfOk, OnOk};
-ghost use Rattle.std.specs.Prelude.{◌<◌, Some, drop, length, map, slice_get, take};
+ghost use Rattle.std.specs.Prelude.{◌≡◌, ◌-◌, ◌≤◌, ◌++◌, ◌∷◌, [], IfErr, IfOk, Ok, OnOk};
+ghost use Rattle.std.specs.Prelude.{drop, length, map, take};
 ghost use Rattle.perm_value.specs.Datum.{text};
 ghost use Rattle.perm_value.specs.Seen.{datum};
-ghost use Rattle.enforce_core.specs.Helps.Cut.{CutStops, PieceStops};
-ghost use Rattle.enforce_core.specs.Pieces.{AreEnds, pieces_of};
+ghost use Rattle.enforce_core.specs.Asked.{CutStops, ReadsTexts};
+ghost use Rattle.enforce_core.specs.Helps.Cut.{PieceStops};
 
 use crate::stops::AskStop;
 use perm_base::{NoMemory, Text};
@@ -19,10 +19,8 @@ pub(crate) fn request_of_texts(
     bytes: &[u8],
     ends: &[usize],
 ) -> Result<Request, AskStop>
-    ensures cut { OnOk result (AreEnds bytes.now ends.now) }
     ensures found { IfOk result (λ request.
-        map datum request ≡ map text (pieces_of bytes.now ends.now)) }
-    ensures count { IfOk result (λ request. length request ≡ length ends.now) }
+        ReadsTexts bytes.now ends.now (Ok (map datum request))) }
     ensures stopped { IfErr result (CutStops bytes.now ends.now) }
 {
     if ends.len() > MOST_TEXTS {
@@ -35,71 +33,57 @@ pub(crate) fn request_of_texts(
 // The texts as values.
 fn values_of(alloc: Global, bytes: &[u8], ends: &[usize]) -> Result<Vec<Value>, AskStop>
     requires { length ends.now ≤ 34 }
-    ensures cut { OnOk result (AreEnds bytes.now ends.now) }
     ensures found { IfOk result (λ values.
-        map datum values.items ≡ map text (pieces_of bytes.now ends.now)) }
-    ensures count { IfOk result (λ values. length values.items ≡ length ends.now) }
+        ReadsTexts bytes.now ends.now (Ok (map datum values.items))) }
+    ensures few { IfOk result (λ values. length values.items ≤ 34) }
     ensures stopped { IfErr result (CutStops bytes.now ends.now) }
 {
-    let mut values = room_for(alloc, ends.len())?;
+    let mut values = Vec::new(alloc);
     let mut number: u32 = 0;
     let mut from = 0;
-    for at in 0..ends.len() {
-        let end = end_at(ends, at);
-        if end < from {
+    let mut rest = ends;
+    while let Some((place, behind)) = rest.split_first() {
+        let place = *place;
+        if place < from {
             return Err(AskStop::Ends);
         }
-        if end > bytes.len() {
+        if place > bytes.len() {
             return Err(AskStop::Ends);
         }
         number += 1;
-        let value = value_of(alloc, piece(bytes, from, end), number)?;
-        push_value(&mut values, value)?;
-        from = end;
+        push_text(alloc, &mut values, piece(bytes, from, place), number)?;
+        from = place;
+        rest = behind;
     }
     Ok(values)
 }
 
-// The end at a place.
-fn end_at(ends: &[usize], at: usize) -> usize
-    requires { at < length ends.now }
-    ensures { slice_get ends.now at ≡ Some result }
-{
-    ends[at]
-}
-
-// No values, with room for so many.
-fn room_for(alloc: Global, count: usize) -> Result<Vec<Value>, NoMemory>
-    ensures { IfOk result (λ values. values.items ≡ []) }
-{
-    Ok(Vec::with_capacity(alloc, count)?)
-}
-
-// Puts a value behind the others.
-fn push_value(values: &mut Vec<Value>, value: Value) -> Result<(), NoMemory>
-    ensures { OnOk result (values.new.items ≡ values.old.items ++ value ∷ []) }
-{
-    values.push(value)?;
-    Ok(())
-}
-
-// The text of this number, as a value.
-fn value_of(alloc: Global, piece: &[u8], number: u32) -> Result<Value, AskStop>
-    ensures value { IfOk result (λ value. datum value ≡ text piece.now) }
+// Puts the text of this number behind the other values.
+fn push_text(
+    alloc: Global,
+    values: &mut Vec<Value>,
+    piece: &[u8],
+    number: u32,
+) -> Result<(), AskStop>
+    ensures pushed { OnOk result (map datum values.new.items
+        ≡ map datum values.old.items ++ text piece.now ∷ []) }
     ensures stopped { IfErr result (PieceStops piece.now number) }
 {
     let Ok(content) = str::from_utf8(piece) else {
         return Err(AskStop::NotUtf8 { field: number });
     };
     let held = Text::from_str(alloc, content)?;
-    Ok(text_value(held))
+    push_value(values, held)?;
+    Ok(())
 }
 
-// A text as a value.
-fn text_value(held: Text) -> Value
-    ensures { datum result ≡ text held }
+// Puts a text behind the other values.
+fn push_value(values: &mut Vec<Value>, held: Text) -> Result<(), NoMemory>
+    ensures { OnOk result (map datum values.new.items
+        ≡ map datum values.old.items ++ text held ∷ []) }
 {
-    Value::Text(held)
+    values.push(Value::Text(held))?;
+    Ok(())
 }
 
 // The bytes from one place to another.

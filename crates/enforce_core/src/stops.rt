@@ -1,23 +1,23 @@
 use effect_fold::Verdict;
-use perm_base::{NoMemory, Share};
+use perm_base::{NoMemory, Text};
 use perm_value::RequestFault;
 use script_read::ScriptFault;
 
 /// The verdict on a request, and the version of the policy by which it was judged.
-#[derive(Clone, Copy, Debug, PartialEq, Eq)]
+#[derive(Clone, Copy)]
 pub struct Decided {
     pub version: u32,
     pub verdict: Verdict,
 }
 
 /// Why a request was not judged. Nothing changed.
-#[derive(Clone, Copy, Debug, PartialEq, Eq)]
+#[derive(Clone, Copy)]
 pub enum AskStop {
     /// The ends of the texts do not rise, or go past the bytes.
     Ends,
     /// A text is not UTF-8; texts are counted from 1.
     NotUtf8 { field: u32 },
-    /// Why the line is no request.
+    /// Why the line is no request, or that there are too many texts.
     Request(RequestFault),
     /// The request has another number of values than the model has columns.
     Arity { got: u32, want: u32 },
@@ -50,24 +50,22 @@ impl From<RequestFault> for AskStop {
     }
 }
 
-/// How a call was answered: its line is what the enforcer told last.
-#[derive(Clone, Copy, Debug, PartialEq, Eq)]
-pub enum Called {
-    /// It was done, or the query has its answer.
-    Done,
-    /// It was refused, and nothing changed.
-    Refused,
+/// How an item was answered: whether it was refused, and the line that a session of this one item prints.
+#[derive(Drop)]
+pub struct Called {
+    pub refused: bool,
+    pub line: Text,
 }
 
-/// Why a call was not answered.
-#[derive(Clone, Copy, Debug, PartialEq, Eq)]
+/// Why no item was answered.
+#[derive(Clone, Copy)]
 pub enum CallStop {
     /// The text is no script.
     NoScript(ScriptFault),
-    /// The text has another number of items than one.
-    Items,
-    /// Its item is a request, which is asked in another way.
-    Asks,
+    /// The text has another number of items than one, or its item is a request, which is asked in another way.
+    NoItem,
+    /// A snapshot is never edited.
+    Snapshot,
     /// Memory ran out, and nothing was done, but that a publish may have raised the version before which edits may be let go.
     NoMemory,
     /// It was done, and memory ran out for the line that tells it.
@@ -98,5 +96,3 @@ impl From<ScriptFault> for CallStop {
         }
     }
 }
-
-impl Share for Decided {}

@@ -1,12 +1,9 @@
-use Rattle.std.proofs.Common.{List, ℕ, ◌∷◌, [], ◌++◌, ap, ◌∙◌}
-use Rattle.std.specs.Prelude.{String, string_bytes}
-use Rattle.std.specs.declared.alloc.Global.{Global}
-use Rattle.std.proofs.lemmas.List.{map_push}
-use Rattle.command_words.specs.Items.{texts}
+use Rattle.std.proofs.Common.{◌≡◌, ◌∷◌, ◌++◌, [], arith}
+use Rattle.std.proofs.lemmas.Grind.{common_steps}
+use Rattle.enforce_core.proofs.OptionLemmas.{texts_pushed}
 use Rattle.enforce_core.proofs.options.push_word.Goals as goal
 
 pub returns : goal.returns
 returns c =
-    ap (λ (words : List (String Global)). texts words) c.in_ok-push.ensures.items
-    ∙ map_push (λ (word : String Global). string_bytes word) c.args.words.now.items c.in_ok-word.word
-    ∙ ap (λ (text : List ℕ). texts c.args.words.now.items ++ text ∷ []) c.in_ok-word.ensures.ok
+    let pushed : c.push.new.self.items ≡ c.args.words.now.items ++ c.in_ok-copy.copy ∷ [] = grind (arith, common_steps) in
+    texts_pushed c.args.words.now.items c.push.new.self.items c.in_ok-copy.copy c.args.word.now pushed c.in_ok-copy.ensures.ok

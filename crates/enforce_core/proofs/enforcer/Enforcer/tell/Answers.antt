@@ -1,7 +1,0 @@
-use Rattle.std.proofs.Common.{ap}
-use Rattle.std.specs.Prelude.{string_bytes}
-use Rattle.enforce_core.specs.Seen.{Enforcing}
-use Rattle.enforce_core.proofs.enforcer.Enforcer.tell.Goals as goal
-
-pub returns : goal.returns
-returns c = ap (λ (s : Enforcing). record s { told = string_bytes c.args.text }) c.self.view_is
