@@ -1,5 +1,5 @@
 -- What a request was answered, as C reads it.
-use Rattle.std.specs.Prelude.{ℕ, Option, Some, None, Result, Ok, Err}
+use Rattle.std.specs.Prelude.{ℕ, Option, Result, Ok, Err, unwrap_or}
 use Rattle.effect_fold.specs.declared.fault.Cause.{Cause}
 use Rattle.effect_fold.specs.declared.fault.Cause.TheVariants as cause
 use Rattle.effect_fold.specs.declared.verdict.Verdict.{Verdict}
@@ -11,10 +11,9 @@ use Rattle.perm_value.specs.declared.request.RequestFault.{RequestFault}
 use Rattle.perm_value.specs.declared.request.RequestFault.TheVariants as fault
 use Rattle.casbin_c.specs.declared.decision.Decision.{Decision}
 
--- the number of a row, from 1; 0 for none
-abbrev pub row_number : Option ℕ → ℕ
-row_number None = 0
-row_number (Some row) = row
+-- one of a version, with the number of the row, from 1, or 0 for none
+abbrev pub decision_with : (kind version : ℕ) → Option ℕ → (cause at : ℕ) → Decision
+decision_with kind version row cause at = record { kind = kind; version = version; row = unwrap_or row 0; cause = cause; at = at }
 
 -- why an evaluation failed
 abbrev pub cause_number : Cause → ℕ
@@ -27,38 +26,32 @@ cause_number cause.BadBlock = 6
 cause_number cause.Pattern = 7
 cause_number cause.RuleText = 8
 
--- why a line is no request, and where
-abbrev pub fault_number : RequestFault → ℕ
-fault_number (fault.Quote column) = 3
-fault_number fault.TooMany = 4
-fault_number fault.Syntax = 5
-fault_number fault.NotAnArray = 6
-fault_number (fault.TooDeep field) = 7
-fault_number (fault.NotWhole field) = 8
-fault_number fault.NoMemory = 0
-
-abbrev pub place_of : RequestFault → ℕ
-place_of (fault.Quote column) = column
-place_of (fault.TooDeep field) = field
-place_of (fault.NotWhole field) = field
-place_of _ = 0
-
 -- a verdict of a version
 abbrev pub verdict_decision : ℕ → Verdict → Decision
-verdict_decision version (Deny row) = record { kind = 0; version = version; row = row_number row; cause = 0; at = 0 }
-verdict_decision version (Allow row) = record { kind = 1; version = version; row = row_number row; cause = 0; at = 0 }
-verdict_decision version (Fault row failed) = record { kind = 2; version = version; row = row_number row; cause = cause_number failed.cause; at = failed.at }
+verdict_decision version (Deny row) = decision_with 0 version row 0 0
+verdict_decision version (Allow row) = decision_with 1 version row 0 0
+verdict_decision version (Fault row failed) = decision_with 2 version row (cause_number failed.cause) failed.at
 
 -- no request
-abbrev pub no_request : (cause at : ℕ) → Decision
-no_request cause at = record { kind = 3; version = 0; row = 0; cause = cause; at = at }
+abbrev pub none_asked : (cause at : ℕ) → Decision
+none_asked cause at = record { kind = 3; version = 0; row = 0; cause = cause; at = at }
+
+-- why a line is no request, and where; want of memory is told by the code alone
+abbrev pub fault_decision : RequestFault → Decision
+fault_decision (fault.Quote column) = none_asked 3 column
+fault_decision fault.TooMany = none_asked 4 0
+fault_decision fault.Syntax = none_asked 5 0
+fault_decision fault.NotAnArray = none_asked 6 0
+fault_decision (fault.TooDeep field) = none_asked 7 field
+fault_decision (fault.NotWhole field) = none_asked 8 field
+fault_decision fault.NoMemory = none_asked 0 0
 
 -- why a request was not judged; for want of memory nothing is told
 abbrev pub stop_decision : Decision → AskStop → Decision
-stop_decision old stop.Ends = no_request 1 0
-stop_decision old (stop.NotUtf8 field) = no_request 2 field
-stop_decision old (stop.Request why) = no_request (fault_number why) (place_of why)
-stop_decision old (stop.Arity got want) = no_request 9 got
+stop_decision old stop.Ends = none_asked 1 0
+stop_decision old (stop.NotUtf8 field) = none_asked 2 field
+stop_decision old (stop.Request why) = fault_decision why
+stop_decision old (stop.Arity got want) = none_asked 9 got
 stop_decision old stop.NoMemory = old
 
 -- what is told of an answer

@@ -4,7 +4,3 @@ pub mod Codes
 pub mod Decisions
 pub mod Told
 pub mod Opened
-pub mod Calls
-pub mod Shown
-pub mod Shared
-pub mod Helps

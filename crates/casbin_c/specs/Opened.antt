@@ -1,10 +1,10 @@
--- What opening a handle comes to, by its code.
+-- What opening a handle and taking a snapshot come to, by their codes.
 use Rattle.std.specs.Prelude.{◌≡◌, ◌⊎◌, ℕ, List, Option}
 use Rattle.enforce_core.specs.Opening.{Given, IsOpenedFrom, OpeningStops}
-use Rattle.enforce_core.specs.Seen.{Enforcing}
+use Rattle.enforce_core.specs.Seen.{Enforcing, IsSnapshotOf}
 use Rattle.run_status.specs.Statuses.{code_of, status_of}
 use Rattle.run_status.specs.declared.stop.Stop.{Stop}
-use Rattle.casbin_c.specs.Codes.{ok}
+use Rattle.casbin_c.specs.Codes.{no_memory, ok}
 use Rattle.casbin_c.specs.Handles.{Opens}
 use Rattle.casbin_c.specs.Told.{WritesNothing, WritesStop}
 
@@ -25,3 +25,7 @@ pub record IsRefused (given : Given) (code : ℕ) (before now : Option Enforcing
 -- one of the two
 abbrev pub OpensFrom : Given → (code : ℕ) → (before now : Option Enforcing) → (line_old line_new : List ℕ) → (size : ℕ) → Type 0
 OpensFrom given code before now line_old line_new size = IsOpened given code now line_old line_new size ⊎ IsRefused given code before now line_old line_new size
+
+-- the handle holds a snapshot of what the enforcer judges by; or memory ran out, and it is as it was
+abbrev pub Takes : Enforcing → (code : ℕ) → (before now : Option Enforcing) → Type 0
+Takes owner code before now = ((code ≡ ok) × Opens now (IsSnapshotOf owner)) ⊎ ((code ≡ no_memory) × (now ≡ before))

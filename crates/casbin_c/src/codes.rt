@@ -26,3 +26,6 @@ pub const NO_RULE: u32 = 13;
 
 /// The call was done, and memory ran out for the line that tells it.
 pub const UNTOLD: u32 = 14;
+
+/// The handle holds a snapshot, which is never edited.
+pub const SNAPSHOT: u32 = 15;

@@ -1,16 +1,17 @@
 ghost use Rattle.std.specs.Prelude.{◌≡◌};
-ghost use Rattle.casbin_c.specs.Codes.{code_of_ask, code_of_ask_stop};
-ghost use Rattle.casbin_c.specs.Decisions.{cause_number, decision_of, fault_number, no_request};
-ghost use Rattle.casbin_c.specs.Decisions.{place_of, row_number, stop_decision, verdict_decision};
+ghost use Rattle.casbin_c.specs.Codes.{code_of_ask, code_of_ask_stop, no_request};
+ghost use Rattle.casbin_c.specs.Decisions.{cause_number, decision_of, decision_with};
+ghost use Rattle.casbin_c.specs.Decisions.{fault_decision, none_asked, stop_decision};
+ghost use Rattle.casbin_c.specs.Decisions.{verdict_decision};
 
 use crate::codes::{NO_MEMORY, NO_REQUEST, OK};
-use effect_fold::{Cause, Verdict};
+use effect_fold::{Cause, Fault, Verdict};
 use enforce_core::{AskStop, Decided};
 use perm_value::RequestFault;
 
 /// What a request was answered, as C reads it.
 #[repr(C)]
-#[derive(Clone, Copy, Debug, PartialEq, Eq)]
+#[derive(Clone, Copy)]
 pub struct Decision {
     /// 0 is deny, 1 allow, 2 a fault of the evaluation, and 3 no request.
     pub kind: u32,
@@ -27,7 +28,7 @@ pub struct Decision {
 /// Tells what a request was answered, and gives its code.
 pub(crate) fn tell(answered: Result<Decided, AskStop>, decision: &mut Decision) -> u32
     ensures code { result ≡ code_of_ask answered }
-    ensures decision { decision.new ≡ decision_of decision.old answered }
+    ensures told { decision.new ≡ decision_of decision.old answered }
 {
     match answered {
         Ok(decided) => {
@@ -41,21 +42,37 @@ pub(crate) fn tell(answered: Result<Decided, AskStop>, decision: &mut Decision) 
 // Tells why a request was not judged; want of memory by its code alone.
 fn tell_stop(stop: AskStop, decision: &mut Decision) -> u32
     ensures code { result ≡ code_of_ask_stop stop }
-    ensures decision { decision.new ≡ stop_decision decision.old stop }
+    ensures told { decision.new ≡ stop_decision decision.old stop }
 {
     match stop {
         AskStop::Ends => refuse(decision, 1, 0),
         AskStop::NotUtf8 { field } => refuse(decision, 2, field),
-        AskStop::Request(fault) => refuse(decision, fault_number(fault), place_of(fault)),
+        AskStop::Request(fault) => refuse_line(fault, decision),
         AskStop::Arity { got, .. } => refuse(decision, 9, got),
         AskStop::NoMemory => NO_MEMORY,
     }
 }
 
+// Tells why a line is no request.
+fn refuse_line(fault: RequestFault, decision: &mut Decision) -> u32
+    ensures code { result ≡ no_request }
+    ensures told { decision.new ≡ fault_decision fault }
+{
+    match fault {
+        RequestFault::Quote { column } => refuse(decision, 3, column),
+        RequestFault::TooMany => refuse(decision, 4, 0),
+        RequestFault::Syntax => refuse(decision, 5, 0),
+        RequestFault::NotAnArray => refuse(decision, 6, 0),
+        RequestFault::TooDeep { field } => refuse(decision, 7, field),
+        RequestFault::NotWhole { field } => refuse(decision, 8, field),
+        RequestFault::NoMemory => refuse(decision, 0, 0),
+    }
+}
+
 // Tells that there is no request.
 fn refuse(decision: &mut Decision, cause: u32, at: u32) -> u32
-    ensures code { result ≡ 10 }
-    ensures decision { decision.new ≡ no_request cause at }
+    ensures code { result ≡ no_request }
+    ensures told { decision.new ≡ none_asked cause at }
 {
     *decision = Decision {
         kind: 3,
@@ -72,27 +89,15 @@ fn verdict_decision(version: u32, verdict: Verdict) -> Decision
     ensures { result ≡ verdict_decision version verdict }
 {
     match verdict {
-        Verdict::Deny(row) => plain(0, version, row),
-        Verdict::Allow(row) => plain(1, version, row),
-        Verdict::Fault { row, fault } => Decision {
-            kind: 2,
-            version,
-            row: row.unwrap_or(0),
-            cause: cause_number(fault.cause),
-            at: fault.at,
-        },
+        Verdict::Deny(row) => judged(0, version, row),
+        Verdict::Allow(row) => judged(1, version, row),
+        Verdict::Fault { row, fault } => failed(version, row, fault),
     }
 }
 
 // One without a fault.
-fn plain(kind: u32, version: u32, row: Option<u32>) -> Decision
-    ensures { result ≡ record {
-      kind = kind;
-      version = version;
-      row = row_number row;
-      cause = 0;
-      at = 0;
-    } }
+fn judged(kind: u32, version: u32, row: Option<u32>) -> Decision
+    ensures { result ≡ decision_with kind version row 0 0 }
 {
     Decision {
         kind,
@@ -100,6 +105,19 @@ fn plain(kind: u32, version: u32, row: Option<u32>) -> Decision
         row: row.unwrap_or(0),
         cause: 0,
         at: 0,
+    }
+}
+
+// One with the fault of the evaluation.
+fn failed(version: u32, row: Option<u32>, fault: Fault) -> Decision
+    ensures { result ≡ decision_with 2 version row (cause_number fault.cause) fault.at }
+{
+    Decision {
+        kind: 2,
+        version,
+        row: row.unwrap_or(0),
+        cause: cause_number(fault.cause),
+        at: fault.at,
     }
 }
 
@@ -116,34 +134,5 @@ fn cause_number(cause: Cause) -> u32
         Cause::BadBlock => 6,
         Cause::Pattern => 7,
         Cause::RuleText => 8,
-    }
-}
-
-// The number of the fault of a line.
-fn fault_number(fault: RequestFault) -> u32
-    ensures { result ≡ fault_number fault }
-{
-    match fault {
-        RequestFault::Quote { .. } => 3,
-        RequestFault::TooMany => 4,
-        RequestFault::Syntax => 5,
-        RequestFault::NotAnArray => 6,
-        RequestFault::TooDeep { .. } => 7,
-        RequestFault::NotWhole { .. } => 8,
-        RequestFault::NoMemory => 0,
-    }
-}
-
-// Where the fault of a line stands.
-fn place_of(fault: RequestFault) -> u32
-    ensures { result ≡ place_of fault }
-{
-    match fault {
-        RequestFault::Quote { column } => column,
-        RequestFault::TooDeep { field } | RequestFault::NotWhole { field } => field,
-        RequestFault::TooMany
-        | RequestFault::Syntax
-        | RequestFault::NotAnArray
-        | RequestFault::NoMemory => 0,
     }
 }

@@ -3,7 +3,11 @@ use Rattle.run_status.specs.Statuses.{code_of}
 use Rattle.casbin_c.proofs.opening.casbin_open.Goals as goal
 
 pub returns-in-Ok : goal.returns-in-Ok
-returns-in-Ok c = inl (record { code_is = refl; opens = record { behind = _; has = c.give.ensures; holds = c.in-Ok.ensures.opened }; line = (refl, refl) })
+returns-in-Ok c = inl (record {
+  code_is = refl;
+  opens = record { behind = c.in-Ok.enforcer.value; has = c.put.ensures; holds = c.in-Ok.ensures.opened };
+  line = (refl, refl);
+})
 
 pub returns-in-Err : goal.returns-in-Err
 returns-in-Err c =

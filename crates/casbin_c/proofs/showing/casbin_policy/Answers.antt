@@ -1,22 +1,26 @@
-use Rattle.std.proofs.Common.{Some, ap, sym, ◌∙◌, List, ℕ, subst}
+use Rattle.std.proofs.Common.{◌≡◌, inl, inr, refl, subst}
+use Rattle.std.specs.Prelude.{IfOk}
+use Rattle.enforce_core.specs.Places.{state_at}
 use Rattle.enforce_core.specs.Seen.{Enforcing}
-use Rattle.casbin_c.specs.Helps.Ends.{PolicyEnds}
-use Rattle.casbin_c.proofs.HandleLemmas.{none_open, some_closed}
-use Rattle.casbin_c.proofs.ShowLemmas.{shows_policy}
+use Rattle.policy_csv.specs.Printed.{printed}
+use Rattle.policy_state.specs.States.{tables}
 use Rattle.casbin_c.proofs.showing.casbin_policy.Goals as goal
 
-pub returns-clause-opened : goal.returns-clause-opened
-returns-clause-opened c = λ _. record {
-  before = _;
-  behind = _;
-  had = c.in-Some.ensures.taken ∙ ap Some (sym c.deref_mut.ensures.value);
+pub returns-in_default : goal.returns-in_default
+returns-in_default c = inl (c.in_default.ensures.taken, c.take.ensures.closed, refl, refl, refl)
+
+pub returns : goal.returns
+returns c = inr (record {
+  before = c.in-Some.enforcer.value;
+  behind = c.in-Some.enforcer.value;
+  had = c.in-Some.ensures.taken;
   has = c.give.ensures;
-  holds = shows_policy c.deref_mut.result.now c.show_policy-shown.new.self c.show_policy-shown.result c.tell_policy-code.result c.args.room.now c.tell_policy-code.new.room c.args.size.now c.tell_policy-code.new.size
-      c.show_policy-shown.ensures.shown c.show_policy-shown.ensures.refused (subst (λ (told : List ℕ). PolicyEnds c.show_policy-shown.result told c.tell_policy-code.result c.args.room.now c.tell_policy-code.new.room c.args.size.now c.tell_policy-code.new.size) (c.told.ensures ∙ ap (λ (e : Enforcing). e.told) c.deref.ensures) c.tell_policy-code.ensures);
-}
-
-pub returns-in_default-clause-opened : goal.returns-in_default-clause-opened
-returns-in_default-clause-opened c = none_open _ c.in_default.ensures.taken
-
-pub returns-clause-closed : goal.returns-clause-closed
-returns-clause-closed c = some_closed _ _ c.in-Some.ensures.taken
+  holds = (
+    refl,
+    record {
+      shown = c.policy_text-shown.result;
+      is = subst (λ (e : Enforcing). IfOk c.policy_text-shown.result (λ found. found ≡ printed (tables (state_at e.place)))) c.deref.ensures c.policy_text-shown.ensures;
+      written = c.tell_policy.ensures;
+    },
+  );
+})
