@@ -2,7 +2,7 @@
 use Rattle.std.proofs.Common.{◌≡◌, ℕ, List, [], Some, refl, sym, ap, subst, ◌∙◌}
 use Rattle.std.specs.Prelude.{◌≢◌}
 use Rattle.command_words.specs.declared.command.Options.{Options}
-use Rattle.live_round.proofs.CallerLemmas.{stands_before}
+use Rattle.live_round.proofs.CallerLemmas.{stands_alone, stands_before}
 use Rattle.loaded_work.specs.declared.loaded.Loaded.{Loaded}
 use Rattle.model_conf.specs.Faults.{IsModelFault}
 use Rattle.model_conf.specs.ModelText.{IsModel, ModelParts}
@@ -14,13 +14,14 @@ use Rattle.policy_csv.specs.Policy.{IsPolicy}
 use Rattle.policy_csv.specs.declared.fault.PolicyFault.{PolicyFault}
 use Rattle.policy_csv.specs.declared.fault.PolicyFault.TheVariants as policy_fault
 use Rattle.policy_desk.specs.Desks.{Work}
-use Rattle.policy_state.specs.States.{tables}
+use Rattle.policy_state.specs.States.{StandsFor, State, tables}
 use Rattle.run_files.specs.Files.{shapes_with}
 use Rattle.run_files.specs.Helps.Reading.{ShapesStop}
 use Rattle.run_status.specs.declared.part.Part.TheVariants as part
 use Rattle.run_status.specs.declared.stop.Stop.{Stop}
 use Rattle.run_status.specs.declared.stop.Stop.TheVariants.{Words, NoModel, NoRelation, NoPolicy, NoScript, NoPackets, CannotRead, CannotWrite, TooLong, NoMemory}
 use Rattle.run_status.specs.Stops.{model_stop_of, policy_stop_of}
+use Rattle.version_log.specs.Log.{versions}
 use Rattle.enforce_core.specs.Helps.Making.{AreMade, PolicyStops}
 use Rattle.enforce_core.specs.Helps.Words.{OptionStops}
 use Rattle.enforce_core.specs.Opening.{AreOpenedFrom, Fits, Given, IsOpenedFrom, OpeningStops, SaysOptions}
@@ -31,6 +32,10 @@ use Rattle.enforce_core.specs.Seen.{Enforcing, none_refused}
 pub policy_stopped : (shapes : Shapes) (bytes : List ℕ) (why : PolicyFault) → (why ≢ policy_fault.NoMemory → IsPolicyFault shapes bytes why) → PolicyStops shapes bytes (policy_stop_of why)
 policy_stopped shapes bytes policy_fault.NoMemory fault = tt
 policy_stopped shapes bytes why fault = fault (λ is. absurd cc)
+
+-- a state at version 0 stands for no edit on its own tables
+pub stands_new : (state : State) → versions state.log ≡ 0 → StandsFor state (tables state) []
+stands_new state none = record { log = stands_alone state.log none; tables = refl }
 
 module _ (given : Given) where
   -- ---- stops

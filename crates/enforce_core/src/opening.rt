@@ -1,8 +1,9 @@
-ghost use Rattle.std.specs.Prelude.{◌≡◌, ◌<◌, ◌≤◌, IfErr, IfOk, None, Some};
+ghost use Rattle.std.specs.Prelude.{◌≡◌, ◌<◌, ◌≤◌, [], IfErr, IfOk, None, Some};
 ghost use Rattle.decision.specs.Programs.{Suits};
 ghost use Rattle.loaded_work.specs.Helps.Working.{IsReady};
 ghost use Rattle.perm_base.specs.Shapes.{AreValid};
 ghost use Rattle.policy_csv.specs.Policy.{IsPolicy};
+ghost use Rattle.policy_state.specs.States.{StandsFor, tables};
 ghost use Rattle.policy_table.specs.Limits.{AreSound};
 ghost use Rattle.run_files.specs.Files.{absent_in, shapes_with};
 ghost use Rattle.run_files.specs.Helps.Reading.{ShapesStop};
@@ -52,6 +53,9 @@ pub fn open_parts(
         (record { model = model.now; policy = policy.now; options = options.now })
         parts.0 parts.1) }
     ensures suits { IfOk result (λ parts. Suits parts.0 parts.1.state.shapes) }
+    ensures stands { IfOk result (λ parts.
+        StandsFor parts.1.state (tables parts.1.state) []) }
+    ensures pending { IfOk result (λ parts. parts.1.pending ≡ []) }
     ensures stopped { IfErr result (OpeningStops
         (record { model = model.now; policy = policy.now; options = options.now })) }
 {

@@ -2,18 +2,24 @@
 //! them. What it prints is the same whatever the threads do first.
 #![tactic(auto)]
 
-mod opening;
 mod publishing;
 mod reading;
 mod serving;
 
-use opening::open_service;
+use enforce_core::open_parts;
 use run_status::Stop;
 use serving::{Summary, serve};
 use std::alloc::Global;
 use std::io;
 use std::sync::Wait;
 use std::thread::Threads;
+
+// The model, by roles.
+const MODEL: &[u8] =
+    b"[request_definition]\nr = sub, obj, act\n[policy_definition]\np = sub, obj, act\n[role_definition]\ng = _, _\n[policy_effect]\ne = some(where (p.eft == allow))\n[matchers]\nm = g(r.sub, p.sub) && r.obj == p.obj && r.act == p.act\n";
+
+// The policy that it begins with.
+const POLICY: &[u8] = b"p, reader, data1, read\ng, user0, reader\n";
 
 fn main(rt: HostRuntime) -> io::Result<()> {
     match served(&rt, rt.alloc()) {
@@ -30,9 +36,10 @@ fn main(rt: HostRuntime) -> io::Result<()> {
     }
 }
 
-// Opens the service and lets it serve.
+// Opens the program and the desk of the two texts, and serves requests by them.
 fn served<R: Threads + Wait + Sync>(rt: &R, alloc: Global) -> Result<Summary, Stop> {
-    let opened = open_service(alloc)?;
-    let (program, desk) = opened;
-    serve(rt, alloc, &program, desk)
+    let parts = open_parts(alloc, MODEL, POLICY, b"")?;
+    let (program, desk) = parts;
+    let summary = serve(rt, alloc, &program, desk)?;
+    Ok(summary)
 }

@@ -1,100 +1,94 @@
 //! What each reader does.
-ghost use Rattle.std.specs.Prelude.{◌≡◌};
 ghost use Rattle.decision.specs.Programs.{Suits};
 
-use crate::publishing::USERS;
+use crate::serving::Count;
 use decision::{Program, Scratch};
 use effect_fold::Verdict;
 use live_pair::{Front, Naming, Seat};
-use live_seat::decide_seat;
+use live_seat::{Answered, decide_seat};
 use perm_base::NoMemory;
 use perm_value::{Request, request_of_fields};
-use regex_keep::KeepingFinder;
-use run_status::Stop;
+use regex_gate::RegexFinder;
 use std::alloc::Global;
 use std::sync::{Mutex, Wait};
 
-// How often a reader asks two requests.
+// How often a reader asks its two requests.
 const ROUNDS: u32 = 1000;
 
-/// How many requests were judged, and how many of them in a wrong way.
-#[derive(Clone, Copy)]
-pub(crate) struct Count {
-    pub asked: u64,
-    pub wrong: u64,
+// Whether the user may read whom the first publish makes a reader, whether one may whom none does, and what they are judged with.
+#[derive(Drop)]
+struct Asking {
+    user: Request,
+    stranger: Request,
+    finder: RegexFinder,
+    scratch: Scratch,
 }
 
-impl Count {
-    // Before the first request.
-    fn none() -> Count {
-        Count { asked: 0, wrong: 0 }
+impl Asking {
+    // By a finder that has refused nothing.
+    fn open(alloc: Global, program: &Program) -> Result<Asking, NoMemory> {
+        let user = request(alloc, "user1, data1, read")?;
+        let stranger = request(alloc, "stranger, data1, read")?;
+        Ok(Asking {
+            user,
+            stranger,
+            finder: RegexFinder::new(alloc),
+            scratch: Scratch::for_program(alloc, program),
+        })
     }
 
-    /// Both together.
-    pub(crate) fn and(self, other: Count) -> Count {
-        Count {
-            asked: self.asked.saturating_add(other.asked),
-            wrong: self.wrong.saturating_add(other.wrong),
-        }
+    // How many of the two are answered in a wrong way: by a version before this one, or otherwise than that version says.
+    fn wrong<J: Naming>(&mut self, seat: &mut Seat<J>, program: &Program, least: u32) -> u64
+        requires suits { Suits program.now J.shapes }
+    {
+        let user = judged(
+            seat,
+            program,
+            &self.user,
+            &mut self.finder,
+            &mut self.scratch,
+        );
+        let stranger = judged(
+            seat,
+            program,
+            &self.stranger,
+            &mut self.finder,
+            &mut self.scratch,
+        );
+        let known = is_right(user, least, true);
+        let unknown = is_right(stranger, least, false);
+        u64::from(!known).saturating_add(u64::from(!unknown))
     }
 }
 
-/// Asks at a seat, with a finder of its own.
+// The request of these fields.
+fn request(alloc: Global, fields: &str) -> Result<Request, NoMemory> {
+    let Ok(request) = request_of_fields(alloc, fields) else {
+        return Err(NoMemory);
+    };
+    Ok(request)
+}
+
+/// Asks at a seat round after round, and adds up what was wrong. Before each round the seat learns the front that was told last.
 pub(crate) fn read_on<J: Naming, R: Wait>(
     rt: &R,
     alloc: Global,
     program: &Program,
-    seat: Option<Seat<J>>,
+    seat: &mut Seat<J>,
     told: &Mutex<Front<J>>,
-) -> Result<Count, Stop>
+    counts: &Mutex<Count>,
+)
     requires suits { Suits program.now J.shapes }
 {
-    let Some(mut seat) = seat else {
-        return Ok(Count::none());
+    let Ok(mut asking) = Asking::open(alloc, program) else {
+        counts.lock(rt).add(0, 1);
+        return;
     };
-    let mut finder = KeepingFinder::new(alloc)?;
-    read_rounds(rt, alloc, program, &mut seat, &mut finder, told)
-}
-
-// Asks round after round.
-fn read_rounds<J: Naming, R: Wait>(
-    rt: &R,
-    alloc: Global,
-    program: &Program,
-    seat: &mut Seat<J>,
-    finder: &mut KeepingFinder,
-    told: &Mutex<Front<J>>,
-) -> Result<Count, Stop>
-    requires suits { Suits program.now J.shapes }
-{
-    let mut scratch = Scratch::for_program(alloc, program);
-    let mut count = Count::none();
     for _ in 0..ROUNDS {
-        let round = read_round(rt, alloc, program, seat, finder, &mut scratch, told)?;
-        count = count.and(round);
+        let least = learn_last(rt, seat, told);
+        let wrong = asking.wrong(seat, program, least);
+        counts.lock(rt).add(2, wrong);
     }
-    Ok(count)
-}
-
-// Learns the front that was told last, and asks whether the user that it made a reader may read, which is so from then on, and
-// whether one may that nobody makes a reader.
-fn read_round<J: Naming, R: Wait>(
-    rt: &R,
-    alloc: Global,
-    program: &Program,
-    seat: &mut Seat<J>,
-    finder: &mut KeepingFinder,
-    scratch: &mut Scratch,
-    told: &Mutex<Front<J>>,
-) -> Result<Count, Stop>
-    requires suits { Suits program.now J.shapes }
-{
-    let version = learn_last(rt, seat, told);
-    let user = reading(alloc, version)?;
-    let known = asked(seat, program, &user, finder, scratch, version, true);
-    let stranger = reading(alloc, USERS.saturating_add(1))?;
-    let unknown = asked(seat, program, &stranger, finder, scratch, version, false);
-    Ok(known.and(unknown))
 }
 
 // Learns the front that was told last, and gives its version.
@@ -104,44 +98,34 @@ fn learn_last<J: Naming, R: Wait>(rt: &R, seat: &mut Seat<J>, told: &Mutex<Front
     front.version()
 }
 
-// Asks a request, whose answer is wrong where it is of a version before this one, or another than this.
-fn asked<J: Naming>(
+// What a request is answered at a seat.
+fn judged<J: Naming>(
     seat: &mut Seat<J>,
     program: &Program,
     request: &Request,
-    finder: &mut KeepingFinder,
+    finder: &mut RegexFinder,
     scratch: &mut Scratch,
-    least: u32,
-    allowed: bool,
-) -> Count
+) -> Option<Answered>
     requires suits { Suits program.now J.shapes }
 {
     let Ok(()) = program.takes(request) else {
-        return Count { asked: 1, wrong: 1 };
+        return None;
     };
-    let wrong = match decide_seat(seat, program, request, finder, scratch) {
-        Ok(answered) => answered.version < least || is_allowed(answered.verdict) != allowed,
-        Err(_) => true,
+    let Ok(answered) = decide_seat(seat, program, request, finder, scratch) else {
+        return None;
     };
-    Count {
-        asked: 1,
-        wrong: u64::from(wrong),
-    }
+    Some(answered)
+}
+
+// Whether an answer is of this version or a later one, and allows just what it should: a reader from the first publish on.
+fn is_right(answered: Option<Answered>, least: u32, reader: bool) -> bool {
+    let Some(answered) = answered else {
+        return false;
+    };
+    let should = reader && answered.version > 0;
+    answered.version >= least && is_allowed(answered.verdict) == should
 }
 
 fn is_allowed(verdict: Verdict) -> bool {
     matches!(verdict, Verdict::Allow(_))
-}
-
-// The request whether the user of this number may read.
-fn reading(alloc: Global, user: u32) -> Result<Request, Stop> {
-    let line = reading_line(alloc, user)?;
-    match request_of_fields(alloc, line.as_str()) {
-        Ok(request) => Ok(request),
-        Err(_) => Err(Stop::NoMemory),
-    }
-}
-
-fn reading_line(alloc: Global, user: u32) -> Result<String, NoMemory> {
-    Ok(format!(in alloc; "user{user}, data1, read")?)
 }

@@ -6,18 +6,48 @@ ghost use Rattle.decision.specs.Programs.{Suits};
 ghost use Rattle.policy_state.specs.States.{StandsFor, tables};
 
 use crate::publishing::publish_users;
-use crate::reading::{Count, read_on};
+use crate::reading::read_on;
 use decision::Program;
 use live_pair::{Admin, Front, Naming, Opened, PairPlaces, Seat, open_pair};
+use perm_base::NoMemory;
 use policy_desk::Desk;
-use run_status::Stop;
 use std::alloc::Global;
 use std::marker::Brand;
 use std::sync::{Mutex, Wait};
+use std::thread;
 use std::thread::{Threads, join};
 
 // How many seats there are.
 const SEATS: u8 = 4;
+
+/// How many requests were judged, and how many of them in a wrong way.
+#[derive(Clone, Copy)]
+pub(crate) struct Count {
+    asked: u64,
+    wrong: u64,
+}
+
+impl Count {
+    // Before the first request.
+    fn none() -> Count {
+        Count { asked: 0, wrong: 0 }
+    }
+
+    /// So many more.
+    pub(crate) fn add(&mut self, asked: u64, wrong: u64) {
+        self.asked = self.asked.saturating_add(asked);
+        self.wrong = self.wrong.saturating_add(wrong);
+    }
+
+    // What was done, where this is the last version.
+    fn summary(&self, version: u32) -> Summary {
+        Summary {
+            asked: self.asked,
+            wrong: self.wrong,
+            version,
+        }
+    }
+}
 
 /// What was done: how many requests were judged, how many of them in a wrong way, and the last version.
 #[derive(Clone, Copy)]
@@ -33,7 +63,7 @@ pub(crate) fn serve<R: Threads + Wait + Sync>(
     alloc: Global,
     program: &Program,
     desk: Desk,
-) -> Result<Summary, Stop>
+) -> Result<Summary, NoMemory>
     requires suits { Suits program.now desk.state.shapes }
     requires stands { StandsFor desk.state (tables desk.state) [] }
     requires pending { desk.pending ≡ [] }
@@ -49,100 +79,73 @@ fn serve_pair<J: Naming + Send + Sync, R: Threads + Wait + Sync>(
     program: &Program,
     opened: Opened,
     desk: Desk,
-) -> Result<Summary, Stop>
+) -> Result<Summary, NoMemory>
     requires book { opened ≡ J.book }
     requires shapes { desk.state.shapes ≡ J.shapes }
     requires stands { StandsFor desk.state J.opening J.first }
     requires pending { desk.pending ≡ [] }
     requires suits { Suits program.now J.shapes }
 {
-    let mut places = PairPlaces::new();
-    let pair = open_pair::<J, R, PairPlaces>(rt, alloc, opened, desk, SEATS, &mut places)?;
-    let (mut admin, seats) = pair;
+    let mut room = PairPlaces::new();
+    let pair = open_pair::<J, R, PairPlaces>(rt, alloc, opened, desk, SEATS, &mut room)?;
+    let (mut admin, mut seats) = pair;
     let told = Mutex::new(admin.front());
-    let summary = serve_seats(rt, alloc, program, &mut admin, seats, &told);
+    let counts = Mutex::new(Count::none());
+    let readers = seats.as_mut_slice();
+    let published = serve_seats(rt, alloc, program, &mut admin, readers, &told, &counts);
     drop(admin.close(rt));
-    summary
+    let version = published?;
+    let summary = counts.lock(rt).summary(version);
+    Ok(summary)
 }
 
-// Reads at the seats beside the administrator that publishes.
+// Reads at the seats beside the administrator that publishes, and answers the last version.
 fn serve_seats<J: Naming + Send + Sync, R: Threads + Wait + Sync>(
     rt: &R,
     alloc: Global,
     program: &Program,
     admin: &mut Admin<J>,
-    seats: Vec<Seat<J>>,
+    seats: &mut [Seat<J>],
     told: &Mutex<Front<J>>,
-) -> Result<Summary, Stop>
+    counts: &Mutex<Count>,
+) -> Result<u32, NoMemory>
     requires suits { Suits program.now J.shapes }
 {
     share_program(program);
-    let (counted, published) = join(
+    let ((), version) = join(
         rt,
         ||
             requires { Suits program.now J.shapes }
-        { read_pairwise(rt, alloc, program, seats, told) },
+        { read_all(rt, alloc, program, seats, told, counts) },
         || publish_users(rt, alloc, admin, told),
     );
-    let version = published?;
-    let count = counted?;
-    Ok(Summary {
-        asked: count.asked,
-        wrong: count.wrong,
-        version,
-    })
+    version
 }
 
-// Reads at the seats, each in a thread of its own, two by two.
-fn read_pairwise<J: Naming + Send + Sync, R: Threads + Wait + Sync>(
+// Reads at the seats, each in a thread of its own where one can be started.
+fn read_all<J: Naming + Send + Sync, R: Threads + Wait + Sync>(
     rt: &R,
     alloc: Global,
     program: &Program,
-    seats: Vec<Seat<J>>,
+    seats: &mut [Seat<J>],
     told: &Mutex<Front<J>>,
-) -> Result<Count, Stop>
+    counts: &Mutex<Count>,
+)
     requires suits { Suits program.now J.shapes }
 {
-    let mut seats = seats;
-    let first = seats.pop();
-    let second = seats.pop();
-    let third = seats.pop();
-    let fourth = seats.pop();
+    if seats.is_empty() {
+        return;
+    }
     share_program(program);
-    let (front, back) = join(
+    let threads = seats.len();
+    thread::for_each_mut(
         rt,
-        ||
+        seats,
+        threads,
+        &|_at, seat: &mut Seat<J>|
             requires { Suits program.now J.shapes }
-        { read_two(rt, alloc, program, first, second, told) },
-        ||
-            requires { Suits program.now J.shapes }
-        { read_two(rt, alloc, program, third, fourth, told) },
+        { read_on(rt, alloc, program, seat, told, counts) },
     );
-    Ok(front?.and(back?))
-}
-
-// Reads at two seats, each in a thread of its own.
-fn read_two<J: Naming + Send + Sync, R: Threads + Wait + Sync>(
-    rt: &R,
-    alloc: Global,
-    program: &Program,
-    first: Option<Seat<J>>,
-    second: Option<Seat<J>>,
-    told: &Mutex<Front<J>>,
-) -> Result<Count, Stop>
-    requires suits { Suits program.now J.shapes }
-{
-    share_program(program);
-    let (one, other) = join(
-        rt,
-        ||
-            requires { Suits program.now J.shapes }
-        { read_on(rt, alloc, program, first, told) },
-        ||
-            requires { Suits program.now J.shapes }
-        { read_on(rt, alloc, program, second, told) },
-    );
-    Ok(one?.and(other?))
 }
 
 // That threads may share a program, as a fact for the calls behind this one.

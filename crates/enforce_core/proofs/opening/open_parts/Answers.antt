@@ -2,7 +2,7 @@ use Rattle.std.proofs.Common.{◌≡◌, Err, refl, rules}
 use Rattle.std.proofs.lemmas.Result.{err_from_is_err_and}
 use Rattle.loaded_work.specs.declared.loaded.Loaded.{Loaded}
 use Rattle.enforce_core.specs.Opening.{Fits, Given}
-use Rattle.enforce_core.proofs.OpeningLemmas.{model_stop, opened_from, options_stop, policy_stop, shapes_stop}
+use Rattle.enforce_core.proofs.OpeningLemmas.{model_stop, opened_from, options_stop, policy_stop, shapes_stop, stands_new}
 use Rattle.enforce_core.proofs.opening.open_parts.Goals as goal
 
 pub returns-in_err-options-clause-stopped : goal.returns-in_err-options-clause-stopped
@@ -47,3 +47,9 @@ returns-clause-opened c =
 
 pub returns-clause-suits : goal.returns-clause-suits
 returns-clause-suits c = c.in_ok-parts.ensures.suits
+
+pub returns-clause-stands : goal.returns-clause-stands
+returns-clause-stands c = stands_new c.in_ok-parts.parts.1.state c.in_ok-parts.ensures.version
+
+pub returns-clause-pending : goal.returns-clause-pending
+returns-clause-pending c = c.in_ok-parts.ensures.pending
