@@ -2,8 +2,8 @@
  * An authorization engine with the behaviour of Casbin, as a library: libcasbin.a and libcasbin.so.
  *
  * An enforcer is opened from the text of a model and the text of a policy. It judges requests by the policy that is published,
- * takes management calls, which change drafts alone, and publishes them. A snapshot is what was published when it was taken;
- * other threads may ask theirs while the enforcer is edited.
+ * takes management calls, which change drafts alone, and publishes them. A snapshot of it is an enforcer that judges by what was
+ * published when it was taken, and is never edited; other threads may ask theirs while the owner edits.
  *
  * What the caller owes, and nothing checks:
  *  - A handle begins as zeros and is moved by nobody but its owner: pass its address, never copy, read or write it.
@@ -28,7 +28,6 @@ extern "C" {
 
 /* Two words of the library's: `casbin_enforcer e = {0};` is a closed handle. */
 typedef struct { bool full; void *at; } casbin_enforcer;
-typedef struct { bool full; void *at; } casbin_snapshot_handle;
 
 /* What calls answer. The numbers from 2 to 9 are the statuses of the program `casbin_cli`. */
 enum {
@@ -44,7 +43,8 @@ enum {
   CASBIN_REFUSED = 11,    /* the call was refused, and nothing changed; its line says why */
   CASBIN_NO_ROOM = 12,    /* the text is longer than the room: its length is told, and nothing else is written */
   CASBIN_NO_RULE = 13,    /* there is no rule with this number */
-  CASBIN_UNTOLD = 14      /* the call was done, and memory ran out for its line */
+  CASBIN_UNTOLD = 14,     /* the call was done, and memory ran out for its line */
+  CASBIN_SNAPSHOT = 15    /* the handle holds a snapshot, which takes no calls */
 };
 
 /* `kind` of a decision. */
@@ -84,8 +84,8 @@ uint32_t casbin_open(const uint8_t *model, size_t model_length, const uint8_t *p
 void casbin_close(casbin_enforcer *handle);
 
 /*
- * Judges a request by the published policy. Its texts lie one behind the other in `bytes`; the place where each ends stands in
- * `ends`: "alicedata1read" with 5, 10, 14.
+ * Judges a request by the published policy, or by a snapshot's. Its texts lie one behind the other in `bytes`; the place where
+ * each ends stands in `ends`: "alicedata1read" with 5, 10, 14.
  */
 uint32_t casbin_enforce(casbin_enforcer *handle, const uint8_t *bytes, size_t length,
                         const size_t *ends, size_t count, casbin_decision *decision);
@@ -95,8 +95,9 @@ uint32_t casbin_enforce_json(casbin_enforcer *handle, const uint8_t *line, size_
 
 /*
  * Does one item of a script, or a block: `add p, alice, data1, read`, `roles g, alice`, `publish`, and all others but requests
- * (docs/SCRIPTS.md). Its line, as a session of this item has it, is written to `line` where it fits, and `*length` is its length;
- * `casbin_text` gives a longer one. Calls change the drafts: they count from the next publish on.
+ * (docs/SCRIPTS.md). Its line, as a session of this item has it, is written to `line` where it fits, and `*length` is its length.
+ * The lines of edits are short; a query whose line is longer than the room may be asked again with more. Calls change the drafts:
+ * they count from the next publish on.
  */
 uint32_t casbin_call(casbin_enforcer *handle, const uint8_t *text, size_t text_length,
                      uint8_t *line, size_t room, size_t *length);
@@ -104,37 +105,20 @@ uint32_t casbin_call(casbin_enforcer *handle, const uint8_t *text, size_t text_l
 /* Publishes what was called since the last publish, and tells the new version. After CASBIN_NO_MEMORY it may be tried again. */
 uint32_t casbin_publish(casbin_enforcer *handle, uint32_t *version);
 
-/* Tells the published version: how many calls that changed something are published. */
+/* Tells the version by which it judges: how many calls that changed something were published. */
 uint32_t casbin_version(casbin_enforcer *handle, uint32_t *version);
 
-/* Writes the rule of p with this number, from 1, of the published policy. */
+/* Writes the rule of p with this number, from 1, of the policy by which it judges. */
 uint32_t casbin_rule(casbin_enforcer *handle, uint32_t row, uint8_t *text, size_t room, size_t *length);
 
-/* Writes the published policy as text. With no room its length is told, and `casbin_text` writes it without printing it again. */
+/* Writes the policy by which it judges as text, which can be opened again. */
 uint32_t casbin_policy(casbin_enforcer *handle, uint8_t *text, size_t room, size_t *length);
 
-/* Writes the text that was told last: the line of the last call, or the last rule or policy. */
-uint32_t casbin_text(casbin_enforcer *handle, uint8_t *text, size_t room, size_t *length);
-
 /*
- * Takes a snapshot of what is published into `to`; what that held is closed. Its time and memory grow with the policy: take one
- * a publish, and share it.
+ * Takes a snapshot of `from` into `to`; what that held is closed. Of an owner it copies what is published: its time and memory
+ * grow with the policy, so take one a publish. Of a snapshot it shares the policy, and takes memory for its own finder alone.
  */
-uint32_t casbin_snapshot(casbin_enforcer *handle, casbin_snapshot_handle *to);
-
-/* Makes `to` a snapshot of the policy of `from`, which the two then share. For an open `to` it takes no memory. */
-uint32_t casbin_share(casbin_snapshot_handle *from, casbin_snapshot_handle *to);
-
-void casbin_snapshot_close(casbin_snapshot_handle *handle);
-
-/* What the calls of the same names do, by the policy of a snapshot. */
-uint32_t casbin_snapshot_enforce(casbin_snapshot_handle *handle, const uint8_t *bytes, size_t length,
-                                 const size_t *ends, size_t count, casbin_decision *decision);
-uint32_t casbin_snapshot_enforce_json(casbin_snapshot_handle *handle, const uint8_t *line, size_t length,
-                                      casbin_decision *decision);
-uint32_t casbin_snapshot_version(casbin_snapshot_handle *handle, uint32_t *version);
-uint32_t casbin_snapshot_rule(casbin_snapshot_handle *handle, uint32_t row, uint8_t *text, size_t room, size_t *length);
-uint32_t casbin_snapshot_text(casbin_snapshot_handle *handle, uint8_t *text, size_t room, size_t *length);
+uint32_t casbin_snapshot(casbin_enforcer *from, casbin_enforcer *to);
 
 #ifdef __cplusplus
 }

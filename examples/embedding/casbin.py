@@ -1,4 +1,4 @@
-"""The library for C, for Python: an enforcer of one owner, and snapshots that other threads may ask.
+"""The library for C, for Python: an enforcer of one owner, and snapshots of it that other threads may ask.
 
 `CASBIN_LIBRARY` names the shared library where it does not stand in `out/` of this repository.
 """
@@ -12,7 +12,7 @@ _HERE = os.path.dirname(os.path.abspath(__file__))
 _LIBRARY = os.path.join(_HERE, "..", "..", "out", "libcasbin.so")
 _c = ctypes.CDLL(os.environ.get("CASBIN_LIBRARY", _LIBRARY))
 
-OK, CLOSED, SCRIPT, NO_REQUEST, REFUSED, NO_ROOM, NO_RULE = 0, 1, 5, 10, 11, 12, 13
+OK, NO_REQUEST, REFUSED, NO_RULE = 0, 10, 11, 13
 DENY, ALLOW, FAULT, NONE = 0, 1, 2, 3
 _ROOM = 256
 
@@ -42,11 +42,15 @@ def _declare(name, arguments, result=c_uint32):
 
 
 _open = _declare("casbin_open", _TEXT * 3 + _HANDLE + _ROOMS)
+_close = _declare("casbin_close", _HANDLE, None)
+_enforce = _declare("casbin_enforce", _HANDLE + _TEXT + [POINTER(c_size_t), c_size_t, POINTER(Decision)])
+_enforce_json = _declare("casbin_enforce_json", _HANDLE + _TEXT + [POINTER(Decision)])
 _call = _declare("casbin_call", _HANDLE + _TEXT + _ROOMS)
 _publish = _declare("casbin_publish", _HANDLE + [POINTER(c_uint32)])
+_version = _declare("casbin_version", _HANDLE + [POINTER(c_uint32)])
+_rule = _declare("casbin_rule", _HANDLE + [c_uint32] + _ROOMS)
 _policy = _declare("casbin_policy", _HANDLE + _ROOMS)
 _snapshot = _declare("casbin_snapshot", _HANDLE * 2)
-_share = _declare("casbin_share", _HANDLE * 2)
 
 
 class CasbinError(Exception):
@@ -57,19 +61,21 @@ class CasbinError(Exception):
         self.code = code
 
 
-class _Asked:
-    """What enforcers and snapshots share: requests, rules and versions, by the calls with this prefix."""
+class Enforcer:
+    """An enforcer of one owner, whose calls change drafts and count from the next `publish` on; or a snapshot of one, which judges
+    by what was published when it was taken, and takes no calls. One thread at a time uses an enforcer."""
 
-    def __init__(self, prefix):
+    def __init__(self, model, policy, options=""):
+        self._begin()
+        texts = [text.encode() for text in (model, policy, options)]
+        room, length = ctypes.create_string_buffer(_ROOM), c_size_t()
+        arguments = [part for text in texts for part in (text, len(text))]
+        code = _open(*arguments, self._at, room, _ROOM, byref(length))
+        _must(code, room.raw[: min(length.value, _ROOM)].decode())
+
+    def _begin(self):
         self._handle = _Handle()
         self._at = byref(self._handle)
-        ends = POINTER(c_size_t)
-        self._enforce = _declare(prefix + "enforce", _HANDLE + _TEXT + [ends, c_size_t, POINTER(Decision)])
-        self._enforce_json = _declare(prefix + "enforce_json", _HANDLE + _TEXT + [POINTER(Decision)])
-        self._rule = _declare(prefix + "rule", _HANDLE + [c_uint32] + _ROOMS)
-        self._text = _declare(prefix + "text", _HANDLE + _ROOMS)
-        self._version = _declare(prefix + "version", _HANDLE + [POINTER(c_uint32)])
-        self._close = _declare(prefix + "close", _HANDLE, None)
 
     def __enter__(self):
         return self
@@ -78,7 +84,7 @@ class _Asked:
         self.close()
 
     def close(self):
-        self._close(self._at)
+        _close(self._at)
 
     def enforce(self, *values):
         """The decision on the request of these values: texts, or where one is none, all as JSON."""
@@ -89,66 +95,28 @@ class _Asked:
             for index, text in enumerate(texts):
                 at += len(text)
                 ends[index] = at
-            code = self._enforce(self._at, b"".join(texts), at, ends, len(texts), byref(decision))
+            code = _enforce(self._at, b"".join(texts), at, ends, len(texts), byref(decision))
         else:
             line = json.dumps(values).encode()
-            code = self._enforce_json(self._at, line, len(line), byref(decision))
+            code = _enforce_json(self._at, line, len(line), byref(decision))
         if code not in (OK, NO_REQUEST):
             raise CasbinError(code)
         return decision
 
     def rule(self, row):
         """The rule of p with this number, from 1, as text; none where there is none."""
-        code, text = self._told(self._rule, row)
+        code, text = self._told(_rule, row)
         return None if code == NO_RULE else text
+
+    def policy(self):
+        """The policy by which it judges, as text."""
+        return self._told(_policy)[1]
 
     @property
     def version(self):
         version = c_uint32()
-        self._must(self._version(self._at, byref(version)))
+        _must(_version(self._at, byref(version)))
         return version.value
-
-    def _must(self, code, line=""):
-        if code not in (OK, REFUSED, NO_RULE):
-            raise CasbinError(code, line)
-        return code
-
-    def _told(self, function, *arguments):
-        room, length = ctypes.create_string_buffer(_ROOM), c_size_t()
-        code = function(self._at, *arguments, room, _ROOM, byref(length))
-        if length.value > _ROOM:
-            longer = ctypes.create_string_buffer(length.value)
-            self._must(self._text(self._at, longer, length.value, byref(length)))
-            return OK if code == NO_ROOM else code, longer.raw[: length.value].decode()
-        text = room.raw[: length.value].decode()
-        return self._must(code, text), text
-
-
-class Snapshot(_Asked):
-    """A published policy, which one thread asks; `share` and `follow` give another thread, or another moment, its own."""
-
-    def __init__(self):
-        super().__init__("casbin_snapshot_")
-
-    def share(self):
-        other = Snapshot()
-        other.follow(self)
-        return other
-
-    def follow(self, other):
-        self._must(_share(other._at, self._at))
-
-
-class Enforcer(_Asked):
-    """An enforcer of one owner. Its calls change drafts, and count from the next `publish` on."""
-
-    def __init__(self, model, policy, options=""):
-        super().__init__("casbin_")
-        texts = [text.encode() for text in (model, policy, options)]
-        room, length = ctypes.create_string_buffer(_ROOM), c_size_t()
-        arguments = [part for text in texts for part in (text, len(text))]
-        code = _open(*arguments, self._at, room, _ROOM, byref(length))
-        self._must(code, room.raw[: min(length.value, _ROOM)].decode())
 
     def call(self, item):
         """Does one item of a script, and gives the line that answers it."""
@@ -166,16 +134,32 @@ class Enforcer(_Asked):
 
     def publish(self):
         version = c_uint32()
-        self._must(_publish(self._at, byref(version)))
+        _must(_publish(self._at, byref(version)))
         return version.value
 
-    def policy(self):
-        return self._told(_policy)[1]
-
     def snapshot(self):
-        snapshot = Snapshot()
-        self._must(_snapshot(self._at, snapshot._at))
-        return snapshot
+        """A snapshot of what it judges by; one of a snapshot shares its policy."""
+        taken = Enforcer.__new__(Enforcer)
+        taken._begin()
+        _must(_snapshot(self._at, taken._at))
+        return taken
+
+    def _told(self, function, *arguments):
+        """The code and the text of a call that tells one; where it is longer than the room it is asked for again."""
+        room, length = ctypes.create_string_buffer(_ROOM), c_size_t()
+        code = function(self._at, *arguments, room, _ROOM, byref(length))
+        if length.value > _ROOM:
+            size = length.value
+            room = ctypes.create_string_buffer(size)
+            code = function(self._at, *arguments, room, size, byref(length))
+        text = room.raw[: length.value].decode()
+        return _must(code, text), text
+
+
+def _must(code, line=""):
+    if code not in (OK, REFUSED, NO_RULE):
+        raise CasbinError(code, line)
+    return code
 
 
 def _fields(rule):

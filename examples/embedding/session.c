@@ -62,22 +62,23 @@ static void ask(casbin_enforcer *enforcer, unsigned number, const char *fields) 
   }
 }
 
-/* Makes a call, and prints its line with its own number. */
+/* Makes a call, and prints its line with its own number. Only a query has a long line: it is asked again with more room. */
 static void call(casbin_enforcer *enforcer, unsigned number, const char *text, size_t length) {
-  uint8_t room[256];
+  uint8_t room[256], *line = room;
   size_t told = 0;
-  uint32_t code = casbin_call(enforcer, (const uint8_t *)text, length, room, sizeof room, &told);
+  uint32_t code = casbin_call(enforcer, (const uint8_t *)text, length, line, sizeof room, &told);
+  if (told > sizeof room) {
+    size_t more = told;
+    line = malloc(more);
+    if (!line) exit(CASBIN_NO_MEMORY);
+    code = casbin_call(enforcer, (const uint8_t *)text, length, line, more, &told);
+  }
   if (code != CASBIN_OK && code != CASBIN_REFUSED) {
-    fprintf(stderr, "code %u: %.*s", code, told <= sizeof room ? (int)told : 0, (const char *)room);
+    fprintf(stderr, "code %u: %.*s", code, (int)told, (const char *)line);
     exit((int)code);
   }
-  if (told <= sizeof room) {
-    printf("%u%.*s", number, (int)told - 1, (const char *)room + 1);
-    return;
-  }
-  uint8_t *line = malloc(told);
-  if (line && casbin_text(enforcer, line, told, &told) == CASBIN_OK) printf("%u%.*s", number, (int)told - 1, (char *)line + 1);
-  free(line);
+  printf("%u%.*s", number, (int)told - 1, (const char *)line + 1);
+  if (line != room) free(line);
 }
 
 /* The length of an item: a line, or the lines up to `end` behind one that begins a block. */

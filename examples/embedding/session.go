@@ -20,15 +20,11 @@ import (
 	"unsafe"
 )
 
-// Enforcer is an enforcer of one owner. Its calls change drafts, and count from the next Publish on.
+// Enforcer is an enforcer of one owner, whose calls change drafts and count from the next publish on; or a snapshot of one, which
+// judges by what was published when it was taken, and takes no calls. Goroutines that each have a snapshot do not wait for others.
 type Enforcer struct {
 	lock   sync.Mutex
 	handle *C.casbin_enforcer
-}
-
-// Snapshot is a published policy, which one goroutine asks.
-type Snapshot struct {
-	handle *C.casbin_snapshot_handle
 }
 
 // Decision is what a request was answered.
@@ -71,21 +67,25 @@ func decided(code C.uint32_t, told C.casbin_decision) (Decision, error) {
 
 // Open opens an enforcer of the texts of a model and of a policy, with options of the program, one a line.
 func Open(model, policy, options string) (*Enforcer, error) {
-	handle := (*C.casbin_enforcer)(C.calloc(1, C.size_t(unsafe.Sizeof(C.casbin_enforcer{}))))
+	e := closed()
 	m, ml := text(model)
 	p, pl := text(policy)
 	o, ol := text(options)
 	var line [256]C.uint8_t
 	var length C.size_t
-	code := C.casbin_open(m, ml, p, pl, o, ol, handle, &line[0], C.size_t(len(line)), &length)
+	code := C.casbin_open(m, ml, p, pl, o, ol, e.handle, &line[0], C.size_t(len(line)), &length)
 	if code != C.CASBIN_OK {
-		C.free(unsafe.Pointer(handle))
+		e.Close()
 		if int(length) > len(line) {
 			length = 0
 		}
 		return nil, Error{uint32(code), C.GoStringN((*C.char)(unsafe.Pointer(&line[0])), C.int(length))}
 	}
-	return &Enforcer{handle: handle}, nil
+	return e, nil
+}
+
+func closed() *Enforcer {
+	return &Enforcer{handle: (*C.casbin_enforcer)(C.calloc(1, C.size_t(unsafe.Sizeof(C.casbin_enforcer{}))))}
 }
 
 // Close closes the enforcer; nothing may be called behind it.
@@ -94,7 +94,7 @@ func (e *Enforcer) Close() {
 	C.free(unsafe.Pointer(e.handle))
 }
 
-// Enforce judges the request of these texts by the published policy.
+// Enforce judges the request of these texts by the published policy, or by a snapshot's.
 func (e *Enforcer) Enforce(values ...string) (Decision, error) {
 	e.lock.Lock()
 	defer e.lock.Unlock()
@@ -107,45 +107,40 @@ func (e *Enforcer) Enforce(values ...string) (Decision, error) {
 
 // Call does one item of a script, and gives the line that answers it.
 func (e *Enforcer) Call(item string) (string, error) {
-	e.lock.Lock()
-	defer e.lock.Unlock()
 	t, tl := text(item)
-	var line [256]C.uint8_t
-	var length C.size_t
-	code := C.casbin_call(e.handle, t, tl, &line[0], C.size_t(len(line)), &length)
-	told, err := e.told(line[:], length)
-	if code != C.CASBIN_OK && code != C.CASBIN_REFUSED {
-		return "", Error{uint32(code), told}
-	}
-	return strings.TrimSuffix(strings.TrimPrefix(told, "1 "), "\n"), err
+	line, err := e.told(func(room *C.uint8_t, size C.size_t, length *C.size_t) C.uint32_t {
+		return C.casbin_call(e.handle, t, tl, room, size, length)
+	})
+	return strings.TrimSuffix(strings.TrimPrefix(line, "1 "), "\n"), err
 }
 
 // Rule gives the rule of p with this number, from 1.
 func (e *Enforcer) Rule(row uint32) (string, error) {
+	return e.told(func(room *C.uint8_t, size C.size_t, length *C.size_t) C.uint32_t {
+		return C.casbin_rule(e.handle, C.uint32_t(row), room, size, length)
+	})
+}
+
+// told gives the text that a call tells; where it is longer than the room it is asked for again.
+func (e *Enforcer) told(call func(room *C.uint8_t, size C.size_t, length *C.size_t) C.uint32_t) (string, error) {
 	e.lock.Lock()
 	defer e.lock.Unlock()
-	var line [256]C.uint8_t
+	room := make([]C.uint8_t, 256)
 	var length C.size_t
-	code := C.casbin_rule(e.handle, C.uint32_t(row), &line[0], C.size_t(len(line)), &length)
-	if code != C.CASBIN_OK && code != C.CASBIN_NO_ROOM {
-		return "", Error{uint32(code), ""}
-	}
-	return e.told(line[:], length)
-}
-
-// told gives a text that was written to a room, or asks for it where the room is too small.
-func (e *Enforcer) told(room []C.uint8_t, length C.size_t) (string, error) {
+	code := call(&room[0], C.size_t(len(room)), &length)
 	if int(length) > len(room) {
 		room = make([]C.uint8_t, length)
-		if code := C.casbin_text(e.handle, &room[0], length, &length); code != C.CASBIN_OK {
-			return "", Error{uint32(code), ""}
-		}
+		code = call(&room[0], length, &length)
 	}
-	return C.GoStringN((*C.char)(unsafe.Pointer(&room[0])), C.int(length)), nil
+	told := C.GoStringN((*C.char)(unsafe.Pointer(&room[0])), C.int(length))
+	if code != C.CASBIN_OK && code != C.CASBIN_REFUSED {
+		return "", Error{uint32(code), told}
+	}
+	return told, nil
 }
 
-// Snapshot takes a snapshot of what is published.
-func (e *Enforcer) Snapshot() (*Snapshot, error) {
+// Snapshot takes a snapshot of what the enforcer judges by; one of a snapshot shares its policy.
+func (e *Enforcer) Snapshot() (*Enforcer, error) {
 	e.lock.Lock()
 	defer e.lock.Unlock()
 	s := closed()
@@ -154,35 +149,6 @@ func (e *Enforcer) Snapshot() (*Snapshot, error) {
 		return nil, Error{uint32(code), ""}
 	}
 	return s, nil
-}
-
-func closed() *Snapshot {
-	return &Snapshot{(*C.casbin_snapshot_handle)(C.calloc(1, C.size_t(unsafe.Sizeof(C.casbin_snapshot_handle{}))))}
-}
-
-// Share gives one more snapshot of the same policy; no other call uses the snapshot meanwhile.
-func (s *Snapshot) Share() (*Snapshot, error) {
-	other := closed()
-	if code := C.casbin_share(s.handle, other.handle); code != C.CASBIN_OK {
-		other.Close()
-		return nil, Error{uint32(code), ""}
-	}
-	return other, nil
-}
-
-// Enforce judges the request of these texts by the snapshot's policy.
-func (s *Snapshot) Enforce(values ...string) (Decision, error) {
-	bytes, ends := fields(values)
-	b, bl := text(bytes)
-	var told C.casbin_decision
-	code := C.casbin_snapshot_enforce(s.handle, b, bl, &ends[0], C.size_t(len(values)), &told)
-	return decided(code, told)
-}
-
-// Close closes the snapshot; nothing may be called behind it.
-func (s *Snapshot) Close() {
-	C.casbin_snapshot_close(s.handle)
-	C.free(unsafe.Pointer(s.handle))
 }
 
 // ask prints the line of a request's answer, and compares it with what goroutines are answered by snapshots of the same policy.
@@ -222,12 +188,12 @@ func askAside(enforcer *Enforcer, values []string, told Decision) error {
 	var group sync.WaitGroup
 	wrong := make([]bool, 4)
 	for i := range wrong {
-		mine, err := first.Share()
+		mine, err := first.Snapshot()
 		if err != nil {
 			return err
 		}
 		group.Add(1)
-		go func(mine *Snapshot, wrong *bool) {
+		go func(mine *Enforcer, wrong *bool) {
 			defer group.Done()
 			defer mine.Close()
 			answer, err := mine.Enforce(values...)

@@ -20,28 +20,28 @@ static const char model[] =
     "[matchers]\nm = r.sub == p.sub && r.obj == p.obj && r.act == p.act\n";
 
 static pthread_mutex_t lock = PTHREAD_MUTEX_INITIALIZER;
-static casbin_snapshot_handle current;
+static casbin_enforcer current;
 static atomic_uint version;
 static unsigned publishes = 100;
 
 /* Whether the snapshot allows the user of this number to read. */
-static uint32_t allows(casbin_snapshot_handle *snapshot, unsigned user, casbin_decision *told) {
+static uint32_t allows(casbin_enforcer *snapshot, unsigned user, casbin_decision *told) {
   char texts[32];
   size_t name = (size_t)snprintf(texts, sizeof texts, "user%udata1read", user) - 9;
   size_t ends[3] = {name, name + 5, name + 9};
-  return casbin_snapshot_enforce(snapshot, (const uint8_t *)texts, ends[2], ends, 3, told);
+  return casbin_enforce(snapshot, (const uint8_t *)texts, ends[2], ends, 3, told);
 }
 
 /* Asks until it has seen the last publish, and counts what was wrong: at version v the users up to v may read, and no others. */
 static void *reader(void *count) {
-  casbin_snapshot_handle mine = {0};
+  casbin_enforcer mine = {0};
   unsigned seen = 0, wrong = 0;
   uint32_t code = CASBIN_CLOSED;
   do {
     unsigned now = atomic_load(&version);
     if (now != seen || code != CASBIN_OK) {
       pthread_mutex_lock(&lock);
-      code = casbin_share(&current, &mine);
+      code = casbin_snapshot(&current, &mine);
       seen = atomic_load(&version);
       pthread_mutex_unlock(&lock);
     }
@@ -51,7 +51,7 @@ static void *reader(void *count) {
       wrong++;
   } while (seen < publishes);
   pthread_mutex_lock(&lock); /* the sanitizer for threads does not see who counts the snapshot's owners */
-  casbin_snapshot_close(&mine);
+  casbin_close(&mine);
   pthread_mutex_unlock(&lock);
   *(unsigned *)count = wrong;
   return NULL;
@@ -63,16 +63,16 @@ static int publish(casbin_enforcer *enforcer, unsigned user) {
   uint8_t line[64];
   size_t length;
   uint32_t number;
-  casbin_snapshot_handle next = {0};
+  casbin_enforcer next = {0};
   snprintf(rule, sizeof rule, "add p, user%u, data1, read", user);
   if (casbin_call(enforcer, TEXT(rule), line, sizeof line, &length) != CASBIN_OK) return 1;
   if (casbin_publish(enforcer, &number) != CASBIN_OK || number != user) return 1;
   if (casbin_snapshot(enforcer, &next) != CASBIN_OK) return 1;
   pthread_mutex_lock(&lock);
-  uint32_t code = casbin_share(&next, &current);
+  uint32_t code = casbin_snapshot(&next, &current);
   atomic_store(&version, user);
   pthread_mutex_unlock(&lock);
-  casbin_snapshot_close(&next);
+  casbin_close(&next);
   return code != CASBIN_OK;
 }
 
@@ -90,7 +90,7 @@ int main(int argc, char **argv) {
   for (unsigned user = 1; user <= publishes; user++)
     if (publish(&enforcer, user) != 0) return 1;
   for (int at = 0; at < READERS; at++) pthread_join(threads[at], NULL), all += wrong[at];
-  casbin_snapshot_close(&current);
+  casbin_close(&current);
   casbin_close(&enforcer);
   printf("%d readers saw %u publishes, %u answers were wrong\n", READERS, publishes, all);
   return all != 0;
