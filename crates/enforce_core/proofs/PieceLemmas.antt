@@ -11,7 +11,7 @@ use Rattle.perm_value.specs.declared.value.Value.TheOpen.{Value-F}
 use Rattle.perm_value.specs.declared.value.Value.TheVariants as kind
 use Rattle.enforce_core.specs.Asked.{CutStops}
 use Rattle.enforce_core.specs.Helps.Cut.{PieceStops}
-use Rattle.enforce_core.specs.Pieces.{IsBadPiece, pieces, pieces_of, rise}
+use Rattle.enforce_core.specs.Pieces.{pieces, pieces_of, rise}
 use Rattle.enforce_core.specs.declared.stops.AskStop.{AskStop}
 use Rattle.enforce_core.specs.declared.stops.AskStop.TheVariants as stop
 
@@ -27,14 +27,14 @@ text_pushed values more held pushed = ap (map datum) pushed ∙ map_push datum v
 head_of_drop : {X : Type 0} (xs : List X) (i : ℕ) (x : X) (rest : List X) → drop i xs ≡ x ∷ rest → slice_get xs i ≡ Some x
 head_of_drop {X} [] zero x rest is = absurd cc
 head_of_drop {X} [] (suc i) x rest is = absurd cc
-head_of_drop {X} (y ∷ ys) zero x rest is = ap (λ (l : List X). slice_get l 0) is
+head_of_drop {X} (y ∷ ys) zero x rest is = ap (λ (l : List X). slice_get l zero) is
 head_of_drop {X} (y ∷ ys) (suc i) x rest is = head_of_drop ys i x rest is
 
 -- one step on in what is left
 tail_of_drop : {X : Type 0} (xs : List X) (i : ℕ) (x : X) (rest : List X) → drop i xs ≡ x ∷ rest → drop (suc i) xs ≡ rest
 tail_of_drop [] zero x rest is = absurd cc
 tail_of_drop [] (suc i) x rest is = absurd cc
-tail_of_drop (y ∷ ys) zero x rest is = ap (drop 1) is
+tail_of_drop (y ∷ ys) zero x rest is = ap (drop (suc zero)) is
 tail_of_drop (y ∷ ys) (suc i) x rest is = tail_of_drop ys i x rest is
 
 -- the next piece, of what is left

@@ -1,5 +1,5 @@
 -- Rules by their numbers, as they are shown.
-use Rattle.std.specs.Prelude.{ℕ, ◌-◌, ◌==◌, List, Option, Some, None, if◌then◌else◌, option_map, slice_get}
+use Rattle.std.specs.Prelude.{ℕ, ◌-◌, ◌==◌, List, Option, None, if◌then◌else◌, option_map, slice_get}
 use Rattle.perm_base.specs.FieldLine.{printed}
 use Rattle.perm_base.specs.declared.shapes.TableId.TheVariants.{P}
 use Rattle.policy_table.specs.Tables.{Fields, Policy, rows}

@@ -1,4 +1,4 @@
-ghost use Rattle.std.specs.Prelude.{◌≡◌, IfErr, IfOk, Ok, map};
+ghost use Rattle.std.specs.Prelude.{IfErr, IfOk, Ok, map};
 ghost use Rattle.decision.specs.Programs.{Suits};
 ghost use Rattle.perm_value.specs.Seen.{datum};
 ghost use Rattle.enforce_core.specs.Asked.{Asks, AsksValues, LineStops, ReadsLine, ReadsTexts};
