@@ -7,14 +7,20 @@
 source "$(dirname "${BASH_SOURCE[0]}")/timing.sh"
 requests="${1:-1000000}"
 sources="$root/bench/embedding"
+# Debian has Casbin's second version under a path without its number.
 gopath=/usr/share/gocode
+installed="$gopath/src/github.com/casbin/casbin"
 
 "$root/casbin_c_library" >/dev/null
 build "$root"
 gcc -std=c11 -D_POSIX_C_SOURCE=200809L -O2 -I"$root/include" -o "$work/request_c" "$sources/request.c" "$root/out/libcasbin.a"
 export GO111MODULE=off GOCACHE="$work/go" PYTHONDONTWRITEBYTECODE=1
 [ -z "$(command -v go)" ] || go build -o "$work/request_go" "$sources/request.go"
-[ ! -d "$gopath/src/github.com/casbin/casbin/v2" ] || GOPATH="$gopath" go build -o "$work/casbin_go" "$sources/casbin_go.go"
+if [ -n "$(command -v go)" ] && grep -q '^module github.com/casbin/casbin/v2$' "$installed/go.mod" 2>/dev/null; then
+  mkdir -p "$work/gopath/src/github.com/casbin/casbin"
+  ln -s "$installed" "$work/gopath/src/github.com/casbin/casbin/v2"
+  GOPATH="$work/gopath:$gopath" go build -o "$work/casbin_go" "$sources/casbin_go.go"
+fi
 
 # The nanoseconds of a request that a command prints, the least of three runs, or that it is not there.
 least() {

@@ -17,8 +17,17 @@ flags=(-std=c11 -D_POSIX_C_SOURCE=200809L -O2 -g -Wall -Wextra -Werror -Iinclude
 # The names that the header declares, and those that the library has.
 grep -o 'casbin_[a-z_]*(' include/casbin.h | tr -d '(' | sort -u >"$work/declared"
 nm -g --defined-only crates/casbin_c/out/libcasbin_c.a | awk '$2 == "T" && $3 ~ /^casbin_[a-z_]*$/ { print $3 }' | sort -u >"$work/exported"
+nm -D --defined-only out/libcasbin.so | awk '$2 == "T" { print $3 }' | sort -u >"$work/shared"
 diff "$work/declared" "$work/exported" || { echo "include/casbin.h and the exports differ" >&2; exit 1; }
+diff "$work/declared" "$work/shared" || { echo "libcasbin.so hands out other names" >&2; exit 1; }
 echo "the header declares the $(wc -l <"$work/exported") exports"
+
+# The numbers that the exports answer, and those that the header gives their names.
+sed -n 's/^pub const \([A-Z_]*\): u32 = \([0-9]*\);$/CASBIN_\1 = \2/p' crates/casbin_c/src/codes.rt | sort >"$work/codes"
+grep -o 'CASBIN_[A-Z_]* = [0-9]*' include/casbin.h | sort -u >"$work/numbers"
+other="$(comm -23 "$work/codes" "$work/numbers")"
+[ -z "$other" ] || { echo "include/casbin.h has other numbers than: $other" >&2; exit 1; }
+echo "the header has the $(wc -l <"$work/codes") numbers that calls answer"
 
 # Compares what a command prints with the answers of the session.
 answers() {

@@ -32,7 +32,7 @@ int main(int argc, char **argv) {
   size_t model_length, policy_length, length;
   uint8_t *model = read_file(argv[1], &model_length), *policy = read_file(argv[2], &policy_length), line[256];
   casbin_enforcer enforcer = {0};
-  if (casbin_open(model, model_length, policy, policy_length, line, 0, &enforcer, line, sizeof line, &length) != CASBIN_OK) return 3;
+  if (casbin_open(model, model_length, policy, policy_length, (const uint8_t *)"", 0, &enforcer, line, sizeof line, &length) != CASBIN_OK) return 3;
   char texts[2][64];
   size_t ends[2][3];
   for (int i = 0; i < 2; i++) {

@@ -6,7 +6,6 @@ package main
 /*
 #cgo CFLAGS: -I${SRCDIR}/../../include
 #cgo LDFLAGS: ${SRCDIR}/../../out/libcasbin.a
-#include <stdlib.h>
 #include "casbin.h"
 */
 import "C"
@@ -33,10 +32,10 @@ func main() {
 	model, modelLength := text(os.Args[1])
 	policy, policyLength := text(os.Args[2])
 	requests, _ := strconv.Atoi(os.Args[4])
-	handle := (*C.casbin_enforcer)(C.calloc(1, C.size_t(unsafe.Sizeof(C.casbin_enforcer{}))))
+	handle := new(C.casbin_enforcer)
 	var length C.size_t
-	line := make([]byte, 256)
-	if C.casbin_open(at(model), modelLength, at(policy), policyLength, at(line), 0, handle, at(line), 256, &length) != C.CASBIN_OK {
+	options, line := make([]byte, 1), make([]byte, 256)
+	if C.casbin_open(at(model), modelLength, at(policy), policyLength, at(options), 0, handle, at(line), 256, &length) != C.CASBIN_OK {
 		panic(string(line))
 	}
 	var bytes [2][]byte
@@ -64,5 +63,4 @@ func main() {
 	}
 	fmt.Printf("%.1f\n", float64(took.Nanoseconds())/float64(requests))
 	C.casbin_close(handle)
-	C.free(unsafe.Pointer(handle))
 }

@@ -6,6 +6,7 @@
 import ctypes
 import json
 import os
+import threading
 from ctypes import POINTER, byref, c_bool, c_char_p, c_size_t, c_uint32, c_void_p
 
 _HERE = os.path.dirname(os.path.abspath(__file__))
@@ -63,7 +64,8 @@ class CasbinError(Exception):
 
 class Enforcer:
     """An enforcer of one owner, whose calls change drafts and count from the next `publish` on; or a snapshot of one, which judges
-    by what was published when it was taken, and takes no calls. One thread at a time uses an enforcer."""
+    by what was published when it was taken, and takes no calls. Threads that use one enforcer wait for each other; those that have a
+    snapshot each do not."""
 
     def __init__(self, model, policy, options=""):
         self._begin()
@@ -71,10 +73,10 @@ class Enforcer:
         room, length = ctypes.create_string_buffer(_ROOM), c_size_t()
         arguments = [part for text in texts for part in (text, len(text))]
         code = _open(*arguments, self._at, room, _ROOM, byref(length))
-        _must(code, room.raw[: min(length.value, _ROOM)].decode())
+        _must(code, room.raw[: length.value].decode() if length.value <= _ROOM else "")
 
     def _begin(self):
-        self._handle = _Handle()
+        self._handle, self._lock = _Handle(), threading.Lock()
         self._at = byref(self._handle)
 
     def __enter__(self):
@@ -83,22 +85,29 @@ class Enforcer:
     def __exit__(self, *_):
         self.close()
 
-    def close(self):
-        _close(self._at)
+    def close(self, _close=_close):
+        """Closes the enforcer; it answers no call afterwards. One that nothing names any longer is closed too."""
+        with self._lock:
+            _close(self._at)
+
+    __del__ = close
 
     def enforce(self, *values):
         """The decision on the request of these values: texts, or where one is none, all as JSON."""
         decision = Decision()
         if all(isinstance(value, str) for value in values):
             texts = [value.encode() for value in values]
-            ends, at = (c_size_t * len(texts))(), 0
+            # One place more, so that there is a first.
+            ends, at = (c_size_t * (len(texts) + 1))(), 0
             for index, text in enumerate(texts):
                 at += len(text)
                 ends[index] = at
-            code = _enforce(self._at, b"".join(texts), at, ends, len(texts), byref(decision))
+            with self._lock:
+                code = _enforce(self._at, b"".join(texts), at, ends, len(texts), byref(decision))
         else:
             line = json.dumps(values).encode()
-            code = _enforce_json(self._at, line, len(line), byref(decision))
+            with self._lock:
+                code = _enforce_json(self._at, line, len(line), byref(decision))
         if code not in (OK, NO_REQUEST):
             raise CasbinError(code)
         return decision
@@ -115,7 +124,8 @@ class Enforcer:
     @property
     def version(self):
         version = c_uint32()
-        _must(_version(self._at, byref(version)))
+        with self._lock:
+            _must(_version(self._at, byref(version)))
         return version.value
 
     def call(self, item):
@@ -134,24 +144,27 @@ class Enforcer:
 
     def publish(self):
         version = c_uint32()
-        _must(_publish(self._at, byref(version)))
+        with self._lock:
+            _must(_publish(self._at, byref(version)))
         return version.value
 
     def snapshot(self):
         """A snapshot of what it judges by; one of a snapshot shares its policy."""
         taken = Enforcer.__new__(Enforcer)
         taken._begin()
-        _must(_snapshot(self._at, taken._at))
+        with self._lock:
+            _must(_snapshot(self._at, taken._at))
         return taken
 
     def _told(self, function, *arguments):
         """The code and the text of a call that tells one; where it is longer than the room it is asked for again."""
         room, length = ctypes.create_string_buffer(_ROOM), c_size_t()
-        code = function(self._at, *arguments, room, _ROOM, byref(length))
-        if length.value > _ROOM:
-            size = length.value
-            room = ctypes.create_string_buffer(size)
-            code = function(self._at, *arguments, room, size, byref(length))
+        with self._lock:
+            code = function(self._at, *arguments, room, _ROOM, byref(length))
+            if length.value > _ROOM:
+                size = length.value
+                room = ctypes.create_string_buffer(size)
+                code = function(self._at, *arguments, room, size, byref(length))
         text = room.raw[: length.value].decode()
         return _must(code, text), text
 

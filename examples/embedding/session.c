@@ -1,15 +1,18 @@
 /*
- * Answers a script of requests and edits as `casbin_cli session` does, through the library.
+ * Answers a script of requests and edits as `casbin_cli session` does, through the library. Fields of requests are taken as they
+ * stand, without quotes.
  * Usage: session MODEL POLICY SCRIPT
  */
 #include <ctype.h>
+#include <stdbool.h>
 #include <stdio.h>
 #include <stdlib.h>
 #include <string.h>
 
 #include "casbin.h"
 
-#define FIELDS 34
+/* One field more than a request may have, so that the library refuses what has too many. */
+#define FIELDS 35
 
 /* The bytes of a file, with a 0 behind them. */
 static char *read_file(const char *name, size_t *length) {
@@ -43,6 +46,7 @@ static size_t cut_fields(const char *line, char *bytes, size_t *ends) {
 /* Asks a request, and prints the line of its answer. */
 static void ask(casbin_enforcer *enforcer, unsigned number, const char *fields) {
   char *bytes = malloc(strlen(fields) + 1);
+  if (!bytes) exit(CASBIN_NO_MEMORY);
   size_t ends[FIELDS], count = cut_fields(fields, bytes, ends);
   casbin_decision told;
   uint32_t code = casbin_enforce(enforcer, (const uint8_t *)bytes, ends[count - 1], ends, count, &told);
@@ -81,12 +85,23 @@ static void call(casbin_enforcer *enforcer, unsigned number, const char *text, s
   if (line != room) free(line);
 }
 
+/* Whether a line is `end` alone, with blanks behind it at most. */
+static bool is_end(const char *line) {
+  if (strncmp(line, "end", 3) != 0) return false;
+  line += 3 + strspn(line + 3, " \t\r");
+  return *line == '\n' || *line == 0;
+}
+
 /* The length of an item: a line, or the lines up to `end` behind one that begins a block. */
 static size_t item_length(const char *text) {
-  size_t line = strcspn(text, "\n");
-  if (strncmp(text, "begin ", 6) != 0) return line;
-  const char *end = strstr(text, "\nend");
-  return end ? (size_t)(end - text) + 4 : strlen(text);
+  size_t length = strcspn(text, "\n");
+  bool open = strncmp(text, "begin", 5) == 0 && !isalnum((unsigned char)text[5]);
+  while (open && text[length]) {
+    const char *line = text + length + 1;
+    length += 1 + strcspn(line, "\n");
+    open = !is_end(line);
+  }
+  return length;
 }
 
 int main(int argc, char **argv) {
@@ -107,11 +122,11 @@ int main(int argc, char **argv) {
     size_t length = item_length(at);
     char behind = at[length];
     at[length] = 0;
-    char *item = at + strspn(at, " \t");
-    if (*item && *item != '#') {
+    char first = at[strspn(at, " \t\r")];
+    if (first && first != '#') {
       number++;
-      if (strncmp(item, "ask ", 4) == 0) ask(&enforcer, number, item + 4);
-      else call(&enforcer, number, item, strlen(item));
+      if (strncmp(at, "ask ", 4) == 0) ask(&enforcer, number, at + 4);
+      else call(&enforcer, number, at, length);
     }
     at += length + (behind ? 1 : 0);
   }

@@ -7,7 +7,6 @@ package main
 /*
 #cgo CFLAGS: -I${SRCDIR}/../../include
 #cgo LDFLAGS: ${SRCDIR}/../../out/libcasbin.a
-#include <stdlib.h>
 #include "casbin.h"
 */
 import "C"
@@ -21,10 +20,11 @@ import (
 )
 
 // Enforcer is an enforcer of one owner, whose calls change drafts and count from the next publish on; or a snapshot of one, which
-// judges by what was published when it was taken, and takes no calls. Goroutines that each have a snapshot do not wait for others.
+// judges by what was published when it was taken, and takes no calls. Its zero value is closed. Goroutines that use one enforcer
+// wait for each other; those that each have a snapshot do not.
 type Enforcer struct {
 	lock   sync.Mutex
-	handle *C.casbin_enforcer
+	handle C.casbin_enforcer
 }
 
 // Decision is what a request was answered.
@@ -67,15 +67,14 @@ func decided(code C.uint32_t, told C.casbin_decision) (Decision, error) {
 
 // Open opens an enforcer of the texts of a model and of a policy, with options of the program, one a line.
 func Open(model, policy, options string) (*Enforcer, error) {
-	e := closed()
+	e := new(Enforcer)
 	m, ml := text(model)
 	p, pl := text(policy)
 	o, ol := text(options)
 	var line [256]C.uint8_t
 	var length C.size_t
-	code := C.casbin_open(m, ml, p, pl, o, ol, e.handle, &line[0], C.size_t(len(line)), &length)
+	code := C.casbin_open(m, ml, p, pl, o, ol, &e.handle, &line[0], C.size_t(len(line)), &length)
 	if code != C.CASBIN_OK {
-		e.Close()
 		if int(length) > len(line) {
 			length = 0
 		}
@@ -84,14 +83,11 @@ func Open(model, policy, options string) (*Enforcer, error) {
 	return e, nil
 }
 
-func closed() *Enforcer {
-	return &Enforcer{handle: (*C.casbin_enforcer)(C.calloc(1, C.size_t(unsafe.Sizeof(C.casbin_enforcer{}))))}
-}
-
-// Close closes the enforcer; nothing may be called behind it.
+// Close closes the enforcer; one that is not closed leaks what it holds.
 func (e *Enforcer) Close() {
-	C.casbin_close(e.handle)
-	C.free(unsafe.Pointer(e.handle))
+	e.lock.Lock()
+	defer e.lock.Unlock()
+	C.casbin_close(&e.handle)
 }
 
 // Enforce judges the request of these texts by the published policy, or by a snapshot's.
@@ -101,7 +97,7 @@ func (e *Enforcer) Enforce(values ...string) (Decision, error) {
 	bytes, ends := fields(values)
 	b, bl := text(bytes)
 	var told C.casbin_decision
-	code := C.casbin_enforce(e.handle, b, bl, &ends[0], C.size_t(len(values)), &told)
+	code := C.casbin_enforce(&e.handle, b, bl, &ends[0], C.size_t(len(values)), &told)
 	return decided(code, told)
 }
 
@@ -109,7 +105,7 @@ func (e *Enforcer) Enforce(values ...string) (Decision, error) {
 func (e *Enforcer) Call(item string) (string, error) {
 	t, tl := text(item)
 	line, err := e.told(func(room *C.uint8_t, size C.size_t, length *C.size_t) C.uint32_t {
-		return C.casbin_call(e.handle, t, tl, room, size, length)
+		return C.casbin_call(&e.handle, t, tl, room, size, length)
 	})
 	return strings.TrimSuffix(strings.TrimPrefix(line, "1 "), "\n"), err
 }
@@ -117,7 +113,7 @@ func (e *Enforcer) Call(item string) (string, error) {
 // Rule gives the rule of p with this number, from 1.
 func (e *Enforcer) Rule(row uint32) (string, error) {
 	return e.told(func(room *C.uint8_t, size C.size_t, length *C.size_t) C.uint32_t {
-		return C.casbin_rule(e.handle, C.uint32_t(row), room, size, length)
+		return C.casbin_rule(&e.handle, C.uint32_t(row), room, size, length)
 	})
 }
 
@@ -143,9 +139,8 @@ func (e *Enforcer) told(call func(room *C.uint8_t, size C.size_t, length *C.size
 func (e *Enforcer) Snapshot() (*Enforcer, error) {
 	e.lock.Lock()
 	defer e.lock.Unlock()
-	s := closed()
-	if code := C.casbin_snapshot(e.handle, s.handle); code != C.CASBIN_OK {
-		s.Close()
+	s := new(Enforcer)
+	if code := C.casbin_snapshot(&e.handle, &s.handle); code != C.CASBIN_OK {
 		return nil, Error{uint32(code), ""}
 	}
 	return s, nil
@@ -216,14 +211,17 @@ func items(script string) []string {
 		switch trimmed := strings.TrimSpace(line); {
 		case block != nil:
 			block = append(block, line)
-			if trimmed == "end" {
+			if strings.TrimRight(line, " \t\r") == "end" {
 				all, block = append(all, strings.Join(block, "\n")), nil
 			}
-		case strings.HasPrefix(trimmed, "begin "):
+		case strings.HasPrefix(line, "begin "):
 			block = []string{line}
 		case trimmed != "" && !strings.HasPrefix(trimmed, "#"):
 			all = append(all, line)
 		}
+	}
+	if block != nil {
+		all = append(all, strings.Join(block, "\n"))
 	}
 	return all
 }

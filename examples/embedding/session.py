@@ -10,13 +10,15 @@ from casbin import ALLOW, FAULT, NONE, Enforcer
 
 def items(script):
     """The items of a script: lines, and blocks up to their `end`."""
-    lines = iter(script.splitlines())
-    for line in lines:
-        item = [line]
-        while item[0].startswith("begin ") and item[-1].strip() != "end":
-            item.append(next(lines))
-        if line.strip() and not line.lstrip().startswith("#"):
+    item = []
+    for line in script.split("\n"):
+        if item or (line.strip() and not line.lstrip().startswith("#")):
+            item.append(line)
+        if item and (not item[0].startswith("begin ") or line.rstrip() == "end"):
             yield "\n".join(item)
+            item = []
+    if item:
+        yield "\n".join(item)
 
 
 def asked(enforcer, fields):

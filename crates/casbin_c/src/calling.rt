@@ -8,7 +8,7 @@ ghost use Rattle.casbin_c.specs.Handles.{Uses};
 ghost use Rattle.casbin_c.specs.Told.{TellsCall, TellsVersion, WritesCall, WritesLine};
 ghost use Rattle.casbin_c.specs.Told.{WritesTold, told_stop, version_of};
 
-use crate::codes::{CLOSED, NO_MEMORY, NO_SCRIPT, OK, REFUSED, SNAPSHOT, UNTOLD};
+use crate::codes::{CLOSED, NO_MEMORY, OK, REFUSED, SCRIPT, SNAPSHOT, UNTOLD};
 use crate::handle::Handle;
 use crate::writing::{write_stop, write_text};
 use enforce_core::{CallStop, Called};
@@ -136,7 +136,7 @@ fn code_of_stop(stop: CallStop) -> u32
     ensures { result ≡ code_of_stop stop }
 {
     match stop {
-        CallStop::NoScript(_) | CallStop::NoItem => NO_SCRIPT,
+        CallStop::NoScript(_) | CallStop::NoItem => SCRIPT,
         CallStop::Snapshot => SNAPSHOT,
         CallStop::NoMemory => NO_MEMORY,
         CallStop::Untold => UNTOLD,

@@ -7,7 +7,7 @@ pub const OK: u32 = 0;
 pub const CLOSED: u32 = 1;
 
 /// The text is no script, or not one item that can be called.
-pub const NO_SCRIPT: u32 = 5;
+pub const SCRIPT: u32 = 5;
 
 /// Memory ran out, and nothing was done.
 pub const NO_MEMORY: u32 = 9;

@@ -1,3 +1,4 @@
+ghost use Rattle.std.specs.Prelude.{◌≡◌, ◌≤◌, ◌++◌, drop, length};
 ghost use Rattle.casbin_c.specs.Told.{Writes, WritesStop};
 
 use crate::codes::{NO_ROOM, OK};
@@ -21,8 +22,16 @@ fn write_bytes(bytes: &[u8], room: &mut [u8], size: &mut usize) -> u32
     if bytes.len() > room.len() {
         return NO_ROOM;
     }
-    room[..bytes.len()].copy_from_slice(bytes);
+    put_bytes(bytes, room);
     OK
+}
+
+// Writes bytes to the start of a room that has place for them.
+fn put_bytes(bytes: &[u8], room: &mut [u8])
+    requires { length bytes.now ≤ length room.old }
+    ensures { room.new ≡ bytes.now ++ drop (length bytes.now) room.old }
+{
+    room[..bytes.len()].copy_from_slice(bytes);
 }
 
 /// Writes the line by which the program tells a stop; where memory runs out for it there is none.

@@ -25,7 +25,6 @@ use std::sync::Arc;
 /// An enforcer (Casbin, the enforcer): it judges requests by the policy that is published. Opened from texts it has one owner, who
 /// edits drafts and publishes them; a snapshot of it judges by what was published then, and is never edited. Contracts see the
 /// model, the desk or the policy of a snapshot, and what its finder has refused.
-#[derive(Drop)]
 pub struct Enforcer {
     pub(crate) program: Arc<Program>,
     pub(crate) place: Place,
@@ -33,18 +32,32 @@ pub struct Enforcer {
     pub(crate) scratch: Scratch,
 }
 
+// Written out, so that a caller's proof sees one call and not the drop of each field.
+impl Drop for Enforcer {
+    fn drop(self) {
+        let Enforcer {
+            program: _program,
+            place: _place,
+            finder: _finder,
+            scratch: _scratch,
+        } = self;
+    }
+}
+
 impl Model for Enforcer {
     ghost use Rattle.std.specs.Arc.{arc_value};
-    ghost use Rattle.std.specs.Coded.{Coded, codes};
+    ghost use Rattle.std.specs.Coded.{codes};
     ghost use Rattle.decision.specs.Programs.{Suits};
-    ghost use Rattle.model_conf.specs.Helps.ExpressionCode.{Sign, expression_code};
+    ghost use Rattle.decision.specs.contracts.program.Program as program_row;
+    ghost use Rattle.policy_desk.specs.contracts.desk.Desk as desk_row;
+    ghost use Rattle.policy_state.specs.contracts.state.PolicyState as state_row;
     ghost use Rattle.enforce_core.specs.Helps.Held.{place_of};
     ghost use Rattle.enforce_core.specs.Places.{state_at};
     ghost use Rattle.enforce_core.specs.Seen.{Enforcing};
 
     ghost Value = { Enforcing };
 
-    ghost coded = { let s : Coded Sign = Prim.hlevel codes in Prim.hlevel (codes, expression_code s) };
+    ghost coded = { Prim.hlevel (codes, program_row.the_row.coded, desk_row.the_row.coded, state_row.the_row.coded) };
 
     ghost view = { λ e. record {
       model = arc_value e.program;

@@ -2,7 +2,7 @@ use Rattle.std.proofs.Common.{Some, ap, inl, inr, refl, sym, ◌∙◌}
 use Rattle.casbin_c.proofs.calling.casbin_call.Goals as goal
 
 pub returns-in_default : goal.returns-in_default
-returns-in_default c = inl (c.in_default.ensures.taken, c.take.ensures.closed, refl, refl, refl)
+returns-in_default c = inl (c.in_default.ensures.taken, c.take.ensures.closed, (refl, refl, refl))
 
 pub returns : goal.returns
 returns c = inr (record {

@@ -5,7 +5,7 @@ use Rattle.version_log.specs.Log.{versions}
 use Rattle.casbin_c.proofs.calling.casbin_version.Goals as goal
 
 pub returns-in_default : goal.returns-in_default
-returns-in_default c = inl (c.in_default.ensures.taken, c.take.ensures.closed, refl, refl)
+returns-in_default c = inl (c.in_default.ensures.taken, c.take.ensures.closed, (refl, refl))
 
 pub returns : goal.returns
 returns c = inr (record {

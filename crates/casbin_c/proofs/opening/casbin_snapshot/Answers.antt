@@ -3,7 +3,7 @@ use Rattle.enforce_core.specs.Seen.{Enforcing, IsSnapshotOf}
 use Rattle.casbin_c.proofs.opening.casbin_snapshot.Goals as goal
 
 pub returns-in_default : goal.returns-in_default
-returns-in_default c = inl (c.in_default.ensures.taken, c.take.ensures.closed, refl, refl)
+returns-in_default c = inl (c.in_default.ensures.taken, c.take.ensures.closed, (refl, refl))
 
 pub returns-in-Ok : goal.returns-in-Ok
 returns-in-Ok c = inr (record {

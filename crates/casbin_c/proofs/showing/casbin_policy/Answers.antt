@@ -7,7 +7,7 @@ use Rattle.policy_state.specs.States.{tables}
 use Rattle.casbin_c.proofs.showing.casbin_policy.Goals as goal
 
 pub returns-in_default : goal.returns-in_default
-returns-in_default c = inl (c.in_default.ensures.taken, c.take.ensures.closed, refl, refl, refl)
+returns-in_default c = inl (c.in_default.ensures.taken, c.take.ensures.closed, (refl, refl, refl))
 
 pub returns : goal.returns
 returns c = inr (record {
