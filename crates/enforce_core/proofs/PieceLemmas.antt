@@ -63,14 +63,15 @@ bad_rise_from : (from most end : ℕ) (ends left : List ℕ) → left ≡ end �
 unfolding rise
 bad_rise_from from most end ends left is below = ap (rise from most) is ∙ ap (λ (b : Bool). b && nat_le end most && rise end most ends) below
 
+-- of three tests the second fails
+second_fails : (first second third : Bool) → second ≡ false → (first && second && third) ≡ false
+second_fails true true third is = absurd cc
+second_fails true false third is = refl
+second_fails false second third is = refl
+
 bad_rise_past : (from most end : ℕ) (ends left : List ℕ) → left ≡ end ∷ ends → nat_le end most ≡ false → rise from most left ≡ false
 unfolding rise
-bad_rise_past from most end ends left is past = ap (rise from most) is ∙ by (nat_le from end) (nat_le end most) past
-  where
-    by : (first second : Bool) → second ≡ false → (first && second && rise end most ends) ≡ false
-    by true true is = absurd cc
-    by true false is = refl
-    by false second is = refl
+bad_rise_past from most end ends left is past = ap (rise from most) is ∙ second_fails (nat_le from end) (nat_le end most) (rise end most ends) past
 
 -- ---- the values under way
 
