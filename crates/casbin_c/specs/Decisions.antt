@@ -9,7 +9,7 @@ use Rattle.enforce_core.specs.declared.stops.AskStop.TheVariants as stop
 use Rattle.enforce_core.specs.declared.stops.Decided.{Decided}
 use Rattle.perm_value.specs.declared.request.RequestFault.{RequestFault}
 use Rattle.perm_value.specs.declared.request.RequestFault.TheVariants as fault
-use Rattle.casbin_c.specs.declared.decision.Decision.{Decision}
+use Rattle.casbin_c.specs.declared.decisions.Decision.{Decision}
 
 -- one of a version, with the number of the row, from 1, or 0 for none
 abbrev pub decision_with : (kind version : ℕ) → Option ℕ → (cause at : ℕ) → Decision

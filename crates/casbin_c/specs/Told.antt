@@ -11,7 +11,7 @@ use Rattle.run_status.specs.declared.stop.Stop.{Stop}
 use Rattle.run_status.specs.declared.stop.Stop.TheVariants.{NoScript}
 use Rattle.casbin_c.specs.Codes.{code_of_ask, code_of_call, code_of_publish, no_memory, no_room, no_rule, ok}
 use Rattle.casbin_c.specs.Decisions.{decision_of}
-use Rattle.casbin_c.specs.declared.decision.Decision.{Decision}
+use Rattle.casbin_c.specs.declared.decisions.Decision.{Decision}
 
 -- ---- texts in a room
 

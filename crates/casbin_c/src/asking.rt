@@ -7,7 +7,7 @@ ghost use Rattle.casbin_c.specs.Handles.{Uses};
 ghost use Rattle.casbin_c.specs.Told.{TellsAnswer};
 
 use crate::codes::CLOSED;
-use crate::decision::{Decision, tell};
+use crate::decisions::{Decision, tell};
 use crate::handle::Handle;
 use std::alloc::Global;
 

@@ -4,7 +4,7 @@
 pub mod asking;
 pub mod calling;
 pub mod codes;
-pub mod decision;
+pub mod decisions;
 pub mod handle;
 pub mod held;
 pub mod opening;

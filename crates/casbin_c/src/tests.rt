@@ -2,7 +2,7 @@
 use crate::asking::{casbin_enforce, casbin_enforce_json};
 use crate::calling::{casbin_call, casbin_publish, casbin_version};
 use crate::codes::{CLOSED, NO_ROOM, NO_RULE, OK, SNAPSHOT};
-use crate::decision::Decision;
+use crate::decisions::Decision;
 use crate::handle::Handle;
 use crate::opening::{casbin_close, casbin_open, casbin_snapshot};
 use crate::showing::{casbin_policy, casbin_rule};
