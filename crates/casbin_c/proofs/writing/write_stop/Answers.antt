@@ -7,4 +7,4 @@ returns-in_default c = inr (refl, refl)
 
 pub returns : goal.returns
 returns c =
-    inl (c.write_bytes-_code.result, subst (λ (text : List ℕ). Writes text c.args.room.now c.write_bytes-_code.new.room c.write_bytes-_code.result c.write_bytes-_code.new.size) (c.deref.ensures.value ∙ c.in-Ok.ensures) c.write_bytes-_code.ensures)
+    inl (c.write_bytes-code.result, subst (λ (text : List ℕ). Writes text c.args.room.now c.write_bytes-code.new.room c.write_bytes-code.result c.write_bytes-code.new.size) (c.deref.ensures.value ∙ c.in-Ok.ensures) c.write_bytes-code.ensures)

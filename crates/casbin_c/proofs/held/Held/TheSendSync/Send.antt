@@ -11,9 +11,9 @@ use denote.Param.Send.{IsSend, part_keyless, struct_send, sendable}
 use denote.Struct.Owning.{shape}
 use Rattle.std.specs.declared.alloc.Global.{Global}
 use Rattle.std.proofs.alloc.Global.TheSendSync as heap
-use Rattle.std.proofs.Crossing.{frees}
+use Rattle.std.proofs.Crossing.{crosses, frees}
+use Rattle.regex_keep.proofs.CallerLemmas.{keeping_finder_send}
 use Rattle.enforce_core.specs.contracts.enforcer.Enforcer as content
-use Rattle.enforce_core.proofs.enforcer.Enforcer.TheSendSync as content_sent
 use Rattle.casbin_c.specs.Held.{held}
 use Rattle.casbin_c.specs.contracts.held.Held.{the_row, the_type}
 
@@ -25,8 +25,11 @@ held_keyless R s a null_ptr (Some x) = (tt, frees.frees a (raw (lone R.mir)) nul
 pointers : IsSend RawPtr
 pointers = search sendable
 
+content_send : IsSend content.the_row
+content_send = search (sendable, crosses, keeping_finder_send) depth 60 fits 1000000
+
 pub send : IsSend the_row
 send = record {
-  owned = λ d vs. ((struct_send (shape the_type) (pointers, (heap.the_field_send, tt))).owned (d.at, (((tt, tt), tt), tt)) vs, held_keyless content.the_row content_sent.the_send d.alloc d.at d.inside);
+  owned = λ d vs. ((struct_send (shape the_type) (pointers, (heap.the_field_send, tt))).owned (d.at, (((tt, tt), tt), tt)) vs, held_keyless content.the_row content_send d.alloc d.at d.inside);
   leaving = λ k d w. tt;
 }
