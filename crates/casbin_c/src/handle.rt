@@ -65,11 +65,3 @@ impl Handle {
         held.gone();
     }
 }
-
-// What may move to another thread.
-fn crosses<T: Send>(_x: &T) {}
-
-/// The law that a handle may go to another thread, also while it holds an enforcer. It does nothing when run.
-pub fn handles_cross(handle: &Handle) {
-    crosses(handle);
-}

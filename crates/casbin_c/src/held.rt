@@ -7,7 +7,7 @@ ghost use Rattle.enforce_core.specs.contracts.enforcer.Enforcer as content;
 use enforce_core::Enforcer;
 use loose_box::Loose;
 use std::alloc::Global;
-use std::marker::{Model, Send};
+use std::marker::Model;
 
 /// An enforcer or nothing, by its address. One that holds an enforcer cannot be let go.
 #[repr(C)]
@@ -23,8 +23,6 @@ impl Model for Held {
 
     ghost also_owns = { λ h. held the_row h.alloc h.at h.inside };
 }
-
-unsafe impl Send for Held {}
 
 impl Held {
     pub fn none(alloc: Global) -> Held
