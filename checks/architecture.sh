@@ -27,6 +27,7 @@ def read_crates(path):
             group = groups.setdefault(line[1:].strip(), [])
         elif line:
             name, _, others = line.partition(":")
+            name = name.split()[0]
             group.append(name)
             below[name] = others.split()
     return groups, below

@@ -1,0 +1,8 @@
+pub mod Places
+pub mod Seen
+pub mod Pieces
+pub mod Asked
+pub mod Called
+pub mod Opening
+pub mod Shown
+pub mod Helps

@@ -1,0 +1,18 @@
+//! An enforcer as one value: the program of a model, a policy and a finder, opened from texts; and snapshots of what it has
+//! published, which other threads may ask.
+#![tactic(auto)]
+
+mod asking;
+mod calling;
+mod enforcer;
+mod lines;
+mod opening;
+mod options;
+mod pieces;
+mod place;
+mod stops;
+
+pub use enforcer::Enforcer;
+pub use lines::line_of_stop;
+pub use opening::{open_enforcer, open_parts};
+pub use stops::{AskStop, CallStop, Called, Decided};

@@ -1,0 +1,45 @@
+//! A service in its own process: four threads judge requests at seats of a pair while the main thread adds rules and publishes
+//! them. What it prints is the same whatever the threads do first.
+#![tactic(auto)]
+
+mod publishing;
+mod reading;
+mod serving;
+
+use enforce_core::open_parts;
+use run_status::Stop;
+use serving::{Summary, serve};
+use std::alloc::Global;
+use std::io;
+use std::sync::Wait;
+use std::thread::Threads;
+
+// The model, by roles.
+const MODEL: &[u8] =
+    b"[request_definition]\nr = sub, obj, act\n[policy_definition]\np = sub, obj, act\n[role_definition]\ng = _, _\n[policy_effect]\ne = some(where (p.eft == allow))\n[matchers]\nm = g(r.sub, p.sub) && r.obj == p.obj && r.act == p.act\n";
+
+// The policy that it begins with.
+const POLICY: &[u8] = b"p, reader, data1, read\ng, user0, reader\n";
+
+fn main(rt: HostRuntime) -> io::Result<()> {
+    match served(&rt, rt.alloc()) {
+        Ok(summary) => {
+            let (asked, wrong, version) = (summary.asked, summary.wrong, summary.version);
+            println!(rt;
+                "{asked} requests were judged beside {version} publishes, {wrong} in a wrong way"
+            )
+        }
+        Err(stop) => {
+            let code = stop.status().code();
+            println!(rt; "the service stopped with status {code}")
+        }
+    }
+}
+
+// Opens the program and the desk of the two texts, and serves requests by them.
+fn served<R: Threads + Wait + Sync>(rt: &R, alloc: Global) -> Result<Summary, Stop> {
+    let parts = open_parts(alloc, MODEL, POLICY, b"")?;
+    let (program, desk) = parts;
+    let summary = serve(rt, alloc, &program, desk)?;
+    Ok(summary)
+}
