@@ -97,7 +97,8 @@ fn gather_roles(
     found: &mut Vec<u32>,
 ) -> Result<Gathered, NoMemory>
     requires asked { IsAsked asking.now }
-    ensures { IfOk result (AreGatheredByRoles asking.now question index.now found.old.items found.new.items) }
+    ensures { IfOk result (AreGatheredByRoles asking.now question index.now found.old.items
+        found.new.items) }
 {
     let Some(name) = text_at(asking.request, question.request) else {
         return Ok(Gathered::Unknown);

@@ -84,7 +84,8 @@ fn push_rule_warnings(
     rule: &Rule,
     found: &mut Vec<Finding>,
 ) -> Result<(), NoMemory>
-    ensures { OnOk result (found.new.items ≡ found.old.items ++ (policy_warnings shapes.now (row_line row.now) rule.now
+    ensures { OnOk result (found.new.items ≡ found.old.items ++
+        (policy_warnings shapes.now (row_line row.now) rule.now
         ++ order_warnings effect seen.now.policy (row_line row.now) rule.now shapes.now.effect_column)) }
 {
     push_policy_warnings(alloc, shapes, row, rule, found)?;

@@ -63,10 +63,12 @@ impl Clerk {
     ) -> Result<(), Stop>
         requires suits { Suits program.now (state_at (standing self.old).place).shapes }
         requires stands { StandsSomewhere (standing self.old).place }
-        ensures served { OnOk result (OfSection json (is_followers (standing self.old).place) (cut.seen section)
+        ensures served { OnOk result (OfSection json (is_followers (standing self.old).place)
+            (cut.seen section)
             (Pushed program.now (P.refusals finder.old) (P.refusals finder.new)
             (standing self.old) (standing self.new) (K.taken out.old) (K.taken out.new))) }
-        ensures stopped { IfErr result (SectionStops json (is_followers (standing self.old).place) program.now
+        ensures stopped { IfErr result (SectionStops json (is_followers (standing self.old).place)
+            program.now
             (standing self.old) (cut.seen section) (K.taken out.old) (K.taken out.new)
             (Rose (K.faults out.old) (K.faults out.new))) }
         ensures counted { K.faults out.old ≤ K.faults out.new }

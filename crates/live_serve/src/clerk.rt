@@ -113,7 +113,8 @@ impl DeskClerk {
         requires have_names { All (λ item. is_named item ≡ true) (map seen script.now) }
         ensures served { OnOk result
             (Pushed program.now (P.refusals finder.old) (P.refusals finder.new)
-            (desk_standing self.old) (desk_standing self.new) (K.taken out.old) (K.taken out.new) (said (map seen script.now))) }
+            (desk_standing self.old) (desk_standing self.new) (K.taken out.old) (K.taken out.new)
+            (said (map seen script.now))) }
         ensures stopped { IfErr result (λ stop.
             Halts program.now (desk_standing self.old) (K.taken out.old) (K.taken out.new)
             (Rose (K.faults out.old) (K.faults out.new)) stop (said (map seen script.now))) }
@@ -141,7 +142,8 @@ impl DeskClerk {
         requires has_name { is_named (seen item.now) ≡ true }
         ensures served { OnOk result
             (Pushed program.now (P.refusals finder.old) (P.refusals finder.new)
-            (desk_standing self.old) (desk_standing self.new) (K.taken out.old) (K.taken out.new) (said (seen item.now ∷ []))) }
+            (desk_standing self.old) (desk_standing self.new) (K.taken out.old) (K.taken out.new)
+            (said (seen item.now ∷ []))) }
         ensures stopped { IfErr result (λ stop.
             Halts program.now (desk_standing self.old) (K.taken out.old) (K.taken out.new)
             (Rose (K.faults out.old) (K.faults out.new)) stop (said (seen item.now ∷ []))) }

@@ -59,7 +59,8 @@ impl FollowerClerk {
         requires stands { StandsSomewhere (follower_standing self.old).place }
         ensures served { OnOk result (OfSection json true (cut.seen section)
             (Pushed program.now (P.refusals finder.old) (P.refusals finder.new)
-            (follower_standing self.old) (follower_standing self.new) (K.taken out.old) (K.taken out.new))) }
+            (follower_standing self.old) (follower_standing self.new) (K.taken out.old)
+            (K.taken out.new))) }
         ensures stopped { IfErr result (SectionStops json true program.now
             (follower_standing self.old) (cut.seen section) (K.taken out.old) (K.taken out.new)
             (Rose (K.faults out.old) (K.faults out.new))) }
@@ -86,7 +87,8 @@ impl FollowerClerk {
         requires stands { StandsSomewhere (follower_standing self.old).place }
         ensures served { OnOk result (OfSection json true (Some lines.now)
             (Pushed program.now (P.refusals finder.old) (P.refusals finder.new)
-            (follower_standing self.old) (follower_standing self.new) (K.taken out.old) (K.taken out.new))) }
+            (follower_standing self.old) (follower_standing self.new) (K.taken out.old)
+            (K.taken out.new))) }
         ensures stopped { IfErr result (SectionStops json true program.now (follower_standing self.old)
             (Some lines.now) (K.taken out.old) (K.taken out.new)
             (Rose (K.faults out.old) (K.faults out.new))) }
@@ -114,7 +116,8 @@ impl FollowerClerk {
         requires script { begins_packet lines.now ≡ false }
         ensures served { OnOk result (OfSection json true (Some lines.now)
             (Pushed program.now (P.refusals finder.old) (P.refusals finder.new)
-            (follower_standing self.old) (follower_standing self.new) (K.taken out.old) (K.taken out.new))) }
+            (follower_standing self.old) (follower_standing self.new) (K.taken out.old)
+            (K.taken out.new))) }
         ensures stopped { IfErr result (SectionStops json true program.now (follower_standing self.old)
             (Some lines.now) (K.taken out.old) (K.taken out.new)
             (Rose (K.faults out.old) (K.faults out.new))) }
@@ -142,7 +145,8 @@ impl FollowerClerk {
         requires have_names { All (λ item. is_named item ≡ true) (map seen script.now) }
         ensures served { OnOk result
             (Pushed program.now (P.refusals finder.old) (P.refusals finder.new)
-            (follower_standing self.old) (follower_standing self.new) (K.taken out.old) (K.taken out.new) (said (map seen script.now))) }
+            (follower_standing self.old) (follower_standing self.new) (K.taken out.old)
+            (K.taken out.new) (said (map seen script.now))) }
         ensures stopped { IfErr result (λ stop.
             Halts program.now (follower_standing self.old) (K.taken out.old) (K.taken out.new)
             (Rose (K.faults out.old) (K.faults out.new)) stop (said (map seen script.now))) }
@@ -170,7 +174,8 @@ impl FollowerClerk {
         requires has_name { is_named (seen item.now) ≡ true }
         ensures served { OnOk result
             (Pushed program.now (P.refusals finder.old) (P.refusals finder.new)
-            (follower_standing self.old) (follower_standing self.new) (K.taken out.old) (K.taken out.new) (said (seen item.now ∷ []))) }
+            (follower_standing self.old) (follower_standing self.new) (K.taken out.old)
+            (K.taken out.new) (said (seen item.now ∷ []))) }
         ensures stopped { IfErr result (λ stop.
             Halts program.now (follower_standing self.old) (K.taken out.old) (K.taken out.new)
             (Rose (K.faults out.old) (K.faults out.new)) stop (said (seen item.now ∷ []))) }
@@ -195,7 +200,8 @@ impl FollowerClerk {
         requires sent { begins_packet lines.now ≡ true }
         ensures served { OnOk result ((json : Bool) (model : ModelParts) (refusals : Refusals)
             → OfSection json true (Some lines.now) (Pushed model refusals refusals
-            (follower_standing self.old) (follower_standing self.new) (K.taken out.old) (K.taken out.new))) }
+            (follower_standing self.old) (follower_standing self.new) (K.taken out.old)
+            (K.taken out.new))) }
         ensures stopped { IfErr result (λ stop. (json : Bool) (model : ModelParts)
             → SectionStops json true model (follower_standing self.old)
             (Some lines.now) (K.taken out.old) (K.taken out.new)
@@ -218,7 +224,8 @@ impl FollowerClerk {
     ) -> Result<(), Stop>
         ensures served { OnOk result ((model : ModelParts) (refusals : Refusals)
             → Pushed model refusals refusals
-            (follower_standing self.old) (follower_standing self.new) (K.taken out.old) (K.taken out.new) (sent packets.now)) }
+            (follower_standing self.old) (follower_standing self.new) (K.taken out.old)
+            (K.taken out.new) (sent packets.now)) }
         ensures stopped { IfErr result (λ stop. (model : ModelParts)
             → Halts model (follower_standing self.old) (K.taken out.old) (K.taken out.new)
             (Rose (K.faults out.old) (K.faults out.new)) stop (sent packets.now)) }
@@ -240,7 +247,8 @@ impl FollowerClerk {
     ) -> Result<(), Stop>
         ensures served { OnOk result ((model : ModelParts) (refusals : Refusals)
             → Pushed model refusals refusals
-            (follower_standing self.old) (follower_standing self.new) (K.taken out.old) (K.taken out.new) (packet sent.now ∷ [])) }
+            (follower_standing self.old) (follower_standing self.new) (K.taken out.old)
+            (K.taken out.new) (packet sent.now ∷ [])) }
         ensures stopped { IfErr result (λ stop. (model : ModelParts)
             → Halts model (follower_standing self.old) (K.taken out.old) (K.taken out.new)
             (Rose (K.faults out.old) (K.faults out.new)) stop (packet sent.now ∷ [])) }

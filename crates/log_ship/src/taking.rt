@@ -67,7 +67,8 @@ impl Follower {
         requires new { is_repeated self.old number ≡ false }
         requires comes { may_come self.old.state.shapes number edit ≡ true }
         ensures answer { IsAnswer (edit_answer self.old number edit) result }
-        ensures after { IsSame (after_answer result (record { number = number; edit = edit }) self.old) self.new }
+        ensures after { IsSame (after_answer result (record { number = number; edit = edit })
+            self.old) self.new }
     {
         let version = self.state.version();
         self.waiting.put(number, edit)?;

@@ -97,7 +97,8 @@ pub(crate) fn put_attribute<'a, const N: usize>(
     requires place { place < 2 ^ 32 }
     requires operands { 1 ≤ length stack.old }
     requires within { length stack.old ≤ N }
-    ensures done { (case : Case) → IsDone case place at (does.Attribute name.now) stack.old stack.new result }
+    ensures done { (case : Case) → IsDone case place at (does.Attribute name.now) stack.old
+        stack.new result }
     ensures asks_nobody { refused_by result ≡ None }
 {
     let value = stack.pop();
@@ -212,7 +213,8 @@ pub(crate) fn skip_member<'a, const N: usize>(
     requires place { place < 2 ^ 32 }
     requires operands { 2 ≤ length stack.old }
     requires within { length stack.old ≤ N }
-    ensures done { (case : Case) (at : ℕ) → IsDone case place at (does.Member to) stack.old stack.new result }
+    ensures done { (case : Case) (at : ℕ) → IsDone case place at (does.Member to) stack.old
+        stack.new result }
     ensures asks_nobody { refused_by result ≡ None }
 {
     let member = stack.pop();

@@ -1,13 +1,13 @@
 //! The walk over a matcher's tree that writes it.
 
-ghost use Rattle.std.specs.Prelude.{◌≡◌, OnOk, false, map};
+ghost use Rattle.std.specs.Prelude.{◌≡◌, ◌++◌, OnOk, codes, false, map};
 ghost use Rattle.matcher_read.specs.Expression.{expression, expressions_of};
 ghost use Rattle.near_miss.specs.Helps.Pushed.{Appends};
-ghost use Rattle.near_miss.specs.Written.{written, written_list};
+ghost use Rattle.near_miss.specs.Written.{bracketed, is_inside, unary_rank, written, written_list};
 
 use crate::words::{
-    SUM, UNARY, is_inside, left_rank, push_operator, push_policy, push_quoted, push_relation,
-    push_request, push_truth, push_when, push_whole, push_word, right_rank,
+    SUM, UNARY, is_inside, left_rank, push_operator, push_policy, push_quoted, push_request,
+    push_truth, push_when, push_whole, push_word, relation_name, right_rank,
 };
 use matcher_read::Tree;
 use outside::NoMemory;
@@ -24,63 +24,69 @@ pub(crate) fn push_tree(text: &mut String, all: bool, tree: &Tree) -> Result<(),
         Tree::Request { column, path, .. } => push_request(text, column, path),
         Tree::Policy { column, .. } => push_policy(text, "p.", column, ""),
         Tree::Eval { column, .. } => push_policy(text, "eval(p.", column, ")"),
-        Tree::Not { operand, .. } => {
-            let inside = is_inside(all, operand, UNARY);
-            push_word(text, "!")?;
-            push_when(text, inside, "(")?;
-            push_tree(text, all, operand)?;
-            push_when(text, inside, ")")
-        }
-        Tree::Negate { operand, .. } => {
-            let inside = is_inside(all, operand, UNARY);
-            push_word(text, "-")?;
-            push_when(text, inside, "(")?;
-            push_tree(text, all, operand)?;
-            push_when(text, inside, ")")
-        }
+        Tree::Not { operand, .. } => push_signed(text, all, "!", operand),
+        Tree::Negate { operand, .. } => push_signed(text, all, "-", operand),
         Tree::Binary {
             operator,
             left,
             right,
             ..
         } => {
-            let left_inside = is_inside(all, left, left_rank(*operator));
-            let right_inside = is_inside(all, right, right_rank(*operator));
-            push_when(text, left_inside, "(")?;
-            push_tree(text, all, left)?;
-            push_operator(text, left_inside, *operator, right_inside)?;
-            push_tree(text, all, right)?;
-            push_when(text, right_inside, ")")
+            push_side(text, all, left, left_rank(*operator))?;
+            push_operator(text, *operator)?;
+            push_side(text, all, right, right_rank(*operator))
         }
         Tree::Among { value, members, .. } => {
-            let inside = is_inside(all, value, SUM);
-            push_when(text, inside, "(")?;
-            push_tree(text, all, value)?;
-            push_when(text, inside, ")")?;
-            push_word(text, " in (")?;
-            push_list(text, all, members)?;
-            push_word(text, ")")
+            push_side(text, all, value, SUM)?;
+            push_called(text, all, " in ", members)
         }
         Tree::Call {
             function,
             arguments,
             ..
-        } => {
-            push_word(text, function.name())?;
-            push_word(text, "(")?;
-            push_list(text, all, arguments)?;
-            push_word(text, ")")
-        }
+        } => push_called(text, all, function.name(), arguments),
         Tree::Role {
             relation,
             arguments,
             ..
-        } => {
-            push_relation(text, *relation)?;
-            push_list(text, all, arguments)?;
-            push_word(text, ")")
-        }
+        } => push_called(text, all, relation_name(*relation), arguments),
     }
+}
+
+// Appends a sign and what stands behind it.
+#[cycle(writing)]
+fn push_signed(text: &mut String, all: bool, front: &str, operand: &Tree) -> Result<(), NoMemory>
+    ensures { OnOk result (Appends text.old text.new (front.now
+        ++ bracketed (is_inside all (expression operand.now) unary_rank)
+        (written all (expression operand.now)))) }
+{
+    push_word(text, front)?;
+    push_side(text, all, operand, UNARY)
+}
+
+// Appends an operand, in brackets where it binds less tightly than its side has to.
+#[cycle(writing)]
+fn push_side(text: &mut String, all: bool, operand: &Tree, least: u32) -> Result<(), NoMemory>
+    ensures { OnOk result (Appends text.old text.new
+        (bracketed (is_inside all (expression operand.now) least)
+        (written all (expression operand.now)))) }
+{
+    let inside = is_inside(all, operand, least);
+    push_when(text, inside, "(")?;
+    push_tree(text, all, operand)?;
+    push_when(text, inside, ")")
+}
+
+// Appends a name, and trees in brackets behind it.
+#[cycle(writing)]
+fn push_called(text: &mut String, all: bool, name: &str, trees: &[Tree]) -> Result<(), NoMemory>
+    ensures { OnOk result (Appends text.old text.new (name.now ++ codes "("
+        ++ written_list all false (expressions_of (map expression trees.now)) ++ codes ")")) }
+{
+    push_word(text, name)?;
+    push_word(text, "(")?;
+    push_list(text, all, trees)?;
+    push_word(text, ")")
 }
 
 // Appends trees with commas between them.

@@ -103,23 +103,15 @@ pub(crate) fn push_when(text: &mut String, needed: bool, word: &str) -> Result<(
     Ok(())
 }
 
-/// Appends what stands between the sides of an operator: the bracket that closes the left one, and the one that opens the
-/// right one, where these are needed.
-pub(crate) fn push_operator(
-    text: &mut String,
-    closing: bool,
-    operator: Operator,
-    opening: bool,
-) -> Result<(), NoMemory>
+/// Appends an operator, with a blank at each side.
+pub(crate) fn push_operator(text: &mut String, operator: Operator) -> Result<(), NoMemory>
     ensures { OnOk result (Appends text.old text.new
-        (when closing (codes ")") ++ codes " " ++ sign operator ++ codes " "
-        ++ when opening (codes "("))) }
+        (codes " " ++ sign operator ++ codes " ")) }
 {
-    push_when(text, closing, ")")?;
     text.push_str(" ")?;
     text.push_str(sign(operator))?;
     text.push_str(" ")?;
-    push_when(text, opening, "(")
+    Ok(())
 }
 
 fn sign(operator: Operator) -> &'static str
@@ -207,10 +199,9 @@ pub(crate) fn push_policy(
     Ok(())
 }
 
-/// Appends the name of a role relation, and the bracket behind it.
-pub(crate) fn push_relation(text: &mut String, number: u8) -> Result<(), NoMemory>
-    ensures { OnOk result (Appends text.old text.new (callee_word (relation number) ++ codes "(")) }
+/// The name of a role relation.
+pub(crate) fn relation_name(number: u8) -> &'static str
+    ensures { result.now ≡ callee_word (relation number) }
 {
-    push_word(text, TableId::G(number).name().unwrap_or(""))?;
-    push_word(text, "(")
+    TableId::G(number).name().unwrap_or("")
 }

@@ -18,8 +18,11 @@ use dist_rows::{DistRows, Steps};
 use perm_base::Text;
 use std::sync::ledger::Ledger;
 
-/// What tells that there are more links than 254, or none at all.
-const TOO_FAR: u8 = 255;
+/// The greatest number of links that is told, and the greatest distance.
+pub(crate) const FARTHEST: u8 = 254;
+
+/// What tells that there are more, or none at all.
+pub(crate) const TOO_FAR: u8 = 255;
 
 /// The least number of links by which the one name reaches the other, or 255 where it is above 254
 /// or there is none: one cell, or one for each row of a name that is no role, and none where a row

@@ -15,7 +15,7 @@ ghost use Rattle.role_graph.specs.Helps.Roles.{count_of};
 ghost use Rattle.role_graph.specs.Reach.{reached_in};
 ghost use Rattle.role_graph.specs.Graph.{GraphReaches, IsGraphFar, IsPreparedFor, asked_rows, most_rows, shape_of};
 
-use crate::asked::nearest;
+use crate::asked::{FARTHEST, TOO_FAR, nearest};
 use crate::closure::{refresh, square_of};
 use crate::edits::Edits;
 use crate::implied::implied;
@@ -36,12 +36,6 @@ use policy_table::Rows;
 use std::alloc::Global;
 use std::marker::Model;
 use std::sync::ledger::Ledger;
-
-/// The greatest number of links that is told.
-const FARTHEST: u8 = 254;
-
-/// What tells that there are more links than that, or none at all.
-const TOO_FAR: u8 = 255;
 
 /// The rows of a role relation that count in one domain. Contracts see the rows, in an order of the
 /// graph's own, how names are compared with users, the hierarchy limit, and the room for more.

@@ -4,12 +4,10 @@ ghost use Rattle.std.specs.Prelude.{◌≡◌, ◌≢◌, ◌<◌, ◌≤◌, �
 ghost use Rattle.dist_rows.specs.Squares.{IsSquare, cell_of, relaxed, sum_of};
 ghost use Rattle.role_graph.specs.Helps.Squares.{Grows, IsClosed, IsNear};
 
+use crate::asked::TOO_FAR;
 use dist_rows::{DistRows, Steps};
 use std::marker::Brand;
 use std::sync::ledger::{Blank, Ledger};
-
-/// What tells that there are more links than 254, or none at all.
-const TOO_FAR: u8 = 255;
 
 /// Puts a link into the square: each node from which the link can be reached is nearer now to those
 /// behind it.

@@ -8,17 +8,12 @@ ghost use Rattle.role_graph.specs.Helps.Roles.{nodes_of};
 ghost use Rattle.role_graph.specs.Helps.Squares.{IsBefore, IsBegun, IsClosed, IsMarked, IsNear, IsNodeLink};
 ghost use Rattle.role_graph.specs.Helps.Walks.{Linked};
 
+use crate::asked::{FARTHEST, TOO_FAR};
 use crate::inserting::{distance, relax};
 use crate::links::Links;
 use crate::roles::Roles;
 use crate::touching::{NodeMarks, no_nodes};
 use dist_rows::DistRows;
-
-/// The greatest distance that is told.
-const FARTHEST: u8 = 254;
-
-/// What tells that there is none.
-const TOO_FAR: u8 = 255;
 
 /// The number of levels that tell the greatest distance.
 const LEVELS: u32 = 254;

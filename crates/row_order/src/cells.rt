@@ -22,7 +22,8 @@ use crate::counts::{BLOCK, ROUND_UP, lower, number_at, open_cell, raise};
 // The cell where an id stands.
 pub(crate) fn cell_holding(cells: &[Option<u32>], cell_of: &[u32], id: u32) -> Option<usize>
     requires placed { IsPlaced cells.now cell_of.now }
-    ensures { MatchOption result ((c : ℕ) → slice_index_or cells.now c None ≢ Some id) (λ c. slice_index_or cells.now c None ≡ Some id) }
+    ensures { MatchOption result ((c : ℕ) → slice_index_or cells.now c None ≢ Some id)
+        (λ c. slice_index_or cells.now c None ≡ Some id) }
 {
     let at = id as usize;
     if at >= cell_of.len() {

@@ -53,7 +53,8 @@ impl Model for RowOrder {
 
     ghost view = { λ o. record { ids = live o.cells.items; slots = length o.cell_of.items } };
 
-    ghost invariant = { λ o. IsKept o.cells.items o.cell_of.items o.rank.items o.before.items o.tail o.count };
+    ghost invariant = { λ o. IsKept o.cells.items o.cell_of.items o.rank.items o.before.items o.tail
+        o.count };
 }
 
 impl RowOrder {

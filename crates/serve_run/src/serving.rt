@@ -47,7 +47,8 @@ pub fn serve_casbin<F: Shelf, S: Source, K: Sink, E: Sink, P: Finder>(
         (moment (F.calls shelf.old) (F.faults shelf.old) (S.left input.old) (S.faults input.old)
         (K.taken out.old) (K.faults out.old) (E.taken err.old) (E.faults err.old) (P.refusals finder.old))
         (moment (F.calls shelf.new) (F.faults shelf.new) (S.left input.new) (S.faults input.new)
-        (K.taken out.new) (K.faults out.new) (E.taken err.new) (E.faults err.new) (P.refusals finder.new)) result }
+        (K.taken out.new) (K.faults out.new) (E.taken err.new) (E.faults err.new)
+        (P.refusals finder.new)) result }
 
     // The input is read to its end, and no further.
     ensures read_to_end { result ≡ status.Done → IfSome (S.left input.new) (λ rest. rest ≡ []) }
@@ -80,12 +81,14 @@ fn serve_words<F: Shelf, S: Source, K: Sink, E: Sink, P: Finder>(
         (moment (F.calls shelf.old) (F.faults shelf.old) (S.left input.old) (S.faults input.old)
         (K.taken out.old) (K.faults out.old) (E.taken err.old) (E.faults err.old) (P.refusals finder.old))
         (moment (F.calls shelf.new) (F.faults shelf.new) (S.left input.new) (S.faults input.new)
-        (K.taken out.new) (K.faults out.new) (E.taken err.new) (E.faults err.new) (P.refusals finder.new))) }
+        (K.taken out.new) (K.faults out.new) (E.taken err.new) (E.faults err.new)
+        (P.refusals finder.new))) }
     ensures stopped { IfErr result (StopsServing (texts words.now) (F.files shelf.old)
         (moment (F.calls shelf.old) (F.faults shelf.old) (S.left input.old) (S.faults input.old)
         (K.taken out.old) (K.faults out.old) (E.taken err.old) (E.faults err.old) (P.refusals finder.old))
         (moment (F.calls shelf.new) (F.faults shelf.new) (S.left input.new) (S.faults input.new)
-        (K.taken out.new) (K.faults out.new) (E.taken err.new) (E.faults err.new) (P.refusals finder.new))) }
+        (K.taken out.new) (K.faults out.new) (E.taken err.new) (E.faults err.new)
+        (P.refusals finder.new))) }
     ensures read_to_end { OnOk result (IfSome (S.left input.new) (λ rest. rest ≡ [])) }
     ensures no_further { IsEndedOnce (S.ends input.old) (S.ends input.new) }
     ensures same_files { F.files shelf.new ≡ F.files shelf.old }
@@ -120,12 +123,14 @@ fn serve_job<F: Shelf, S: Source, K: Sink, E: Sink, P: Finder>(
         (moment (F.calls shelf.old) (F.faults shelf.old) (S.left input.old) (S.faults input.old)
         (K.taken out.old) (K.faults out.old) (E.taken err.old) (E.faults err.old) (P.refusals finder.old))
         (moment (F.calls shelf.new) (F.faults shelf.new) (S.left input.new) (S.faults input.new)
-        (K.taken out.new) (K.faults out.new) (E.taken err.new) (E.faults err.new) (P.refusals finder.new))) }
+        (K.taken out.new) (K.faults out.new) (E.taken err.new) (E.faults err.new)
+        (P.refusals finder.new))) }
     ensures stopped { IfErr result (StopsJob (F.files shelf.old) job.now
         (moment (F.calls shelf.old) (F.faults shelf.old) (S.left input.old) (S.faults input.old)
         (K.taken out.old) (K.faults out.old) (E.taken err.old) (E.faults err.old) (P.refusals finder.old))
         (moment (F.calls shelf.new) (F.faults shelf.new) (S.left input.new) (S.faults input.new)
-        (K.taken out.new) (K.faults out.new) (E.taken err.new) (E.faults err.new) (P.refusals finder.new))) }
+        (K.taken out.new) (K.faults out.new) (E.taken err.new) (E.faults err.new)
+        (P.refusals finder.new))) }
     ensures read_to_end { OnOk result (IfSome (S.left input.new) (λ rest. rest ≡ [])) }
     ensures no_further { IsEndedOnce (S.ends input.old) (S.ends input.new) }
     ensures same_files { F.files shelf.new ≡ F.files shelf.old }
@@ -154,12 +159,14 @@ fn serve_opened<S: Source, K: Sink, E: Sink, P: Finder>(
         (moment None 0 (S.left input.old) (S.faults input.old)
         (K.taken out.old) (K.faults out.old) (E.taken err.old) (E.faults err.old) (P.refusals finder.old))
         (moment None 0 (S.left input.new) (S.faults input.new)
-        (K.taken out.new) (K.faults out.new) (E.taken err.new) (E.faults err.new) (P.refusals finder.new))) }
+        (K.taken out.new) (K.faults out.new) (E.taken err.new) (E.faults err.new)
+        (P.refusals finder.new))) }
     ensures stopped { IfErr result (StopsOpened job.now opened
         (moment None 0 (S.left input.old) (S.faults input.old)
         (K.taken out.old) (K.faults out.old) (E.taken err.old) (E.faults err.old) (P.refusals finder.old))
         (moment None 0 (S.left input.new) (S.faults input.new)
-        (K.taken out.new) (K.faults out.new) (E.taken err.new) (E.faults err.new) (P.refusals finder.new))) }
+        (K.taken out.new) (K.faults out.new) (E.taken err.new) (E.faults err.new)
+        (P.refusals finder.new))) }
     ensures read_to_end { OnOk result (IfSome (S.left input.new) (λ rest. rest ≡ [])) }
     ensures no_further { IsEndedOnce (S.ends input.old) (S.ends input.new) }
     ensures input_counted { S.faults input.old ≤ S.faults input.new }

@@ -119,7 +119,8 @@ impl Log {
         ensures tail { self.new.tail ≡ drop (to - self.old.start) self.old.tail }
         ensures spare { self.old.spare ≤ self.new.spare }
         ensures versions { versions self.new ≡ versions self.old }
-        ensures stands { (history : List (List Change)) → Stands self.old history → Stands self.new history }
+        ensures stands { (history : List (List Change)) → Stands self.old history → Stands self.new
+            history }
     {
         let count = to - self.start();
         for _ in 0..count {
