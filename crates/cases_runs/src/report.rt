@@ -77,7 +77,8 @@ fn has(case: &Case, key: &str) -> bool {
     case.fields.iter().any(|field| field.key.as_str() == key)
 }
 
-// Runs a case with this matcher, and says what it came to.
+// Runs a case with this matcher, and says what it came to. From here on each function owns one large value, since all that one owns is
+// let go wherever it stops.
 fn push_run<R: Threads + Wait + Sync>(
     rt: &R,
     alloc: Global,
@@ -86,16 +87,40 @@ fn push_run<R: Threads + Wait + Sync>(
     matcher: &[u8],
 ) -> Result<()> {
     let mut out = sink(alloc, case, "out-most", "out-fails")?;
+    push_run_to(rt, alloc, report, case, matcher, &mut out)
+}
+
+// Runs it with this sink as `out`.
+fn push_run_to<R: Threads + Wait + Sync>(
+    rt: &R,
+    alloc: Global,
+    report: &mut Vec<u8>,
+    case: &Case,
+    matcher: &[u8],
+    out: &mut ListSink,
+) -> Result<()> {
     let mut err = sink(alloc, case, "err-most", "err-fails")?;
-    let code = run(rt, alloc, case, matcher, &mut out, &mut err)?;
+    let code = run(rt, alloc, case, matcher, out, &mut err)?;
+    push_told(report, case, matcher, code, out.bytes(), err.bytes())
+}
+
+// Says what a run came to.
+fn push_told(
+    report: &mut Vec<u8>,
+    case: &Case,
+    matcher: &[u8],
+    code: u8,
+    out: &[u8],
+    err: &[u8],
+) -> Result<()> {
     write!(report, "case {}", case.name)?;
     if let Some(matcher) = matcher.strip_suffix(b"\n") {
         report.extend_from_slice(b": ")?;
         report.extend_from_slice(matcher)?;
     }
     writeln!(report, ": status {code}")?;
-    push_lines(report, "out", out.bytes())?;
-    push_lines(report, "err", err.bytes())
+    push_lines(report, "out", out)?;
+    push_lines(report, "err", err)
 }
 
 // Runs a case with this matcher and these sinks, and gives its exit status.
@@ -107,18 +132,43 @@ fn run<R: Threads + Wait + Sync>(
     out: &mut ListSink,
     err: &mut ListSink,
 ) -> Result<u8> {
-    let words = case.words(alloc, "words")?;
     let mut shelf = ListShelf::new(alloc, case.numbers(alloc, "shelf-fails")?);
     put_files(alloc, &mut shelf, case, matcher)?;
+    run_files(rt, alloc, case, &mut shelf, out, err)
+}
+
+// Runs it with these files.
+fn run_files<R: Threads + Wait + Sync>(
+    rt: &R,
+    alloc: Global,
+    case: &Case,
+    shelf: &mut ListShelf,
+    out: &mut ListSink,
+    err: &mut ListSink,
+) -> Result<u8> {
     let mut input = input(alloc, case)?;
+    run_words(rt, alloc, case, shelf, &mut input, out, err)
+}
+
+// Runs it with these files and this input.
+fn run_words<R: Threads + Wait + Sync>(
+    rt: &R,
+    alloc: Global,
+    case: &Case,
+    shelf: &mut ListShelf,
+    input: &mut Pieces,
+    out: &mut ListSink,
+    err: &mut ListSink,
+) -> Result<u8> {
+    let words = case.words(alloc, "words")?;
     let mut finders = finders(alloc, case)?;
     let mut places = ListPlaces::new(case.numbers(alloc, "places-fails")?);
     run_over(
         rt,
         alloc,
         &words,
-        &mut shelf,
-        &mut input,
+        shelf,
+        input,
         out,
         err,
         &mut finders,

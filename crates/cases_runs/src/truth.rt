@@ -10,33 +10,56 @@ use std::alloc::Global;
 
 /// What the matcher of a case's model comes to, for the case's request and rule, or without a rule.
 pub(crate) fn truth(alloc: Global, case: &Case) -> Result<String> {
-    let model = read_model(alloc, &case.text(alloc, "file")?);
-    let model = model.ok().context("the file is no model")?;
-    let line = line_of(case, "request").context("no request")?;
-    let request = request_of_fields(alloc, line);
-    let request = request.ok().context("the line is no request")?;
-    let rule = match line_of(case, "rule") {
-        Some(line) => Some(rule_of(alloc, line)?),
-        None => None,
-    };
+    let model = model_of(alloc, case)?;
+    truth_of(alloc, case, &model)
+}
+
+// The same of a matcher of this model. Each of these functions owns one large value, since all of them are let go wherever one stops.
+fn truth_of(alloc: Global, case: &Case, model: &Model) -> Result<String> {
+    let request = request_of(alloc, case)?;
+    truth_for(alloc, case, model, &request)
+}
+
+// The same for this request.
+fn truth_for(alloc: Global, case: &Case, model: &Model, request: &Request) -> Result<String> {
+    let rule = rule_of(alloc, case)?;
     let mut finder = ListFinder::new(alloc, case.numbers(alloc, "finder-fails")?);
-    asked(alloc, &model, &request, rule.as_ref(), &mut finder)
+    asked(alloc, model, request, rule.as_ref(), &mut finder)
+}
+
+fn model_of(alloc: Global, case: &Case) -> Result<Model> {
+    let text = case.text(alloc, "file")?;
+    read_model(alloc, &text)
+        .ok()
+        .context("the file is no model")
+}
+
+fn request_of(alloc: Global, case: &Case) -> Result<Request> {
+    let line = line_of(case, "request").context("no request")?;
+    request_of_fields(alloc, line)
+        .ok()
+        .context("the line is no request")
+}
+
+// The rule of a case, where it has one.
+fn rule_of(alloc: Global, case: &Case) -> Result<Option<Rule>> {
+    let Some(line) = line_of(case, "rule") else {
+        return Ok(None);
+    };
+    let fields = read_fields(alloc, line)
+        .ok()
+        .context("the line is no fields")?;
+    ensure!(fields.len() <= 34, "a case has at most 34 fields");
+    let rule = Rule::from_fields(fields)
+        .ok()
+        .context("the fields are no rule")?;
+    Ok(Some(rule))
 }
 
 // What stands behind a key.
 fn line_of<'a>(case: &'a Case, key: &str) -> Option<&'a str> {
     let field = case.fields.iter().find(|field| field.key.as_str() == key)?;
     Some(field.rest.as_str())
-}
-
-fn rule_of(alloc: Global, line: &str) -> Result<Rule> {
-    let fields = read_fields(alloc, line)
-        .ok()
-        .context("the line is no fields")?;
-    ensure!(fields.len() <= 34, "a case has at most 34 fields");
-    Rule::from_fields(fields)
-        .ok()
-        .context("the fields are no rule")
 }
 
 // No role relation, so that no name is linked to another.
