@@ -3,7 +3,9 @@
 # size and kind, and marks each ratio above 20; docs/RELIABILITY.md has the reasons of those that stay so. Each line names the
 # text, the milliseconds of processor time and the MiB of both, the ratio of the times, and the status of the hostile run: -9 where
 # it was ended after 100 seconds. With a WORD only the parts whose names have it: `one byte`, `JSON`, `matcher`, `pattern`, `key`,
-# `rules`, `explain`, `roles`, `hash`, `script`, `packets`, `workers`. It needs python3; PROGRAM is a program that is built elsewhere.
+# `rules`, `explain`, `lint`, `roles`, `hash`, `script`, `packets`, `workers`, `limits`. The last one runs texts as large as they may be
+# beside a tenth of each, so that a ratio of ten says that what they cost grows as they do. It needs python3; PROGRAM is a program that
+# is built elsewhere.
 # Usage: [PROGRAM=PATH] bench/hostile.sh [WORD]
 source "$(dirname "${BASH_SOURCE[0]}")/timing.sh"
 word="${1:-}"
@@ -98,6 +100,7 @@ if wanted "one byte"; then
     compare "one byte, $byte, as requests in JSON" enforce --json
     lines 'has p, user%09d, data%09d, read' "$mebibytes16" >"$work/p.in"
     compare "one byte, $byte, as a script" session
+    compare "one byte, $byte, as a stream" serve
     awk 'BEGIN { for (i = 1; i <= 400000; i++) printf "edit %d\n+ p, user%06d, data1, read\n.\n", i, i }' >"$work/p.in"
     compare "one byte, $byte, as packets" follow
   done
@@ -166,7 +169,17 @@ if wanted "pattern"; then
   searched "pattern of 100 open classes over 100,000 bytes, ten times" "$search" "$(repeated '[a-z]*' 100)b" "$long" 10
   searched "pattern (.*)(.*)(.*)x over 100,000 bytes, ten times" "$search" '(.*)(.*)(.*)x' "$long" 10
   searched "pattern of 1,000 brackets" "$search" "$(repeated '(' 1000)a$(repeated ')' 1000)" aaa 10
-  searched "pattern of 4,000 classes" "$search" "$(repeated '\w' 2000)" aaa 10
+  searched "pattern of 2,000 classes, which is refused" "$search" "$(repeated '\w' 2000)" aaa 10
+  reset
+  model "$search" | tee "$work/h.conf" >"$work/p.conf"
+  # Each pattern has a number of its own, so that no two are one.
+  many() {
+    REST="$1" awk 'BEGIN { for (i = 1; i <= 20; i++) printf "p, %03d%s, data1, read\n", i, ENVIRON["REST"] }'
+  }
+  many "$(repeated '\w' 400)" >"$work/h.csv"
+  many "$(repeated a 800)" >"$work/p.csv"
+  echo 'bob, data1, read' | tee "$work/h.in" >"$work/p.in"
+  compare "pattern of 400 classes, 20 of them, asked once" enforce
 fi
 
 if wanted "key"; then
@@ -237,6 +250,19 @@ if wanted "explain"; then
   compare "explain, a matcher of 202 parts over 10,000 rules, 100 requests" explain --most 1000
 fi
 
+if wanted "lint"; then
+  reset
+  repeated $'x\n' 32000 >>"$work/h.conf"
+  repeated $'# a comment\n' 5333 >>"$work/p.conf"
+  compare "lint, a model of 32,000 lines that are none" lint
+  reset
+  repeated $'q\n' 1000000 >"$work/h.csv"
+  lines 'p, %d, d, r' 2000000 >"$work/p.csv"
+  compare "lint, 1,000,000 lines of a table that is none" lint
+  repeated $'p, a, b, c\n' 180000 >"$work/h.csv"
+  compare "lint, a rule that stands 180,000 times" lint
+fi
+
 if wanted "roles"; then
   reset
   model 'g(r.sub, p.sub) && r.obj == p.obj && r.act == p.act' '' $'[role_definition]\ng = _, _\n' | tee "$work/h.conf" >"$work/p.conf"
@@ -254,6 +280,10 @@ if wanted "roles"; then
   behind=(user000001)
   compare "roles, 1,100 names each linked to 180, implied" implicit --limit 250
   behind=()
+  awk 'BEGIN {
+    for (layer = 0; layer < 4; layer++) for (i = 0; i < 220; i++) for (k = 0; k < 220; k++) printf "g, n%04d, n%04d\n", layer * 220 + i, layer * 220 + 220 + k
+    for (i = 0; i < 200; i++) printf "g, u%03d, r%03d\n", i, i }' | cat "$work/rule" - >"$work/h.csv"
+  compare "roles, five layers of 220 names each linked to all of the next, reported" report
   awk 'BEGIN { for (i = 1; i < 1024; i++) printf "g, user%06d, user%06d\n", i + 1, i; for (i = 1; i <= 100000; i++) printf "g, u%06d, user001024\n", i }' | cat "$work/rule" - >"$work/h.csv"
   compare "roles, 1,024 in a chain that is built from its end" enforce --limit 250
   compare "roles, all of them reported" report --limit 1
@@ -335,6 +365,12 @@ if wanted "script"; then
   printf 'delete-user user\npublish\n' >"$work/h.in"
   printf 'remove-filtered p, 2, read\npublish\n' >"$work/p.in"
   compare "script that deletes a user with 190,000 rules" session
+  # A script that removes the rules of a policy in one block.
+  at_once() {
+    echo 'begin remove-all'
+    cat "$1"
+    printf 'end\npublish\n'
+  }
   # A script whose removals go through the rules of a policy from its last on.
   backward() {
     awk '{ line[NR] = "remove " $0 } END { for (i = NR; i > 0; i--) print line[i]; print "publish" }' "$1"
@@ -352,7 +388,22 @@ if wanted "script"; then
   backward "$work/h.csv" >"$work/h.in"
   compare "script of 190,000 users of one role that go from the end" session
   printf 'delete-role role\npublish\n' >"$work/h.in"
+  at_once "$work/p.csv" >"$work/p.in"
   compare "script that deletes a role of 190,000 users" session
+  # A script that removes the rules of a policy and publishes behind each.
+  one_by_one() {
+    awk '{ print "remove " $0; print "publish" }' "$1"
+  }
+  lines 'g, user, role%06d' 100000000 20000 >"$work/h.csv"
+  lines 'g, user%06d, role%06d' 100000000 20000 >"$work/p.csv"
+  one_by_one "$work/h.csv" >"$work/h.in"
+  one_by_one "$work/p.csv" >"$work/p.in"
+  compare "script of 20,000 publishes, each of one role less of one user" session
+  awk 'BEGIN { for (i = 1; i <= 20000; i++) printf "g, one, role%06d\ng, two, role%06d\n", i, i }' >"$work/h.csv"
+  lines 'g, user%06d, role%06d' 100000000 40000 >"$work/p.csv"
+  at_once "$work/h.csv" >"$work/h.in"
+  at_once "$work/p.csv" >"$work/p.in"
+  compare "script of one block that takes 20,000 roles each of two users by turns" session
   reset
   lines 'p, user%06d, data1, read' 100000000 100000 | tee "$work/h.csv" >"$work/p.csv"
   repeated 'rows p
@@ -405,6 +456,57 @@ remove p, bob, data1, read
 sync
 ' 20000 | sed 's/^sync/has p, bob, data1, read/' >"$work/p.in"
   compare "workers, 40,000 publishes beside 20,000 requests" session --workers 8
+fi
+
+if wanted "limits"; then
+  # A text of lines by a format, as many as there may be, and a tenth of them.
+  both() {
+    lines "$2" "$mebibytes16" "$3" >"$work/h.$1"
+    lines "$2" "$mebibytes16" "$(($3 / 10))" >"$work/p.$1"
+  }
+  reset
+  both in 'user%09d, data%09d, read' 470000
+  compare "limits, requests of 16 MiB" enforce
+  compare "limits, requests of 16 MiB, and a cache of 10,000" enforce --cache 10000
+  both in '["user%09d", "data%09d", "read"]' 390000
+  compare "limits, requests of 16 MiB in JSON" enforce --json
+  both in 'add p, user%06d, data%06d, read' 199999
+  compare "limits, a script of 199,999 edits" session
+  both in 'has p, user%09d, data%09d, read' 399000
+  compare "limits, a script of 16 MiB of queries" session
+  compare "limits, a stream of 16 MiB of queries" serve
+  for count in 199999 19999; do
+    awk -v n="$count" 'BEGIN { for (i = 1; i <= n; i++) printf "edit %d\n+ p, user%06d, data%06d, read\n.\n", i, i, i }' >"$work/$count"
+  done
+  mv "$work/199999" "$work/h.in"
+  mv "$work/19999" "$work/p.in"
+  compare "limits, 199,999 packets" follow
+  compare "limits, a stream of 199,999 packets" serve --follow
+  reset
+  both csv 'p, user%06d, data%06d, read' 200000
+  compare "limits, a policy of 200,000 rules" check
+  both csv 'p, alice, data%06d, read' 200000
+  echo 'alice, nothing, read' | tee "$work/h.in" >"$work/p.in"
+  compare "limits, a request explained by 1,000 of 200,000 rules" explain --most 1000
+  model "true == false && r.sub == p.sub$(repeated ' || 1 == 2' 254)" | tee "$work/h.conf" >"$work/p.conf"
+  compare "limits, a request over 200,000 rules, by a matcher of 1,023 nodes" enforce
+  reset
+  model 'g(r.sub, p.sub) && r.obj == p.obj && r.act == p.act' '' $'[role_definition]\ng = _, _\n' | tee "$work/h.conf" >"$work/p.conf"
+  both csv 'g, user%06d, role%06d' 200000
+  compare "limits, 200,000 rules of roles" check
+  compare "limits, 200,000 rules of roles, reported" report
+  model 'g(r.sub, p.sub, r.dom) && r.dom == p.dom' 'sub, dom' $'[role_definition]\ng = _, _, _\n' | tee "$work/h.conf" >"$work/p.conf"
+  both csv 'g, user%06d, role, dom%06d' 16380
+  for names in h p; do
+    awk 'BEGIN { for (i = 0; i < 64; i++) printf "g, user%02d, role%02d, dom*\n", i, i }' >>"$work/$names.csv"
+  done
+  compare "limits, 64 rules that count in each of 16,380 domains" enforce --domain-match g=keyMatch
+  for domains in 195 19; do
+    awk -v n="$domains" 'BEGIN { for (d = 1; d <= n; d++) for (i = 1024; i > 1; i--) printf "g, role%04d, role%04d, d%03d\n", i, i - 1, d }' >"$work/$domains"
+  done
+  mv "$work/195" "$work/h.csv"
+  mv "$work/19" "$work/p.csv"
+  compare "limits, the distances of 195 domains of 1,023 roles" enforce --limit 250
 fi
 
 echo "$above above $most"

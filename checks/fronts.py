@@ -1,11 +1,12 @@
-"""Runs the built program over each front of a policy, of two scripts and of a model, from the empty one to the whole text, and
-compares what it comes to with a plain reading of its own, which goes line by line and is made for these texts alone.
+"""Runs the built program over each front of a policy, of two scripts, of a model, of an edit and of packets, from the empty one to the
+whole text, and compares what it comes to with a plain reading of its own, which goes line by line and is made for these texts alone.
 
 Usage: [PROGRAM=PATH] [JOBS=N] python3 checks/fronts.py
 
-Each front of the policy is printed (`format`), each of a script is done (`session`), and each of the model is shown (`check`). What
-differs is told with its number of bytes. Outside the gate. PROGRAM is a program that is built elsewhere, and JOBS how many runs
-are made at once.
+Each front of the policy is printed (`format`), each of a script is done (`session`), and each of the model is shown (`check`). Each
+of packets is followed (`follow`), and so is each of an edit, as a packet: its last line is ended, and the line `.` put behind it,
+where they are not there. What differs is told with its number of bytes. Outside the gate. PROGRAM is a program that is built
+elsewhere, and JOBS how many runs are made at once.
 """
 
 import os
@@ -100,11 +101,32 @@ e = some(where (p.eft == allow))
 m = r.a == p.b && g(r.a, 'x') || !(1 + 2 in (3, 4))
 """
 
+# An edit of each change, over the two rules of one column that go and are replaced.
+GIVEN = "p, b c\np, d\n"
+
+EDIT = """\
++ p, a
+- p, b c
+< p, d
+> p, e
+.
+"""
+
+PACKETS = """\
+edit 1
++ p, a
+.
+edit 2
+< p, d
+> p, e
+.
+"""
+
 WORDS = ["begin", "add", "ask", "publish", "sync"]
 
 
 class Fault(Exception):
-    """What the line on `err` says, and with which status the program ends."""
+    """With which status the program ends, and what the line on `err` says; of an edit, 0 and what its answer says."""
 
 
 def lines_of(text):
@@ -343,6 +365,93 @@ def plain_model(text):
     return shown + "\np 0\ng 0\ng2 0\n"
 
 
+# ---- edits
+
+
+class Misfit(Exception):
+    """A change that the rules do not admit."""
+
+
+def closed(front):
+    """A front of an edit as an edit: its last line is ended, and the line `.` stands behind it."""
+    text = front if front.endswith("\n") or not front else front + "\n"
+    return text if text.endswith(".\n") else text + ".\n"
+
+
+def changes_of(lines):
+    """The changes of an edit of rules of one column, each the rule that goes and the one that comes; a line that belongs to none is told."""
+    changes, old = [], None
+    for number, line in enumerate(lines, 1):
+        found = re.fullmatch(r"([+<>-]) p, ([a-z]+(?: [a-z]+)*)", line)
+        sign, rule = found.groups() if found else ("", "")
+        if not found or (sign == ">") != (old is not None):
+            raise Fault(0, f"malformed, line {number}")
+        if sign == "<":
+            old = rule
+        elif sign == "-":
+            changes.append((rule, None))
+        else:
+            changes.append((old, rule))
+            old = None
+    if old is not None:
+        raise Fault(0, f"malformed, line {len(lines) + 1}")
+    return changes
+
+
+def changed(rules, changes):
+    """The rules behind changes."""
+    rules = list(rules)
+    for old, new in changes:
+        if old is not None and old not in rules or new in rules:
+            raise Misfit
+        if old is None:
+            rules.append(new)
+        elif new is None:
+            rules.remove(old)
+        else:
+            rules[rules.index(old)] = new
+    return rules
+
+
+def cut(text):
+    """The lines of a text; what stands behind the last LF is one, unless that is nothing."""
+    lines = text.split("\n")
+    return lines if lines[-1] else lines[:-1]
+
+
+def packets_of(text):
+    """The lines of each packet, of which the numbers rise from 1; the first line that is in the way is told."""
+    packets, inside, lines = [], None, cut(text)
+    for number, line in enumerate(lines, 1):
+        if inside is None and line != f"edit {len(packets) + 1}":
+            raise Fault(5, f"script: line {number}: packet")
+        if inside is None:
+            inside = []
+        elif line == ".":
+            packets.append(inside)
+            inside = None
+        else:
+            inside.append(line)
+    if inside is not None or text and not text.endswith("\n"):
+        raise Fault(5, f"script: line {len(lines) + 1}: packet")
+    return packets
+
+
+def plain_packets(text):
+    """What a follower of the rules that are given tells of packets that come in their order, and its policy."""
+    rules, version, told = [rule.removeprefix("p, ") for rule in GIVEN.splitlines()], 0, []
+    for number, lines in enumerate(packets_of(text), 1):
+        try:
+            rules = changed(rules, changes_of(lines))
+            version += 1
+            told.append(f"{number} applied @{version}\n")
+        except Misfit:
+            told.append(f"{number} refused: misfit\n")
+        except Fault as fault:
+            told.append(f"{number} refused: {fault.args[1]}\n")
+    return "".join([*told, f"policy @{version}\n", *(f"p, {rule}\n" for rule in rules)])
+
+
 # ---- runs
 
 # Of each text: the command, the model and the policy where they are not the text, and its plain reading.
@@ -351,6 +460,8 @@ TEXTS = {
     "script with a batch": (BATCH, "session", EQUAL, "", lambda text: plain_script(text, 3, [])),
     "script with an update": (UPDATE, "session", NAMES, "p, a\n", lambda text: plain_script(text, 1, [["a"]])),
     "model": (MODEL, "check", "", "", plain_model),
+    "edit": (EDIT, "follow", NAMES, GIVEN, plain_packets),
+    "packets": (PACKETS, "follow", NAMES, GIVEN, plain_packets),
 }
 
 
@@ -367,9 +478,11 @@ def differs(program, name, length):
     """How the run of a front differs from its plain reading, if it does. The folder is the run's own."""
     text, command, model, policy, reading = TEXTS[name]
     front = text[:length]
+    if name == "edit":
+        front = "edit 1\n" + closed(front)
     write("model.conf", (front if command == "check" else model).encode())
     write("policy.csv", (front if command == "format" else policy).encode())
-    write("input", (front if command == "session" else "").encode())
+    write("input", (front if command in ("session", "follow") else "").encode())
     status = running.run(program, [command, "model.conf", "policy.csv"], {}, "input", "out", "err")
     came = status, read("out").decode(errors="replace"), read("err").decode(errors="replace")
     wanted = plain(reading, front)
