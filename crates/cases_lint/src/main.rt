@@ -42,19 +42,42 @@ fn report(alloc: Global, case: &Case) -> Result<Vec<u8>> {
     Ok(report)
 }
 
-// Lints the files with this matcher.
+// Lints the files with this matcher. Each of these functions owns one sink, since all that one owns is let go wherever it stops.
 fn push_lint(alloc: Global, report: &mut Vec<u8>, case: &Case, matcher: &[u8]) -> Result<()> {
     let mut out = sink(alloc, case.numbers(alloc, "out-fails")?)?;
+    push_lint_to(alloc, report, case, matcher, &mut out)
+}
+
+// Lints them, with this sink as `out`.
+fn push_lint_to(
+    alloc: Global,
+    report: &mut Vec<u8>,
+    case: &Case,
+    matcher: &[u8],
+    out: &mut ListSink,
+) -> Result<()> {
     let mut err = sink(alloc, Vec::new(alloc))?;
-    let code = lint(alloc, case, matcher, &mut out, &mut err)?;
+    let code = lint(alloc, case, matcher, out, &mut err)?;
+    push_told(report, case, matcher, code, out.bytes(), err.bytes())
+}
+
+// Says what a lint came to.
+fn push_told(
+    report: &mut Vec<u8>,
+    case: &Case,
+    matcher: &[u8],
+    code: u8,
+    out: &[u8],
+    err: &[u8],
+) -> Result<()> {
     write!(report, "case {}", case.name)?;
     if let Some(matcher) = matcher.strip_suffix(b"\n") {
         report.extend_from_slice(b": ")?;
         report.extend_from_slice(matcher)?;
     }
     writeln!(report, ": status {code}")?;
-    push_lines(report, "out", out.bytes())?;
-    push_lines(report, "err", err.bytes())
+    push_lines(report, "out", out)?;
+    push_lines(report, "err", err)
 }
 
 // Lints the files of a case, and gives the exit status. What the contract says is of no use here, so this function keeps it from the others.
