@@ -1,4 +1,3 @@
-pub mod NumberLemmas
 pub mod OrderLemmas
 pub mod CutLemmas
 pub mod PlaceLemmas

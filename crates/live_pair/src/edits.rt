@@ -1,7 +1,7 @@
 ghost use Rattle.std.specs.Prelude.{◌≡◌, ◌≤◌, IfOk, drop, length};
 
 use perm_base::NoMemory;
-use policy_table::{Edit, copy_edit};
+use policy_table::{Edit, copy_edits};
 use std::alloc::Global;
 use std::marker::Model;
 
@@ -42,10 +42,7 @@ impl Edits {
     fn copy_of(alloc: Global, edits: &[Edit]) -> Result<Edits, NoMemory>
         ensures { IfOk result (λ copy. copy ≡ edits.now) }
     {
-        let mut copy = Vec::with_capacity(alloc, edits.len())?;
-        for edit in edits {
-            copy.push(copy_edit(alloc, edit)?)?;
-        }
+        let copy = copy_edits(alloc, edits)?;
         Ok(Edits { edits: copy })
     }
 

@@ -1,86 +1,29 @@
 -- What queries over a policy of its version are answered, and that it can be printed.
-use Rattle.std.proofs.Common.{◌≡◌, ◌≢◌, ℕ, ◌+◌, inl, inr, Bool, true, false, ◌||◌, ◌==◌, eqb, List, [], length, Option, Some, None, Ok, Err, refl, sym, ap, subst, ◌∙◌}
-use Rattle.std.specs.Prelude.{MatchOption, OnErr, Result, if◌then◌else◌, is_some, nat_le, nat_lt, ⊤}
-use Rattle.std.specs.Option.{option_map_or}
-use Rattle.answer_lines.specs.Told.{has_name, is_printable, is_query_told}
+use Rattle.std.proofs.Common.{◌≡◌, ℕ, inl, inr, Bool, true, false, ◌||◌, ◌==◌, List, [], Option, Some, None, Ok, Err, refl, sym, ap, subst, ◌∙◌}
+use Rattle.std.specs.Prelude.{MatchOption, OnErr, Result, if◌then◌else◌, nat_le, nat_lt}
+use Rattle.answer_lines.specs.Told.{has_name, is_printable}
 use Rattle.answer_lines.specs.declared.answer.Answer.{Answer}
 use Rattle.answer_lines.specs.declared.answer.Answer.TheVariants as answer
 use Rattle.model_conf.specs.ModelText.{ModelParts}
-use Rattle.perm_base.specs.RoleShapes.{shape_of}
-use Rattle.perm_base.specs.declared.shapes.RoleShape.{RoleShape}
-use Rattle.perm_base.specs.declared.shapes.Shapes.{Shapes}
 use Rattle.perm_base.specs.declared.shapes.TableId.{TableId}
 use Rattle.perm_base.specs.declared.shapes.TableId.TheVariants.{G}
-use Rattle.policy_query.specs.Answers.{IsAnswer, answer_unless}
+use Rattle.policy_query.specs.Answers.{answer_unless}
 use Rattle.policy_query.specs.Edits.{IsEdit, edit_refusal}
-use Rattle.policy_query.specs.Names.{named_columns, names_refusal, roles_answer, users_answer}
+use Rattle.policy_query.specs.Names.{names_refusal, roles_answer, users_answer}
 use Rattle.policy_query.specs.Rules.{filter_refusal, has_answer, rows_answer, rule_refusal}
 use Rattle.policy_query.specs.declared.refused.QueryRefused.{QueryRefused}
 use Rattle.policy_query.specs.declared.refused.QueryRefused.TheVariants as query
 use Rattle.policy_state.specs.States.{State, tables}
-use Rattle.policy_table.specs.Limits.{columns_of}
 use Rattle.policy_table.specs.Tables.{Fields}
 use Rattle.policy_table.specs.declared.change.Change.{Change}
 use Rattle.script_read.specs.Said.{Reading, Said, asks, has, recalls, roles, rows, syncs, users}
 use Rattle.session_meaning.specs.Replies.{query_reply}
+use Rattle.session_meaning.proofs.CallerLemmas.{QueryTold, names_told, query_told, rows_told, rule_told}
 use Rattle.version_log.specs.Log.{Logged, versions}
 use Rattle.regex_gate.specs.Refusals.{Refusals}
 use Rattle.live_round.specs.Requests.{IsAnsweredBy, Refuses}
 use Rattle.live_serve.specs.Followed.{IsStateReply, is_leaders}
 use Rattle.live_serve.specs.Helps.Asking.{IsAsked, IsQueried, IsReply}
-
--- ---- refusals
-
--- a refusal that is no want of memory is the answer
-pub refused_is : {T : Type 0} (answered : Result T QueryRefused) (refused : QueryRefused) → IsAnswer answered (Err refused) → refused ≢ query.NoMemory → answered ≡ Err refused
-refused_is answered query.NoMemory is known = absurd (known refl)
-refused_is answered (query.NoTable table) is known = is
-refused_is answered (query.Columns want got) is known = is
-refused_is answered query.FilterPlace is known = is
-refused_is answered (query.NoEdit version) is known = is
-refused_is answered (query.Dropped start) is known = is
-
-abbrev QueryTold : Option QueryRefused → Type 0
-QueryTold None = ⊤
-QueryTold (Some refused) = is_query_told refused ≡ true
-
-query_told : {T : Type 0} (told : T → Answer) (refused : Option QueryRefused) (value : T) → QueryTold refused → is_printable (told value) ≡ true → is_printable (query_reply told (answer_unless refused value)) ≡ true
-query_told told None value p q = q
-query_told told (Some refused) value p q = p
-
-rule_told : (shapes : Shapes) (table : TableId) (rule : Fields) → has_name table ≡ true → QueryTold (rule_refusal shapes table rule)
-rule_told shapes table rule named = by (columns_of shapes table)
-  where
-    by_columns : (columns : ℕ) (fits : Bool) → QueryTold (if fits then None else Some (query.Columns columns (length rule)))
-    by_columns columns true = tt
-    by_columns columns false = refl
-
-    by : (p : Option ℕ) → QueryTold (option_map_or (λ (columns : ℕ). if length rule == columns then None else Some (query.Columns columns (length rule))) p (Some (query.NoTable table)))
-    by None = named
-    by (Some columns) = by_columns columns (eqb (length rule) columns)
-
-rows_told : (shapes : Shapes) (table : TableId) (at : ℕ) (values : Fields) → has_name table ≡ true → QueryTold (filter_refusal shapes table at values)
-rows_told shapes table at values named = by (columns_of shapes table)
-  where
-    by_place : (past : Bool) → QueryTold (if past then Some query.FilterPlace else None)
-    by_place true = refl
-    by_place false = tt
-
-    by : (p : Option ℕ) → QueryTold (option_map_or (λ (columns : ℕ). if nat_lt columns (at + length values) then Some query.FilterPlace else None) p (Some (query.NoTable table)))
-    by None = named
-    by (Some columns) = by_place (nat_lt columns (at + length values))
-
-names_told : (shapes : Shapes) (relation : ℕ) (domain : Option (List ℕ)) → has_name (G relation) ≡ true → QueryTold (names_refusal shapes relation domain)
-names_told shapes relation domain named = by (shape_of shapes.roles relation)
-  where
-    by_columns : (want got : ℕ) (fits : Bool) → QueryTold (if fits then None else Some (query.Columns want got))
-    by_columns want got true = tt
-    by_columns want got false = refl
-
-    by : (p : Option RoleShape) → QueryTold (option_map_or (λ (shape : RoleShape). if named_columns shape.with_domain == named_columns (is_some domain) then None
-        else Some (query.Columns (named_columns shape.with_domain) (named_columns (is_some domain)))) p (Some (query.NoTable (G relation))))
-    by None = named
-    by (Some shape) = by_columns (named_columns shape.with_domain) (named_columns (is_some domain)) (eqb (named_columns shape.with_domain) (named_columns (is_some domain)))
 
 -- ---- queries on the tables
 

@@ -1,5 +1,5 @@
 -- The edits of a history fit, each in the tables before it.
-use Rattle.std.proofs.Common.{◌≡◌, ℕ, zero, suc, ◌<◌, Bool, true, false, ◌==◌, ◌&&◌, ◌||◌, List, [], ◌∷◌, All, drop, take, slice_get, length, Option, Some, refl, sym, ap, subst, ◌∙◌, arith, true≢false}
+use Rattle.std.proofs.Common.{◌≡◌, ℕ, zero, suc, ◌<◌, true, false, ◌==◌, ◌&&◌, List, [], ◌∷◌, All, drop, take, slice_get, length, Option, Some, refl, ap, subst, ◌∙◌, arith}
 use Rattle.std.specs.Prelude.{IsTrue, is_some}
 use Rattle.std.specs.List.{list_all}
 use Rattle.std.specs.Option.{option_map_or}
@@ -11,12 +11,13 @@ use Rattle.edit_calls.specs.Admitted.{AreAdmitted, admits, is_fitting, may_stand
 use Rattle.log_ship.specs.Taking.{rules_may_stand}
 use Rattle.perm_base.specs.declared.shapes.Shapes.{Shapes}
 use Rattle.perm_base.specs.declared.shapes.TableId.{TableId}
+use Rattle.policy_state.proofs.CallerLemmas.{has_stood}
 use Rattle.policy_table.specs.Changes.{applies, changed, edited, is_possible, replay, suits}
 use Rattle.policy_table.specs.Limits.{AreSound, columns_of, has_short_fields}
-use Rattle.policy_table.specs.Tables.{Fields, Policy, place, rows, same, stands}
+use Rattle.policy_table.specs.Tables.{Fields, Policy, place, rows, stands}
 use Rattle.policy_table.specs.declared.change.Change.{Change}
 use Rattle.policy_table.specs.declared.change.Change.TheVariants.{Insert, Remove, Replace}
-use Rattle.policy_table.proofs.CallerLemmas.{PutAll, Puts, all_edited, same-Decides}
+use Rattle.policy_table.proofs.CallerLemmas.{PutAll, Puts, all_edited}
 
 -- the rule may stand in the table
 abbrev MayStand : Shapes → TableId → Fields → Type 0
@@ -53,15 +54,6 @@ all_put shapes [] fit = tt
 all_put shapes (change ∷ changes) fit =
     let parts = and_parts (is_fitting shapes change) (list_all (is_fitting shapes) changes) fit in
     (one_put shapes change parts.0, all_put shapes changes parts.1)
-
--- what each of some rules has, a rule that stands among them has
-has_stood : (R : Fields → Type 0) (rule : Fields) (rules : List Fields) → All R rules → stands rule rules ≡ true → R rule
-has_stood R rule [] all is = absurd (true≢false (sym is))
-has_stood R rule (other ∷ rules) all is = by (same rule other) refl is (has_stood R rule rules (All-tail R other rules all))
-  where
-    by : (test : Bool) → same rule other ≡ test → (test || stands rule rules) ≡ true → (stands rule rules ≡ true → R rule) → R rule
-    by true e told rest = subst R (sym ((same-Decides rule other).0 e)) (All-head R other rules all)
-    by false e told rest = rest told
 
 -- behind a change
 may_changed : (shapes : Shapes) (policy : Policy) (change : Change) → Puts (MayStand shapes) change → AllMay shapes policy → AllMay shapes (changed change policy)

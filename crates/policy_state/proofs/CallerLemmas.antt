@@ -2,4 +2,4 @@
 pub use Rattle.policy_state.proofs.AdmittedLemmas.{admitted_both, admitted_front, admitted_rest}
 pub use Rattle.policy_state.proofs.GrownLemmas.{grown_more, grown_new, grown_same}
 pub use Rattle.policy_state.proofs.LogLemmas.{log_stands_same, stands_after, stands_same, version_stands}
-pub use Rattle.policy_state.proofs.NamedLemmas.{named_at, named_edits, named_grown}
+pub use Rattle.policy_state.proofs.NamedLemmas.{has_stood, named_at, named_edits, named_grown}

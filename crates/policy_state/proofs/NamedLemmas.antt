@@ -64,7 +64,7 @@ named_rule shapes (G number) rule valid fits = by (shape_of shapes.roles number)
         sized shape shape.with_domain (same_Some (role_columns shape) (length rule) told) (has_name number within.0 within.1)
 
 -- what each of some rules has, a rule that stands among them has
-has_stood : (R : Fields → Type 0) (rule : Fields) (rules : List Fields) → All R rules → stands rule rules ≡ true → R rule
+pub has_stood : (R : Fields → Type 0) (rule : Fields) (rules : List Fields) → All R rules → stands rule rules ≡ true → R rule
 has_stood R rule [] all is = absurd (true≢false (sym is))
 has_stood R rule (other ∷ rules) all is = by (same rule other) refl is (has_stood R rule rules (All-tail R other rules all))
   where

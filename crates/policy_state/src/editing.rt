@@ -12,7 +12,7 @@ use crate::prepared::{Prepared, PreparedParts};
 use crate::state::PolicyState;
 use edit_calls::admitted_edits_keep_sound;
 use perm_base::NoMemory;
-use policy_table::{Edit, copy_edit};
+use policy_table::{Edit, copy_edits};
 use std::alloc::Global;
 use version_log::Log;
 
@@ -123,17 +123,6 @@ impl PolicyState {
         self.sections.commit(sections);
         push_all(&mut self.log, edits);
     }
-}
-
-// The same edits once more.
-fn copy_edits(alloc: Global, edits: &[Edit]) -> Result<Vec<Edit>, NoMemory>
-    ensures { IfOk result (λ copy. copy.items ≡ edits.now) }
-{
-    let mut copy = Vec::with_capacity(alloc, edits.len())?;
-    for edit in edits {
-        copy.push(copy_edit(alloc, edit)?)?;
-    }
-    Ok(copy)
 }
 
 // Puts edits behind the others of a log. It takes no memory.

@@ -1,4 +1,5 @@
 -- What a caller cites.
+pub use Rattle.policy_table.proofs.NumberLemmas.{number_told}
 pub use Rattle.policy_table.proofs.PlaceLemmas.{itself, one_table, place_few, place_number, rows_at, same_table, told_table}
 pub use Rattle.policy_table.proofs.RuleLemmas.{distinct_changed, distinct_filter, distinct_inserted, distinct_replaced, fewer, inserted-IsPermutation, keeps_all, length-changed, length-inserted, length-replaced, length-without, one_longer, out_and_out, same-Decides, same_symm, stands-filter, stands-in_place, stands-inserted, stands-without}
 pub use Rattle.policy_table.proofs.SortLemmas.{by_rank_none, by_rank_one, length-by_rank, stands-by_rank}

@@ -113,3 +113,14 @@ pub fn copy_edit(alloc: Global, edit: &Edit) -> Result<Edit, NoMemory>
     }
     Ok(Edit { changes })
 }
+
+/// The same edits once more.
+pub fn copy_edits(alloc: Global, edits: &[Edit]) -> Result<Vec<Edit>, NoMemory>
+    ensures { IfOk result (λ copy. copy.items ≡ edits.now) }
+{
+    let mut copy = Vec::with_capacity(alloc, edits.len())?;
+    for edit in edits {
+        copy.push(copy_edit(alloc, edit)?)?;
+    }
+    Ok(copy)
+}

@@ -21,7 +21,7 @@ mod table;
 mod table_edits;
 mod tables;
 
-pub use change::{Change, Edit, copy_edit};
+pub use change::{Change, Edit, copy_edit, copy_edits};
 pub use filter::fits_filter;
 pub use laws::{
     edits_by_table, edits_compose, edits_keep_order, replay_is_edited,

@@ -231,15 +231,15 @@ answer_told shapes policy called named = by_refusal (refusal shapes called) (ref
     by_refusal None told = by_edit (edit_by shapes policy called)
     by_refusal (Some why) told = told
 
-abbrev QueryTold : Option QueryRefused → Type 0
+abbrev pub QueryTold : Option QueryRefused → Type 0
 QueryTold None = ⊤
 QueryTold (Some refused) = is_query_told refused ≡ true
 
-query_told : {T : Type 0} (told : T → Answer) (refused : Option QueryRefused) (value : T) → QueryTold refused → is_printable (told value) ≡ true → is_printable (query_reply told (answer_unless refused value)) ≡ true
+pub query_told : {T : Type 0} (told : T → Answer) (refused : Option QueryRefused) (value : T) → QueryTold refused → is_printable (told value) ≡ true → is_printable (query_reply told (answer_unless refused value)) ≡ true
 query_told told None value p q = q
 query_told told (Some refused) value p q = p
 
-rule_told : (shapes : Shapes) (table : TableId) (rule : Fields) → has_name table ≡ true → QueryTold (rule_refusal shapes table rule)
+pub rule_told : (shapes : Shapes) (table : TableId) (rule : Fields) → has_name table ≡ true → QueryTold (rule_refusal shapes table rule)
 rule_told shapes table rule named = by (columns_of shapes table)
   where
     by_columns : (columns : ℕ) (fits : Bool) → QueryTold (if fits then None else Some (query.Columns columns (length rule)))
@@ -250,7 +250,7 @@ rule_told shapes table rule named = by (columns_of shapes table)
     by None = named
     by (Some columns) = by_columns columns (eqb (length rule) columns)
 
-rows_told : (shapes : Shapes) (table : TableId) (at : ℕ) (values : Fields) → has_name table ≡ true → QueryTold (filter_refusal shapes table at values)
+pub rows_told : (shapes : Shapes) (table : TableId) (at : ℕ) (values : Fields) → has_name table ≡ true → QueryTold (filter_refusal shapes table at values)
 rows_told shapes table at values named = by (columns_of shapes table)
   where
     by_place : (past : Bool) → QueryTold (if past then Some query.FilterPlace else None)
@@ -261,7 +261,7 @@ rows_told shapes table at values named = by (columns_of shapes table)
     by None = named
     by (Some columns) = by_place (nat_lt columns (at + length values))
 
-names_told : (shapes : Shapes) (relation : ℕ) (domain : Option (List ℕ)) → has_name (G relation) ≡ true → QueryTold (names_refusal shapes relation domain)
+pub names_told : (shapes : Shapes) (relation : ℕ) (domain : Option (List ℕ)) → has_name (G relation) ≡ true → QueryTold (names_refusal shapes relation domain)
 names_told shapes relation domain named = by (shape_of shapes.roles relation)
   where
     by_columns : (want got : ℕ) (fits : Bool) → QueryTold (if fits then None else Some (query.Columns want got))

@@ -1,5 +1,5 @@
 use Rattle.std.proofs.Common.{sym, ◌∙◌, arith}
-use Rattle.file_lint.proofs.NumberLemmas.{number_told}
+use Rattle.policy_table.proofs.CallerLemmas.{number_told}
 use Rattle.file_lint.proofs.numbers.integer_of.Goals as goal
 
 pub returns : goal.returns
