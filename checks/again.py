@@ -1,5 +1,5 @@
-"""Refuses each allocation of a run in turn where a publish that is refused is made once more: the test of a pair that publishes
-beside a seat.
+"""Refuses each allocation of a run in turn where a publish that is refused is made once more: the tests that publish at a desk, and
+of a pair beside a seat.
 
 Usage: again.py OBJECT WORK, OBJECT being built of refuse.c
 
@@ -13,15 +13,15 @@ import subprocess
 import sys
 
 ROOT = os.path.dirname(os.path.dirname(os.path.abspath(__file__)))
-PAIR = f"{ROOT}/crates/live_tests/out/live_tests_tests"
+TESTS = f"{ROOT}/crates/live_tests/out/live_tests_tests"
 
 PATIENCE = 60
 
 
 def build():
     """Builds the tests, where they are not built."""
-    if not os.path.exists(PAIR):
-        folder = os.path.dirname(os.path.dirname(PAIR))
+    if not os.path.exists(TESTS):
+        folder = os.path.dirname(os.path.dirname(TESTS))
         subprocess.run(["rt", "test"], cwd=folder, stdin=subprocess.DEVNULL, stdout=subprocess.DEVNULL, check=False)
 
 
@@ -65,10 +65,10 @@ def tests_of(program):
 def main():
     shim, work = sys.argv[1:]
     build()
-    tests = tests_of(PAIR)
+    tests = tests_of(TESTS)
     failed = not tests
     for test in tests:
-        failed |= refuse_each(test, [PAIR, test], shim, work)
+        failed |= refuse_each(test, [TESTS, test], shim, work)
     sys.exit(1 if failed else 0)
 
 
