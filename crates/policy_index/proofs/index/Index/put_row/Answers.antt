@@ -1,0 +1,30 @@
+use Rattle.std.proofs.Common.{◌≡◌, ◌∙◌, ◌∷◌, ap, arith, length, refl, slice_set, subst, sym, true}
+use Rattle.policy_index.specs.Hashes.{mark_of}
+use Rattle.policy_index.specs.Indexed.{Indexed, IsIndexOf}
+use Rattle.policy_index.specs.Keys.{KeyParts, is_below}
+use Rattle.policy_index.specs.declared.mark.Mark.{Mark}
+use Rattle.policy_index.proofs.CommitLemmas.{index_same, index_set, kept_copied}
+use Rattle.policy_index.proofs.index.Index.put_row.Goals as goal
+
+pub mark_of-mark-requires : goal.mark_of-mark-requires
+mark_of-mark-requires c = sym c.is_below.ensures ∙ c.if-not-is_below.false
+
+pub invariant_of-self : goal.invariant_of-self
+invariant_of-self c =
+    kept_copied c.self.inside.marks.items c.self.inside.marks.items c.self.inside.slots c.reserve-2.new.self c.self.inside.fronts c.self.inside.fronts c.self.inside.places.items c.self.inside.places.items refl c.reserve-2.ensures.slots refl refl c.self.invariant
+
+pub invariant_of-self-2 : goal.invariant_of-self-2
+invariant_of-self-2 c =
+    kept_copied c.self.inside.marks.items c.self.inside.marks.items c.self.inside.slots c.reserve-2.new.self c.self.inside.fronts c.self.inside.fronts c.self.inside.places.items c.self.inside.places.items refl c.reserve-2.ensures.slots refl refl c.self.invariant
+
+pub set-requires-clause-slot : goal.set-requires-clause-slot
+set-requires-clause-slot c = omega (arith, c.requires.slot, ap (λ (i : Indexed). length i.marks) c.self.view_is)
+
+pub set-requires-clause-room : goal.set-requires-clause-room
+set-requires-clause-room c = omega (arith, c.in-Ok-2.ensures.room)
+
+pub returns-clause-rows : goal.returns-clause-rows
+returns-clause-rows c = λ ok by_slot gone is once found.
+    c.forget_emptied.ensures.stays _
+    (index_set _ c.set.new.self by_slot (index_same c.args.self.now _ by_slot (ap (λ (i : Indexed). i.key) c.self.view_is) (ap (λ (i : Indexed). i.marks) c.self.view_is) is) c.set.ensures.key gone c.args.rule.now c.args.slot once found
+    (sym c.is_below.ensures ∙ c.if-not-is_below.false) (c.set.ensures.marks ∙ ap (slice_set c.self.inside.marks.items c.args.slot) c.mark_of-mark.ensures))

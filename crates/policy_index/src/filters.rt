@@ -1,0 +1,77 @@
+//! The columns and the texts of filters.
+
+ghost use Rattle.std.specs.Prelude.{◌≡◌, ◌+◌, ◌<◌, ◌≤◌, ◌==◌, [], IfOk, IfSome, get_or, length};
+ghost use Rattle.policy_index.specs.Hashes.{IsKeyOf};
+ghost use Rattle.policy_index.specs.Helps.Filters.{columns_from, texts_of};
+
+use crate::hashes::{hash_with, start_hash};
+use perm_base::{NoMemory, Text};
+use std::alloc::Global;
+
+// A rule has fewer columns.
+const MOST_COLUMNS: usize = 64;
+
+/// The columns of the values of a filter that are not empty, the first of which stands at a column; none where all are empty, where
+/// no rule has so many columns, or where memory runs out.
+pub(crate) fn sought_columns(alloc: Global, at: u32, values: &[Text]) -> Option<Vec<u32>>
+    ensures { IfSome result (λ columns. columns.items ≡ columns_from at values.now) }
+{
+    if at as usize >= MOST_COLUMNS {
+        return None;
+    }
+    if values.len() >= MOST_COLUMNS {
+        return None;
+    }
+    let Ok(columns) = columns_of(alloc, at, values) else {
+        return None;
+    };
+    if columns.is_empty() {
+        return None;
+    }
+    Some(columns)
+}
+
+// The columns of the values that are not empty.
+fn columns_of(alloc: Global, at: u32, values: &[Text]) -> Result<Vec<u32>, NoMemory>
+    requires first { at < 64 }
+    requires few { length values.now < 64 }
+    ensures { IfOk result (λ columns. columns.items ≡ columns_from at values.now) }
+{
+    let mut columns = Vec::new(alloc);
+    for place in 0..values.len() {
+        let value = value_at(values, place);
+        if !is_open(value) {
+            columns.push(at + place as u32)?;
+        }
+    }
+    Ok(columns)
+}
+
+// The value at a place.
+fn value_at(values: &[Text], place: usize) -> &[u8]
+    requires { place < length values.now }
+    ensures { result.now ≡ get_or values.now place [] }
+{
+    values[place].bytes()
+}
+
+// Whether a value is empty.
+fn is_open(value: &[u8]) -> bool
+    ensures { result ≡ (length value.now == 0) }
+{
+    value.is_empty()
+}
+
+/// The hash of the values of a filter that are not empty.
+pub(crate) fn values_hash(values: &[Text]) -> u64
+    ensures { IsKeyOf result (texts_of values.now) }
+{
+    let mut hash = start_hash();
+    for place in 0..values.len() {
+        let value = value_at(values, place);
+        if !is_open(value) {
+            hash = hash_with(hash, value);
+        }
+    }
+    hash
+}
