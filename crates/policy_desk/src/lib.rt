@@ -3,6 +3,7 @@
 
 mod calling;
 mod desk;
+mod drafts;
 mod editor;
 mod publishing;
 
