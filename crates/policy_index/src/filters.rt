@@ -1,6 +1,6 @@
 //! The columns and the texts of filters.
 
-ghost use Rattle.std.specs.Prelude.{◌≡◌, ◌+◌, ◌<◌, ◌≤◌, ◌==◌, [], IfOk, IfSome, get_or, length};
+ghost use Rattle.std.specs.Prelude.{◌≡◌, ℕ, ◌<◌, [], ◌∷◌, ◌++◌, IfOk, IfSome, List, OnOk, get_or, length};
 ghost use Rattle.policy_index.specs.Hashes.{IsKeyOf};
 ghost use Rattle.policy_index.specs.Helps.Filters.{columns_from, texts_of};
 
@@ -39,12 +39,21 @@ fn columns_of(alloc: Global, at: u32, values: &[Text]) -> Result<Vec<u32>, NoMem
 {
     let mut columns = Vec::new(alloc);
     for place in 0..values.len() {
-        let value = value_at(values, place);
-        if !is_open(value) {
-            columns.push(at + place as u32)?;
-        }
+        push_column(&mut columns, at + place as u32, value_at(values, place))?;
     }
     Ok(columns)
+}
+
+// Puts a column behind others, unless its value is empty.
+fn push_column(columns: &mut Vec<u32>, column: u32, value: &[u8]) -> Result<(), NoMemory>
+    ensures { OnOk result (columns.new.items
+        ≡ columns.old.items ++ columns_from column (value.now ∷ [])) }
+{
+    if value.is_empty() {
+        return Ok(());
+    }
+    columns.push(column)?;
+    Ok(())
 }
 
 // The value at a place.
@@ -55,23 +64,24 @@ fn value_at(values: &[Text], place: usize) -> &[u8]
     values[place].bytes()
 }
 
-// Whether a value is empty.
-fn is_open(value: &[u8]) -> bool
-    ensures { result ≡ (length value.now == 0) }
-{
-    value.is_empty()
-}
-
 /// The hash of the values of a filter that are not empty.
 pub(crate) fn values_hash(values: &[Text]) -> u64
     ensures { IsKeyOf result (texts_of values.now) }
 {
     let mut hash = start_hash();
     for place in 0..values.len() {
-        let value = value_at(values, place);
-        if !is_open(value) {
-            hash = hash_with(hash, value);
-        }
+        hash = hash_value(hash, value_at(values, place));
     }
     hash
+}
+
+// A hash with one value more, unless that is empty.
+fn hash_value(hash: u64, value: &[u8]) -> u64
+    ensures { (texts : List (List ℕ)) → IsKeyOf hash texts
+        → IsKeyOf result (texts ++ texts_of (value.now ∷ [])) }
+{
+    if value.is_empty() {
+        return hash;
+    }
+    hash_with(hash, value)
 }

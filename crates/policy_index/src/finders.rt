@@ -125,9 +125,10 @@ impl Finders {
         ensures { (after : Held) → after.slots ≡ slots_changed change.now tables.now.slots
             → AreFindersIn after self.new }
     {
-        if !follow_each(&mut self.finders, alloc, change, tables) {
-            self.finders.clear();
+        if follow_each(&mut self.finders, alloc, change, tables) {
+            return;
         }
+        self.finders.clear();
     }
 }
 

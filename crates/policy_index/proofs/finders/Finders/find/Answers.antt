@@ -7,7 +7,7 @@ use Rattle.policy_index.proofs.finders.Finders.find.Goals as goal
 
 pub find-requires-clause-finder : goal.find-requires-clause-finder
 find-requires-clause-finder c =
-    if_some c.finder_by.result c.in-Some-2.finder c.in-Some-2.is (λ finder. (held : Held) → AreFindersIn held c.args.self.now → IsFinderIn held finder.now) c.finder_by.ensures.own c.args.tables.now c.requires
+    if_some c.finder_by.result c.in-Some-2.finder c.in-Some-2.is (λ finder. (held : Held) → AreFindersIn held c.args.self.now → IsFinderIn held finder.now) c.finder_by.ensures.own c.args.tables.now c.requires.finders
 
 pub find-requires-clause-texts : goal.find-requires-clause-texts
 find-requires-clause-texts c = (texts_of c.args.values.now, c.values_hash.ensures)
