@@ -1,6 +1,6 @@
 //! The columns and the texts of filters.
 
-ghost use Rattle.std.specs.Prelude.{◌≡◌, ℕ, ◌<◌, [], ◌∷◌, ◌++◌, IfOk, IfSome, List, OnOk, get_or, length};
+ghost use Rattle.std.specs.Prelude.{◌≡◌, ℕ, ◌<◌, [], ◌∷◌, ◌++◌, IfOk, IfSome, List, OnOk, get_or, length, true};
 ghost use Rattle.policy_index.specs.Hashes.{IsKeyOf};
 ghost use Rattle.policy_index.specs.Helps.Filters.{columns_from, texts_of};
 
@@ -16,10 +16,10 @@ const MOST_COLUMNS: usize = 64;
 pub(crate) fn sought_columns(alloc: Global, at: u32, values: &[Text]) -> Option<Vec<u32>>
     ensures { IfSome result (λ columns. columns.items ≡ columns_from at values.now) }
 {
-    if at as usize >= MOST_COLUMNS {
+    if !is_column(at as usize) {
         return None;
     }
-    if values.len() >= MOST_COLUMNS {
+    if !is_column(values.len()) {
         return None;
     }
     let Ok(columns) = columns_of(alloc, at, values) else {
@@ -29,6 +29,13 @@ pub(crate) fn sought_columns(alloc: Global, at: u32, values: &[Text]) -> Option<
         return None;
     }
     Some(columns)
+}
+
+// Whether a rule may have a column.
+fn is_column(column: usize) -> bool
+    ensures { result ≡ true → column < 64 }
+{
+    column < MOST_COLUMNS
 }
 
 // The columns of the values that are not empty.

@@ -1,10 +1,11 @@
 //! An index that takes memory of its own as its rows change.
 
-ghost use Rattle.std.specs.Prelude.{◌≡◌, ◌<◌, ◌∷◌, ◌++◌, [], List, Some, length, position, swap_remove, true};
+ghost use Rattle.std.specs.Prelude.{◌≡◌, ◌+◌, ◌<◌, ◌^◌, ◌∷◌, ◌++◌, [], List, Some, length, position, swap_remove, true};
 ghost use Rattle.std.specs.List.{IsDistinct};
 ghost use Rattle.policy_table.specs.Changes.{in_place};
 ghost use Rattle.policy_table.specs.Tables.{Fields, same};
 ghost use Rattle.policy_index.specs.Indexed.{IsIndexOf};
+ghost use Rattle.policy_index.specs.Keys.{is_below};
 
 use crate::fronts::Fronts;
 use crate::index::Index;
@@ -40,10 +41,10 @@ impl Index {
         ensures rows { result ≡ true → (by_slot : List Fields) → IsIndexOf self.old by_slot
             → IsIndexOf self.new (by_slot ++ rule.now ∷ []) }
     {
-        if self.marks.len() >= MOST_ROWS {
+        if !has_room(self.marks.len()) {
             return false;
         }
-        if !self.key.is_below(rule.len()) {
+        if !has_columns(&self.key, rule) {
             return false;
         }
         let mark = mark_of(&self.key, rule);
@@ -79,7 +80,7 @@ impl Index {
             → position (same gone) by_slot ≡ Some slot
             → IsIndexOf self.new (in_place gone rule.now by_slot) }
     {
-        if !self.key.is_below(rule.len()) {
+        if !has_columns(&self.key, rule) {
             return false;
         }
         let mark = mark_of(&self.key, rule);
@@ -93,4 +94,18 @@ impl Index {
         self.forget_emptied();
         true
     }
+}
+
+// Whether there may be a row more than so many.
+fn has_room(rows: usize) -> bool
+    ensures { result ≡ true → rows + 1 < 2 ^ 32 }
+{
+    rows < MOST_ROWS
+}
+
+// Whether a rule has the columns of a key.
+fn has_columns(key: &RowKey, rule: &Rule) -> bool
+    ensures { result ≡ is_below (length rule.now) key.now }
+{
+    key.is_below(rule.len())
 }

@@ -7,7 +7,7 @@ use Rattle.policy_index.proofs.CommitLemmas.{index_same, index_set, kept_copied}
 use Rattle.policy_index.proofs.index.Index.put_row.Goals as goal
 
 pub mark_of-mark-requires : goal.mark_of-mark-requires
-mark_of-mark-requires c = sym c.is_below.ensures ∙ c.if-not-is_below.false
+mark_of-mark-requires c = sym c.has_columns.ensures ∙ c.if-not-has_columns.false
 
 pub invariant_of-self : goal.invariant_of-self
 invariant_of-self c =
@@ -27,4 +27,4 @@ pub returns-clause-rows : goal.returns-clause-rows
 returns-clause-rows c = λ ok by_slot gone is once found.
     c.forget_emptied.ensures.stays _
     (index_set _ c.set.new.self by_slot (index_same c.args.self.now _ by_slot (ap (λ (i : Indexed). i.key) c.self.view_is) (ap (λ (i : Indexed). i.marks) c.self.view_is) is) c.set.ensures.key gone c.args.rule.now c.args.slot once found
-    (sym c.is_below.ensures ∙ c.if-not-is_below.false) (c.set.ensures.marks ∙ ap (slice_set c.self.inside.marks.items c.args.slot) c.mark_of-mark.ensures))
+    (sym c.has_columns.ensures ∙ c.if-not-has_columns.false) (c.set.ensures.marks ∙ ap (slice_set c.self.inside.marks.items c.args.slot) c.mark_of-mark.ensures))
