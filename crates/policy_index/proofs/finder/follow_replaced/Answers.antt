@@ -10,7 +10,7 @@ use Rattle.policy_index.proofs.finder.follow_replaced.Goals as goal
 pub put_row-requires : goal.put_row-requires
 put_row-requires c =
     let found : position (same c.args.old.now) (slots c.args.tables.now c.args.table) ≡ Some c.in-Some.slot = sym c.slot_of.ensures ∙ c.in-Some.is in
-    omega (arith, (found_slot c.args.old.now c.in-Some.slot (slots c.args.tables.now c.args.table) found).within, ap length c.requires.marks, length-map (slots c.args.tables.now c.args.table) (mark_of c.args.index.now.key))
+    record { slot = omega (arith, (found_slot c.args.old.now c.in-Some.slot (slots c.args.tables.now c.args.table) found).within, ap length c.requires.marks, length-map (slots c.args.tables.now c.args.table) (mark_of c.args.index.now.key)) }
 
 pub returns-clause-rows : goal.returns-clause-rows
 returns-clause-rows c = λ ok.

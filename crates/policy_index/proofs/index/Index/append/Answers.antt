@@ -10,7 +10,7 @@ pub mark_of-mark-requires : goal.mark_of-mark-requires
 mark_of-mark-requires c = sym c.has_columns.ensures ∙ c.if-not-has_columns.false
 
 pub add-requires : goal.add-requires
-add-requires c = omega (arith, c.has_room.ensures c.if-not-has_room.false, c.len.ensures, c.self.inside.marks.ok.0, ap (λ (i : Indexed). length i.marks) c.self.view_is)
+add-requires c = record { few = omega (arith, c.has_room.ensures c.if-not-has_room.false, c.len.ensures, c.self.inside.marks.ok.0, ap (λ (i : Indexed). length i.marks) c.self.view_is) }
 
 pub returns-clause-rows : goal.returns-clause-rows
 returns-clause-rows c = λ ok by_slot is.
