@@ -20,13 +20,13 @@ pub rule_has : (R : Fields → Type 0) (rules : List Fields) (place : ℕ) (rule
 rule_has R rules place rule there all = subst R (get_or_from_slice_get rules place rule [] there) (all place [] (slice_get_within rules place rule there))
 
 -- and so have the rules at all places
-places_have : (R : Fields → Type 0) (rules : List Fields) (places : List ℕ) → All (λ (place : ℕ). place < length rules) places → All R rules → All R (rules_at rules places)
+pub places_have : (R : Fields → Type 0) (rules : List Fields) (places : List ℕ) → All (λ (place : ℕ). place < length rules) places → All R rules → All R (rules_at rules places)
 places_have R rules places within all = λ k d inside.
     let here : k < length places = omega (arith, inside, length-map places (λ (place : ℕ). get_or rules place [])) in
     subst R (sym (get_or-map (λ (place : ℕ). get_or rules place []) places k 0 d here)) (all (get_or places k 0) [] (within k 0 here))
 
 -- what a test picks of those that pass a weaker one
-filter_through : (b f : Fields → Bool) (rules : List Fields) → All (λ (rule : Fields). b rule ≡ true → f rule ≡ true) rules → filter b (filter f rules) ≡ filter b rules
+pub filter_through : (b f : Fields → Bool) (rules : List Fields) → All (λ (rule : Fields). b rule ≡ true → f rule ≡ true) rules → filter b (filter f rules) ≡ filter b rules
 filter_through b f [] all = refl
 filter_through b f (rule ∷ rules) all =
     by (f rule) refl (b rule) refl (All-head (λ (r : Fields). b r ≡ true → f r ≡ true) rule rules all) (filter_through b f rules (All-tail (λ (r : Fields). b r ≡ true → f r ≡ true) rule rules all))

@@ -1,12 +1,14 @@
 -- Drafts: what is known of their rules, and edits that are made in them step by step.
-use Rattle.std.proofs.Common.{◌≡◌, ℕ, Bool, false, List, [], ◌∷◌, get_or, Option, Some, None, refl, sym, ap, subst, ◌∙◌}
-use Rattle.std.specs.Prelude.{IfSome, option_map}
+use Rattle.std.proofs.Common.{◌≡◌, ℕ, ◌<◌, ◌&&◌, ◌||◌, ◌==◌, Bool, true, false, List, [], ◌∷◌, All, filter, length, not, true≢false, get_or, Option, Some, None, refl, sym, ap, subst, ◌∙◌, arith}
+use Rattle.std.specs.Prelude.{IfSome, is_some, option_map}
 use Rattle.std.specs.Option.{option_map_or}
-use Rattle.std.proofs.lemmas.Bool.{eqb-true}
+use Rattle.std.specs.Str.{bytes_eq}
+use Rattle.std.proofs.lemmas.Bool.{and_parts, eqb-true}
 use Rattle.std.proofs.lemmas.List.{append-nil}
 use Rattle.std.proofs.lemmas.Map.Views.{Contains-from_any}
 use Rattle.std.proofs.lemmas.Option.{slice_get-get_or}
-use Rattle.edit_calls.specs.Found.{AreKnown, FindFitting, KnownPlaces}
+use Rattle.edit_calls.proofs.CallerLemmas.{filter_through, places_have}
+use Rattle.edit_calls.specs.Found.{AreKnown, FindFitting, KnownPlaces, rules_at}
 use Rattle.edit_calls.specs.declared.call.Call.{Call}
 use Rattle.edit_calls.specs.declared.call.Call.TheVariants.{Add, AddAll, AddEx, Remove, RemoveAll, Update, RemoveFiltered, UpdateFiltered, DeleteUser, DeleteRole}
 use Rattle.perm_base.specs.declared.shapes.Shapes.{Shapes}
@@ -14,10 +16,13 @@ use Rattle.perm_base.specs.declared.shapes.TableId.{TableId}
 use Rattle.policy_index.specs.Finders.{AreFindersIn, IsFinderIn, Sought}
 use Rattle.policy_index.specs.Found.{FindRows}
 use Rattle.policy_index.specs.Indexed.{IsIndexOf}
+use Rattle.policy_desk.specs.Helps.Asked.{asked_values}
 use Rattle.policy_query.proofs.CallerLemmas.{found_filter}
+use Rattle.policy_query.specs.Found.{FindAsked}
 use Rattle.policy_query.specs.Helps.Named.{FindRows as FindsAll}
+use Rattle.policy_query.specs.Names.{is_asked, named_columns}
 use Rattle.policy_table.specs.Changes.{changed, edited, flat}
-use Rattle.policy_table.specs.Filters.{fits_filter}
+use Rattle.policy_table.specs.Filters.{fits_filter, fits_values}
 use Rattle.policy_table.specs.Held.{Held, IsPreparedFor}
 use Rattle.policy_table.specs.Tables.{Fields, Lists, Policy, place, rows}
 use Rattle.policy_table.specs.declared.change.Change.{Change}
@@ -28,6 +33,18 @@ use Rattle.policy_table.specs.declared.change.Change.{Change}
 pub where_some : {X : Type 0} (made : Option X) (P Q : X → Type 0) → ((x : X) → P x → Q x) → IfSome made P → IfSome made Q
 where_some None P Q more told = tt
 where_some (Some x) P Q more told = more x told
+
+-- and of the value itself
+pub when_some : {X : Type 0} (made : Option X) (value : X) → made ≡ Some value → (P : X → Type 0) → IfSome made P → P value
+when_some {X} made value is P told = subst (λ (o : Option X). IfSome o P) is told
+
+either : (a b : Bool) → b ≡ true → (a || b) ≡ true
+either true b is = refl
+either false b is = is
+
+none : (left : Fields) → fits_values left [] ≡ true
+none [] = refl
+none (field ∷ fields) = refl
 
 -- so it is with what is seen of the value
 pub some_items : {X Y : Type 0} (made : Option X) (f : X → Y) (P : Y → Type 0) → IfSome made (λ x. P (f x)) → IfSome (option_map f made) P
@@ -50,6 +67,42 @@ found_fitting at values policy now table places is finds =
       same = found_filter (λ (rule : Fields). fits_filter rule at values) (rows policy table) places (all_found (λ (rule : Fields). fits_filter rule at values) (rows policy table) places finds);
     })
 
+-- a rule of the role, and of the domain where one is named, fits the filter of these
+asked_fits : (role : List ℕ) (domain : Option (List ℕ)) (rule : Fields) → named_columns (is_some domain) < length rule → is_asked 1 role domain rule ≡ true → fits_filter rule 1 (asked_values role domain) ≡ true
+asked_fits role None [] long asked = absurd (omega (arith, long))
+asked_fits role None (user ∷ []) long asked = absurd (omega (arith, long))
+asked_fits role None (user ∷ own ∷ rest) long asked = λ j. either (length role == 0) (bytes_eq role own) (and_parts (bytes_eq role own) true asked).0 j && none rest j
+asked_fits role (Some domain) [] long asked = absurd (omega (arith, long))
+asked_fits role (Some domain) (user ∷ []) long asked = absurd (omega (arith, long))
+asked_fits role (Some domain) (user ∷ own ∷ []) long asked = absurd (omega (arith, long))
+asked_fits role (Some domain) (user ∷ own ∷ named ∷ rest) long asked =
+    let both = and_parts (bytes_eq role own) (bytes_eq domain named) asked in
+    λ j. either (length role == 0) (bytes_eq role own) both.0 j && (either (length domain == 0) (bytes_eq domain named) both.1 j && none rest j)
+
+-- so the users of a role are found by the filter
+pub found_users : (role : List ℕ) (domain : Option (List ℕ)) (rules : List Fields) (places : List ℕ) → All (λ (rule : Fields). named_columns (is_some domain) < length rule) rules → FindFitting 1 (asked_values role domain) rules places → FindAsked 1 role domain rules places
+found_users role domain rules places columns known = record {
+  within = known.within;
+  same =
+      sym (filter_through asked fits (rules_at rules places) (weaker (rules_at rules places) (places_have (λ (rule : Fields). named_columns (is_some domain) < length rule) rules places known.within columns)))
+      ∙ ap (filter asked) known.same
+      ∙ filter_through asked fits rules (weaker rules columns);
+}
+  where
+    asked : Fields → Bool
+    asked rule = is_asked 1 role domain rule
+
+    fits : Fields → Bool
+    fits rule = fits_filter rule 1 (asked_values role domain)
+
+    weaker : (l : List Fields) → All (λ (rule : Fields). named_columns (is_some domain) < length rule) l → All (λ (rule : Fields). asked rule ≡ true → fits rule ≡ true) l
+    weaker l all = λ k d within. asked_fits role domain (get_or l k d) (all k d within)
+
+-- what holds whatever the value
+pub some_always : {X : Type 0} {P : Type 0} (made : Option X) → P → IfSome made (λ _. P)
+some_always None is = tt
+some_always (Some x) is = is
+
 -- nothing needs to be known
 pub none_known : (shapes : Shapes) (policy : Policy) (known : KnownPlaces) (call : Call) → known ≡ record { rules = None; subjects = None } → AreKnown shapes policy known call
 none_known shapes policy known call none = subst (λ (k : KnownPlaces). AreKnown shapes policy k call) (sym none) (by call)
@@ -65,6 +118,12 @@ none_known shapes policy known call none = subst (λ (k : KnownPlaces). AreKnown
     by (UpdateFiltered table at values rules) = tt
     by (DeleteUser name) = (tt, tt)
     by (DeleteRole name) = (tt, tt)
+
+-- where none is told, there are no edits
+pub no_edits : (edits : List (List Change)) (told : Bool) → told ≡ (length edits == 0) → not told ≡ false → edits ≡ []
+no_edits [] told is some = refl
+no_edits (edit ∷ edits) true is some = absurd (true≢false is)
+no_edits (edit ∷ edits) false is some = absurd (true≢false some)
 
 -- ---- edits that are made
 

@@ -1,9 +1,12 @@
 //! The tables after pending edits.
 
-ghost use Rattle.std.specs.Prelude.{◌≡◌, ◌∷◌, [], IfSome, List, OnErr, OnOk, true};
+ghost use Rattle.std.specs.Prelude.{◌≡◌, ◌<◌, ◌∷◌, [], All, IfOk, IfSome, List, OnErr, OnOk, is_some, length, true};
 ghost use Rattle.edit_calls.specs.Found.{AreKnown, FindFitting};
 ghost use Rattle.perm_base.specs.declared.shapes.TableId.TheVariants as table_of;
+ghost use Rattle.policy_desk.specs.Helps.Asked.{asked_values};
 ghost use Rattle.policy_index.specs.Finders.{AreFindersIn};
+ghost use Rattle.policy_query.specs.Found.{FindAsked};
+ghost use Rattle.policy_query.specs.Names.{named_columns};
 ghost use Rattle.policy_table.specs.Changes.{applies, changed, edited};
 ghost use Rattle.policy_table.specs.Held.{IsPreparedFor};
 ghost use Rattle.policy_table.specs.Tables.{AreLists, IsKept, rows};
@@ -109,6 +112,27 @@ impl Drafts {
         }
     }
 
+    /// Places at which all rules of a relation stand that give a role, in one domain where one is named, as far as they can be known;
+    /// others may be among them.
+    pub(crate) fn known_users(
+        &mut self,
+        alloc: Global,
+        relation: u8,
+        role: &Text,
+        domain: &Option<Text>,
+    ) -> Option<Vec<u32>>
+        requires columns { All (λ rule. named_columns (is_some domain.now) < length rule)
+            (rows self.old (table_of.G relation)) }
+        ensures same { self.new ≡ self.old }
+        ensures found { IfSome result (λ places. FindAsked 1 role.now domain.now
+            (rows self.old (table_of.G relation)) places.items) }
+    {
+        let Ok(values) = values_of(alloc, role, domain) else {
+            return None;
+        };
+        self.places(alloc, TableId::G(relation), 1, values.as_slice())
+    }
+
     // Where the rules of a table stand that fit a filter.
     fn known_by_filter(&mut self, alloc: Global, table: TableId, at: u32, values: &[Text]) -> Known
         ensures same { self.new ≡ self.old }
@@ -150,6 +174,27 @@ impl Drafts {
 }
 
 impl Share for Drafts {}
+
+// A role, and a domain where one is named, as the values of a filter from the column of roles on.
+fn values_of(alloc: Global, role: &Text, domain: &Option<Text>) -> Result<Vec<Text>, NoMemory>
+    ensures { IfOk result (λ values. values.items ≡ asked_values role.now domain.now) }
+{
+    let mut values = value_of(alloc, role)?;
+    let Some(named) = domain else {
+        return Ok(values);
+    };
+    values.push(Text::from_str(alloc, named.as_str())?)?;
+    Ok(values)
+}
+
+// One value.
+fn value_of(alloc: Global, role: &Text) -> Result<Vec<Text>, NoMemory>
+    ensures { IfOk result (λ values. values.items ≡ role.now ∷ []) }
+{
+    let mut values = Vec::with_capacity(alloc, 2)?;
+    values.push(Text::from_str(alloc, role.as_str())?)?;
+    Ok(values)
+}
 
 // Makes in tables what was prepared, and lets their finders follow. It cannot be refused: where memory for the finders runs out,
 // they are let go.
