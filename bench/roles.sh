@@ -1,9 +1,9 @@
 #!/usr/bin/env bash
 # Prints what a question to a role relation costs in a domain of 10 roles, in one of 1,000, whose distances are kept, and in one
 # of 1,100, which is walked; what adding and removing a user's row costs with 10 roles and with 1,000 standing; what the roles of a
-# user cost among 1,000 rows and 200,000, and the users of a role, behind the first question; what a request costs over one rule and over 140 that ask about a name with 1,260 roles; and
-# what 200,000 rows of roles take in 1, 100 and 10,000 domains, in time to load and in memory, beside as many rules without roles.
-# Each is a ratio of one run. Usage: bench/roles.sh [QUESTIONS [EDITS]].
+# user cost among 1,000 rows and 200,000, and the users of a role, behind the first question; what a request costs over one rule and
+# over 140 that ask about a name with 1,260 roles; and what 200,000 rows of roles take in 1, 100 and 10,000 domains, in time to load
+# and in memory, beside as many rules without roles. Each is a ratio of one run. Usage: bench/roles.sh [QUESTIONS [EDITS]].
 source "$(dirname "${BASH_SOURCE[0]}")/timing.sh"
 questions="${1:-200000}"
 edits="${2:-20000}"
