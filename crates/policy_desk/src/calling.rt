@@ -8,9 +8,7 @@ ghost use Rattle.policy_desk.specs.Transitions.{after_call};
 ghost use Rattle.version_log.specs.Log.{most_versions};
 
 use crate::desk::Desk;
-use edit_calls::{
-    Call, CallRefused, Known, admitted_edits_keep_sound, edits_are_admitted, resolve,
-};
+use edit_calls::{Call, CallRefused, Known, admitted_edits_keep_sound, edits_are_admitted};
 use perm_base::NoMemory;
 use policy_table::{Edit, Limit};
 use std::alloc::Global;
@@ -65,8 +63,8 @@ impl Desk {
     {
         edits_are_admitted();
         self.state.kept();
-        let (tables, shapes) = (self.drafts.tables(), self.state.shapes());
-        let Some(edit) = resolve(alloc, call, tables, shapes, known)? else {
+        let shapes = self.state.shapes();
+        let Some(edit) = self.drafts.resolve(alloc, call, shapes, known)? else {
             return Ok(None);
         };
         if self.state.version() + self.pending.len() as u32 == MOST_EDITS {

@@ -1,7 +1,10 @@
 //! The tables after pending edits.
 
-ghost use Rattle.std.specs.Prelude.{◌≡◌, ◌<◌, ◌∷◌, [], All, IfOk, IfSome, List, OnErr, OnOk, is_some, length, true};
+ghost use Rattle.std.specs.Prelude.{◌≡◌, ◌<◌, ◌∷◌, [], All, IfOk, IfSome, List, MatchResult, Ok, OnErr, OnOk, is_some, length, true};
+ghost use Rattle.edit_calls.specs.Answers.{answer};
 ghost use Rattle.edit_calls.specs.Found.{AreKnown, FindFitting};
+ghost use Rattle.edit_calls.specs.Told.{IsTold};
+ghost use Rattle.perm_base.specs.Shapes.{AreValid};
 ghost use Rattle.perm_base.specs.declared.shapes.TableId.TheVariants as table_of;
 ghost use Rattle.policy_desk.specs.Helps.Asked.{asked_values};
 ghost use Rattle.policy_index.specs.Finders.{AreFindersIn};
@@ -9,10 +12,11 @@ ghost use Rattle.policy_query.specs.Found.{FindAsked};
 ghost use Rattle.policy_query.specs.Names.{named_columns};
 ghost use Rattle.policy_table.specs.Changes.{applies, changed, edited};
 ghost use Rattle.policy_table.specs.Held.{IsPreparedFor};
+ghost use Rattle.policy_table.specs.Limits.{AreSound};
 ghost use Rattle.policy_table.specs.Tables.{AreLists, IsKept, rows};
 ghost use Rattle.policy_table.specs.declared.change.Change.{Change};
 
-use edit_calls::{Call, Known};
+use edit_calls::{Call, CallRefused, Known, resolve};
 use perm_base::{NoMemory, Shapes, Share, TableId, Text};
 use policy_index::Finders;
 use policy_table::{Edit, Prepared, Step, Tables};
@@ -83,6 +87,26 @@ impl Drafts {
         let prepared = self.tables.prepare(alloc, slice::from_ref(edit))?;
         make_all(alloc, &mut self.tables, &mut self.finders, prepared);
         Ok(())
+    }
+
+    /// What a call changes in them, where so much is known of its rules.
+    pub(crate) fn resolve(
+        &self,
+        alloc: Global,
+        call: &Call,
+        shapes: &Shapes,
+        known: &Known,
+    ) -> Result<Option<Edit>, CallRefused>
+        requires valid { AreValid shapes.now }
+        requires sound { AreSound shapes.now self.now }
+        requires known { AreKnown shapes.now self.now known.now call.now }
+        ensures answered { MatchResult result
+            (λ edit. answer shapes.now self.now call.now ≡ Ok edit)
+            (IsTold (answer shapes.now self.now call.now)) }
+        ensures applies { IfOk result (λ found. IfSome found (λ edit.
+            applies edit self.now ≡ true)) }
+    {
+        resolve(alloc, call, &self.tables, shapes, known)
     }
 
     /// Where the rules stand that a call asks for by a filter or by a name, as far as it can be known. The first calls that ask by
