@@ -108,20 +108,20 @@ from_place (first ∷ rest) (suc at) field fields e = from_place rest at field f
 -- a rule that fits a filter has its texts
 pub fits_texts : (rule : Fields) (at : ℕ) (values : List (List ℕ)) → fits_filter rule at values ≡ true → has_texts (columns_from at values) (texts_of values) rule ≡ true
 fits_texts rule at [] fits = refl
-fits_texts rule at (value ∷ values) fits = by (drop at rule) refl fits
+fits_texts rule at (value ∷ values) fits = by (drop at rule) refl fits (fits_texts rule (at + 1) values)
   where
     open_or : (b : Bool) → (length value == 0) ≡ b → (field : List ℕ) → slice_get rule at ≡ Some field → (b || bytes_eq value field) ≡ true → has_texts (columns_from (at + 1) values) (texts_of values) rule ≡ true
         → has_texts (cond b (columns_from (at + 1) values) (at ∷ columns_from (at + 1) values)) (cond (not b) (value ∷ texts_of values) (texts_of values)) rule ≡ true
     open_or true e field there equal rest = rest
     open_or false e field there equal rest = λ j. (ap (λ (o : Option (List ℕ)). option_map_or (bytes_eq value) o false) there ∙ equal) j && rest j
 
-    by : (left : Fields) → drop at rule ≡ left → fits_values left (value ∷ values) ≡ true
+    by : (left : Fields) → drop at rule ≡ left → fits_values left (value ∷ values) ≡ true → (fits_filter rule (at + 1) values ≡ true → has_texts (columns_from (at + 1) values) (texts_of values) rule ≡ true)
         → has_texts (cond (length value == 0) (columns_from (at + 1) values) (at ∷ columns_from (at + 1) values)) (cond (not (length value == 0)) (value ∷ texts_of values) (texts_of values)) rule ≡ true
-    by [] e passes = absurd (true≢false (sym passes))
-    by (field ∷ fields) e passes =
+    by [] e passes rest = absurd (true≢false (sym passes))
+    by (field ∷ fields) e passes rest =
         let both = and_parts (length value == 0 || bytes_eq value field) (fits_values fields values) passes in
         let there = from_place rule at field fields e in
-        open_or (length value == 0) refl field there.0 both.0 (fits_texts rule (at + 1) values (ap (λ (l : Fields). fits_values l values) (ap (λ (n : ℕ). drop n rule) (add-one at) ∙ there.1) ∙ both.1))
+        open_or (length value == 0) refl field there.0 both.0 (rest (ap (λ (l : Fields). fits_values l values) (ap (λ (n : ℕ). drop n rule) (add-one at) ∙ there.1) ∙ both.1))
 
 -- so rows that fit a filter are found by its texts
 pub finds_fitting : (finder : Sought) (table : TableId) (columns : List ℕ) (at : ℕ) (values : List (List ℕ)) (policy : Policy) (places : List ℕ) → finder.table ≡ table → finder.index.key.columns ≡ columns → columns ≡ columns_from at values
