@@ -1,4 +1,4 @@
-use Rattle.std.proofs.Common.{[], ◌+◌, ◌≤◌, Bool, List, ℕ, arith, get_or, length, rules, ap, ◌∙◌}
+use Rattle.std.proofs.Common.{[], ◌+◌, ◌≤◌, Bool, List, ℕ, arith, get_or, length, refl, rules, sym, ap, ◌∙◌}
 use Rattle.std.proofs.lemmas.List.{length-map, take_all}
 use Rattle.policy_table.specs.Filters.{fits_filter}
 use Rattle.policy_table.specs.Tables.{Fields, rows}
@@ -8,6 +8,7 @@ use Rattle.edit_calls.specs.Found.{rules_at}
 use Rattle.edit_calls.proofs.EditLemmas.{passed_next, passed_same}
 use Rattle.edit_calls.proofs.KnownLemmas.{rule_has, rule_here}
 use Rattle.edit_calls.proofs.changes.removes_fitting_at.Goals as goal
+use Rattle.edit_calls.proofs.changes.removes_fitting_at.Goals.{else-fits_filter, then-fits_filter+in_ok-rule+in_ok-push}
 
 pub row-row-requires : goal.row-row-requires
 row-row-requires c = c.requires.within c.loop-place.place-index _ c.loop-place-test.true
@@ -20,14 +21,14 @@ loop-place-preserved c =
     let all = rows c.args.tables.now.policy c.args.table in
     let here = rule_here all c.args.places.now c.loop-place.place-index _ c.row-row.result.now c.loop-place-test.true c.row-row.ensures in
     let test = λ (rule : Fields). (let t : Bool = fits_filter rule c.args.at c.args.values.now in t) in
-    passed_same _ c.loop-place.place-index _ here test (Remove c.args.table) [] _ c.loop-place.invariant _ (cc) (cc)
-
-pub loop-place-preserved-in-Continue-branch-2 : goal.loop-place-preserved-in-Continue-branch-2
-loop-place-preserved-in-Continue-branch-2 c =
-    let all = rows c.args.tables.now.policy c.args.table in
-    let here = rule_here all c.args.places.now c.loop-place.place-index _ c.row-row.result.now c.loop-place-test.true c.row-row.ensures in
-    let test = λ (rule : Fields). (let t : Bool = fits_filter rule c.args.at c.args.values.now in t) in
-    passed_next _ c.loop-place.place-index _ here test (Remove c.args.table) [] _ c.loop-place.invariant _ (cc) (search rules)
+    elim c.if-fits_filter.branch [
+      | then-fits_filter+in_ok-rule+in_ok-push w ↦ rw w.changes-is (
+          passed_next _ c.loop-place.place-index _ here test (Remove c.args.table) [] c.loop-place.changes.items c.loop-place.invariant w.push.new.self.items (sym c.fits_filter.ensures ∙ w.if-fits_filter.true) (search rules)
+          )
+      | else-fits_filter w ↦ rw w.changes-is (
+          passed_same _ c.loop-place.place-index _ here test (Remove c.args.table) [] c.loop-place.changes.items c.loop-place.invariant c.loop-place.changes.items (sym c.fits_filter.ensures ∙ w.if-fits_filter.false) refl
+          )
+    ]
 
 pub returns : goal.returns
 returns c =

@@ -17,11 +17,11 @@ update_filtered-requires-clause-known c =
     subst (λ (o : Option (List ℕ)). IfSome o (FindFitting c.in-UpdateFiltered.at c.in-UpdateFiltered.values (rows c.args.tables.now.policy c.in-UpdateFiltered.table))) (sym c.rules-places.ensures)
     (subst (AreKnown c.args.shapes.now c.args.tables.now.policy c.args.known.now) c.in-UpdateFiltered.is c.requires.known)
 
-pub delete_name-requires-in-DeleteUser-clause-links : goal.delete_name-requires-in-DeleteUser-clause-links
-delete_name-requires-in-DeleteUser-clause-links c = (subst (AreKnown c.args.shapes.now c.args.tables.now.policy c.args.known.now) c.in-DeleteUser.is c.requires.known).0
+pub delete_name-requires-clause-links : goal.delete_name-requires-clause-links
+delete_name-requires-clause-links c = (subst (AreKnown c.args.shapes.now c.args.tables.now.policy c.args.known.now) c.in-DeleteUser.is c.requires.known).0
 
-pub delete_name-requires-in-DeleteUser-clause-subjects : goal.delete_name-requires-in-DeleteUser-clause-subjects
-delete_name-requires-in-DeleteUser-clause-subjects c = (subst (AreKnown c.args.shapes.now c.args.tables.now.policy c.args.known.now) c.in-DeleteUser.is c.requires.known).1
+pub delete_name-requires-clause-subjects : goal.delete_name-requires-clause-subjects
+delete_name-requires-clause-subjects c = (subst (AreKnown c.args.shapes.now c.args.tables.now.policy c.args.known.now) c.in-DeleteUser.is c.requires.known).1
 
 pub delete_name-requires-in-DeleteRole-clause-links : goal.delete_name-requires-in-DeleteRole-clause-links
 delete_name-requires-in-DeleteRole-clause-links c = (subst (AreKnown c.args.shapes.now c.args.tables.now.policy c.args.known.now) c.in-DeleteRole.is c.requires.known).0

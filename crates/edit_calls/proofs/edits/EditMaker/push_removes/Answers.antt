@@ -18,4 +18,4 @@ returns-in-Some c =
     let all = rows c.args.self.now.tables.now.policy c.args.table in
     let known = subst (λ (o : Option (Bor (List ℕ))). IfSome (option_copied o) (FindFitting c.args.column (c.args.name.now ∷ []) all)) c.in-Some.is c.requires.known in
     subst (λ (l : List Fields). OnOk c.push_removes_at.result (c.push_removes_at.new.changes.items ≡ c.args.changes.now.items ++ removes c.args.table l))
-    (ap (λ (name : List ℕ). rows_with c.args.column name (rules_at all c.in-Some.places.now)) c.bytes-name.ensures ∙ named_at c.args.column c.args.name.now all c.in-Some.places.now c.requires.columns known) c.push_removes_at.ensures
+    (ap (λ (name : List ℕ). rows_with c.args.column name (rules_at all c.in-Some.places.now)) c.bytes-name.ensures.value ∙ named_at c.args.column c.args.name.now all c.in-Some.places.now c.requires.columns known) c.push_removes_at.ensures

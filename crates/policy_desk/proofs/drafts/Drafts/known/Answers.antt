@@ -8,8 +8,8 @@ use Rattle.policy_desk.proofs.drafts.Drafts.known.Goals as goal
 
 pub returns-in-RemoveFiltered-clause-known : goal.returns-in-RemoveFiltered-clause-known
 returns-in-RemoveFiltered-clause-known c =
-    subst (AreKnown c.args.shapes.now c.args.self.now c.known_by_filter-in-RemoveFiltered.result) (sym c.in-RemoveFiltered.is)
-    (subst (λ (values : Fields). IfSome c.known_by_filter-in-RemoveFiltered.result.rules (FindFitting c.in-RemoveFiltered.at values (rows c.args.self.now c.in-RemoveFiltered.table))) c.fields-in-RemoveFiltered.ensures.value c.known_by_filter-in-RemoveFiltered.ensures.known)
+    subst (AreKnown c.args.shapes.now c.args.self.now c.known_by_filter.result) (sym c.in-RemoveFiltered.is)
+    (subst (λ (values : Fields). IfSome c.known_by_filter.result.rules (FindFitting c.in-RemoveFiltered.at values (rows c.args.self.now c.in-RemoveFiltered.table))) c.fields.ensures.value c.known_by_filter.ensures.known)
 
 pub returns-in-UpdateFiltered-clause-known : goal.returns-in-UpdateFiltered-clause-known
 returns-in-UpdateFiltered-clause-known c =
@@ -18,7 +18,7 @@ returns-in-UpdateFiltered-clause-known c =
 
 pub returns-in-DeleteUser-clause-known : goal.returns-in-DeleteUser-clause-known
 returns-in-DeleteUser-clause-known c =
-    subst (AreKnown c.args.shapes.now c.args.self.now c.known_by_name-in-DeleteUser.result) (sym c.in-DeleteUser.is) (c.known_by_name-in-DeleteUser.ensures.links, c.known_by_name-in-DeleteUser.ensures.subjects)
+    subst (AreKnown c.args.shapes.now c.args.self.now c.known_by_name.result) (sym c.in-DeleteUser.is) (c.known_by_name.ensures.links, c.known_by_name.ensures.subjects)
 
 pub returns-in-DeleteRole-clause-known : goal.returns-in-DeleteRole-clause-known
 returns-in-DeleteRole-clause-known c =
