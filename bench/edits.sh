@@ -2,8 +2,9 @@
 # Prints what an edit with its publish costs in a session over 1,000 rows and over 200,000, each as a ratio of one run: rules of p
 # that are removed and added again, plain and ranked, found by equalities or by key patterns, or all under one key; rules that are
 # updated; role rows that are removed and added again among users and roles that stand, in one domain and in as many as there are
-# roles, and links among roles that are all linked; and what a row costs of a batch that removes 100 rows and of one that removes
-# 10,000, by a filter and as those of one user. Usage: bench/edits.sh [EDITS].
+# roles, and links among roles that are all linked; calls that take five rows out, by a name, by a filter of one or two columns and
+# as a batch, behind the first of their kind, which goes over the rows; and what a row costs of a batch that removes 100 rows and of
+# one that removes 10,000, by a filter and as those of one user. Usage: bench/edits.sh [EDITS].
 source "$(dirname "${BASH_SOURCE[0]}")/timing.sh"
 build "$root"
 python3 - "$root/crates/casbin_cli/out/casbin_cli" "$work" "${1:-2000}" <<'PYTHON'
@@ -96,6 +97,43 @@ for kind, way, what in [
 ]:
     few, many = edit_cost(kind, way, FEW), edit_cost(kind, way, MANY)
     print(f"{what}, with its publish: over {FEW} rows {few * 1e6:.1f} us, over {MANY} {many * 1e6:.1f} us, ratio {many / few:.2f}", flush=True)
+
+
+# The rows of a name, of which there are so many, and each has five.
+FIVE = 5
+
+
+def rows_of_name(kind, name, names):
+    if kind == "roles":
+        return [f"g, user{name:06d}, role{(name * FIVE + i) % (names // 10)}" for i in range(FIVE)]
+    return [f"p, user{name:06d}, data{i}, read" for i in range(FIVE)]
+
+
+# The seconds of a call that takes the rows of a name out, with the call that adds them again, each published. The first call of the
+# session, which makes what finds rows, is not counted.
+def call_cost(kind, call, n):
+    names = n // FIVE
+    with open(f"{work}/policy.csv", "w") as file:
+        file.writelines(row + "\n" for name in range(names) for row in rows_of_name(kind, name, names))
+
+    def lines(name):
+        rows = rows_of_name(kind, name, names)
+        removal = ["begin remove-all", *rows, "end"] if call == "remove-all" else [call.format(f"user{name:06d}")]
+        return [*removal, "publish", "begin add-all", *rows, "end", "publish"]
+
+    first, others = lines(0), [line for k in range(most) for line in lines((k * 7919) % names)]
+    return max(took(kind, first + others) - took(kind, first), 1e-9) / most
+
+
+for kind, call, what in [
+    ("roles", "delete-user {}", "a user of five role rows deleted"),
+    ("roles", "remove-filtered g, 0, {}", "five role rows removed by a filter"),
+    ("plain", "remove-filtered p, 0, {}", "five rules removed by a filter"),
+    ("plain", "remove-filtered p, 0, {}, , read", "five rules removed by a filter of two columns"),
+    ("plain", "remove-all", "five rules removed as a batch"),
+]:
+    few, many = call_cost(kind, call, FEW), call_cost(kind, call, MANY)
+    print(f"{what} and added again, published: over {FEW} rows {few * 1e6:.1f} us, over {MANY} {many * 1e6:.1f} us, ratio {many / few:.2f}", flush=True)
 
 
 # The seconds of one of the rows that one call removes of 200,000, of which so many are its own.

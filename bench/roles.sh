@@ -1,9 +1,9 @@
 #!/usr/bin/env bash
 # Prints what a question to a role relation costs in a domain of 10 roles, in one of 1,000, whose distances are kept, and in one
 # of 1,100, which is walked; what adding and removing a user's row costs with 10 roles and with 1,000 standing; what the roles of a
-# user cost among 1,000 rows and 200,000; what a request costs over one rule and over 140 that ask about a name with 1,260 roles; and
-# what 200,000 rows of roles take in 1, 100 and 10,000 domains, in time to load and in memory, beside as many rules without roles.
-# Each is a ratio of one run. Usage: bench/roles.sh [QUESTIONS [EDITS]].
+# user cost among 1,000 rows and 200,000, and the users of a role, behind the first question; what a request costs over one rule and
+# over 140 that ask about a name with 1,260 roles; and what 200,000 rows of roles take in 1, 100 and 10,000 domains, in time to load
+# and in memory, beside as many rules without roles. Each is a ratio of one run. Usage: bench/roles.sh [QUESTIONS [EDITS]].
 source "$(dirname "${BASH_SOURCE[0]}")/timing.sh"
 questions="${1:-200000}"
 edits="${2:-20000}"
@@ -82,6 +82,19 @@ for rows in 1000 200000; do
   first="${first:-$took}"
   awk -v rows="$rows" -v ms="$took" -v first="$first" -v n="$edits" 'BEGIN {
     printf "the roles of a user among %6d rows %7.0f ns  ratio %.2f\n", rows, ms * 1e6 / n, ms / first }'
+done
+
+awk -v n="$edits" 'BEGIN { for (i = 0; i < n; i++) print "users g, role7, here" }' >"$work/queries"
+head -n 1 "$work/queries" >"$work/once"
+first=""
+for rows in 1000 200000; do
+  awk -v n="$rows" 'BEGIN { for (i = 0; i < n; i++) printf "g, user%d, role%d, here\n", i, i % (n / 2) }' >"$work/policy.csv"
+  read -r once _ <<<"$(measure "$work/once" session "$work/asked.conf" "$work/policy.csv")"
+  read -r all _ <<<"$(measure "$work/queries" session "$work/asked.conf" "$work/policy.csv")"
+  took=$((all > once ? all - once : 1))
+  first="${first:-$took}"
+  awk -v rows="$rows" -v ms="$took" -v first="$first" -v n="$edits" 'BEGIN {
+    printf "the users of a role among %6d rows %7.0f ns  ratio %.2f\n", rows, ms * 1e6 / n, ms / first }'
 done
 
 # Rules that all ask about one name, which reaches nine layers of 140 roles and none of theirs.

@@ -1,5 +1,6 @@
 mod RefusalLemmas
 mod EditLemmas
+mod KnownLemmas
 mod ApplyLemmas
 mod ShapeLemmas
 mod ResolveLemmas

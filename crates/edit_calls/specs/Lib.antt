@@ -1,5 +1,6 @@
 pub mod Refusals
 pub mod Edits
+pub mod Found
 pub mod Answers
 pub mod Told
 pub mod Admitted

@@ -1,5 +1,6 @@
 ghost use Rattle.std.specs.Prelude.{◌≡◌, ◌+◌, ◌<◌, ◌≤◌, ◌++◌, All, IfOk, OnOk, filter, length, map, not};
 ghost use Rattle.edit_calls.specs.Edits.{fitting, inserts, removes, rows_with};
+ghost use Rattle.edit_calls.specs.Found.{rules_at};
 ghost use Rattle.policy_table.specs.Tables.{rows, stands};
 ghost use Rattle.policy_table.specs.declared.change.Change.TheVariants as change;
 
@@ -126,6 +127,57 @@ pub(crate) fn push_removes_with(
         ≡ changes.old.items ++ removes table (rows_with column name.now rows.entry)) }
 {
     for row in rows {
+        if name == row.field(column) {
+            let rule = row.copy(alloc)?;
+            changes.push(Change::Remove { table, rule })?;
+        }
+    }
+    Ok(())
+}
+
+/// The changes that take the rules at places out of a table that fit a filter.
+pub(crate) fn removes_fitting_at(
+    alloc: Global,
+    tables: &Tables,
+    table: TableId,
+    places: &[u32],
+    at: u32,
+    values: &Rule,
+) -> Result<Vec<Change>, NoMemory>
+    requires columns { All (λ rule. at + length values.now ≤ length rule)
+        (rows tables.now.policy table) }
+    requires within { All (λ place. place < length (rows tables.now.policy table)) places.now }
+    ensures { IfOk result (λ changes. changes.items ≡ removes table
+        (fitting at values.now (rules_at (rows tables.now.policy table) places.now))) }
+{
+    let mut changes = Vec::new(alloc);
+    for place in places {
+        let row = tables.row(table, *place);
+        if fits_filter(row, at, values) {
+            let rule = row.copy(alloc)?;
+            changes.push(Change::Remove { table, rule })?;
+        }
+    }
+    Ok(changes)
+}
+
+/// Puts behind changes those that take the rules at places out of a table that have a name in a column.
+pub(crate) fn push_removes_at(
+    alloc: Global,
+    changes: &mut Vec<Change>,
+    tables: &Tables,
+    table: TableId,
+    places: &[u32],
+    column: u32,
+    name: &[u8],
+) -> Result<(), NoMemory>
+    requires columns { All (λ rule. column < length rule) (rows tables.now.policy table) }
+    requires within { All (λ place. place < length (rows tables.now.policy table)) places.now }
+    ensures { OnOk result (changes.new.items ≡ changes.old.items ++ removes table
+        (rows_with column name.now (rules_at (rows tables.now.policy table) places.now))) }
+{
+    for place in places {
+        let row = tables.row(table, *place);
         if name == row.field(column) {
             let rule = row.copy(alloc)?;
             changes.push(Change::Remove { table, rule })?;

@@ -1,5 +1,6 @@
-ghost use Rattle.std.specs.Prelude.{◌≡◌, ◌+◌, ◌<◌, ◌≤◌, ◌++◌, ◌∷◌, [], ◌||◌, All, IfOk, Some, filter, length, map, not};
-ghost use Rattle.edit_calls.specs.Edits.{edit_by, fitting, has_repeat, inserts, is_empty, one_is_absent, one_stands, one_stays, removes, unless, without_name};
+ghost use Rattle.std.specs.Prelude.{◌≡◌, ◌+◌, ◌<◌, ◌≤◌, ◌++◌, ◌∷◌, [], ◌||◌, All, IfOk, IfSome, OnOk, Some, filter, length, map, not, option_copied};
+ghost use Rattle.edit_calls.specs.Edits.{edit_by, fitting, has_repeat, inserts, is_empty, one_is_absent, one_stands, one_stays, removes, rows_with, unless, without_name};
+ghost use Rattle.edit_calls.specs.Found.{AreKnown, FindFitting};
 ghost use Rattle.edit_calls.specs.Helps.Kept.{AreFitted};
 ghost use Rattle.perm_base.specs.declared.shapes.TableId.TheVariants as tables_of;
 ghost use Rattle.policy_table.specs.Tables.{rows, stands};
@@ -7,8 +8,10 @@ ghost use Rattle.policy_table.specs.declared.change.Change.TheVariants as change
 
 use crate::call::{Call, Pairs};
 use crate::changes::{
-    inserts, inserts_absent, push_inserts, push_removes_with, removes, removes_fitting, replaces,
+    inserts, inserts_absent, push_inserts, push_removes_at, push_removes_with, removes,
+    removes_fitting, removes_fitting_at, replaces,
 };
+use crate::known::Known;
 use crate::listed::{News, Olds, RuleList};
 use crate::named::{has_repeat, one_is_absent, one_stands, one_stays};
 use perm_base::{NoMemory, Rule, Rules, Shapes, TableId, Text};
@@ -21,11 +24,14 @@ pub(crate) fn edit_by(
     call: &Call,
     tables: &Tables,
     shapes: &Shapes,
+    known: &Known,
 ) -> Result<Option<Edit>, NoMemory>
-    requires { AreFitted shapes.now tables.now.policy call.now }
+    requires fitted { AreFitted shapes.now tables.now.policy call.now }
+    requires known { AreKnown shapes.now tables.now.policy known.now call.now }
     ensures { IfOk result (λ edit. edit ≡ edit_by shapes.now tables.now.policy call.now) }
 {
     let maker = EditMaker { alloc, tables };
+    let places = known.rules();
     match call {
         Call::Add { table, rule } => maker.add(*table, rule),
         Call::AddAll { table, rules } => maker.add_all(*table, rules),
@@ -33,15 +39,17 @@ pub(crate) fn edit_by(
         Call::Remove { table, rule } => maker.remove(*table, rule),
         Call::RemoveAll { table, rules } => maker.remove_all(*table, rules),
         Call::Update { table, pairs } => maker.update(*table, pairs),
-        Call::RemoveFiltered { table, at, values } => maker.remove_filtered(*table, *at, values),
+        Call::RemoveFiltered { table, at, values } => {
+            maker.remove_filtered(*table, *at, values, places)
+        }
         Call::UpdateFiltered {
             table,
             at,
             values,
             rules,
-        } => maker.update_filtered(*table, *at, values, rules),
-        Call::DeleteUser { name } => maker.delete_name(shapes, 0, name),
-        Call::DeleteRole { name } => maker.delete_name(shapes, 1, name),
+        } => maker.update_filtered(*table, *at, values, rules, places),
+        Call::DeleteUser { name } => maker.delete_name(shapes, 0, name, known),
+        Call::DeleteRole { name } => maker.delete_name(shapes, 1, name, known),
     }
 }
 
@@ -149,15 +157,40 @@ impl<'a> EditMaker<'a> {
         table: TableId,
         at: u32,
         values: &Rule,
+        places: Option<&[u32]>,
     ) -> Result<Option<Edit>, NoMemory>
-        requires { All (λ rule. at + length values.now ≤ length rule)
+        requires fitted { All (λ rule. at + length values.now ≤ length rule)
             (rows self.now.tables.now.policy table) }
+        requires known { IfSome (option_copied places)
+            (FindFitting at values.now (rows self.now.tables.now.policy table)) }
         ensures { IfOk result (λ edit. edit ≡ unless
             (is_empty (fitting at values.now (rows self.now.tables.now.policy table)))
             (removes table (fitting at values.now (rows self.now.tables.now.policy table)))) }
     {
-        let changes = removes_fitting(self.alloc, table, self.tables.rows(table), at, values)?;
+        let changes = self.removes_fitting(table, at, values, places)?;
         Ok(unless_empty(changes))
+    }
+
+    // The changes that take the rules out of a table that fit a filter, which stand at these places where they are known.
+    fn removes_fitting(
+        &self,
+        table: TableId,
+        at: u32,
+        values: &Rule,
+        places: Option<&[u32]>,
+    ) -> Result<Vec<Change>, NoMemory>
+        requires fitted { All (λ rule. at + length values.now ≤ length rule)
+            (rows self.now.tables.now.policy table) }
+        requires known { IfSome (option_copied places)
+            (FindFitting at values.now (rows self.now.tables.now.policy table)) }
+        ensures { IfOk result (λ changes. changes.items ≡ removes table
+            (fitting at values.now (rows self.now.tables.now.policy table))) }
+    {
+        let (alloc, tables) = (self.alloc, self.tables);
+        match places {
+            Some(places) => removes_fitting_at(alloc, tables, table, places, at, values),
+            None => removes_fitting(alloc, table, tables.rows(table), at, values),
+        }
     }
 
     fn update_filtered(
@@ -166,9 +199,12 @@ impl<'a> EditMaker<'a> {
         at: u32,
         values: &Rule,
         rules: &Rules,
+        places: Option<&[u32]>,
     ) -> Result<Option<Edit>, NoMemory>
-        requires { All (λ rule. at + length values.now ≤ length rule)
+        requires fitted { All (λ rule. at + length values.now ≤ length rule)
             (rows self.now.tables.now.policy table) }
+        requires known { IfSome (option_copied places)
+            (FindFitting at values.now (rows self.now.tables.now.policy table)) }
         ensures { IfOk result (λ edit. edit ≡ unless
             (is_empty (fitting at values.now (rows self.now.tables.now.policy table))
             || has_repeat rules.now
@@ -176,7 +212,7 @@ impl<'a> EditMaker<'a> {
             (removes table (fitting at values.now (rows self.now.tables.now.policy table))
             ++ inserts table rules.now)) }
     {
-        let mut changes = removes_fitting(self.alloc, table, self.tables.rows(table), at, values)?;
+        let mut changes = self.removes_fitting(table, at, values, places)?;
         if changes.is_empty()
             || has_repeat(self.alloc, rules)?
             || one_stays(self.tables, table, at, values, rules)
@@ -193,24 +229,53 @@ impl<'a> EditMaker<'a> {
         shapes: &Shapes,
         column: u32,
         name: &Text,
+        known: &Known,
     ) -> Result<Option<Edit>, NoMemory>
         requires g { All (λ rule. column < length rule)
             (rows self.now.tables.now.policy (tables_of.G 1)) }
         requires p { All (λ rule. shapes.now.subject_column < length rule)
             (rows self.now.tables.now.policy tables_of.P) }
+        requires links { IfSome known.now.rules (FindFitting column (name.now ∷ [])
+            (rows self.now.tables.now.policy (tables_of.G 1))) }
+        requires subjects { IfSome known.now.subjects
+            (FindFitting shapes.now.subject_column (name.now ∷ [])
+            (rows self.now.tables.now.policy tables_of.P)) }
         ensures { IfOk result (λ edit. edit ≡ unless
             (is_empty (without_name column shapes.now self.now.tables.now.policy name.now))
             (without_name column shapes.now self.now.tables.now.policy name.now)) }
     {
-        let (alloc, tables) = (self.alloc, self.tables);
-        let mut changes = Vec::new(alloc);
-        let name = name.bytes();
+        let mut changes = Vec::new(self.alloc);
         let g = TableId::G(1);
-        push_removes_with(alloc, &mut changes, g, tables.rows(g), column, name)?;
+        self.push_removes(&mut changes, g, column, name, known.rules())?;
         let p = TableId::P;
         let subject = shapes.subject_column;
-        push_removes_with(alloc, &mut changes, p, tables.rows(p), subject, name)?;
+        self.push_removes(&mut changes, p, subject, name, known.subjects())?;
         Ok(unless_empty(changes))
+    }
+
+    // Puts behind changes those that take the rules out of a table that have a name in a column, which stand at these places where
+    // they are known.
+    fn push_removes(
+        &self,
+        changes: &mut Vec<Change>,
+        table: TableId,
+        column: u32,
+        name: &Text,
+        places: Option<&[u32]>,
+    ) -> Result<(), NoMemory>
+        requires columns { All (λ rule. column < length rule)
+            (rows self.now.tables.now.policy table) }
+        requires known { IfSome (option_copied places) (FindFitting column (name.now ∷ [])
+            (rows self.now.tables.now.policy table)) }
+        ensures { OnOk result (changes.new.items ≡ changes.old.items ++ removes table
+            (rows_with column name.now (rows self.now.tables.now.policy table))) }
+    {
+        let (alloc, tables) = (self.alloc, self.tables);
+        let name = name.bytes();
+        match places {
+            Some(places) => push_removes_at(alloc, changes, tables, table, places, column, name),
+            None => push_removes_with(alloc, changes, table, tables.rows(table), column, name),
+        }
     }
 }
 

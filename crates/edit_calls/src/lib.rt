@@ -6,6 +6,7 @@ mod call;
 mod changes;
 mod edits;
 mod front;
+mod known;
 mod laws;
 mod listed;
 mod named;
@@ -17,6 +18,7 @@ mod standing;
 pub use admitted::{admits, may_stand};
 pub use call::{Call, Pairs};
 pub use front::make_front;
+pub use known::Known;
 pub use laws::{
     admitted_edits_compose, admitted_edits_keep_sound, edits_apply, edits_are_admitted,
     edits_keep_shapes, edits_keep_sound,

@@ -7,15 +7,18 @@ ghost use Rattle.live_pair.specs.Story.{edits_in, publishes};
 ghost use Rattle.policy_desk.specs.Answers.{IsAnswered, desk_answer};
 ghost use Rattle.policy_desk.specs.Desks.{floor_after};
 ghost use Rattle.policy_desk.specs.Transitions.{IsBegun, IsPublished, after_call};
-ghost use Rattle.policy_state.specs.States.{StandsFor};
+ghost use Rattle.policy_query.specs.Answers.{IsAnswer};
+ghost use Rattle.policy_query.specs.Names.{users_answer};
+ghost use Rattle.policy_state.specs.States.{StandsFor, tables};
 ghost use Rattle.version_log.specs.Log.{versions};
 
 use crate::front::Front;
 use crate::line::{Line, Shows, SideWriter, show};
 use crate::naming::Naming;
 use edit_calls::{Call, CallRefused};
-use perm_base::NoMemory;
+use perm_base::{NoMemory, Rule, Text};
 use policy_desk::Desk;
+use policy_query::QueryRefused;
 use std::alloc::Global;
 use std::marker::Model;
 use std::sync::Wait;
@@ -77,6 +80,21 @@ impl<J: Naming, W: Shows> AdminOver<J, W> {
         ensures refused { OnErr result (self.new ≡ self.old) }
     {
         self.desk.call(alloc, call)
+    }
+
+    /// The users that have a role in the desk's policy (`Desk::users_of`).
+    pub fn users_of(
+        &mut self,
+        alloc: Global,
+        relation: u8,
+        role: &Text,
+        domain: &Option<Text>,
+    ) -> Result<Rule, QueryRefused>
+        ensures answer { IsAnswer (users_answer self.old.desk.state.shapes
+            (tables self.old.desk.state) relation role.now domain.now) result }
+        ensures same { self.new ≡ self.old }
+    {
+        self.desk.users_of(alloc, relation, role, domain)
     }
 
     /// Lets later publishes keep so many edits (`Desk::keep`). It takes no memory.

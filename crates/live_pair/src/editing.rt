@@ -3,8 +3,9 @@ use crate::admin::AdminOver;
 use crate::line::SideWriter;
 use crate::naming::Naming;
 use edit_calls::{Call, CallRefused};
-use perm_base::NoMemory;
+use perm_base::{NoMemory, Rule, Text};
 use policy_desk::{Desk, Editor};
+use policy_query::QueryRefused;
 use std::alloc::Global;
 use std::sync::Wait;
 
@@ -23,6 +24,16 @@ impl<J: Naming, R: Wait> Editor<R> for AdminOver<J, SideWriter<J>> {
 
     fn call(&mut self, alloc: Global, call: &Call) -> Result<bool, CallRefused> {
         AdminOver::call(self, alloc, call)
+    }
+
+    fn users_of(
+        &mut self,
+        alloc: Global,
+        relation: u8,
+        role: &Text,
+        domain: &Option<Text>,
+    ) -> Result<Rule, QueryRefused> {
+        AdminOver::users_of(self, alloc, relation, role, domain)
     }
 
     fn publish(&mut self, rt: &R, alloc: Global) -> Result<u32, NoMemory> {

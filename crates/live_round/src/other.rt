@@ -49,7 +49,7 @@ pub fn answer_other<R, E: Editor<R>>(
             relation,
             name,
             domain,
-        } => answer_users(alloc, editor.desk(), *relation, name, domain),
+        } => answer_users::<R, E>(alloc, editor, *relation, name, domain),
         Item::History(number) => answer_history(alloc, editor.desk(), *number),
     }
 }

@@ -1,13 +1,13 @@
-ghost use Rattle.std.specs.Prelude.{◌≡◌, ◌≢◌, IfOk};
+ghost use Rattle.std.specs.Prelude.{◌≡◌, ◌≢◌, IfOk, OnErr};
 ghost use Rattle.std.specs.Option.{option_copied};
 ghost use Rattle.answer_lines.specs.declared.answer.Answer.TheVariants as answer;
 ghost use Rattle.policy_query.specs.declared.refused.QueryRefused.TheVariants as query;
 ghost use Rattle.script_read.specs.Said.{has, recalls, roles, rows, syncs, users};
-ghost use Rattle.live_round.specs.Steps.{IsPlainStep};
+ghost use Rattle.live_round.specs.Steps.{IsPlainStep, IsStopped};
 
 use answer_lines::Answer;
 use perm_base::{NoMemory, Rule, TableId, Text};
-use policy_desk::Desk;
+use policy_desk::{Desk, Editor};
 use policy_query::QueryRefused;
 use policy_table::copy_edit;
 use std::alloc::Global;
@@ -72,18 +72,21 @@ pub(crate) fn answer_roles(
 }
 
 /// The names that have a role.
-pub(crate) fn answer_users(
+pub(crate) fn answer_users<R, E: Editor<R>>(
     alloc: Global,
-    desk: &Desk,
+    editor: &mut E,
     relation: u8,
     name: &Text,
     domain: &Option<Text>,
 ) -> Result<Answer, NoMemory>
-    ensures { IfOk result (IsPlainStep (users relation name.now domain.now) desk.now desk.now) }
+    ensures step { IfOk result (IsPlainStep (users relation name.now domain.now)
+        (E.work editor.old) (E.work editor.new)) }
+    ensures shapes { (E.work editor.new).state.shapes ≡ (E.work editor.old).state.shapes }
+    ensures stopped { OnErr result (IsStopped (E.work editor.old) (E.work editor.new)) }
+    ensures stays { E.stays editor.old editor.new }
 {
-    let state = desk.state();
-    let version = state.version();
-    match state.users_of(alloc, relation, name.bytes(), bytes_of(domain)) {
+    let version = editor.desk().state().version();
+    match editor.users_of(alloc, relation, name, domain) {
         Ok(names) => Ok(Answer::Users { version, names }),
         Err(refused) => told(refused),
     }

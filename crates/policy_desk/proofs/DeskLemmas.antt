@@ -1,6 +1,5 @@
 -- What a desk keeps where an edit is drafted.
 use Rattle.std.proofs.Common.{◌≡◌, ℕ, ◌+◌, ◌<◌, true, List, [], ◌∷◌, ◌++◌, length, length-append, IfOk, Result, Ok, Err, Some, sym, ap, subst, ◌∙◌, arith}
-use Rattle.std.proofs.lemmas.List.{append-nil}
 use Rattle.edit_calls.specs.Admitted.{AreAdmitted, admits}
 use Rattle.perm_base.specs.declared.shapes.Shapes.{Shapes}
 use Rattle.policy_desk.specs.Desks.{IsDesk, Work, edits_of, floor_after}
@@ -10,7 +9,7 @@ use Rattle.policy_state.proofs.CallerLemmas.{admitted_both, stands_same}
 use Rattle.policy_state.specs.Ready.{AreReady, Readied}
 use Rattle.policy_state.specs.States.{State, StandsFor, tables}
 use Rattle.policy_table.proofs.CallerLemmas.{are_lists, counted_edited}
-use Rattle.policy_table.specs.Changes.{edited, flat, replay}
+use Rattle.policy_table.specs.Changes.{edited, replay}
 use Rattle.policy_table.specs.Limits.{AreSound}
 use Rattle.policy_table.specs.Tables.{AreLists, IsKept, Policy}
 use Rattle.policy_table.specs.declared.change.Change.{Change}
@@ -18,9 +17,8 @@ use Rattle.version_log.specs.Log.{most_versions, versions}
 use Rattle.version_log.proofs.CallerLemmas.{replay_both}
 
 -- sound tables after one edit are lists
-pub one_few : (shapes : Shapes) (policy : Policy) (edits : List (List Change)) (edit : List Change) → edits ≡ edit ∷ [] → IsKept policy → AreSound shapes (edited edit policy) → AreLists (edited (flat edits) policy).lists
-one_few shapes policy edits edit one kept sound = subst (λ (changes : List Change). AreLists (edited changes policy).lists) (sym (ap flat one ∙ append-nil edit))
-    (are_lists shapes (edited edit policy) (counted_edited edit policy ∙ kept.lists.counted) sound.shaped sound.within)
+pub one_few : (shapes : Shapes) (policy : Policy) (edit : List Change) → IsKept policy → AreSound shapes (edited edit policy) → AreLists (edited edit policy).lists
+one_few shapes policy edit kept sound = are_lists shapes (edited edit policy) (counted_edited edit policy ∙ kept.lists.counted) sound.shaped sound.within
 
 -- a desk with one more pending edit, which is made in its drafts
 pub drafted : (desk : Work) (edit : List Change) (pending : List (List Change)) (drafts : Policy) → IsDesk desk → admits desk.state.shapes desk.drafts edit ≡ true → AreSound desk.state.shapes (edited edit desk.drafts)

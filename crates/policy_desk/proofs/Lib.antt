@@ -1,3 +1,4 @@
 mod AnswerLemmas
 mod DeskLemmas
+mod DraftLemmas
 pub mod CallerLemmas

@@ -2,9 +2,10 @@ ghost use Rattle.std.specs.Prelude.{◌≡◌, [], IfOk, None, Some};
 ghost use Rattle.policy_desk.specs.Desks.{IsDesk};
 ghost use Rattle.policy_state.specs.States.{tables};
 
+use crate::drafts::Drafts;
 use perm_base::{NoMemory, Share};
 use policy_state::PolicyState;
-use policy_table::{Edit, Tables};
+use policy_table::Edit;
 use std::alloc::Global;
 use std::marker::Model;
 
@@ -14,7 +15,7 @@ use std::marker::Model;
 pub struct Desk {
     pub(crate) state: PolicyState,
     pub(crate) pending: Vec<Edit>,
-    pub(crate) drafts: Tables,
+    pub(crate) drafts: Drafts,
     // How many edits are to be kept, where that was said.
     pub(crate) kept: Option<u32>,
     pub(crate) floor: u32,
@@ -41,7 +42,7 @@ impl Model for Desk {
     ghost view = { λ d. record {
       state = d.state;
       pending = d.pending.items;
-      drafts = d.drafts.policy;
+      drafts = d.drafts;
       kept = d.kept;
       floor = d.floor;
     } };
@@ -49,7 +50,7 @@ impl Model for Desk {
     ghost invariant = { λ d. IsDesk (record {
       state = d.state;
       pending = d.pending.items;
-      drafts = d.drafts.policy;
+      drafts = d.drafts;
       kept = d.kept;
       floor = d.floor;
     }) };
@@ -64,7 +65,8 @@ pub fn open_desk(alloc: Global, state: PolicyState) -> Result<Desk, NoMemory>
     ensures floor { IfOk result (λ desk. desk.floor ≡ state.log.start) }
 {
     state.kept();
-    let drafts = state.tables().copy(alloc)?;
+    let tables = state.tables().copy(alloc)?;
+    let drafts = Drafts::new(alloc, tables);
     let floor = state.start();
     Ok(Desk {
         state,

@@ -4,11 +4,15 @@ ghost use Rattle.edit_calls.specs.Told.{IsTold};
 ghost use Rattle.policy_desk.specs.Answers.{IsAnswered, desk_answer};
 ghost use Rattle.policy_desk.specs.Desks.{Work, floor_after};
 ghost use Rattle.policy_desk.specs.Transitions.{IsBegun, IsPublished, after_call};
+ghost use Rattle.policy_query.specs.Answers.{IsAnswer};
+ghost use Rattle.policy_query.specs.Names.{users_answer};
+ghost use Rattle.policy_state.specs.States.{tables};
 ghost use Rattle.version_log.specs.Log.{versions};
 
 use crate::desk::Desk;
 use edit_calls::{Call, CallRefused};
-use perm_base::NoMemory;
+use perm_base::{NoMemory, Rule, Text};
+use policy_query::QueryRefused;
 use std::alloc::Global;
 
 /// What edits and publishes a policy at a desk: the desk alone, or the administrator of a pair of copies. By `R` a publish may
@@ -36,6 +40,19 @@ pub trait Editor<R> {
         ensures done { IfOk result (λ _. work self.new
             ≡ after_call (desk_answer (work self.old) call.now) (work self.old)) }
         ensures refused { OnErr result (work self.new ≡ work self.old) }
+        ensures stays { stays self.old self.new };
+
+    /// The users that have a role in the published policy (`Desk::users_of`).
+    fn users_of(
+        &mut self,
+        alloc: Global,
+        relation: u8,
+        role: &Text,
+        domain: &Option<Text>,
+    ) -> Result<Rule, QueryRefused>
+        ensures answer { IsAnswer (users_answer (work self.old).state.shapes
+            (tables (work self.old).state) relation role.now domain.now) result }
+        ensures same { work self.new ≡ work self.old }
         ensures stays { stays self.old self.new };
 
     /// Publishes the pending edits (`Desk::publish`), and says the new version. It may wait.
@@ -69,6 +86,16 @@ impl<R> Editor<R> for Desk {
 
     fn call(&mut self, alloc: Global, call: &Call) -> Result<bool, CallRefused> {
         Desk::call(self, alloc, call)
+    }
+
+    fn users_of(
+        &mut self,
+        alloc: Global,
+        relation: u8,
+        role: &Text,
+        domain: &Option<Text>,
+    ) -> Result<Rule, QueryRefused> {
+        Desk::users_of(self, alloc, relation, role, domain)
     }
 
     fn publish(&mut self, _rt: &R, alloc: Global) -> Result<u32, NoMemory> {

@@ -1,8 +1,10 @@
 //! The desk of one administrator: a published policy, the edits that are pending, and drafts of the tables to come.
 #![tactic(auto)]
 
+mod asking;
 mod calling;
 mod desk;
+mod drafts;
 mod editor;
 mod publishing;
 

@@ -12,4 +12,6 @@ mod PlaceLemmas
 mod AddLemmas
 mod OrderLemmas
 mod FoundRowsLemmas
+mod FinderLemmas
+mod FilterLemmas
 pub mod CallerLemmas

@@ -4,4 +4,5 @@ pub mod Hashes
 pub mod Lists
 pub mod Indexed
 pub mod Found
+pub mod Finders
 pub mod Helps

@@ -136,8 +136,8 @@ impl Index {
         self.places.push_reserved(place);
     }
 
-    // Takes the row of a slot out, and puts that of the last slot there.
-    fn remove(&mut self, slot: u32)
+    /// Takes the row of a slot out, and puts that of the last slot there.
+    pub(crate) fn remove(&mut self, slot: u32)
         requires { slot < length self.old.marks }
         ensures key { self.new.key ≡ self.old.key }
         ensures marks { (mark : Mark) → self.new.marks ≡ swap_remove self.old.marks slot mark }
@@ -155,8 +155,8 @@ impl Index {
         note(&mut self.emptied, gone.hash);
     }
 
-    // Puts another row into a slot, for the one that is there.
-    fn set(&mut self, slot: u32, mark: Mark)
+    /// Puts another row into a slot, for the one that is there.
+    pub(crate) fn set(&mut self, slot: u32, mark: Mark)
         requires slot { slot < length self.old.marks }
         requires room { 0 < room_at self.old.lists mark.hash }
         ensures key { self.new.key ≡ self.old.key }

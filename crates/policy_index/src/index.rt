@@ -68,14 +68,7 @@ impl Index {
         ensures key { IfOk result (λ index. index.key ≡ key) }
         ensures rows { IfOk result (λ index. IsIndexIn index tables.now) }
     {
-        let mut index = Index {
-            key,
-            marks: Vec::new(alloc),
-            slots: Slots::new(alloc),
-            fronts: Fronts::new(),
-            places: Vec::new(alloc),
-            emptied: Vec::new(alloc),
-        };
+        let mut index = Index::empty(alloc, key);
         for rule in tables.by_slot(TableId::P) {
             let mark = mark_of(&index.key, rule);
             index.add(alloc, mark)?;

@@ -1,9 +1,14 @@
-//! An index of a policy: which rows of p can have the texts of some columns, and a pattern that a text fits.
+//! Indexes of a policy: which rows of p can have the texts of some columns, and a pattern that a text fits, and which rows of a
+//! table fit a filter.
 #![tactic(auto)]
 
+mod filters;
+mod finder;
+mod finders;
 mod finding;
 mod following;
 mod fronts;
+mod growing;
 mod hashes;
 mod index;
 mod key;
@@ -15,6 +20,7 @@ mod reserving;
 mod slot_list;
 mod slots;
 
+pub use finders::Finders;
 pub use hashes::{hash_with, start_hash};
 pub use index::Index;
 pub use key::{Front, FrontKind, RowKey};

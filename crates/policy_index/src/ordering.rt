@@ -19,20 +19,29 @@ pub fn put_in_order(tables: &Tables, found: &mut Vec<u32>)
     ensures { ArePlacesOf (slots tables.now P) (rows tables.now.policy P)
         found.old.items found.new.items }
 {
+    put_rows_in_order(tables, TableId::P, found);
+}
+
+/// The same for slots of any table.
+pub(crate) fn put_rows_in_order(tables: &Tables, table: TableId, found: &mut Vec<u32>)
+    requires { All (λ slot. slot < length (slots tables.now table)) found.old.items }
+    ensures { ArePlacesOf (slots tables.now table) (rows tables.now.policy table)
+        found.old.items found.new.items }
+{
     tables.kept();
-    put_places(tables, found);
+    put_places(tables, table, found);
     found.sort_unstable();
     found.dedup();
 }
 
 // Puts in the place of each slot that of its row.
-fn put_places(tables: &Tables, found: &mut Vec<u32>)
-    requires { All (λ slot. slot < length (slots tables.now P)) found.old.items }
-    ensures { ArePlacesOfEach (slots tables.now P) (rows tables.now.policy P)
+fn put_places(tables: &Tables, table: TableId, found: &mut Vec<u32>)
+    requires { All (λ slot. slot < length (slots tables.now table)) found.old.items }
+    ensures { ArePlacesOfEach (slots tables.now table) (rows tables.now.policy table)
         found.old.items found.new.items }
 {
     for at in 0..found.len() {
-        found[at] = tables.place_of_slot(TableId::P, found[at]);
+        found[at] = tables.place_of_slot(table, found[at]);
     }
 }
 

@@ -18,7 +18,8 @@ use Rattle.std.proofs.lemmas.Slice.Eq.{bytes_eq-Decides}
 use Rattle.policy_table.specs.Limits.{different}
 use Rattle.policy_table.specs.Tables.{Fields, same, stands}
 use Rattle.policy_table.proofs.CallerLemmas.{HasSlot, found_first, found_slot, same-Decides}
-use Rattle.policy_query.specs.Helps.Named.{ArePlaced, FindRows, place_list, rows_at, rule_of_names}
+use Rattle.policy_query.specs.Found.{FindAsked, rows_at}
+use Rattle.policy_query.specs.Helps.Named.{ArePlaced, FindRows, place_list, rule_of_names}
 use Rattle.policy_query.specs.Names.{is_asked, named_columns, names_beside}
 
 -- ---- what stands in a list
@@ -128,14 +129,17 @@ found_filter test rows places finds =
     (λ p stands. (omega arith, omega (arith, All-contains (λ (at : ℕ). at < length rows) places p finds.within stands)))
     (λ k within passes. subst (Contains places) (let e : k ≡ 0 + k = omega arith in e) (finds.each k within passes))
 
-pub found_names : (name : List ℕ) (domain : Option (List ℕ)) (rows : List Fields) (places : List ℕ) → FindRows (is_asked 0 name domain) rows places → names_beside 0 1 name domain (rows_at rows places) ≡ names_beside 0 1 name domain rows
-found_names name domain rows places finds = ap (λ (l : List Fields). different (map (λ (rule : Fields). get_or rule 1 []) l)) (found_filter (is_asked 0 name domain) rows places finds)
+-- so a question for names finds the same there
+pub found_asked : (asked : ℕ) (name : List ℕ) (domain : Option (List ℕ)) (rows : List Fields) (places : List ℕ) → FindRows (is_asked asked name domain) rows places → FindAsked asked name domain rows places
+found_asked asked name domain rows places finds = record { within = finds.within; same = found_filter (is_asked asked name domain) rows places finds }
 
--- so it is with what was gathered at all places
-pub names_told : (name : List ℕ) (domain : Option (List ℕ)) (rows : List Fields) (places : List ℕ) (index : ℕ) (names : List (List ℕ)) → names ≡ names_beside 0 1 name domain (take index (rows_at rows places)) → length places ≤ index
-    → FindRows (is_asked 0 name domain) rows places → names ≡ names_beside 0 1 name domain rows
-names_told name domain rows places index names are past finds =
-    are ∙ ap (names_beside 0 1 name domain) (take_all index (rows_at rows places) (omega (arith, past, length-map places (λ (at : ℕ). get_or rows at [])))) ∙ found_names name domain rows places finds
+-- and gathers the same at all places
+pub names_told : (asked told : ℕ) (name : List ℕ) (domain : Option (List ℕ)) (rows : List Fields) (places : List ℕ) (index : ℕ) (names : List (List ℕ)) → names ≡ names_beside asked told name domain (take index (rows_at rows places)) → length places ≤ index
+    → FindAsked asked name domain rows places → names ≡ names_beside asked told name domain rows
+names_told asked told name domain rows places index names are past finds =
+    are
+    ∙ ap (names_beside asked told name domain) (take_all index (rows_at rows places) (omega (arith, past, length-map places (λ (at : ℕ). get_or rows at []))))
+    ∙ ap (λ (l : List Fields). different (map (λ (rule : Fields). get_or rule told []) l)) finds.same
 
 -- the row at one of the places
 pub row_here : (rows : List Fields) (places : List ℕ) (index d : ℕ) (rule : Fields) → index < length places → slice_get rows (get_or places index d) ≡ Some rule → slice_get (rows_at rows places) index ≡ Some rule
@@ -148,10 +152,10 @@ pub row_long : (given : ℕ) (rows : List Fields) (place : ℕ) (rule : Fields) 
 row_long given rows place rule there all =
     subst (λ (row : Fields). given < length row) (get_or_from_slice_get rows place rule [] there) (all place [] (slice_get_within rows place rule there))
 
--- and has a role
-pub has_role : (with_domain : Bool) (long : ℕ) → named_columns with_domain < long → 1 < long
-has_role true long more = omega (arith, more)
-has_role false long more = omega (arith, more)
+-- and has a user and a role
+pub has_role : (with_domain : Bool) (told long : ℕ) → told ≤ 1 → named_columns with_domain < long → told < long
+has_role true told long low more = omega (arith, low, more)
+has_role false told long low more = omega (arith, low, more)
 
 -- ---- places that are put in order
 

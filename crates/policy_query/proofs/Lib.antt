@@ -2,3 +2,4 @@ mod ShapeLemmas
 mod NameLemmas
 mod RowLemmas
 mod FoundLemmas
+pub mod CallerLemmas

@@ -1,5 +1,6 @@
 pub mod Answers
 pub mod Rules
 pub mod Names
+pub mod Found
 pub mod Edits
 pub mod Helps

@@ -1,11 +1,12 @@
-//! Roles that are known to be among some names.
+//! Names whose rules are known to be among some.
 
-ghost use Rattle.std.specs.Prelude.{◌≡◌, ◌+◌, ◌<◌, ◌++◌, ◌∷◌, [], ℕ, All, AllPairs, IfOk, IfSome, OnOk, get_or, is_some, length, position, true, vec_len, ◌^◌};
+ghost use Rattle.std.specs.Prelude.{◌≡◌, ◌+◌, ◌<◌, ◌≤◌, ◌++◌, ◌∷◌, [], ℕ, All, AllPairs, IfOk, IfSome, OnOk, get_or, is_some, length, position, true, vec_len, ◌^◌};
 ghost use Rattle.std.specs.List.{Contains};
 ghost use Rattle.std.specs.Option.{option_copied};
 ghost use Rattle.perm_base.specs.declared.shapes.TableId.TheVariants as table_of;
 ghost use Rattle.policy_table.specs.Tables.{Fields, rows, same};
-ghost use Rattle.policy_query.specs.Helps.Named.{ArePlaced, FindRows, place_list, rule_of_names};
+ghost use Rattle.policy_query.specs.Found.{FindAsked};
+ghost use Rattle.policy_query.specs.Helps.Named.{ArePlaced, place_list, rule_of_names};
 ghost use Rattle.policy_query.specs.Names.{is_asked, named_columns, names_beside};
 
 use crate::names::{ROLE, USER, is_asked, names_beside, rule_of};
@@ -40,7 +41,16 @@ pub fn roles_among(
         return names_beside(alloc, tables.rows(table), USER, ROLE, name, domain);
     };
     put_in_order(&mut places);
-    roles_at(alloc, tables, table, places.as_slice(), name, domain)
+    names_at(
+        alloc,
+        tables,
+        table,
+        places.as_slice(),
+        USER,
+        ROLE,
+        name,
+        domain,
+    )
 }
 
 // The places of the rules of a name with these roles; none where no rule can have the names.
@@ -162,28 +172,55 @@ fn put_in_order(places: &mut Vec<u32>)
     places.dedup();
 }
 
-// The roles in the rules of a name, which stand at some of these places and nowhere else: each once.
-fn roles_at(
+/// The users that have a role in a relation by rules of their own, in one domain where the relation has domains, where all rules
+/// that give it there stand at these places, which rise: each once, in the order of its first rule. Its time grows with these places
+/// and with the logarithm of the table. It takes memory for these users alone.
+pub fn users_at(
     alloc: Global,
     tables: &Tables,
-    table: TableId,
+    relation: u8,
     places: &[u32],
     name: &[u8],
     domain: Option<&[u8]>,
 ) -> Result<Rule, NoMemory>
     requires columns { All (λ rule. named_columns (is_some (option_copied domain)) < length rule)
+        (rows tables.now.policy (table_of.G relation)) }
+    requires found { FindAsked 1 name.now (option_copied domain)
+        (rows tables.now.policy (table_of.G relation)) places.now }
+    ensures { IfOk result (λ names. names ≡ names_beside 1 0 name.now
+        (option_copied domain.entry) (rows tables.now.policy (table_of.G relation))) }
+{
+    let table = TableId::G(relation);
+    names_at(alloc, tables, table, places, ROLE, USER, name, domain)
+}
+
+// The names in the column `told` of the rules that have a name in the column `asked`, which stand at some of these places and
+// nowhere else: each once.
+fn names_at(
+    alloc: Global,
+    tables: &Tables,
+    table: TableId,
+    places: &[u32],
+    asked: u32,
+    told: u32,
+    name: &[u8],
+    domain: Option<&[u8]>,
+) -> Result<Rule, NoMemory>
+    requires columns { All (λ rule. named_columns (is_some (option_copied domain)) < length rule)
         (rows tables.now.policy table) }
-    requires found { FindRows (is_asked 0 name.now (option_copied domain))
+    requires asked { asked ≤ 1 }
+    requires told { told ≤ 1 }
+    requires found { FindAsked asked name.now (option_copied domain)
         (rows tables.now.policy table) places.now }
-    ensures { IfOk result (λ names. names ≡ names_beside 0 1 name.now
+    ensures { IfOk result (λ names. names ≡ names_beside asked told name.now
         (option_copied domain.entry) (rows tables.now.policy table)) }
 {
     let _all = tables.rows(table);
     let mut names = IndexSet::new(alloc);
     for place in places {
         let rule = tables.row(table, *place);
-        if is_asked(rule, USER, name, domain) {
-            let _new = names.insert(rule.text(ROLE))?;
+        if is_asked(rule, asked, name, domain) {
+            let _new = names.insert(rule.text(told))?;
         }
     }
     rule_of(alloc, names.as_slice())

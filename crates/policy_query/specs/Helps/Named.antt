@@ -1,5 +1,5 @@
 -- Rows that are found by the names in them.
-use Rattle.std.specs.Prelude.{◌≡◌, ◌<◌, true, ℕ, Bool, List, [], ◌∷◌, All, AllPairs, Option, None, Some, get_or, length, map}
+use Rattle.std.specs.Prelude.{◌≡◌, ◌<◌, true, ℕ, Bool, List, [], ◌∷◌, All, AllPairs, Option, None, Some, get_or, length}
 use Rattle.std.specs.List.{Contains}
 use Rattle.policy_table.specs.Tables.{Fields}
 
@@ -12,10 +12,6 @@ rule_of_names user role (Some domain) = user ∷ role ∷ domain ∷ []
 abbrev pub place_list : Option ℕ → List ℕ
 place_list None = []
 place_list (Some at) = at ∷ []
-
--- the rows at places
-abbrev pub rows_at : List Fields → List ℕ → List Fields
-rows_at rows places = map (λ (at : ℕ). get_or rows at []) places
 
 -- places of rows, among them those of the user's rules with these roles
 pub record ArePlaced (user : List ℕ) (domain : Option (List ℕ)) (roles : List (List ℕ)) (rows : List Fields) (places : List ℕ) : Type 0 where

@@ -2,8 +2,8 @@ use Rattle.std.proofs.Common.{sym, ◌∙◌}
 use Rattle.edit_calls.proofs.ResolveLemmas.{fitted, may_be_made}
 use Rattle.edit_calls.proofs.resolving.resolve.Goals as goal
 
-pub edit_by-requires : goal.edit_by-requires
-edit_by-requires c = fitted c.args.shapes.now c.args.tables.now.policy c.args.call.now c.requires.valid c.requires.sound.shaped (sym c.refusal.ensures ∙ c.in_default.is)
+pub edit_by-requires-clause-fitted : goal.edit_by-requires-clause-fitted
+edit_by-requires-clause-fitted c = fitted c.args.shapes.now c.args.tables.now.policy c.args.call.now c.requires.valid c.requires.sound.shaped (sym c.refusal.ensures ∙ c.in_default.is)
 
 pub passed_after-requires-clause-possible : goal.passed_after-requires-clause-possible
 passed_after-requires-clause-possible c =

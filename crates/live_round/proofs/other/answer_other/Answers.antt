@@ -39,14 +39,11 @@ returns-in-Roles-clause-beside g c = rw c.in-Roles.is (on_ok_of c.answer_roles.r
 pub returns-in-Roles-clause-stays : goal.returns-in-Roles-clause-stays
 returns-in-Roles-clause-stays g c = on_err_of c.answer_roles.result c.desk-in-Roles.ensures.same
 
-pub returns-in-Users-clause-step : goal.returns-in-Users-clause-step
-returns-in-Users-clause-step g c = rw c.in-Users.is (lent_step _ c.desk-in-Users.result.now (g.E.Editor.work c.args.editor.now) c.answer_users.result c.desk-in-Users.ensures.desk c.answer_users.ensures)
-
 pub returns-in-Users-clause-beside : goal.returns-in-Users-clause-beside
-returns-in-Users-clause-beside g c = rw c.in-Users.is (on_ok_of c.answer_users.result c.desk-in-Users.ensures.same)
+returns-in-Users-clause-beside g c = rw c.in-Users.is (on_ok_of c.answer_users.result c.answer_users.ensures.stays)
 
 pub returns-in-Users-clause-stays : goal.returns-in-Users-clause-stays
-returns-in-Users-clause-stays g c = on_err_of c.answer_users.result c.desk-in-Users.ensures.same
+returns-in-Users-clause-stays g c = on_err_of c.answer_users.result c.answer_users.ensures.stays
 
 pub returns-in-History-clause-step : goal.returns-in-History-clause-step
 returns-in-History-clause-step g c = rw c.in-History.is (lent_step _ c.desk-in-History.result.now (g.E.Editor.work c.args.editor.now) c.answer_history.result c.desk-in-History.ensures.desk c.answer_history.ensures)

@@ -1,5 +1,4 @@
 use Rattle.std.proofs.Common.{◌≡◌, drop, length, take}
-use Rattle.perm_base.specs.declared.shapes.TableId.TheVariants.{P}
 use Rattle.policy_table.specs.Slots.{slots}
 use Rattle.policy_table.specs.Tables.{rows}
 use Rattle.policy_index.specs.Helps.Finding.{ArePlacesOfEach}
@@ -7,7 +6,7 @@ use Rattle.policy_index.proofs.ordering.put_places.Given as goal
 
 abbrev pub invariant-loop-at : goal.invariant-loop-at
 invariant-loop-at l = record {
-  done : ArePlacesOfEach (slots l.tables P) (rows l.tables.policy P) (take l.at l.fn.found.items) (take l.at l.found.items);
+  done : ArePlacesOfEach (slots l.tables l.table) (rows l.tables.policy l.table) (take l.at l.fn.found.items) (take l.at l.found.items);
   left : drop l.at l.found.items ≡ drop l.at l.fn.found.items;
   size : length l.found.items ≡ length l.fn.found.items;
 }

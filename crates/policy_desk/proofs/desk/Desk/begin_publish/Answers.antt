@@ -9,5 +9,5 @@ returns-clause-begun c =
 
 pub returns-clause-ready : goal.returns-clause-ready
 returns-clause-ready c =
-    let desk : Work = record { state = c.prepare_parts.new.self; pending = c.self.inside.pending.items; drafts = c.self.inside.drafts.policy; kept = c.self.inside.kept; floor = c.next_floor-self-inside.result } in
+    let desk : Work = record { state = c.prepare_parts.new.self; pending = c.self.inside.pending.items; drafts = c.self.inside.drafts; kept = c.self.inside.kept; floor = c.next_floor-self-inside.result } in
     ready_for desk c.prepare_parts.result c.deref.result.now c.prepare_parts.ensures.ready c.prepare_parts.ensures.start c.deref.ensures.value

@@ -8,11 +8,10 @@ use Rattle.policy_index.specs.Indexed.{Indexed}
 use Rattle.policy_index.specs.Keys.{HaveColumns, KeyParts, is_below}
 use Rattle.policy_index.specs.declared.mark.Mark.{Mark}
 use Rattle.policy_index.proofs.CommitLemmas.{columns_by_slot, marks_push}
-use Rattle.policy_index.proofs.MarkLemmas.{none_kept}
 use Rattle.policy_index.proofs.index.Index.make.Goals as goal
 
-pub invariant_of-index : goal.invariant_of-index
-invariant_of-index c = none_kept _ _ _ _ c.new.ensures.items c.new-2.ensures c.new-3.ensures c.new-4.ensures.items
+pub loop-rule-init : goal.loop-rule-init
+loop-rule-init c = record { key = c.empty-index.ensures.key; marks = c.empty-index.ensures.marks }
 
 -- the slots of the tables have the columns, since all rows have
 pub mark_of-mark-requires : goal.mark_of-mark-requires

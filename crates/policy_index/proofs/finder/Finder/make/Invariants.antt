@@ -1,0 +1,9 @@
+use Rattle.std.proofs.Common.{◌≡◌, None, take}
+use Rattle.policy_index.specs.Indexed.{IsIndexOf}
+use Rattle.policy_index.proofs.finder.Finder.make.Given as goal
+
+abbrev pub invariant-loop-rule : goal.invariant-loop-rule
+invariant-loop-rule l = record {
+  plain : l.index.key.pattern ≡ None;
+  rows : IsIndexOf l.index (take l.rule-index l.rule-items);
+}
