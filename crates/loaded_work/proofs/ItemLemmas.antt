@@ -4,10 +4,12 @@ use Rattle.std.specs.Prelude.{All, Option, String, get_or, min, string_bytes}
 use Rattle.std.specs.declared.alloc.Global.{Global}
 use Rattle.std.proofs.lemmas.List.{drop_more, length-map, map-append, map_push, take-append-drop, take_more}
 use Rattle.answer_lines.specs.declared.answer.Line.{Line}
+use Rattle.effect_fold.specs.declared.effect.Effect.TheVariants.{AllowOverride}
 use Rattle.live_round.proofs.CallerLemmas.{IsUnderWay, logged_more, under_way_more, under_way_none, way_used}
 use Rattle.live_round.specs.Desks.{StandsBehind}
 use Rattle.live_round.specs.Requests.{Refuses}
-use Rattle.model_conf.specs.ModelText.{ModelParts}
+use Rattle.matcher_read.specs.Expression.{truth}
+use Rattle.model_conf.specs.ModelText.{ModelParts, parts_of}
 use Rattle.outside.specs.Faults.{Rose}
 use Rattle.outside.specs.Told.{with_back, TookFront}
 use Rattle.perm_base.specs.declared.shapes.Shapes.{Shapes}
@@ -133,7 +135,22 @@ pub seen_left : (items : List Item) (at : ℕ) (item : Item) → at < length ite
 seen_left items at item within is = ap (map seen) (drop_more items at item within ∙ ap (λ (i : Item). i ∷ drop (at + 1) items) (sym is))
 
 pub seen_whole : (items : List Item) (at : ℕ) → length items ≤ at → map seen (take at items) ≡ map seen items
-seen_whole items at past = ap (map seen) (take_all items at past)
+seen_whole items at past = ap (map seen) (take_all at items past)
+
+-- one item more of a script is done, and its line is gathered
+pub served_next : (model : ModelParts) (shapes : Shapes) (opening : Policy) (items : List Item) (at : ℕ) (item : Item) (desk new : Work) (number next : ℕ) (old text : String Global) (between : Seen) (later : Refusals) → at < length items → item ≡ get_or items at item
+    → AreServed model shapes opening (map seen (take at items)) desk number (string_bytes old) between → next ≡ min (number + 1) most_number → PushesItem model between.now later (seen item) next desk new old text → new.state.shapes ≡ desk.state.shapes
+    → AreServed model shapes opening (map seen (take (at + 1) items)) new next (string_bytes text) (seen_later between later)
+served_next model shapes opening items at item desk new number next old text between later within is so next-is pushed same =
+    subst (λ (done : List Said). AreServed model shapes opening done new next (string_bytes text) (seen_later between later)) (sym (seen_next items at item within is))
+    (served_more model shapes opening (map seen (take at items)) (seen item) desk new number next old text between later so next-is pushed same)
+
+-- a model and refusals for what is so of all of them
+pub any_model : ModelParts
+any_model = parts_of [] [] [] AllowOverride [] (truth 0 true)
+
+pub any_refusals : Refusals
+any_refusals = record { count = 0; patterns = [] }
 
 -- an item of a script whose items have names
 pub named_at : (items script : List Item) → items ≡ script → (at : ℕ) (item : Item) → at < length items → item ≡ get_or items at item → All (λ (said : Said). is_named said ≡ true) (map seen script) → is_named (seen item) ≡ true

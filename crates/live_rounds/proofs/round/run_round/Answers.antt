@@ -30,29 +30,29 @@ returns-in_err-lines-clause-stopped g c = on_err_of c.from_residual-in_err-lines
 pub returns-clause-lines : goal.returns-clause-lines
 returns-clause-lines g c =
     (run_all g.P.Finder.refusals c.args.program.now _ _ c.args.script.now c.items_of-items.result.now c.args.from c.args.to c.args.workers (c.args.workers - 1) (omega (arith, c.requires.some)) c.items_of-items.ensures c.requires.from c.requires.until
-    c.args.admin.now c.work_round-worked.new.admin c.in_ok-worked.worked.others.items c.in_ok-asked.asked.items c.from_vec.result c.as_slice-sizes.result.now c.args.seats.now.items c.learn_seats-2.new.seats.items c.work_round-worked.new.seats.items c.learn_seats-4.new.seats.items
-    c.args.finders.now.items c.work_round-worked.new.finders.items _ _ c.answer_asks.new.finder _ c.state-state.result.now c.front.result c.front-2.result (c.in_ok-worked.ensures.done _ c.requires.behind) (added_in (c.args.workers - 1) (map seen c.items_of-items.result.now) c.new-sizes.result.items c.push_parts.new.sizes.items c.as_slice-sizes.result.now c.new-sizes.ensures.items c.as_slice-sizes.ensures.value c.in_ok-push_parts.ensures.parts) c.front.ensures.front c.learn_seats-2.ensures.learned c.front-2.ensures.front c.learn_seats-4.ensures.learned c.in_ok-worked.ensures.kept
+    c.args.admin.now c.work_round-worked.new.admin c.in_ok-worked.worked.others.items c.in_ok-asked.asked.items c.from_vec.result c.as_slice-sizes.result.now c.args.seats.now.items c.learn_seats.new.seats.items c.work_round-worked.new.seats.items c.learn_seats-2.new.seats.items
+    c.args.finders.now.items c.work_round-worked.new.finders.items _ _ c.answer_asks.new.finder _ c.state-state.result.now c.front.result c.front-2.result (c.in_ok-worked.ensures.done _ c.requires.behind) (added_in (c.args.workers - 1) (map seen c.items_of-items.result.now) c.new-sizes.result.items c.push_parts.new.sizes.items c.as_slice-sizes.result.now c.new-sizes.ensures.items c.as_slice-sizes.ensures.value c.in_ok-push_parts.ensures.parts) c.front.ensures.front c.learn_seats.ensures.learned c.front-2.ensures.front c.learn_seats-2.ensures.learned c.in_ok-worked.ensures.kept
     (c.state-state.ensures.state ∙ ap (λ (desk : Work). desk.state) c.desk.ensures.desk) c.in_ok-asked.ensures.shared c.work_round-worked.ensures.first (omega (arith, c.requires.finders)) c.index_mut.ensures.value (c.from_vec.ensures ∙ c.in_ok-lines.ensures)).lines_are
 
 pub returns-clause-behind : goal.returns-clause-behind
 returns-clause-behind g c =
     (run_all g.P.Finder.refusals c.args.program.now _ _ c.args.script.now c.items_of-items.result.now c.args.from c.args.to c.args.workers (c.args.workers - 1) (omega (arith, c.requires.some)) c.items_of-items.ensures c.requires.from c.requires.until
-    c.args.admin.now c.work_round-worked.new.admin c.in_ok-worked.worked.others.items c.in_ok-asked.asked.items c.from_vec.result c.as_slice-sizes.result.now c.args.seats.now.items c.learn_seats-2.new.seats.items c.work_round-worked.new.seats.items c.learn_seats-4.new.seats.items
-    c.args.finders.now.items c.work_round-worked.new.finders.items _ _ c.answer_asks.new.finder _ c.state-state.result.now c.front.result c.front-2.result (c.in_ok-worked.ensures.done _ c.requires.behind) (added_in (c.args.workers - 1) (map seen c.items_of-items.result.now) c.new-sizes.result.items c.push_parts.new.sizes.items c.as_slice-sizes.result.now c.new-sizes.ensures.items c.as_slice-sizes.ensures.value c.in_ok-push_parts.ensures.parts) c.front.ensures.front c.learn_seats-2.ensures.learned c.front-2.ensures.front c.learn_seats-4.ensures.learned c.in_ok-worked.ensures.kept
+    c.args.admin.now c.work_round-worked.new.admin c.in_ok-worked.worked.others.items c.in_ok-asked.asked.items c.from_vec.result c.as_slice-sizes.result.now c.args.seats.now.items c.learn_seats.new.seats.items c.work_round-worked.new.seats.items c.learn_seats-2.new.seats.items
+    c.args.finders.now.items c.work_round-worked.new.finders.items _ _ c.answer_asks.new.finder _ c.state-state.result.now c.front.result c.front-2.result (c.in_ok-worked.ensures.done _ c.requires.behind) (added_in (c.args.workers - 1) (map seen c.items_of-items.result.now) c.new-sizes.result.items c.push_parts.new.sizes.items c.as_slice-sizes.result.now c.new-sizes.ensures.items c.as_slice-sizes.ensures.value c.in_ok-push_parts.ensures.parts) c.front.ensures.front c.learn_seats.ensures.learned c.front-2.ensures.front c.learn_seats-2.ensures.learned c.in_ok-worked.ensures.kept
     (c.state-state.ensures.state ∙ ap (λ (desk : Work). desk.state) c.desk.ensures.desk) c.in_ok-asked.ensures.shared c.work_round-worked.ensures.first (omega (arith, c.requires.finders)) c.index_mut.ensures.value (c.from_vec.ensures ∙ c.in_ok-lines.ensures)).behind
 
 pub returns-clause-entered : goal.returns-clause-entered
 returns-clause-entered g c =
     (run_all g.P.Finder.refusals c.args.program.now _ _ c.args.script.now c.items_of-items.result.now c.args.from c.args.to c.args.workers (c.args.workers - 1) (omega (arith, c.requires.some)) c.items_of-items.ensures c.requires.from c.requires.until
-    c.args.admin.now c.work_round-worked.new.admin c.in_ok-worked.worked.others.items c.in_ok-asked.asked.items c.from_vec.result c.as_slice-sizes.result.now c.args.seats.now.items c.learn_seats-2.new.seats.items c.work_round-worked.new.seats.items c.learn_seats-4.new.seats.items
-    c.args.finders.now.items c.work_round-worked.new.finders.items _ _ c.answer_asks.new.finder _ c.state-state.result.now c.front.result c.front-2.result (c.in_ok-worked.ensures.done _ c.requires.behind) (added_in (c.args.workers - 1) (map seen c.items_of-items.result.now) c.new-sizes.result.items c.push_parts.new.sizes.items c.as_slice-sizes.result.now c.new-sizes.ensures.items c.as_slice-sizes.ensures.value c.in_ok-push_parts.ensures.parts) c.front.ensures.front c.learn_seats-2.ensures.learned c.front-2.ensures.front c.learn_seats-4.ensures.learned c.in_ok-worked.ensures.kept
+    c.args.admin.now c.work_round-worked.new.admin c.in_ok-worked.worked.others.items c.in_ok-asked.asked.items c.from_vec.result c.as_slice-sizes.result.now c.args.seats.now.items c.learn_seats.new.seats.items c.work_round-worked.new.seats.items c.learn_seats-2.new.seats.items
+    c.args.finders.now.items c.work_round-worked.new.finders.items _ _ c.answer_asks.new.finder _ c.state-state.result.now c.front.result c.front-2.result (c.in_ok-worked.ensures.done _ c.requires.behind) (added_in (c.args.workers - 1) (map seen c.items_of-items.result.now) c.new-sizes.result.items c.push_parts.new.sizes.items c.as_slice-sizes.result.now c.new-sizes.ensures.items c.as_slice-sizes.ensures.value c.in_ok-push_parts.ensures.parts) c.front.ensures.front c.learn_seats.ensures.learned c.front-2.ensures.front c.learn_seats-2.ensures.learned c.in_ok-worked.ensures.kept
     (c.state-state.ensures.state ∙ ap (λ (desk : Work). desk.state) c.desk.ensures.desk) c.in_ok-asked.ensures.shared c.work_round-worked.ensures.first (omega (arith, c.requires.finders)) c.index_mut.ensures.value (c.from_vec.ensures ∙ c.in_ok-lines.ensures)).entered
 
 pub returns-clause-learned : goal.returns-clause-learned
 returns-clause-learned g c =
     (run_all g.P.Finder.refusals c.args.program.now _ _ c.args.script.now c.items_of-items.result.now c.args.from c.args.to c.args.workers (c.args.workers - 1) (omega (arith, c.requires.some)) c.items_of-items.ensures c.requires.from c.requires.until
-    c.args.admin.now c.work_round-worked.new.admin c.in_ok-worked.worked.others.items c.in_ok-asked.asked.items c.from_vec.result c.as_slice-sizes.result.now c.args.seats.now.items c.learn_seats-2.new.seats.items c.work_round-worked.new.seats.items c.learn_seats-4.new.seats.items
-    c.args.finders.now.items c.work_round-worked.new.finders.items _ _ c.answer_asks.new.finder _ c.state-state.result.now c.front.result c.front-2.result (c.in_ok-worked.ensures.done _ c.requires.behind) (added_in (c.args.workers - 1) (map seen c.items_of-items.result.now) c.new-sizes.result.items c.push_parts.new.sizes.items c.as_slice-sizes.result.now c.new-sizes.ensures.items c.as_slice-sizes.ensures.value c.in_ok-push_parts.ensures.parts) c.front.ensures.front c.learn_seats-2.ensures.learned c.front-2.ensures.front c.learn_seats-4.ensures.learned c.in_ok-worked.ensures.kept
+    c.args.admin.now c.work_round-worked.new.admin c.in_ok-worked.worked.others.items c.in_ok-asked.asked.items c.from_vec.result c.as_slice-sizes.result.now c.args.seats.now.items c.learn_seats.new.seats.items c.work_round-worked.new.seats.items c.learn_seats-2.new.seats.items
+    c.args.finders.now.items c.work_round-worked.new.finders.items _ _ c.answer_asks.new.finder _ c.state-state.result.now c.front.result c.front-2.result (c.in_ok-worked.ensures.done _ c.requires.behind) (added_in (c.args.workers - 1) (map seen c.items_of-items.result.now) c.new-sizes.result.items c.push_parts.new.sizes.items c.as_slice-sizes.result.now c.new-sizes.ensures.items c.as_slice-sizes.ensures.value c.in_ok-push_parts.ensures.parts) c.front.ensures.front c.learn_seats.ensures.learned c.front-2.ensures.front c.learn_seats-2.ensures.learned c.in_ok-worked.ensures.kept
     (c.state-state.ensures.state ∙ ap (λ (desk : Work). desk.state) c.desk.ensures.desk) c.in_ok-asked.ensures.shared c.work_round-worked.ensures.first (omega (arith, c.requires.finders)) c.index_mut.ensures.value (c.from_vec.ensures ∙ c.in_ok-lines.ensures)).learned
 
 pub returns-clause-printable : goal.returns-clause-printable

@@ -1,9 +1,9 @@
-use Rattle.std.proofs.Common.{◌∙◌, ap, arith, drop, map, refl, subst, sym, take}
+use Rattle.std.proofs.Common.{◌∙◌, ◌+◌, ap, arith, drop, map, refl, take}
 use Rattle.std.proofs.lemmas.Result.{err_from_is_err_and}
 use Rattle.live_round.proofs.CallerLemmas.{stands_before}
 use Rattle.policy_state.specs.States.{tables}
 use Rattle.script_read.specs.Said.{seen}
-use Rattle.loaded_work.proofs.ItemLemmas.{AreServed, named_at, seen_left, seen_next, seen_parts, seen_whole, served_all, served_memory, served_more, served_moved, served_none, served_used, served_write, unserved_used}
+use Rattle.loaded_work.proofs.ItemLemmas.{named_at, seen_left, seen_parts, seen_whole, served_all, served_memory, served_moved, served_next, served_none, served_used, served_write, unserved_used}
 use Rattle.loaded_work.proofs.session.print_items.Goals as goal
 
 pub loop-item-init : goal.loop-item-init
@@ -11,10 +11,10 @@ loop-item-init g c =
     served_none c.args.program.now c.args.desk.now.state.shapes (tables c.args.desk.now.state) c.args.desk.now _ _ (stands_before c.args.desk.now c.holds.ensures.desk c.requires.opening c.requires.none_pending c.requires.keeps_all) refl c.new-text.ensures.bytes refl refl refl
 
 pub push_item-requires-clause-stands : goal.push_item-requires-clause-stands
-push_item-requires-clause-stands g c = (tables c.args.desk.now.state, map seen (take c.loop-item.item-index c.as_slice-items.result.now), c.loop-item.invariant.under.behind)
+push_item-requires-clause-stands g c = λ lifetimes outlive. (tables c.args.desk.now.state, map seen (take c.loop-item.item-index c.as_slice-items.result.now), c.loop-item.invariant.under.behind)
 
 pub push_item-requires-clause-has_name : goal.push_item-requires-clause-has_name
-push_item-requires-clause-has_name g c = named_at c.as_slice-items.result.now c.args.script.now c.as_slice-items.ensures c.loop-item.item-index c.item-item.result c.loop-item-test.true c.item-item.is c.requires.have_names
+push_item-requires-clause-has_name g c = λ lifetimes outlive. named_at c.as_slice-items.result.now c.args.script.now c.as_slice-items.ensures c.loop-item.item-index c.item-item.result c.loop-item-test.true c.item-item.is c.requires.have_names
 
 pub returns-in_err-push_item-clause-stopped : goal.returns-in_err-push_item-clause-stopped
 returns-in_err-push_item-clause-stopped g c =
@@ -35,9 +35,8 @@ returns-in_err-push_full-clause-stopped g c =
     let p = err_from_is_err_and c.from_residual-in_err-push_full.result c.from_residual-in_err-push_full.ensures.1 in
     let items = c.as_slice-items.result.now in
     let at = c.loop-item.item-index in
-    let next = subst (λ done. AreServed _ _ _ done _ _ _ _) (sym (seen_next items at c.item-item.result c.loop-item-test.true c.item-item.is))
-    (served_more c.args.program.now _ _ _ (seen c.item-item.result) _ _ _ _ _ _ _ _ c.loop-item.invariant c.next_number-number.ensures c.in_ok-push_item.ensures.pushed c.push_item.ensures.shapes) in
-    rw (p.1, p.2) (served_write c.args.program.now _ _ c.case_verdict_is_there.ensures _ _ (map seen c.args.script.now) _ _ _ _ (seen_parts items _ ∙ ap (map seen) c.as_slice-items.ensures) next _ _ c.in_err-push_full.ensures.stopped c.in_err-push_full.ensures.failed)
+    let next = served_next c.args.program.now _ _ items at c.item-item.result _ _ _ _ _ _ _ _ c.loop-item-test.true c.item-item.is c.loop-item.invariant c.next_number-number.ensures c.in_ok-push_item.ensures.pushed c.push_item.ensures.shapes in
+    rw (p.1, p.2) (served_write c.args.program.now _ _ c.case_verdict_is_there.ensures _ _ (map seen c.args.script.now) _ _ _ _ (seen_parts items (at + 1) ∙ ap (map seen) c.as_slice-items.ensures) next _ _ c.in_err-push_full.ensures.stopped c.in_err-push_full.ensures.failed)
 
 pub returns-in_err-push_full-clause-counted : goal.returns-in_err-push_full-clause-counted
 returns-in_err-push_full-clause-counted g c = omega (arith, c.loop-item.invariant.told.counted, c.push_full.ensures.counted)
@@ -49,15 +48,14 @@ pub loop-item-preserved : goal.loop-item-preserved
 loop-item-preserved g c =
     let items = c.as_slice-items.result.now in
     let at = c.loop-item.item-index in
-    let next = subst (λ done. AreServed _ _ _ done _ _ _ _) (sym (seen_next items at c.item-item.result c.loop-item-test.true c.item-item.is))
-    (served_more c.args.program.now _ _ _ (seen c.item-item.result) _ _ _ _ _ _ _ _ c.loop-item.invariant c.next_number-number.ensures c.in_ok-push_item.ensures.pushed c.push_item.ensures.shapes) in
+    let next = served_next c.args.program.now _ _ items at c.item-item.result _ _ _ _ _ _ _ _ c.loop-item-test.true c.item-item.is c.loop-item.invariant c.next_number-number.ensures c.in_ok-push_item.ensures.pushed c.push_item.ensures.shapes in
     served_moved c.args.program.now _ _ _ _ _ _ _ _ _ _ next c.in_ok-push_full.ensures.moved c.push_full.ensures.counted
 
 pub returns-in_err-push_all-clause-stopped : goal.returns-in_err-push_all-clause-stopped
 returns-in_err-push_all-clause-stopped g c =
     let p = err_from_is_err_and c.from_residual-in_err-push_all.result c.from_residual-in_err-push_all.ensures.1 in
     let items = c.as_slice-items.result.now in
-    rw (p.1, p.2) (served_write c.args.program.now _ _ c.case_verdict_is_there.ensures _ _ (map seen c.args.script.now) _ _ _ _ (seen_parts items _ ∙ ap (map seen) c.as_slice-items.ensures) c.loop-item.invariant _ _ (rw c.as_bytes.ensures.value at c.in_err-push_all.ensures.stopped) c.in_err-push_all.ensures.failed)
+    rw (p.1, p.2) (served_write c.args.program.now _ _ c.case_verdict_is_there.ensures _ _ (map seen c.args.script.now) _ _ _ _ (seen_parts items c.loop-item.item-index ∙ ap (map seen) c.as_slice-items.ensures) c.loop-item.invariant _ _ (rw c.as_bytes.ensures.value at c.in_err-push_all.ensures.stopped) c.in_err-push_all.ensures.failed)
 
 pub returns-in_err-push_all-clause-counted : goal.returns-in_err-push_all-clause-counted
 returns-in_err-push_all-clause-counted g c = omega (arith, c.loop-item.invariant.told.counted, c.push_all.ensures.counted)
