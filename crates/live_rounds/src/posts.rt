@@ -1,4 +1,4 @@
-ghost use Rattle.std.specs.Prelude.{◌≡◌};
+ghost use Rattle.std.specs.Prelude.{◌≡◌, ◌<◌};
 ghost use Rattle.std.specs.Thread.{IsSync};
 ghost use Rattle.decision.specs.contracts.program.Program as program_type;
 ghost use Rattle.script_read.specs.contracts.script.Script as script_type;
@@ -53,7 +53,8 @@ impl<J: Naming, P: Finder> Post<J, P> {
     }
 }
 
-/// Answers the requests of all posts, each in a thread of its own where one can be started.
+/// Answers the requests of all posts, each in a thread of its own where one can be started; in the caller's, where they are
+/// served alone.
 pub(crate) fn serve_all<J: Naming + Send + Sync, R: Threads + Sync, P: Finder, G: Gate>(
     rt: &R,
     alloc: Global,
@@ -61,6 +62,7 @@ pub(crate) fn serve_all<J: Naming + Send + Sync, R: Threads + Sync, P: Finder, G
     script: &Script,
     gate: &G,
     posts: &mut [Post<J, P>],
+    alone: bool,
 )
     requires suits { Suits program.now J.shapes }
     ensures { AreServedPosts P.refusals program.now J.shapes J.opening script.now
@@ -71,7 +73,7 @@ pub(crate) fn serve_all<J: Naming + Send + Sync, R: Threads + Sync, P: Finder, G
     }
     share_program(program);
     share_script(script);
-    let threads = posts.len();
+    let threads = threads_for(posts.len(), alone);
     thread::for_each_mut(
         rt,
         posts,
@@ -80,6 +82,14 @@ pub(crate) fn serve_all<J: Naming + Send + Sync, R: Threads + Sync, P: Finder, G
             requires { Suits program.now J.shapes }
         { serve(alloc, program, script, worker, gate, post) },
     );
+}
+
+// In how many threads so many posts are served at most.
+fn threads_for(posts: usize, alone: bool) -> usize
+    requires { 0 < posts }
+    ensures { 0 < result }
+{
+    if alone { 1 } else { posts }
 }
 
 /// That threads may share a program, as a fact for the calls behind this one.

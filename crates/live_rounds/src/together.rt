@@ -7,6 +7,7 @@ ghost use Rattle.script_read.specs.Said.{Said, seen};
 use crate::beside::answer_others;
 use crate::gate::Gate;
 use crate::posts::{Post, serve_all, share_program, share_script};
+use crate::requests::count_requests;
 use decision::Program;
 use live_pair::{Admin, Naming};
 use live_round::Answer;
@@ -18,7 +19,7 @@ use std::sync::Wait;
 use std::thread::{Threads, join_mut};
 
 /// The workers answer the requests of their posts, while the administrator answers and does the other items of a round in the
-/// caller. Where no thread can be started the caller does all of it.
+/// caller. Where no thread can be started, and where there is no request, the caller does all of it.
 pub(crate) fn work_together<J: Naming + Send + Sync, R: Threads + Wait + Sync, P: Finder, G: Gate>(
     rt: &R,
     alloc: Global,
@@ -41,12 +42,25 @@ pub(crate) fn work_together<J: Naming + Send + Sync, R: Threads + Wait + Sync, P
     ensures served { AreServedPosts P.refusals program.now J.shapes J.opening script.now
         posts.old.items posts.new.items }
 {
+    let requests = count_requests(items);
     let mut beside = || answer_others(rt, alloc, items, gate, admin);
-    with_workers(rt, alloc, program, script, gate, posts, &mut beside)
+    if requests == 0 {
+        return in_turn(rt, alloc, program, script, gate, posts, &mut beside);
+    }
+    with_workers(
+        rt,
+        alloc,
+        program,
+        script,
+        gate,
+        posts,
+        requests == 1,
+        &mut beside,
+    )
 }
 
-// The same beside whatever the caller does meanwhile: so each function has one closure.
-fn with_workers<
+// The posts, and then whatever the caller does, without a thread.
+fn in_turn<
     J: Naming + Send + Sync,
     R: Threads + Wait + Sync,
     P: Finder,
@@ -67,11 +81,39 @@ fn with_workers<
     ensures served { AreServedPosts P.refusals program.now J.shapes J.opening script.now
         posts.old.items posts.new.items }
 {
+    serve_vec(rt, alloc, program, script, gate, posts, true);
+    beside()
+}
+
+// The posts beside whatever the caller does meanwhile: so each function has one closure. Where they are to be served alone,
+// one thread serves all of them.
+fn with_workers<
+    J: Naming + Send + Sync,
+    R: Threads + Wait + Sync,
+    P: Finder,
+    G: Gate,
+    F: FnMut() -> Result<Vec<Answer>, NoMemory>,
+>(
+    rt: &R,
+    alloc: Global,
+    program: &Program,
+    script: &Script,
+    gate: &G,
+    posts: &mut Vec<Post<J, P>>,
+    alone: bool,
+    beside: &mut F,
+) -> Result<Vec<Answer>, NoMemory>
+    requires suits { Suits program.now J.shapes }
+    requires called { F.pre beside.old }
+    ensures called { F.step beside.old result beside.new }
+    ensures served { AreServedPosts P.refusals program.now J.shapes J.opening script.now
+        posts.old.items posts.new.items }
+{
     share_program(program);
     share_script(script);
     let mut workers = ||
         requires { Suits program.now J.shapes }
-    { serve_vec(rt, alloc, program, script, gate, posts) };
+    { serve_vec(rt, alloc, program, script, gate, posts, alone) };
     let (_, replies) = join_mut(rt, &mut workers, beside);
     replies
 }
@@ -84,10 +126,19 @@ fn serve_vec<J: Naming + Send + Sync, R: Threads + Sync, P: Finder, G: Gate>(
     script: &Script,
     gate: &G,
     posts: &mut Vec<Post<J, P>>,
+    alone: bool,
 )
     requires suits { Suits program.now J.shapes }
     ensures { AreServedPosts P.refusals program.now J.shapes J.opening script.now
         posts.old.items posts.new.items }
 {
-    serve_all(rt, alloc, program, script, gate, posts.as_mut_slice());
+    serve_all(
+        rt,
+        alloc,
+        program,
+        script,
+        gate,
+        posts.as_mut_slice(),
+        alone,
+    );
 }
