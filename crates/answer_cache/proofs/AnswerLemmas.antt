@@ -8,7 +8,7 @@ use Rattle.perm_value.specs.Datum.{Datum}
 use Rattle.policy_state.specs.States.{State, tables}
 use Rattle.regex_gate.specs.Refusals.{Refusals}
 use Rattle.version_log.specs.Log.{versions}
-use Rattle.decision.specs.Judging.{IsJudgedWith, RefusedIn}
+use Rattle.decision.specs.Decisions.{IsJudgedWith, RefusedIn}
 use Rattle.answer_cache.specs.Cached.{Cached, at_version, entries_of}
 use Rattle.answer_cache.specs.Answered.{GoesToFront, entries_behind}
 use Rattle.answer_cache.specs.Good.{AreJudged, IsGoodFor}

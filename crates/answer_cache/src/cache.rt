@@ -11,7 +11,7 @@ ghost use Rattle.answer_cache.specs.Answered.{GoesToFront, entries_behind};
 use crate::answer::Kept;
 use effect_fold::{Cause, Verdict};
 use lru::LruCache;
-use perm_base::NoMemory;
+use outside::NoMemory;
 use perm_value::Request;
 use policy_state::PolicyState;
 use std::alloc::Global;

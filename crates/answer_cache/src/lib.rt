@@ -2,11 +2,11 @@
 #![tactic(auto)]
 
 mod answer;
-mod answering;
 mod cache;
 mod laws;
+mod lookup;
 
 pub use answer::{CachedAnswer, Kept};
-pub use answering::decide_cached;
 pub use cache::Cache;
 pub use laws::caches_serve_their_seats;
+pub use lookup::decide_cached;

@@ -4,7 +4,8 @@ ghost use Rattle.answer_lines.specs.Told.{is_query_told, is_request_told};
 
 use edit_calls::CallRefused;
 use effect_fold::Verdict;
-use perm_base::{Rule, Rules, Share, TableId};
+use outside::Share;
+use perm_base::{Rule, Rules, TableId};
 use perm_value::RequestFault;
 use policy_query::QueryRefused;
 use policy_table::Edit;

@@ -2,16 +2,16 @@
 #![tactic(auto)]
 
 mod answer;
-mod law;
+mod laws;
 mod line;
+mod line_text;
 mod lines;
 mod pieces;
-mod printing;
 mod refusals;
 mod rows;
 mod verdicts;
 
 pub use answer::{Answer, Line};
-pub use law::edits_are_told_line_by_line;
+pub use laws::edits_are_told_line_by_line;
 pub use line::{print_line, push_decided, push_line};
 pub use lines::Lines;

@@ -3,11 +3,12 @@ ghost use Rattle.answer_lines.specs.LineText.{Appends, decided_text, line_text};
 ghost use Rattle.answer_lines.specs.Told.{comes_with_rule, is_printable};
 
 use crate::answer::Line;
+use crate::line_text::push_answer;
 use crate::pieces::push_number;
-use crate::printing::push_answer;
 use crate::verdicts::push_verdict;
 use effect_fold::Verdict;
-use perm_base::{NoMemory, Rule, Text};
+use outside::{NoMemory, Text};
+use perm_base::Rule;
 use std::alloc::Global;
 
 /// Prints the line that tells an answer, as `2 allow @0 p#1 alice, data1, read`, with its LF. An answer of rules or of an edit

@@ -1,7 +1,7 @@
 ghost use Rattle.std.specs.Prelude.{◌≡◌};
 
 use crate::answer::Line;
-use perm_base::Share;
+use outside::Share;
 use std::marker::Model;
 
 /// The lines of a run in their order. Contracts see the list of its lines.

@@ -2,7 +2,7 @@ ghost use Rattle.std.specs.Prelude.{◌++◌, OnOk, decimal};
 ghost use Rattle.answer_lines.specs.LineText.{Appends, counted_text};
 
 use itoa::Buffer;
-use perm_base::NoMemory;
+use outside::NoMemory;
 
 /// Appends a text.
 pub(crate) fn push_text(text: &mut String, more: &str) -> Result<(), NoMemory>

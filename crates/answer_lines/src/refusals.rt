@@ -4,7 +4,8 @@ ghost use Rattle.answer_lines.specs.Told.{has_name, is_call_told, is_query_told,
 
 use crate::pieces::{push_at, push_number, push_text};
 use edit_calls::CallRefused;
-use perm_base::{NoMemory, TableId};
+use outside::NoMemory;
+use perm_base::TableId;
 use perm_value::RequestFault;
 use policy_query::QueryRefused;
 use policy_table::Limit;

@@ -6,7 +6,8 @@ ghost use Rattle.answer_lines.specs.Told.{has_name};
 ghost use Rattle.version_log.specs.EditText.{change_items, item_lines};
 
 use crate::pieces::push_counted;
-use perm_base::{NoMemory, Rule, Rules, TableId, push_fields, push_named};
+use outside::NoMemory;
+use perm_base::{Rule, Rules, TableId, push_fields, push_named};
 use policy_table::{Change, Edit};
 
 /// Appends a word, a version and names.

@@ -4,7 +4,8 @@ ghost use Rattle.answer_lines.specs.Told.{comes_with_rule, row_has_rule};
 
 use crate::pieces::{push_at, push_text};
 use effect_fold::{Cause, Fault, Verdict};
-use perm_base::{NoMemory, Rule, push_fields};
+use outside::NoMemory;
+use perm_base::{Rule, push_fields};
 
 /// Appends a verdict.
 pub(crate) fn push_verdict(

@@ -19,9 +19,9 @@ use Rattle.script_read.specs.Script.{IsRequests}
 use Rattle.script_read.specs.Lines.{requests_of}
 use Rattle.session_meaning.specs.Plain.{most_number}
 use Rattle.version_log.specs.Log.{versions}
-use Rattle.cached_work.specs.Caching.{Counts, IsFound, Turns, hits_of, opened}
-use Rattle.cached_work.specs.Helps.Caching.{AnswersCached, IsGoodCache, PrintedCached}
-use Rattle.loaded_work.specs.Helps.Gathering.{Moves}
+use Rattle.cached_work.specs.CacheHits.{Counts, IsFound, Turns, hits_of, opened}
+use Rattle.cached_work.specs.Helps.CacheSteps.{AnswersCached, IsGoodCache, PrintedCached}
+use Rattle.loaded_work.specs.Helps.GatheredLines.{Moves}
 use Rattle.loaded_work.proofs.CallerLemmas.{OneWay, asked, asked_more, one_reading}
 use Rattle.loaded_work.proofs.CallerLemmas.{IsPrinted, Run, Seen, printed_all, printed_more, printed_moved, printed_none, seen_first, seen_later, seen_pushed}
 

@@ -12,8 +12,8 @@ use Rattle.regex_gate.specs.Refusals.{IsUsed, Refusals}
 use Rattle.run_status.specs.Hits.{hits_line}
 use Rattle.run_status.specs.Told.{IsTold}
 use Rattle.script_read.specs.Said.{Said}
-use Rattle.cached_work.specs.Helps.Caching.{CachedAnswered, PrintedCached}
-use Rattle.loaded_work.specs.Helps.Working.{IsOpened, PrintedSome}
+use Rattle.cached_work.specs.Helps.CacheSteps.{CachedAnswered, PrintedCached}
+use Rattle.loaded_work.specs.Helps.TaskSteps.{IsOpened, PrintedSome}
 use Rattle.loaded_work.specs.Sinks.{Taken}
 use Rattle.loaded_work.specs.declared.loaded.Loaded.{Loaded}
 use Rattle.loaded_work.proofs.CallerLemmas.{over_equal}

@@ -1,2 +1,2 @@
 -- What answering by way of a cache comes to: helps for proofs, which no public clause of a run cites.
-pub mod Caching
+pub mod CacheSteps

@@ -1,2 +1,2 @@
-pub mod Caching
+pub mod CacheHits
 pub mod Helps

@@ -8,23 +8,23 @@ ghost use Rattle.script_read.specs.Said.{asks, reading};
 ghost use Rattle.script_read.specs.Script.{IsRequests};
 ghost use Rattle.version_log.specs.Log.{versions};
 ghost use Rattle.decision.specs.Programs.{Suits};
-ghost use Rattle.cached_work.specs.Caching.{hits_of, opened};
-ghost use Rattle.cached_work.specs.Helps.Caching.{AnswersCached, CachedAnswered, IsGoodCache, PrintedCached, TellsCached};
-ghost use Rattle.loaded_work.specs.Helps.Working.{IsReady, PrintedSome, StopsLine};
+ghost use Rattle.cached_work.specs.CacheHits.{hits_of, opened};
+ghost use Rattle.cached_work.specs.Helps.CacheSteps.{AnswersCached, CachedAnswered, IsGoodCache, PrintedCached, TellsCached};
+ghost use Rattle.loaded_work.specs.Helps.TaskSteps.{IsReady, PrintedSome, StopsLine};
 ghost use Rattle.loaded_work.specs.Sinks.{taken};
-ghost use Rattle.live_round.specs.Requests.{Refuses};
+ghost use Rattle.desk_session.specs.Requests.{Refuses};
 
 use answer_cache::{Cache, decide_cached};
 use answer_lines::{Answer, Line, push_decided, push_line};
 use decision::Scratch;
-use live_round::named_rule;
+use desk_session::named_rule;
 use loaded_work::{Court, Loaded, ask, next_number, open_loaded, push_full};
 use matcher_meaning::{case_verdict_is_there, order_of_rows_is_one};
-use perm_base::{NoMemory, Sink, push_all};
+use outside::{NoMemory, Sink, push_all};
 use perm_value::Request;
 use regex_gate::Finder;
 use run_status::{Stop, tell_hits};
-use script_read::{Asked, next_request, texts_are_read_in_one_way};
+use script_read::{RequestLine, next_request, texts_are_read_in_one_way};
 use std::alloc::Global;
 
 /// Answers each request of a text by a line, by way of a cache of this capacity, and tells on `err` how many came from it.
@@ -173,7 +173,7 @@ fn push_asked<P: Finder>(
     text: &mut String,
     number: u32,
     court: &Court<'_>,
-    asked: &Asked,
+    asked: &RequestLine,
     cache: &mut Cache,
     finder: &mut P,
     scratch: &mut Scratch,
@@ -189,10 +189,10 @@ fn push_asked<P: Finder>(
         (P.refusals finder.old) (P.refusals finder.new) (asks (reading asked.now))) }
 {
     match asked {
-        Asked::Request(request) => {
+        RequestLine::Request(request) => {
             push_found(text, number, court, request, cache, finder, scratch)
         }
-        Asked::Refused(fault) => {
+        RequestLine::Refused(fault) => {
             let answer = Answer::Request(*fault);
             push_line(text, &Line { number, answer })?;
             Ok(false)

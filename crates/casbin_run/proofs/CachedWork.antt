@@ -5,7 +5,7 @@ use Rattle.regex_gate.specs.Refusals.{Refusals}
 use Rattle.script_read.specs.Said.{Said}
 use Rattle.loaded_work.specs.Finders.{HasRefused}
 use Rattle.casbin_run.specs.Given.{SaysItems}
-use Rattle.cached_work.specs.Helps.Caching.{CachedAll}
+use Rattle.cached_work.specs.Helps.CacheSteps.{CachedAll}
 use Rattle.casbin_run.specs.Helps.Tasks.{DidAll, ground}
 use Rattle.loaded_work.specs.Sinks.{Taken}
 use Rattle.loaded_work.specs.declared.loaded.Loaded.{Loaded}

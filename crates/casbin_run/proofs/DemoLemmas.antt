@@ -25,7 +25,7 @@ use Rattle.casbin_run.specs.Ends.{Ends, may_write}
 use Rattle.casbin_run.specs.Finders.{AreUsed, IsFirstUsed}
 use Rattle.casbin_run.specs.Given.{Given}
 use Rattle.casbin_run.specs.Helps.Demos.{DemoEnds}
-use Rattle.loaded_work.specs.Helps.Working.{Showed, TextStops}
+use Rattle.loaded_work.specs.Helps.TaskSteps.{Showed, TextStops}
 use Rattle.casbin_run.specs.Jobs.{ask_for_input, ask_for_workers, has_workers, job_of, reads_input}
 use Rattle.loaded_work.specs.Sinks.{Taken}
 use Rattle.casbin_run.specs.Worlds.{World}

@@ -11,7 +11,7 @@ use Rattle.run_status.specs.declared.part.Part.TheVariants.{Model, Policy, Input
 use Rattle.run_status.specs.declared.stop.Stop.{Stop}
 use Rattle.run_status.specs.declared.stop.Stop.TheVariants.{NoModel, NoRelation, NoPolicy, CannotRead, TooLong, NoMemory}
 use Rattle.casbin_run.specs.Ends.{has_read}
-use Rattle.casbin_run.specs.Helps.Loading.{BytesStop, LoadStops}
+use Rattle.casbin_run.specs.Helps.Loads.{BytesStop, LoadStops}
 use Rattle.casbin_run.specs.Jobs.{ask_for_input, job_asked, reads_input}
 use Rattle.casbin_run.specs.declared.job.Job.{Job}
 

@@ -19,8 +19,8 @@ use Rattle.casbin_run.specs.Causes.{EndsBy, FailsAt, StopsAt, is_of_shelf}
 use Rattle.casbin_run.specs.Ends.{Ends, IsDone, has_read}
 use Rattle.casbin_run.specs.Finders.{AreUsed, Logs}
 use Rattle.casbin_run.specs.Given.{Given}
-use Rattle.casbin_run.specs.Helps.Loading.{IsLoaded, LoadStops}
-use Rattle.casbin_run.specs.Helps.Running.{ComesTo}
+use Rattle.casbin_run.specs.Helps.Loads.{IsLoaded, LoadStops}
+use Rattle.casbin_run.specs.Helps.TaskRuns.{ComesTo}
 use Rattle.casbin_run.specs.Helps.Tasks.{DidAll, DidFirst, DidSome, WorkStops, Worked, ground}
 use Rattle.casbin_run.specs.Jobs.{ask_for_workers, has_workers, job_asked, reads_input}
 use Rattle.casbin_run.specs.Shown.{ReadsBack}

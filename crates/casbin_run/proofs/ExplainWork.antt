@@ -20,10 +20,10 @@ use Rattle.run_status.specs.declared.stop.Stop.{Stop}
 use Rattle.run_status.specs.declared.stop.Stop.TheVariants.{CannotWrite, NoMemory}
 use Rattle.script_read.specs.Said.{Said, asks}
 use Rattle.session_meaning.specs.Plain.{IsPlain, all_refused}
-use Rattle.loaded_work.specs.Explaining.{ArePieces, IsBelow, IsExplained, IsPiece, TellsMisses}
+use Rattle.loaded_work.specs.Explained.{ArePieces, IsBelow, IsExplained, IsPiece, TellsMisses}
 use Rattle.loaded_work.specs.Finders.{HasRefused}
 use Rattle.casbin_run.specs.Given.{SaysItems}
-use Rattle.loaded_work.specs.Helps.Explaining.{ExplainStops, ExplainedAll, ExplainedSome, PiecesOf, PiecesStop}
+use Rattle.loaded_work.specs.Helps.ExplainedLines.{ExplainStops, ExplainedAll, ExplainedSome, PiecesOf, PiecesStop}
 use Rattle.casbin_run.specs.Helps.Tasks.{DidAll, IsQuiet, WorkStops, Worked, ground}
 use Rattle.loaded_work.specs.Texts.{joined}
 use Rattle.loaded_work.specs.Sinks.{Taken}

@@ -28,8 +28,8 @@ use Rattle.script_read.specs.declared.fault.ScriptFault.{ScriptFault}
 use Rattle.session_meaning.specs.Plain.{IsPlain, all_refused}
 use Rattle.casbin_run.specs.Answered.{IsCalmlyAnswered}
 use Rattle.casbin_run.specs.Causes.{Cause, HasFault, HasPacketFault, StopsAt}
-use Rattle.loaded_work.specs.Explaining.{IsExplained}
-use Rattle.loaded_work.specs.Following.{IsFollowed}
+use Rattle.loaded_work.specs.Explained.{IsExplained}
+use Rattle.loaded_work.specs.Followed.{IsFollowed}
 use Rattle.casbin_run.specs.Given.{AreFiles, FileIs, Given, IsInOrder, ModelIs, ModelSuits, SaysItems, SaysPackets}
 use Rattle.casbin_run.specs.Jobs.{absent_in, ask_for_workers, has_workers, job_asked, reads_input, shapes_with}
 use Rattle.casbin_run.specs.Reached.{IsReached, Reached, at_words, at_model, at_options, at_policy, at_task}

@@ -9,7 +9,7 @@ use Rattle.script_read.specs.Script.{IsScriptFault}
 use Rattle.script_read.specs.declared.fault.ScriptFault.{ScriptFault}
 use Rattle.script_read.specs.declared.fault.ScriptFault.TheVariants as script
 use Rattle.casbin_run.specs.Given.{InputIs}
-use Rattle.casbin_run.specs.Helps.Loading.{InputStops}
+use Rattle.casbin_run.specs.Helps.Loads.{InputStops}
 use Rattle.casbin_run.specs.declared.job.Task.TheVariants.{Serve, Follow}
 
 pub script_stops : (json : Bool) (input : Option (List ℕ)) (rose : Type 0) (bytes : List ℕ) (e : ScriptFault) → InputIs input (λ told. told ≡ bytes) → (e ≢ script.NoMemory → IsScriptFault json bytes e) → InputStops (Serve json) input rose (script_stop_of e)

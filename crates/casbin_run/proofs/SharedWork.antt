@@ -20,10 +20,10 @@ use Rattle.loaded_work.specs.declared.loaded.Loaded.{Loaded}
 use Rattle.casbin_run.specs.declared.job.Task.TheVariants.{Serve, Share}
 use Rattle.casbin_run.specs.Finders.{HaveRefusedAll}
 use Rattle.casbin_run.specs.Given.{SaysItems}
-use Rattle.casbin_run.specs.Helps.Loading.{InputStops}
+use Rattle.casbin_run.specs.Helps.Loads.{InputStops}
 use Rattle.casbin_run.specs.Helps.Tasks.{DidAll, DidWrite, Ground, IsQuiet, WorkStops, Worked, ground}
-use Rattle.casbin_run.specs.Helps.Sharing.{AreAnsweredShared, LinesShared, SharedAll, SharedSome}
-use Rattle.loaded_work.specs.Helps.Working.{LinesStop}
+use Rattle.casbin_run.specs.Helps.Shares.{AreAnsweredShared, LinesShared, SharedAll, SharedSome}
+use Rattle.loaded_work.specs.Helps.TaskSteps.{LinesStop}
 use Rattle.loaded_work.specs.Texts.{text_of_lines}
 use Rattle.loaded_work.specs.Sinks.{Taken}
 use Rattle.loaded_work.proofs.CallerLemmas.{first_lines, over_equal}

@@ -19,15 +19,15 @@ use Rattle.script_read.specs.Said.{Said}
 use Rattle.script_read.specs.Script.{IsRequests}
 use Rattle.session_meaning.specs.Plain.{all_refused}
 use Rattle.loaded_work.specs.Finders.{HasRefused}
-use Rattle.loaded_work.specs.Following.{IsFollowed}
+use Rattle.loaded_work.specs.Followed.{IsFollowed}
 use Rattle.loaded_work.proofs.CallerLemmas.{first_lines}
 use Rattle.casbin_run.specs.Given.{InputIs, SaysItems, SaysPackets}
-use Rattle.casbin_run.specs.Helps.Loading.{BytesStop, InputStops}
+use Rattle.casbin_run.specs.Helps.Loads.{BytesStop, InputStops}
 use Rattle.casbin_run.specs.Helps.Tasks.{DidAll, Ground, IsQuiet, WorkStops, Worked, ground}
-use Rattle.loaded_work.specs.Helps.Working.{AnswerStops, LinesOf, IsShortReport, LinesStop, PrintedAll, PrintedSome, ReportStops, ShowStops, Showed, TextStops}
+use Rattle.loaded_work.specs.Helps.TaskSteps.{AnswerStops, LinesOf, IsShortReport, LinesStop, PrintedAll, PrintedSome, ReportStops, ShowStops, Showed, TextStops}
 use Rattle.casbin_run.specs.Jobs.{reads_input}
 use Rattle.loaded_work.specs.Roles.{IsImplied}
-use Rattle.loaded_work.specs.Shipping.{ship_text}
+use Rattle.loaded_work.specs.Shipped.{ship_text}
 use Rattle.casbin_run.specs.Texts.{IsOfLines, check_text}
 use Rattle.loaded_work.specs.Texts.{text_of_lines}
 use Rattle.loaded_work.specs.Sinks.{Taken}

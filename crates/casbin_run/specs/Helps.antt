@@ -1,6 +1,6 @@
 -- What the steps of a run read, gather and push: helps for proofs, which no public clause cites.
-pub mod Loading
+pub mod Loads
 pub mod Tasks
-pub mod Running
+pub mod TaskRuns
 pub mod Demos
-pub mod Sharing
+pub mod Shares

@@ -10,11 +10,11 @@ use Rattle.run_status.specs.Told.{IsTold}
 use Rattle.script_read.specs.Said.{Said}
 use Rattle.casbin_run.specs.declared.job.Task.{Task}
 use Rattle.casbin_run.specs.declared.job.Task.TheVariants.{Enforce, Cached, Explain, Serve, Share, Check, Format, Implicit, Report, Ship, Follow}
-use Rattle.cached_work.specs.Caching.{AreHits}
-use Rattle.loaded_work.specs.Explaining.{IsExplained}
-use Rattle.loaded_work.specs.Following.{IsFollowed}
+use Rattle.cached_work.specs.CacheHits.{AreHits}
+use Rattle.loaded_work.specs.Explained.{IsExplained}
+use Rattle.loaded_work.specs.Followed.{IsFollowed}
 use Rattle.loaded_work.specs.Roles.{IsImplied, IsLong, IsReported, IsShort}
-use Rattle.loaded_work.specs.Shipping.{ship_text}
+use Rattle.loaded_work.specs.Shipped.{ship_text}
 use Rattle.casbin_run.specs.Texts.{IsOfLines, IsOfSharedLines, IsWhole, check_text}
 use Rattle.loaded_work.specs.Sinks.{Taken}
 

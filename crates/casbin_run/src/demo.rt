@@ -6,14 +6,14 @@ ghost use Rattle.outside.specs.Faults.{Rose};
 ghost use Rattle.regex_gate.specs.Refusals.{IsUsed};
 ghost use Rattle.casbin_run.specs.Demos.{demo_asked, demo_of};
 ghost use Rattle.casbin_run.specs.Helps.Demos.{DemoEnds};
-ghost use Rattle.loaded_work.specs.Helps.Working.{Showed, TextStops};
+ghost use Rattle.loaded_work.specs.Helps.TaskSteps.{Showed, TextStops};
 ghost use Rattle.loaded_work.specs.Sinks.{taken};
 
 use command_words::{Command, read_words};
 use demo_run::summarize;
 use live_pair::Places;
 use live_rounds::Gate;
-use perm_base::{NoMemory, Sink, push_all};
+use outside::{NoMemory, Sink, push_all};
 use regex_gate::Finder;
 use run_status::{Status, Stop, tell_stop};
 use std::alloc::Global;

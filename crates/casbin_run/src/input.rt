@@ -5,12 +5,12 @@ ghost use Rattle.script_read.specs.Named.{is_named};
 ghost use Rattle.script_read.specs.Said.{seen};
 ghost use Rattle.casbin_run.specs.Causes.{HasFault};
 ghost use Rattle.casbin_run.specs.Given.{InputIs, SaysItems, SaysPackets};
-ghost use Rattle.casbin_run.specs.Helps.Loading.{BytesStop, InputStops};
+ghost use Rattle.casbin_run.specs.Helps.Loads.{BytesStop, InputStops};
 ghost use Rattle.casbin_run.specs.Helps.Tasks.{is_past};
 ghost use Rattle.casbin_run.specs.declared.job.Task.TheVariants.{Enforce, Serve, Follow};
 
 use log_ship::{Packets, read_packets};
-use perm_base::{ReadStop, Source, read_all};
+use outside::{ReadStop, Source, read_all};
 use run_status::{Part, Stop};
 use script_read::{Script, ScriptFault, items_are_named, read_script};
 use std::alloc::Global;

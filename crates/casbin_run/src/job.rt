@@ -1,11 +1,11 @@
 ghost use Rattle.std.specs.Prelude.{◌≡◌, ◌<◌, ◌≤◌, IfOk, IfSome, MatchOption, false};
 ghost use Rattle.command_words.specs.Items.{texts};
-ghost use Rattle.casbin_run.specs.Helps.Running.{job_on};
+ghost use Rattle.casbin_run.specs.Helps.TaskRuns.{job_on};
 ghost use Rattle.casbin_run.specs.Jobs.{HasSize, enforcing, has_workers, job_asked, job_of, limit_in, serving};
 ghost use Rattle.casbin_run.specs.declared.job.Task.TheVariants.{Share};
 
 use command_words::{Command, Files, Options, Subject, read_words};
-use perm_base::NoMemory;
+use outside::NoMemory;
 use std::alloc::Global;
 
 /// What is done with the model, the policy and the input.

@@ -4,11 +4,11 @@
 mod demo;
 mod input;
 mod job;
-mod law;
+mod laws;
 mod run;
 mod shared;
-mod showing;
+mod shown_files;
 
-pub use law::{input_is_read_last, one_end, runs_end_as_given, shown_files_are_read};
+pub use laws::{input_is_read_last, one_end, runs_end_as_given, shown_files_are_read};
 pub use run::run_casbin;
 pub use run_status::Status;

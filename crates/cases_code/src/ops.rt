@@ -5,7 +5,7 @@ ghost use Rattle.std.specs.Prelude.{◌^◌, ◌<◌, IfOk, vec_len};
 use anyhow::{Context, Result, bail, ensure};
 use matcher_code::{Instruction, Op};
 use matcher_read::{Function, Operator};
-use perm_base::Text;
+use outside::Text;
 use std::alloc::Global;
 
 /// The instructions of a text, a line each.

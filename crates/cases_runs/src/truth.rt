@@ -1,6 +1,6 @@
 use anyhow::{Context, Result, bail, ensure};
 use case_list::Case;
-use matcher_code::{Links, Stack, Stop, WideStack, build, run};
+use matcher_code::{Links, NoTruth, Stack, WideStack, build, run};
 use matcher_meaning::links_of_tables_are_decided;
 use model_conf::{Model, read_model};
 use perm_base::{Rule, read_fields};
@@ -95,7 +95,7 @@ fn asked(
     ) {
         Ok(View::Truth(truth)) => Ok(format!(in alloc; "truth {truth}")?),
         Ok(_) => bail!("the matcher has a value that is no truth"),
-        Err(Stop::Fault(fault)) => Ok(format!(in alloc; "{:?} at {}", fault.cause, fault.at)?),
-        Err(Stop::NoMemory) => bail!("memory ran out"),
+        Err(NoTruth::Fault(fault)) => Ok(format!(in alloc; "{:?} at {}", fault.cause, fault.at)?),
+        Err(NoTruth::NoMemory) => bail!("memory ran out"),
     }
 }

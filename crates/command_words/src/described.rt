@@ -8,7 +8,7 @@ ghost use Rattle.command_words.specs.Items.{texts};
 use crate::kind::Kind;
 use clap::error::ErrorKind;
 use clap::{Arg, ArgAction, ArgMatches, Command, Error};
-use perm_base::NoMemory;
+use outside::NoMemory;
 use std::alloc::{AllocError, Global};
 
 /// What the words behind a command's name say, or `None` where they are none that the command takes.

@@ -11,7 +11,7 @@ use crate::kind::Kind;
 use crate::operands::{count_of, files_of, first_files, subject_of};
 use crate::options::{cache_in, most_in, options_in, workers_in};
 use clap::ArgMatches;
-use perm_base::NoMemory;
+use outside::NoMemory;
 use std::alloc::Global;
 
 /// What the words behind the program's name ask for, or `None` where they are no command.

@@ -17,8 +17,8 @@ use Rattle.matcher_meaning.specs.Order.{Numbered, in_order_of, numbered, numbere
 use Rattle.matcher_meaning.specs.Perm.{Refusal, refused_at}
 use Rattle.matcher_meaning.specs.Verdicts.{RowHasOutcome}
 use Rattle.decision.proofs.RowLemmas.{each_middle, each_weaker, numbered_at}
-use Rattle.decision.specs.Helps.Covering.{Covers}
-use Rattle.decision.specs.Helps.Leaving.{AreAllThatMatter, IsLeftOut}
+use Rattle.decision.specs.Helps.Covers.{Covers}
+use Rattle.decision.specs.Helps.LeftOut.{AreAllThatMatter, IsLeftOut}
 use Rattle.decision.specs.Helps.Outcomes.{IsJudgedOn}
 
 -- all rows are looked at

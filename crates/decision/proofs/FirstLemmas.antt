@@ -26,9 +26,9 @@ use Rattle.decision.proofs.CoverLemmas.{covered_each, covered_stands, numbers_be
 use Rattle.decision.proofs.FoldLemmas.{here_refused, refusal_at, unrefused}
 use Rattle.decision.proofs.OutcomeLemmas.{comes_for_more}
 use Rattle.decision.proofs.RowLemmas.{each_at, each_push, each_standing, each_weaker, numbered_at, numbered_length, zip_at, zip_length}
-use Rattle.decision.specs.Helps.Covering.{Covers}
+use Rattle.decision.specs.Helps.Covers.{Covers}
 use Rattle.decision.specs.Helps.Firsts.{IsDepthOf, IsFirstWith, first_of, verdict_of_first}
-use Rattle.decision.specs.Helps.Leaving.{IsLeftOut}
+use Rattle.decision.specs.Helps.LeftOut.{IsLeftOut}
 use Rattle.decision.specs.Helps.Outcomes.{ComesTo, HasOutcomesInOrder, IsJudgedOn, OutcomeIs, is_by_subjects}
 
 -- depths give an order

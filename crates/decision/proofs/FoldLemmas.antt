@@ -20,7 +20,7 @@ use Rattle.matcher_meaning.specs.Perm.{Refusal}
 use Rattle.matcher_meaning.specs.Verdicts.{HasOneOutcome, RowHasOutcome}
 use Rattle.decision.proofs.CoverLemmas.{numbers_before}
 use Rattle.decision.proofs.RowLemmas.{zip_append}
-use Rattle.decision.specs.Helps.Covering.{Covers}
+use Rattle.decision.specs.Helps.Covers.{Covers}
 use Rattle.decision.specs.Helps.Outcomes.{ComesTo, IsJudgedOn, OutcomeIs}
 
 -- these rows come to these outcomes, where a search is refused or none

@@ -14,13 +14,13 @@ use Rattle.policy_state.specs.States.{State}
 use Rattle.policy_table.specs.Tables.{Fields}
 use Rattle.matcher_meaning.specs.Calls.{text_of}
 use Rattle.decision.specs.Plans.{Pair}
-use Rattle.decision.specs.Helps.Gathering.{AreTexts, FindsBy, GathersNames, IsNoText, IsSoughtBy, IsTextAt, SomeIsNoText, has_some_name}
-use Rattle.decision.specs.Helps.Planning.{pair_seen, value_at}
-use Rattle.decision.specs.declared.gathering.Gathered.{Gathered}
-use Rattle.decision.specs.declared.gathering.Gathered.TheVariants as gathered
+use Rattle.decision.specs.Helps.FoundRows.{AreTexts, FindsBy, GathersNames, IsNoText, IsSoughtBy, IsTextAt, SomeIsNoText, has_some_name}
+use Rattle.decision.specs.Helps.KeptPlans.{pair_seen, value_at}
+use Rattle.decision.specs.declared.found_rows.Gathered.{Gathered}
+use Rattle.decision.specs.declared.found_rows.Gathered.TheVariants as gathered
 use Rattle.decision.specs.declared.plan.By.TheVariants as by
-use Rattle.decision.specs.declared.plan.FittingPlaces.{FittingPlaces}
-use Rattle.decision.specs.declared.plan.PairPlaces.{PairPlaces}
+use Rattle.decision.specs.declared.plan.FittingColumns.{FittingColumns}
+use Rattle.decision.specs.declared.plan.EqualColumns.{EqualColumns}
 use Rattle.decision.proofs.RowLemmas.{zip_append}
 
 -- the texts of the first columns that are compared, under their hash
@@ -63,7 +63,7 @@ no_text_at values (p ∷ ps) zero pair within here none = inl (subst (λ (q : Pa
 no_text_at values (p ∷ ps) (suc at) pair within here none = inr (no_text_at values ps at pair (omega (arith, within)) here none)
 
 -- the same where the columns are kept as places
-pub so_far_next : (values : List Datum) (pairs : List PairPlaces) (at : ℕ) (default : PairPlaces) (place : Option ℕ) (hash next : ℕ) (d : Datum) (text : List ℕ) → at < length pairs → value_at values place ≡ Some d → place ≡ (get_or pairs at default).request → text_of d ≡ Some text
+pub so_far_next : (values : List Datum) (pairs : List EqualColumns) (at : ℕ) (default : EqualColumns) (place : Option ℕ) (hash next : ℕ) (d : Datum) (text : List ℕ) → at < length pairs → value_at values place ≡ Some d → place ≡ (get_or pairs at default).request → text_of d ≡ Some text
     → ((texts : List (List ℕ)) → IsKeyOf hash texts → IsKeyOf next (texts ++ text ∷ [])) → SoFar values (map pair_seen (take at pairs)) hash → SoFar values (map pair_seen (take (at + 1) pairs)) next
 so_far_next values pairs at default place hash next d text within value here is more so =
     subst (λ (l : List Pair). SoFar values l next) (sym longer)
@@ -72,7 +72,7 @@ so_far_next values pairs at default place hash next d text within value here is 
     longer : map pair_seen (take (at + 1) pairs) ≡ map pair_seen (take at pairs) ++ pair_seen (get_or pairs at default) ∷ []
     longer = ap (map pair_seen) (take_more pairs at default within) ∙ map-append pair_seen (take at pairs) (get_or pairs at default ∷ [])
 
-pub no_text_next : (values : List Datum) (pairs : List PairPlaces) (at : ℕ) (default : PairPlaces) (place : Option ℕ) (d : Datum) → at < length pairs → value_at values place ≡ Some d → place ≡ (get_or pairs at default).request → text_of d ≡ None → SomeIsNoText values (map pair_seen pairs)
+pub no_text_next : (values : List Datum) (pairs : List EqualColumns) (at : ℕ) (default : EqualColumns) (place : Option ℕ) (d : Datum) → at < length pairs → value_at values place ≡ Some d → place ≡ (get_or pairs at default).request → text_of d ≡ None → SomeIsNoText values (map pair_seen pairs)
 no_text_next values pairs at default place d within value here is =
     no_text_at values (map pair_seen pairs) at (pair_seen (get_or pairs at default)) (omega (arith, within, length-map pairs pair_seen)) (get_or-map pair_seen pairs at default (pair_seen (get_or pairs at default)) within)
     (subst (IsNoText values) here (d, value, is))
@@ -104,7 +104,7 @@ names_first index name names old mid new first second by_slot is =
 -- ---- by the plan
 
 -- a pattern beside the texts
-pub sought_fitting : (values : List Datum) (state : State) (pairs : List Pair) (is : FittingPlaces) (asked : List ℕ) (index : Indexed) (old new : List ℕ) (g : Gathered) → IsTextAt values is.request asked → IsSoughtBy values pairs asked index old new g → FindsBy values state pairs (by.Pattern is) index old new g
+pub sought_fitting : (values : List Datum) (state : State) (pairs : List Pair) (is : FittingColumns) (asked : List ℕ) (index : Indexed) (old new : List ℕ) (g : Gathered) → IsTextAt values is.request asked → IsSoughtBy values pairs asked index old new g → FindsBy values state pairs (by.Pattern is) index old new g
 sought_fitting values state pairs is asked index old new gathered.Slots value finds = (asked, value, finds)
 sought_fitting values state pairs is asked index old new gathered.Nothing value some = some
 sought_fitting values state pairs is asked index old new gathered.Unknown value none = tt

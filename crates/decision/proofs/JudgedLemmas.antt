@@ -23,7 +23,7 @@ use Rattle.matcher_read.specs.Expression.{Expression}
 use Rattle.matcher_meaning.specs.Order.{AreInOrder, numbered_from}
 use Rattle.matcher_meaning.specs.Perm.{Refusal}
 use Rattle.matcher_meaning.specs.Verdicts.{IsJudged, RowHasOutcome}
-use Rattle.decision.specs.Judging.{IsJudgedWith, RefusedIn}
+use Rattle.decision.specs.Decisions.{IsJudgedWith, RefusedIn}
 use Rattle.decision.specs.Helps.Outcomes.{HasOutcomesInOrder, IsJudgedOn, is_by_subjects}
 
 -- what is judged on outcomes of which less is said

@@ -37,7 +37,7 @@ use Rattle.matcher_meaning.specs.Comes.{ComesTo, ComeToBy, Evaluates, TruthIs}
 use Rattle.matcher_meaning.specs.Meaning.{along, truth_at}
 use Rattle.matcher_meaning.specs.Operators.{settled, joined}
 use Rattle.decision.specs.Plans.{Fitted, Questioned, are_asked, are_names, asked_column, both_columns, compared, conjuncts, fitted, is_name, is_operand, is_quiet, kind_of, policy_column, question, questioned, quiet_front}
-use Rattle.decision.specs.Helps.Planning.{asked_among, asked_in, asked_of, column_before}
+use Rattle.decision.specs.Helps.KeptPlans.{asked_among, asked_in, asked_of, column_before}
 
 -- each of these uses is declared by the model
 abbrev pub are_declared : ModelParts → List Use → Bool

@@ -20,7 +20,7 @@ use Rattle.perm_value.specs.Seen.{datum}
 use Rattle.perm_value.specs.declared.value.Value.{Value}
 use Rattle.policy_index.specs.Indexed.{Indexed}
 use Rattle.policy_index.specs.Keys.{KeyParts, agrees, fits_pattern, has_texts as has_texts_in, of_column}
-use Rattle.policy_index.specs.declared.key.Front.{Front}
+use Rattle.policy_index.specs.declared.key.FrontColumn.{FrontColumn}
 use Rattle.policy_state.specs.States.{State, tables}
 use Rattle.policy_table.specs.Tables.{Fields, rows}
 use Rattle.role_meaning.specs.Implied.{AreImplied}
@@ -35,9 +35,9 @@ use Rattle.matcher_meaning.specs.Cases.{Case, IsLinkedBy, at_column, at_row, whe
 use Rattle.matcher_meaning.specs.Comes.{TruthIs}
 use Rattle.matcher_meaning.specs.Verdicts.{case_of}
 use Rattle.decision.specs.Plans.{Asked, Fitting, first_fitting, first_question, pairs_in, policy_places}
-use Rattle.decision.specs.Helps.Gathering.{AreTexts, FindsRoles, IsTextAt, SomeIsNoText, has_some_name}
-use Rattle.decision.specs.Helps.Leaving.{IsLeftOut}
-use Rattle.decision.specs.Helps.Planning.{IsPlan, has_text_at, names_of, parts_of_plan, serves, value_at}
+use Rattle.decision.specs.Helps.FoundRows.{AreTexts, FindsRoles, IsTextAt, SomeIsNoText, has_some_name}
+use Rattle.decision.specs.Helps.LeftOut.{IsLeftOut}
+use Rattle.decision.specs.Helps.KeptPlans.{IsPlan, has_text_at, names_of, parts_of_plan, serves, value_at}
 use Rattle.decision.specs.declared.plan.KeptPlan.{KeptPlan}
 use Rattle.decision.proofs.LeftOutLemmas.{HasValues, HoldsText, SomeExcludes, are_declared, left_out}
 use Rattle.decision.proofs.PlanLemmas.{HasField, no_text_excludes, pattern_excludes, role_excludes, texts_exclude}
@@ -176,7 +176,7 @@ module _ (model : ModelParts) (shapes : Shapes) (state : State) (values : List V
   texts_left_out key texts fields long columns pattern are other =
       row_left_out fields (λ refused.
       texts_exclude (where_refused (at_row asked (Some fields)) refused) fields refl (has_fields fields long refused) (parts_of_plan model) texts are
-      (ap (λ (l : List ℕ). has l) (sym columns) ∙ left_false (has key.columns) (fits_pattern key.pattern [] fields) (ap (λ (p : Option Front). fits_pattern p [] fields) pattern) other))
+      (ap (λ (l : List ℕ). has l) (sym columns) ∙ left_false (has key.columns) (fits_pattern key.pattern [] fields) (ap (λ (p : Option FrontColumn). fits_pattern p [] fields) pattern) other))
     where
       has : List ℕ → Bool
       has columns = has_texts_in columns texts fields
@@ -196,7 +196,7 @@ module _ (model : ModelParts) (shapes : Shapes) (state : State) (values : List V
       by true has =
           row_left_out fields (λ refused.
           pattern_excludes (where_refused (at_row asked (Some fields)) refused) fields refl (has_fields fields long refused) (parts_of_plan model) fitting text first value
-          (ap (λ (p : Option Front). fits_pattern p text fields) (sym pattern) ∙ sym (ap (λ (b : Bool). b && fits_pattern key.pattern text fields) has) ∙ other))
+          (ap (λ (p : Option FrontColumn). fits_pattern p text fields) (sym pattern) ∙ sym (ap (λ (b : Bool). b && fits_pattern key.pattern text fields) has) ∙ other))
 
   -- rows that name neither the asked name nor a role of it are left out
   pub roles_left_out : (one : Asked) (index : Indexed) (old new : List ℕ) (found : FindsRoles (map datum values) state one index old new) (fields : Fields) → length model.policy ≤ length fields → first_question model (parts_of_plan model) ≡ Some one

@@ -20,10 +20,10 @@ use Rattle.matcher_meaning.specs.Cases.{Case}
 use Rattle.matcher_meaning.specs.Comes.{TruthIs}
 use Rattle.matcher_meaning.specs.Verdicts.{case_of}
 use Rattle.decision.specs.Plans.{Pair, first_fitting, first_question, key_of, pairs_in, policy_places}
-use Rattle.decision.specs.Helps.Gathering.{AreTexts, FindsBy, SomeIsNoText, has_some_name}
-use Rattle.decision.specs.Helps.Leaving.{AreAllThatMatter, IsLeftOut}
-use Rattle.decision.specs.Helps.Planning.{IsPlan, asked_seen, fitting_seen, pair_seen, parts_of_plan, plan_seen, serves}
-use Rattle.decision.specs.declared.gathering.Gathered.TheVariants as gathered
+use Rattle.decision.specs.Helps.FoundRows.{AreTexts, FindsBy, SomeIsNoText, has_some_name}
+use Rattle.decision.specs.Helps.LeftOut.{AreAllThatMatter, IsLeftOut}
+use Rattle.decision.specs.Helps.KeptPlans.{IsPlan, asked_seen, fitting_seen, pair_seen, parts_of_plan, plan_seen, serves}
+use Rattle.decision.specs.declared.found_rows.Gathered.TheVariants as gathered
 use Rattle.decision.specs.declared.plan.By.{By}
 use Rattle.decision.specs.declared.plan.By.TheVariants as by
 use Rattle.decision.specs.declared.plan.KeptPlan.{KeptPlan}

@@ -17,11 +17,11 @@ use Rattle.role_meaning.specs.Links.{IsLinked}
 use Rattle.matcher_meaning.specs.Cases.{IsLinkedBy}
 use Rattle.matcher_meaning.specs.Verdicts.{case_of}
 use Rattle.decision.specs.Helps.Asked.{case_in, rows_of}
-use Rattle.decision.specs.Helps.Leaving.{LeavesOut}
-use Rattle.decision.specs.Helps.Reaching.{KnowsLinks}
+use Rattle.decision.specs.Helps.LeftOut.{LeavesOut}
+use Rattle.decision.specs.Helps.ReachedNames.{KnowsLinks}
 use Rattle.decision.specs.declared.asking.Asking.{Asking}
 use Rattle.decision.specs.declared.links.AskedName.{AskedName}
-use Rattle.decision.specs.declared.looking.Looked.{Looked}
+use Rattle.decision.specs.declared.looked.Looked.{Looked}
 
 -- what is lent of a name that is known is known
 pub knows_asked : (found : Option AskedName) (lent : Option (Bor AskedName)) (state : State) → option_copied lent ≡ found → IfSome found (KnowsLinks state) → IfSome (option_copied lent) (KnowsLinks state)

@@ -18,15 +18,15 @@ use Rattle.matcher_meaning.specs.Perm.{outcome_of}
 use Rattle.matcher_code.specs.Compiled.{as_answer}
 use Rattle.matcher_code.specs.Machine.{CodeComesTo}
 use Rattle.matcher_code.specs.Rules.{CodeParts}
-use Rattle.matcher_code.specs.Running.{IsAnswer, IsValueOf}
-use Rattle.matcher_code.specs.declared.stop.Stop.{Stop}
-use Rattle.matcher_code.specs.declared.stop.Stop.TheVariants as stop
+use Rattle.matcher_code.specs.RunEnds.{IsAnswer, IsValueOf}
+use Rattle.matcher_code.specs.declared.no_truth.NoTruth.{NoTruth}
+use Rattle.matcher_code.specs.declared.no_truth.NoTruth.TheVariants as stop
 use Rattle.decision.specs.Helps.Outcomes.{ComesTo, SaysTruth, truth_in, word_of_row}
 use Rattle.decision.specs.Helps.Parts.{IsProgram}
 use Rattle.decision.specs.declared.plan.KeptPlan.{KeptPlan}
 
 -- an answer of which more is known
-answer_weaker : {X : Type 0} (Says SaysToo : Option (ℕ × List ℕ) → Evaluation → Type 0) (value : X → Datum) (Refused : Option (List ℕ) → Type 0) → ((refused : Option (ℕ × List ℕ)) (answer : Evaluation) → Says refused answer → SaysToo refused answer) → (r : Result X Stop)
+answer_weaker : {X : Type 0} (Says SaysToo : Option (ℕ × List ℕ) → Evaluation → Type 0) (value : X → Datum) (Refused : Option (List ℕ) → Type 0) → ((refused : Option (ℕ × List ℕ)) (answer : Evaluation) → Says refused answer → SaysToo refused answer) → (r : Result X NoTruth)
     → IsAnswer Says value Refused r → IsAnswer SaysToo value Refused r
 answer_weaker Says SaysToo value Refused weaker (Ok x) (none, is) = (none, weaker None (Ok (value x)) is)
 answer_weaker Says SaysToo value Refused weaker (Err (stop.Fault failed)) (inl (none, is)) = inl (none, weaker None (Err failed) is)
@@ -34,7 +34,7 @@ answer_weaker Says SaysToo value Refused weaker (Err (stop.Fault failed)) (inr (
 answer_weaker Says SaysToo value Refused weaker (Err stop.NoMemory) none = none
 
 -- what the code of a program comes to is the truth of its matcher
-truth_of_value : (case : Case) (code : CodeParts) (by_row : Bool) (effect domain : Option ℕ) (plan : Option KeptPlan) → IsProgram case.model code by_row effect domain plan → (Refused : Option (List ℕ) → Type 0) (r : Result View Stop)
+truth_of_value : (case : Case) (code : CodeParts) (by_row : Bool) (effect domain : Option ℕ) (plan : Option KeptPlan) → IsProgram case.model code by_row effect domain plan → (Refused : Option (List ℕ) → Type 0) (r : Result View NoTruth)
     → IsValueOf case code.ops Refused r → IsAnswer (SaysTruth case) datum_of_view Refused r
 truth_of_value case code by_row effect domain plan program Refused r is =
     answer_weaker (λ refused answer. CodeComesTo (where_refused case refused) code.ops answer) (SaysTruth case) datum_of_view Refused
@@ -65,10 +65,10 @@ truth_given case code by_row effect domain plan program Refused v b e is =
     (whole.0, subst (λ (d : Datum). SaysTruth case None (Ok d)) (said_truth case v said ∙ ap (λ (c : Bool). datums.truth c) (sym e)) said)
 
 -- or why it gives none
-pub stop_given : (case : Case) (code : CodeParts) (by_row : Bool) (effect domain : Option ℕ) (plan : Option KeptPlan) → IsProgram case.model code by_row effect domain plan → (Refused : Option (List ℕ) → Type 0) (why : Stop) → IsValueOf case code.ops Refused (Err why) → IsAnswer {X = Bool} (SaysTruth case) datums.truth Refused (Err why)
+pub stop_given : (case : Case) (code : CodeParts) (by_row : Bool) (effect domain : Option ℕ) (plan : Option KeptPlan) → IsProgram case.model code by_row effect domain plan → (Refused : Option (List ℕ) → Type 0) (why : NoTruth) → IsValueOf case code.ops Refused (Err why) → IsAnswer {X = Bool} (SaysTruth case) datums.truth Refused (Err why)
 stop_given case code by_row effect domain plan program Refused why is = by why (truth_of_value case code by_row effect domain plan program Refused (Err why) is)
   where
-    by : (why : Stop) → IsAnswer {X = View} (SaysTruth case) datum_of_view Refused (Err why) → IsAnswer {X = Bool} (SaysTruth case) datums.truth Refused (Err why)
+    by : (why : NoTruth) → IsAnswer {X = View} (SaysTruth case) datum_of_view Refused (Err why) → IsAnswer {X = Bool} (SaysTruth case) datums.truth Refused (Err why)
     by (stop.Fault failed) said = said
     by stop.NoMemory said = said
 
@@ -102,7 +102,7 @@ comes_for_more case Refused RefusedToo row o more (inl (none, is)) = inl (more N
 comes_for_more case Refused RefusedToo row o more (inr (at, pattern, bad, failed, is)) = inr (at, pattern, more (Some pattern) bad, failed, is)
 
 -- what the finder refused in an evaluation
-pub answer_used : {X : Type 0} (Says : Option (ℕ × List ℕ) → Evaluation → Type 0) (value : X → Datum) (before now : Refusals) (r : Result X Stop) → IsAnswer Says value (RefusedOnly before now) r → IsUsed before now
+pub answer_used : {X : Type 0} (Says : Option (ℕ × List ℕ) → Evaluation → Type 0) (value : X → Datum) (before now : Refusals) (r : Result X NoTruth) → IsAnswer Says value (RefusedOnly before now) r → IsUsed before now
 answer_used Says value before now (Ok x) is = used_same before now is.0
 answer_used Says value before now (Err (stop.Fault failed)) (inl is) = used_same before now is.0
 answer_used Says value before now (Err (stop.Fault failed)) (inr is) = used_one before now (Some is.0) is.1

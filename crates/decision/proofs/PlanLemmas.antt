@@ -16,8 +16,8 @@ use Rattle.model_conf.specs.Shapes.{place_of}
 use Rattle.matcher_meaning.specs.Calls.{text_of}
 use Rattle.matcher_meaning.specs.Cases.{Case, IsLinkedBy, field_of, row_text}
 use Rattle.decision.specs.Plans.{Asked, Fitted, Fitting, Pair, Plan, Questioned, asked_of_question, by_pattern, by_roles, by_texts, compared, conjuncts, first_fitting, first_question, fitted, fitting_of, pair_of, pairs_in, plan_by, plan_in, plan_of, policy_places, questioned, quiet_front}
-use Rattle.decision.specs.Helps.Gathering.{AreTexts, IsDomainOf, IsTextAt, SomeIsNoText}
-use Rattle.decision.specs.Helps.Planning.{value_at}
+use Rattle.decision.specs.Helps.FoundRows.{AreTexts, IsDomainOf, IsTextAt, SomeIsNoText}
+use Rattle.decision.specs.Helps.KeptPlans.{value_at}
 use Rattle.decision.proofs.LeftOutLemmas.{Fits, IsDomainIn, SomeExcludes, by_columns, by_pattern as excluded_pattern, by_role, fitting_may, kind_is}
 
 -- ---- what a plan comes from

@@ -1,4 +1,4 @@
 pub mod Programs
 pub mod Plans
-pub mod Judging
+pub mod Decisions
 pub mod Helps

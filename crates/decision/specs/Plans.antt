@@ -8,7 +8,7 @@ use Rattle.matcher_read.specs.declared.tree.Operator.TheVariants.{And, Equal}
 use Rattle.model_conf.specs.ModelText.{ModelParts}
 use Rattle.model_conf.specs.Shapes.{place_of}
 use Rattle.policy_index.specs.Keys.{KeyParts}
-use Rattle.policy_index.specs.declared.key.Front.{Front}
+use Rattle.policy_index.specs.declared.key.FrontColumn.{FrontColumn}
 use Rattle.policy_index.specs.declared.key.FrontKind.{FrontKind}
 use Rattle.policy_index.specs.declared.key.FrontKind.TheVariants as fronts
 
@@ -131,7 +131,7 @@ pairs_in model (e ∷ es) = option_to_list (option_and_then (pair_of model) (com
 -- the same of a pattern
 pub record Fitting : Type 0 where
   pub request : Option ℕ
-  pub pattern : Front
+  pub pattern : FrontColumn
 
 abbrev pub fitting_of : ModelParts → Fitted → Option Fitting
 fitting_of model is = option_map (λ (at : ℕ). record { request = place_of model.request is.asked; pattern = record { column = at; kind = is.kind } }) (place_of model.policy is.column)

@@ -1,5 +1,5 @@
 use crate::links::AskedName;
-use crate::plan::{AskedPlaces, KeptPlan};
+use crate::plan::{AskedColumns, KeptPlan};
 use matcher_code::Code;
 use model_conf::Model;
 use perm_value::Request;
@@ -20,7 +20,7 @@ pub(crate) struct Asking<'a> {
     // By what rows are found.
     pub(crate) plan: Option<&'a KeptPlan>,
     // What a role question of the matcher asks of each row.
-    pub(crate) question: Option<AskedPlaces>,
+    pub(crate) question: Option<AskedColumns>,
     // The name that it asks about, and what this reaches, where that is found.
     pub(crate) asked_name: Option<&'a AskedName<'a>>,
     pub(crate) state: &'a PolicyState,

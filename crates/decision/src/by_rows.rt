@@ -2,17 +2,17 @@ ghost use Rattle.std.specs.Prelude.{◌≡◌, IfErr, IfOk, false, true};
 ghost use Rattle.regex_gate.specs.Refusals.{IsUsed, RefusedOnly};
 ghost use Rattle.matcher_meaning.specs.Comes.{takes_memory};
 ghost use Rattle.decision.specs.Helps.Asked.{CanRun, case_in, rows_of};
-ghost use Rattle.decision.specs.Helps.Leaving.{LeavesOut};
+ghost use Rattle.decision.specs.Helps.LeftOut.{LeavesOut};
 ghost use Rattle.decision.specs.Helps.Outcomes.{HasOutcomesInOrder, IsJudgedOn, is_by_subjects};
 
 use crate::asking::Asking;
 use crate::candidates::Candidates;
-use crate::looking::Looked;
+use crate::looked::Looked;
 use crate::outcome::outcome;
 use effect_fold::{Fold, Verdict};
 use matcher_code::Stack;
 use matcher_meaning::case_answer_is_there;
-use perm_base::NoMemory;
+use outside::NoMemory;
 use regex_gate::Finder;
 
 /// The verdict of the rows, in the order of the table.

@@ -4,18 +4,19 @@ ghost use Rattle.matcher_meaning.specs.Comes.{takes_memory};
 ghost use Rattle.matcher_meaning.specs.Order.{numbered};
 ghost use Rattle.decision.specs.Helps.Asked.{CanRun, IsAsked, case_in, rows_of};
 ghost use Rattle.decision.specs.Helps.Firsts.{IsFirstWith, IsKnownIn, first_of, verdict_of_first};
-ghost use Rattle.decision.specs.Helps.Leaving.{LeavesOut};
+ghost use Rattle.decision.specs.Helps.LeftOut.{LeavesOut};
 ghost use Rattle.decision.specs.Helps.Outcomes.{HasOutcomesInOrder, IsJudgedOn, is_by_subjects};
 
 use crate::asking::Asking;
 use crate::candidates::Candidates;
 use crate::depths::{Depths, PLACES, depth_of};
-use crate::looking::Looked;
+use crate::looked::Looked;
 use crate::outcome::outcome;
 use effect_fold::{Outcome, Verdict};
 use matcher_code::Stack;
 use matcher_meaning::{case_answer_is_there, case_answer_is_unique};
-use perm_base::{NoMemory, Rule};
+use outside::NoMemory;
+use perm_base::Rule;
 use regex_gate::Finder;
 use role_meaning::{depth_is_one, order_by_depth};
 

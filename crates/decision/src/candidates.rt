@@ -1,11 +1,11 @@
 ghost use Rattle.std.specs.Prelude.{◌≡◌, [], ◌∷◌, MatchOption};
 ghost use Rattle.matcher_meaning.specs.Order.{numbered, numbered_from};
 ghost use Rattle.decision.specs.Helps.Asked.{case_in, rows_of};
-ghost use Rattle.decision.specs.Helps.Covering.{Covers};
-ghost use Rattle.decision.specs.Helps.Leaving.{LeavesOut};
+ghost use Rattle.decision.specs.Helps.Covers.{Covers};
+ghost use Rattle.decision.specs.Helps.LeftOut.{LeavesOut};
 
 use crate::asking::Asking;
-use crate::looking::Looked;
+use crate::looked::Looked;
 use perm_base::{Rule, TableId};
 use policy_table::{Rows, Tables};
 use std::marker::Model;
@@ -27,7 +27,7 @@ impl<'a> Model for Candidates<'a> {
     ghost use Rattle.matcher_meaning.specs.Order.{Numbered};
     ghost use Rattle.perm_base.specs.declared.shapes.TableId.TheVariants.{P};
     ghost use Rattle.policy_table.specs.Tables as policy;
-    ghost use Rattle.decision.specs.Helps.Covering.{AreInTable, rows_left};
+    ghost use Rattle.decision.specs.Helps.Covers.{AreInTable, rows_left};
 
     ghost Value = { List Numbered };
 

@@ -1,23 +1,23 @@
 //! The decision: the verdict of a model on a request over a policy.
 #![tactic(auto)]
 
+mod asked_name;
 mod asking;
 mod by_rows;
 mod by_subjects;
 mod candidates;
-mod deciding;
 mod depths;
-mod gathering;
+mod found_rows;
 mod links;
-mod looking;
+mod looked;
 mod names;
 mod outcome;
 mod parts;
 mod plan;
 mod program;
-mod reaching;
 mod scratch;
+mod verdicts;
 
-pub use deciding::decide;
 pub use program::{Arity, Program, make_program};
 pub use scratch::Scratch;
+pub use verdicts::decide;

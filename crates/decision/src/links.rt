@@ -29,7 +29,7 @@ pub(crate) struct StateLinks<'a> {
 impl<'a> Model for StateLinks<'a> {
     ghost use Rattle.std.specs.Prelude.{IfSome, option_copied};
     ghost use Rattle.policy_state.specs.States.{State};
-    ghost use Rattle.decision.specs.Helps.Reaching.{KnowsLinks};
+    ghost use Rattle.decision.specs.Helps.ReachedNames.{KnowsLinks};
 
     ghost Value = { State };
 

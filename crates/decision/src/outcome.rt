@@ -4,15 +4,16 @@ ghost use Rattle.regex_gate.specs.Refusals.{IsUsed, RefusedOnly};
 ghost use Rattle.matcher_meaning.specs.Cases.{at_row};
 ghost use Rattle.matcher_meaning.specs.Comes.{takes_memory};
 ghost use Rattle.matcher_meaning.specs.Perm.{outcome_of, word_of};
-ghost use Rattle.matcher_code.specs.Running.{IsAnswer, IsWantOfMemory};
+ghost use Rattle.matcher_code.specs.RunEnds.{IsAnswer, IsWantOfMemory};
 ghost use Rattle.decision.specs.Helps.Asked.{CanRun, IsAsked, case_in};
 ghost use Rattle.decision.specs.Helps.Outcomes.{ComesTo, SaysTruth, truth_in, word_of_row};
 
 use crate::asking::Asking;
 use crate::links::StateLinks;
 use effect_fold::Outcome;
-use matcher_code::{Stack, Stop, run};
-use perm_base::{NoMemory, Rule};
+use matcher_code::{NoTruth, Stack, run};
+use outside::NoMemory;
+use perm_base::Rule;
 use perm_value::View;
 use regex_gate::Finder;
 
@@ -32,8 +33,8 @@ pub(crate) fn outcome<'a, P: Finder, const N: usize>(
     match truth(asking, row, finder, stack) {
         Ok(true) => Ok(matched(word_of_row(asking, row))),
         Ok(false) => Ok(Outcome::Unmatched),
-        Err(Stop::Fault(fault)) => Ok(Outcome::Failed(fault)),
-        Err(Stop::NoMemory) => Err(NoMemory),
+        Err(NoTruth::Fault(fault)) => Ok(Outcome::Failed(fault)),
+        Err(NoTruth::NoMemory) => Err(NoMemory),
     }
 }
 
@@ -43,7 +44,7 @@ fn truth<'a, P: Finder, const N: usize>(
     row: Option<&'a Rule>,
     finder: &mut P,
     stack: &mut Stack<'a, N>,
-) -> Result<bool, Stop>
+) -> Result<bool, NoTruth>
     requires { CanRun asking.now N }
     ensures truth { IsAnswer (SaysTruth (at_row (case_in asking.now) (option_copied row.entry)))
         datums.truth (RefusedOnly (P.refusals finder.old) (P.refusals finder.new)) result }

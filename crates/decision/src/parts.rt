@@ -3,10 +3,10 @@ ghost use Rattle.matcher_read.specs.Expression.{count, expression, expressions_o
 ghost use Rattle.decision.specs.Plans.{are_asked, are_names, asked_column, both_columns, compared};
 ghost use Rattle.decision.specs.Plans.{fitted, fitted_pair, is_name, is_operand, is_quiet, kind_of};
 ghost use Rattle.decision.specs.Plans.{policy_column, question, questioned};
-ghost use Rattle.decision.specs.Helps.Planning.{columns_seen, fitted_seen, question_seen};
+ghost use Rattle.decision.specs.Helps.KeptPlans.{columns_seen, fitted_seen, question_seen};
 
 use matcher_read::{Function, Operator, Tree};
-use perm_base::Text;
+use outside::Text;
 use policy_index::FrontKind;
 
 /// A column of the request and one of the policy.

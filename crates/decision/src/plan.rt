@@ -4,20 +4,21 @@ ghost use Rattle.model_conf.specs.Shapes.{place_of};
 ghost use Rattle.decision.specs.Plans.{asked_of_question, compared, conjuncts, first_fitting};
 ghost use Rattle.decision.specs.Plans.{first_question, fitted, fitting_of, key_of, pair_of};
 ghost use Rattle.decision.specs.Plans.{pairs_in, plan_by, policy_places, questioned, quiet_front};
-ghost use Rattle.decision.specs.Helps.Planning.{IsPlanOf, asked_among, asked_in, asked_of, asked_seen};
-ghost use Rattle.decision.specs.Helps.Planning.{fitting_seen, pair_seen, plan_seen, seen};
+ghost use Rattle.decision.specs.Helps.KeptPlans.{IsPlanOf, asked_among, asked_in, asked_of, asked_seen};
+ghost use Rattle.decision.specs.Helps.KeptPlans.{fitting_seen, pair_seen, plan_seen, seen};
 
 use crate::parts::{asked_column, compared, fitted, is_quiet, questioned};
 use matcher_read::{Operator, Tree};
 use model_conf::Model;
-use perm_base::{NoMemory, Rule};
-use policy_index::{Front, RowKey};
+use outside::NoMemory;
+use perm_base::Rule;
+use policy_index::{FrontColumn, RowKey};
 use std::alloc::Global;
 
 /// By what the rows of p are found that may match, by the places of columns; what it leaves out comes to no match.
 pub(crate) struct KeptPlan {
     // The columns that are compared.
-    pub(crate) pairs: Vec<PairPlaces>,
+    pub(crate) pairs: Vec<EqualColumns>,
     pub(crate) by: By,
     // The key of the index that it wants.
     pub(crate) key: RowKey,
@@ -43,28 +44,28 @@ pub(crate) enum By {
     /// Nothing.
     Texts,
     /// A pattern that a text of the request has to fit.
-    Pattern(FittingPlaces),
+    Pattern(FittingColumns),
     /// A name of the request that has to have a role; no columns are compared then.
-    Roles(AskedPlaces),
+    Roles(AskedColumns),
 }
 
 /// A column of the request that equals one of the policy.
 #[derive(Clone, Copy)]
-pub(crate) struct PairPlaces {
+pub(crate) struct EqualColumns {
     pub(crate) request: Option<u32>,
     pub(crate) policy: u32,
 }
 
 /// A column of the request that fits the pattern in one of the policy.
 #[derive(Clone, Copy)]
-pub(crate) struct FittingPlaces {
+pub(crate) struct FittingColumns {
     pub(crate) request: Option<u32>,
-    pub(crate) pattern: Front,
+    pub(crate) pattern: FrontColumn,
 }
 
 /// A column of the request that has in a relation the role in one of the policy, in the domain in a column of the request.
 #[derive(Clone, Copy)]
-pub(crate) struct AskedPlaces {
+pub(crate) struct AskedColumns {
     pub(crate) relation: u8,
     pub(crate) request: Option<u32>,
     pub(crate) policy: u32,
@@ -99,9 +100,9 @@ pub(crate) fn plan_of(alloc: Global, model: &Model) -> Result<Option<KeptPlan>, 
 
 // What a plan has beside its pairs, where there is one.
 fn by_of(
-    pairs: &[PairPlaces],
-    fitting: Option<FittingPlaces>,
-    question: Option<AskedPlaces>,
+    pairs: &[EqualColumns],
+    fitting: Option<FittingColumns>,
+    question: Option<AskedColumns>,
 ) -> Option<By>
     ensures { option_map (plan_seen pairs.now) result
         ≡ plan_by (map pair_seen pairs.now) (option_map fitting_seen fitting)
@@ -120,7 +121,7 @@ fn by_of(
 }
 
 // The key of the index that a plan wants.
-fn key_of(alloc: Global, pairs: &[PairPlaces], by: By) -> Result<RowKey, NoMemory>
+fn key_of(alloc: Global, pairs: &[EqualColumns], by: By) -> Result<RowKey, NoMemory>
     ensures { IfOk result (λ key. key ≡ key_of (plan_seen pairs.now by)) }
 {
     match by {
@@ -134,7 +135,7 @@ fn key_of(alloc: Global, pairs: &[PairPlaces], by: By) -> Result<RowKey, NoMemor
 }
 
 // The policy's columns of pairs.
-fn policy_places(alloc: Global, pairs: &[PairPlaces]) -> Result<Vec<u32>, NoMemory>
+fn policy_places(alloc: Global, pairs: &[EqualColumns]) -> Result<Vec<u32>, NoMemory>
     ensures { IfOk result (λ places. places.items ≡ policy_places (map pair_seen pairs.now)) }
 {
     let mut places = Vec::new(alloc);
@@ -186,7 +187,7 @@ fn push_quiet<'a>(parts: &[&'a Tree], front: &mut Vec<&'a Tree>) -> Result<(), N
 }
 
 // Pushes the columns that parts compare.
-fn push_pairs(parts: &[&Tree], model: &Model, pairs: &mut Vec<PairPlaces>) -> Result<(), NoMemory>
+fn push_pairs(parts: &[&Tree], model: &Model, pairs: &mut Vec<EqualColumns>) -> Result<(), NoMemory>
     ensures { OnOk result (map pair_seen pairs.new.items
         ≡ map pair_seen pairs.old.items ++ pairs_in model.now (seen parts.now)) }
 {
@@ -199,18 +200,18 @@ fn push_pairs(parts: &[&Tree], model: &Model, pairs: &mut Vec<PairPlaces>) -> Re
 }
 
 // The places of the columns that a part compares.
-fn pair_of(part: &Tree, model: &Model) -> Option<PairPlaces>
+fn pair_of(part: &Tree, model: &Model) -> Option<EqualColumns>
     ensures { option_map pair_seen result
         ≡ option_and_then (pair_of model.now) (compared (expression part.now)) }
 {
     let columns = compared(part)?;
     let policy = model.policy_columns().place_of(columns.policy.bytes())?;
     let request = model.request_columns().place_of(columns.request.bytes());
-    Some(PairPlaces { request, policy })
+    Some(EqualColumns { request, policy })
 }
 
 // The first pattern among parts.
-fn first_fitting(parts: &[&Tree], model: &Model) -> Option<FittingPlaces>
+fn first_fitting(parts: &[&Tree], model: &Model) -> Option<FittingColumns>
     ensures { option_map fitting_seen result ≡ first_fitting model.now (seen parts.now) }
 {
     for part in parts {
@@ -222,7 +223,7 @@ fn first_fitting(parts: &[&Tree], model: &Model) -> Option<FittingPlaces>
 }
 
 // The places of the columns of a part's pattern.
-fn fitting_of(part: &Tree, model: &Model) -> Option<FittingPlaces>
+fn fitting_of(part: &Tree, model: &Model) -> Option<FittingColumns>
     ensures { option_map fitting_seen result
         ≡ option_and_then (fitting_of model.now) (fitted (expression part.now)) }
 {
@@ -233,15 +234,15 @@ fn fitting_of(part: &Tree, model: &Model) -> Option<FittingPlaces>
     let request = model
         .request_columns()
         .place_of(found.columns.request.bytes());
-    let pattern = Front {
+    let pattern = FrontColumn {
         column,
         kind: found.kind,
     };
-    Some(FittingPlaces { request, pattern })
+    Some(FittingColumns { request, pattern })
 }
 
 // The first role question among parts.
-fn first_question(parts: &[&Tree], model: &Model) -> Option<AskedPlaces>
+fn first_question(parts: &[&Tree], model: &Model) -> Option<AskedColumns>
     ensures { option_map asked_seen result ≡ first_question model.now (seen parts.now) }
 {
     for part in parts {
@@ -253,7 +254,7 @@ fn first_question(parts: &[&Tree], model: &Model) -> Option<AskedPlaces>
 }
 
 // The places of the columns of a part's role question.
-fn question_of(part: &Tree, model: &Model) -> Option<AskedPlaces>
+fn question_of(part: &Tree, model: &Model) -> Option<AskedColumns>
     ensures { option_map asked_seen result
         ≡ option_and_then (asked_of_question model.now) (questioned (expression part.now)) }
 {
@@ -267,7 +268,7 @@ fn question_of(part: &Tree, model: &Model) -> Option<AskedPlaces>
         Some(column) => Some(columns.place_of(column.bytes())),
         None => None,
     };
-    Some(AskedPlaces {
+    Some(AskedColumns {
         relation: found.relation,
         request,
         policy,
@@ -276,7 +277,7 @@ fn question_of(part: &Tree, model: &Model) -> Option<AskedPlaces>
 }
 
 /// What the first role question of a matcher asks of each row, where it asks about a column of the request.
-pub(crate) fn question_in(tree: &Tree, model: &Model) -> Option<AskedPlaces> {
+pub(crate) fn question_in(tree: &Tree, model: &Model) -> Option<AskedColumns> {
     match tree {
         Tree::Role { .. } => question_of(tree, model),
         Tree::Binary { left, right, .. } => match question_in(left, model) {

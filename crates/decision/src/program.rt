@@ -4,10 +4,10 @@ ghost use Rattle.decision.specs.Plans.{index_key};
 
 use crate::asking::Asking;
 use crate::names::names_policy;
-use crate::plan::{AskedPlaces, KeptPlan, plan_of, question_in};
+use crate::plan::{AskedColumns, KeptPlan, plan_of, question_in};
 use matcher_code::{Code, build};
 use model_conf::Model;
-use perm_base::{NoMemory, Share};
+use outside::{NoMemory, Share};
 use perm_value::Request;
 use policy_index::RowKey;
 use policy_state::PolicyState;
@@ -25,7 +25,7 @@ pub struct Program {
     // By what rows are found that may match.
     plan: Option<KeptPlan>,
     // What a role question of the matcher asks of each row.
-    question: Option<AskedPlaces>,
+    question: Option<AskedColumns>,
 }
 
 // Written out, so that a caller's proof sees one call and not the drop of each field.

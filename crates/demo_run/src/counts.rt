@@ -5,7 +5,7 @@ ghost use Rattle.demo_run.specs.Summary.{counted, head_text, summary, truths_tex
 use answer_lines::{Answer, Line};
 use effect_fold::Verdict;
 use itoa::Buffer;
-use perm_base::NoMemory;
+use outside::NoMemory;
 use std::alloc::Global;
 
 /// How many verdicts and answers of each kind there are, and the last version of a publish.

@@ -3,7 +3,7 @@ ghost use Rattle.answer_lines.specs.LineText.{Appends};
 ghost use Rattle.demo_run.specs.DemoTexts.{ask_line, change_lines, lines_below, permission_line, policy_text, remove_line, role_of, script_text, to_read, user_line};
 
 use itoa::Buffer;
-use perm_base::NoMemory;
+use outside::NoMemory;
 use std::alloc::Global;
 
 /// The model of the demonstration.

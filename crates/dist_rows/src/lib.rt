@@ -1,12 +1,12 @@
 //! What the kept distances of a role graph stand on: squares of distances by lanes, and a counter of steps.
 #![tactic(auto)]
 
-mod changing;
-mod copying;
+mod columns;
+mod copies;
 mod lanes;
 mod limits;
-mod relaxing;
-mod reserving;
+mod relaxation;
+mod room;
 mod rows;
 mod squares;
 mod steps;

@@ -1,11 +1,11 @@
 ghost use Rattle.std.specs.Prelude.{◌≡◌, ◌+◌, ◌-◌, ◌<◌, ◌≤◌, [], IfOk, OnOk, length};
 ghost use Rattle.dist_rows.specs.Squares.{IsSquare, are_within, cell_of, cleared, dropped, groups, most_nodes, relaxed, row_of, widened, with_cell};
 
-use crate::changing::{drop_cells, push_cells};
-use crate::copying::copy_all;
+use crate::columns::{drop_cells, push_cells};
+use crate::copies::copy_all;
 use crate::limits::mark_within;
-use crate::relaxing;
-use crate::reserving::{add_free, reserve_all};
+use crate::relaxation;
+use crate::room::{add_free, reserve_all};
 use crate::rows::Row;
 use crate::steps::Steps;
 use outside::{NoMemory, Share};
@@ -163,7 +163,7 @@ impl DistRows {
         ensures cells { self.new ≡ record self.old { cells = relaxed self.old.cells a add v } }
         ensures steps { steps.new ≡ steps.old + groups (length self.old.cells) }
     {
-        relaxing::relax(&mut self.rows, a as usize, add, v as usize, steps);
+        relaxation::relax(&mut self.rows, a as usize, add, v as usize, steps);
     }
 
     /// Tells of each node whether its distance from the node `a` is at most the limit.

@@ -13,7 +13,7 @@ use Rattle.policy_table.specs.Tables.{AreLists, Fields, Policy, is_ranked, place
 use Rattle.policy_table.specs.declared.change.Change.{Change}
 use Rattle.policy_table.specs.declared.change.Change.TheVariants.{Insert, Remove, Replace}
 use Rattle.policy_table.proofs.CallerLemmas.{applies_both, counted_changed, edited_both, rows_other, rows_possible, same-Decides, same_symm, same_table, stands-in_place, stands-inserted, stands-without, told_table}
-use Rattle.edit_calls.specs.Helps.Standing.{AreTold, TellsOf, Told, is_key, stands_told}
+use Rattle.edit_calls.specs.Helps.ToldRules.{AreTold, TellsOf, Told, is_key, stands_told}
 use Rattle.edit_calls.proofs.EditLemmas.{left, taken}
 
 -- the new rule stands then, the old one does not, and others as before

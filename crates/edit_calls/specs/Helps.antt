@@ -1,3 +1,3 @@
 -- What only private functions and proofs say.
 pub mod Kept
-pub mod Standing
+pub mod ToldRules

@@ -4,9 +4,10 @@ ghost use Rattle.policy_table.specs.Changes.{applies, flat};
 ghost use Rattle.policy_table.specs.Limits.{AreSound};
 ghost use Rattle.edit_calls.specs.Admitted.{admits, is_fitting, may_stand};
 
-use crate::standing::tell_change;
+use crate::told::tell_change;
 use indexmap::IndexMap;
-use perm_base::{NoMemory, Rule, Shapes, TableId};
+use outside::NoMemory;
+use perm_base::{Rule, Shapes, TableId};
 use policy_table::{Change, Edit, Tables, columns_of, copy_edit, has_short_fields};
 use std::alloc::Global;
 

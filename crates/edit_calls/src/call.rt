@@ -1,6 +1,7 @@
 ghost use Rattle.std.specs.Prelude.{◌≡◌, ◌<◌, ◌^◌, Some, length, map, slice_get, vec_len};
 
-use perm_base::{Rule, Rules, Share, TableId, Text};
+use outside::{Share, Text};
+use perm_base::{Rule, Rules, TableId};
 use std::marker::Model;
 
 /// A management call (Casbin, policy and role management API).

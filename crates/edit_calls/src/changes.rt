@@ -4,7 +4,8 @@ ghost use Rattle.edit_calls.specs.Found.{rules_at};
 ghost use Rattle.policy_table.specs.Tables.{rows, stands};
 ghost use Rattle.policy_table.specs.declared.change.Change.TheVariants as change;
 
-use perm_base::{NoMemory, Rule, TableId};
+use outside::NoMemory;
+use perm_base::{Rule, TableId};
 use policy_table::{Change, Rows, Tables, fits_filter};
 use std::alloc::Global;
 

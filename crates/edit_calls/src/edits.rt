@@ -14,7 +14,8 @@ use crate::changes::{
 use crate::known::Known;
 use crate::listed::{News, Olds, RuleList};
 use crate::named::{has_repeat, one_is_absent, one_stands, one_stays};
-use perm_base::{NoMemory, Rule, Rules, Shapes, TableId, Text};
+use outside::{NoMemory, Text};
+use perm_base::{Rule, Rules, Shapes, TableId};
 use policy_table::{Change, Edit, Tables};
 use std::alloc::Global;
 

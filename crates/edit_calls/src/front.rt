@@ -5,7 +5,8 @@ ghost use Rattle.policy_table.specs.declared.change.Change.{Change};
 ghost use Rattle.edit_calls.specs.Admitted.{AreAdmitted, admits};
 
 use crate::admitted::admits;
-use perm_base::{NoMemory, Shapes};
+use outside::NoMemory;
+use perm_base::Shapes;
 use policy_table::{Edit, Tables};
 use std::alloc::Global;
 

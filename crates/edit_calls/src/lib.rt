@@ -12,8 +12,8 @@ mod listed;
 mod named;
 mod refusals;
 mod refused;
-mod resolving;
-mod standing;
+mod resolution;
+mod told;
 
 pub use admitted::{admits, may_stand};
 pub use call::{Call, Pairs};
@@ -24,4 +24,4 @@ pub use laws::{
     edits_keep_shapes, edits_keep_sound,
 };
 pub use refused::CallRefused;
-pub use resolving::resolve;
+pub use resolution::resolve;

@@ -4,7 +4,8 @@ ghost use Rattle.policy_table.specs.Tables.{rows};
 
 use crate::listed::RuleList;
 use indexmap::IndexSet;
-use perm_base::{NoMemory, Rule, Rules, TableId};
+use outside::NoMemory;
+use perm_base::{Rule, Rules, TableId};
 use policy_table::{Tables, fits_filter};
 use std::alloc::Global;
 

@@ -1,4 +1,5 @@
-use perm_base::{NoMemory, TableId};
+use outside::NoMemory;
+use perm_base::TableId;
 use policy_table::Limit;
 
 /// Why a management call is refused. Where several hold, the first of these is told.

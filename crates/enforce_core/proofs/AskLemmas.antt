@@ -3,7 +3,7 @@ use Rattle.std.proofs.Common.{◌≡◌, ℕ, List, Ok, Err, length, map, refl, 
 use Rattle.std.specs.Prelude.{◌≢◌, Result, true}
 use Rattle.std.proofs.lemmas.List.{length-map}
 use Rattle.model_conf.specs.ModelText.{ModelParts}
-use Rattle.decision.specs.Judging.{IsJudgedWith, RefusedIn}
+use Rattle.decision.specs.Decisions.{IsJudgedWith, RefusedIn}
 use Rattle.effect_fold.specs.declared.verdict.Verdict.{Verdict}
 use Rattle.matcher_meaning.specs.Verdicts.{IsJudged}
 use Rattle.perm_value.specs.Datum.{Datum}

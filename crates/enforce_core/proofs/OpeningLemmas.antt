@@ -2,7 +2,7 @@
 use Rattle.std.proofs.Common.{◌≡◌, ℕ, List, [], Some, refl, sym, ap, subst, ◌∙◌}
 use Rattle.std.specs.Prelude.{◌≢◌}
 use Rattle.command_words.specs.declared.command.Options.{Options}
-use Rattle.live_round.proofs.CallerLemmas.{stands_alone, stands_before}
+use Rattle.desk_session.proofs.CallerLemmas.{stands_alone, stands_before}
 use Rattle.loaded_work.specs.declared.loaded.Loaded.{Loaded}
 use Rattle.model_conf.specs.Faults.{IsModelFault}
 use Rattle.model_conf.specs.ModelText.{IsModel, ModelParts}
@@ -16,7 +16,7 @@ use Rattle.policy_csv.specs.declared.fault.PolicyFault.TheVariants as policy_fau
 use Rattle.policy_desk.specs.Desks.{Work}
 use Rattle.policy_state.specs.States.{StandsFor, State, tables}
 use Rattle.run_files.specs.Files.{shapes_with}
-use Rattle.run_files.specs.Helps.Reading.{ShapesStop}
+use Rattle.run_files.specs.Helps.ReadStops.{ShapesStop}
 use Rattle.run_status.specs.declared.part.Part.TheVariants as part
 use Rattle.run_status.specs.declared.stop.Stop.{Stop}
 use Rattle.run_status.specs.declared.stop.Stop.TheVariants.{Words, NoModel, NoRelation, NoPolicy, NoScript, NoPackets, CannotRead, CannotWrite, TooLong, NoMemory}

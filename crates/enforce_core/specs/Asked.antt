@@ -1,6 +1,6 @@
 -- What a request is answered, given as texts or as a line of JSON (Casbin, enforce).
 use Rattle.std.specs.Prelude.{◌≡◌, ◌≢◌, ℕ, ◌<◌, ⊤, false, true, List, Result, Ok, Err, IfErr, IfOk, IsUtf8, length, map}
-use Rattle.decision.specs.Judging.{IsJudgedWith, RefusedIn}
+use Rattle.decision.specs.Decisions.{IsJudgedWith, RefusedIn}
 use Rattle.matcher_meaning.specs.Verdicts.{IsJudged}
 use Rattle.model_conf.specs.ModelText.{ModelParts}
 use Rattle.perm_value.specs.Datum.{Datum, text}

@@ -3,7 +3,7 @@ use Rattle.std.specs.Prelude.{◌≡◌, ℕ, Bool, true, false, not, List, [], 
 use Rattle.answer_lines.specs.LineText.{line_text}
 use Rattle.answer_lines.specs.declared.answer.Answer.{Answer}
 use Rattle.answer_lines.specs.declared.answer.Answer.TheVariants as answer
-use Rattle.live_round.specs.Steps.{IsPlainStep, IsStopped, is_request}
+use Rattle.desk_session.specs.Steps.{IsPlainStep, IsStopped, is_request}
 use Rattle.policy_desk.specs.Desks.{Work, floor_after}
 use Rattle.policy_desk.specs.Transitions.{IsBegun, IsPublished}
 use Rattle.script_read.specs.Said.{Said}

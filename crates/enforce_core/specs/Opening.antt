@@ -5,7 +5,7 @@ use Rattle.command_words.specs.Commands.{command_of}
 use Rattle.command_words.specs.declared.command.Command.{Command}
 use Rattle.command_words.specs.declared.command.Command.TheVariants as command
 use Rattle.command_words.specs.declared.command.Options.{Options}
-use Rattle.live_round.specs.Desks.{StandsBehind}
+use Rattle.desk_session.specs.Desks.{StandsBehind}
 use Rattle.model_conf.specs.Faults.{IsModelFault}
 use Rattle.model_conf.specs.ModelText.{IsModel, ModelParts}
 use Rattle.policy_csv.specs.Faults.{IsPolicyFault}

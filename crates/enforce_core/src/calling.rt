@@ -1,14 +1,14 @@
 ghost use Rattle.std.specs.Prelude.{◌≡◌, ◌∷◌, [], IfSome, MatchOption, false, map};
 ghost use Rattle.answer_lines.specs.LineText.{line_text};
-ghost use Rattle.live_round.specs.Steps.{is_request};
+ghost use Rattle.desk_session.specs.Steps.{is_request};
 ghost use Rattle.script_read.specs.Said.{seen};
 ghost use Rattle.enforce_core.specs.Called.{CallsAt, PublishesAt, are_one, is_refused};
 ghost use Rattle.enforce_core.specs.Helps.Items.{DoesItem};
 
 use crate::stops::{CallStop, Called};
 use answer_lines::{Answer, Line, print_line};
-use live_round::{answer_other, asked_in};
-use perm_base::Text;
+use desk_session::{answer_other, asked_in};
+use outside::Text;
 use policy_desk::Desk;
 use script_read::{Item, Script, read_script};
 use std::alloc::Global;

@@ -1,7 +1,7 @@
 ghost use Rattle.std.specs.Prelude.{◌≡◌, IfOk, Some};
 ghost use Rattle.run_status.specs.Messages.{line_of};
 
-use perm_base::{Failed, NoMemory, Sink};
+use outside::{Failed, NoMemory, Sink};
 use run_status::{Stop, push_stop};
 use std::alloc::Global;
 

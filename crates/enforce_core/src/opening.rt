@@ -1,12 +1,12 @@
 ghost use Rattle.std.specs.Prelude.{◌≡◌, ◌<◌, ◌≤◌, [], IfErr, IfOk, None, Some};
 ghost use Rattle.decision.specs.Programs.{Suits};
-ghost use Rattle.loaded_work.specs.Helps.Working.{IsReady};
+ghost use Rattle.loaded_work.specs.Helps.TaskSteps.{IsReady};
 ghost use Rattle.perm_base.specs.Shapes.{AreValid};
 ghost use Rattle.policy_csv.specs.Policy.{IsPolicy};
 ghost use Rattle.policy_state.specs.States.{StandsFor, tables};
 ghost use Rattle.policy_table.specs.Limits.{AreSound};
 ghost use Rattle.run_files.specs.Files.{absent_in, shapes_with};
-ghost use Rattle.run_files.specs.Helps.Reading.{ShapesStop};
+ghost use Rattle.run_files.specs.Helps.ReadStops.{ShapesStop};
 ghost use Rattle.enforce_core.specs.Helps.Making.{AreMade, PolicyStops};
 ghost use Rattle.enforce_core.specs.Opening.{AreOpenedFrom, IsOpenedFrom, OpeningStops};
 
@@ -16,7 +16,8 @@ use command_words::Options;
 use decision::Program;
 use loaded_work::{Loaded, open_loaded};
 use model_conf::{Model, read_model, shapes_of};
-use perm_base::{NoMemory, Shapes};
+use outside::NoMemory;
+use perm_base::Shapes;
 use policy_csv::read_policy;
 use policy_desk::{Desk, open_desk};
 use policy_table::Tables;

@@ -5,7 +5,7 @@ ghost use Rattle.enforce_core.specs.Opening.{SaysOptions, option_words, options_
 ghost use Rattle.enforce_core.specs.Opening.{report_options, words_before};
 
 use command_words::{Command, Options, read_words};
-use perm_base::NoMemory;
+use outside::NoMemory;
 use run_status::Stop;
 use std::alloc::Global;
 use text_parts::next_text_line;

@@ -6,7 +6,7 @@ ghost use Rattle.enforce_core.specs.Asked.{CutStops, ReadsTexts};
 ghost use Rattle.enforce_core.specs.Helps.Cut.{PieceStops};
 
 use crate::stops::AskStop;
-use perm_base::{NoMemory, Text};
+use outside::{NoMemory, Text};
 use perm_value::{Request, RequestFault, Value};
 use std::alloc::Global;
 

@@ -7,7 +7,7 @@ ghost use Rattle.enforce_core.specs.Places.{state_at};
 
 use crate::calling::{call_at, publish_at};
 use crate::stops::{CallStop, Called};
-use perm_base::NoMemory;
+use outside::NoMemory;
 use policy_desk::Desk;
 use policy_state::PolicyState;
 use std::alloc::Global;

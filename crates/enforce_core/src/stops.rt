@@ -1,5 +1,5 @@
 use effect_fold::Verdict;
-use perm_base::{NoMemory, Text};
+use outside::{NoMemory, Text};
 use perm_value::RequestFault;
 use script_read::ScriptFault;
 

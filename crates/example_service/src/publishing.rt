@@ -1,7 +1,8 @@
 //! What the administrator does.
 use edit_calls::Call;
 use live_pair::{Admin, Front, Naming};
-use perm_base::{NoMemory, Rule, TableId, Text};
+use outside::{NoMemory, Text};
+use perm_base::{Rule, TableId};
 use std::alloc::Global;
 use std::sync::{Mutex, Wait};
 

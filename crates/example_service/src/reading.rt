@@ -6,7 +6,7 @@ use decision::{Program, Scratch};
 use effect_fold::Verdict;
 use live_pair::{Front, Naming, Seat};
 use live_seat::{Answered, decide_seat};
-use perm_base::NoMemory;
+use outside::NoMemory;
 use perm_value::{Request, request_of_fields};
 use regex_gate::RegexFinder;
 use std::alloc::Global;

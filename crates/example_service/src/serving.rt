@@ -8,8 +8,8 @@ ghost use Rattle.policy_state.specs.States.{StandsFor, tables};
 use crate::publishing::publish_users;
 use crate::reading::read_on;
 use decision::Program;
-use live_pair::{Admin, Front, Naming, Opened, PairPlaces, Seat, open_pair};
-use perm_base::NoMemory;
+use live_pair::{Admin, Front, Naming, OpenedBook, PairPlaces, Seat, open_pair};
+use outside::NoMemory;
 use policy_desk::Desk;
 use std::alloc::Global;
 use std::marker::Brand;
@@ -68,7 +68,7 @@ pub(crate) fn serve<R: Threads + Wait + Sync>(
     requires stands { StandsFor desk.state (tables desk.state) [] }
     requires pending { desk.pending ≡ [] }
 {
-    let opened = Opened::new();
+    let opened = OpenedBook::new();
     serve_pair::<Brand, R>(rt, alloc, program, opened, desk)
 }
 
@@ -77,7 +77,7 @@ fn serve_pair<J: Naming + Send + Sync, R: Threads + Wait + Sync>(
     rt: &R,
     alloc: Global,
     program: &Program,
-    opened: Opened,
+    opened: OpenedBook,
     desk: Desk,
 ) -> Result<Summary, NoMemory>
     requires book { opened ≡ J.book }

@@ -7,8 +7,8 @@ use Rattle.text_parts.specs.Lines.{with_ends}
 use Rattle.text_parts.specs.Numbered.{Line}
 use Rattle.model_conf.specs.ModelText.{most_bytes}
 use Rattle.file_lint.specs.Mended.{if_short, piece, reach_behind, replaced}
-use Rattle.file_lint.specs.declared.mending.Extent.{Extent}
-use Rattle.file_lint.specs.declared.mending.Reach.{Reach}
+use Rattle.file_lint.specs.declared.mended.Extent.{Extent}
+use Rattle.file_lint.specs.declared.mended.Reach.{Reach}
 
 pub replaced_none : (extent : Extent) (at : ℕ) (by : List ℕ) (reach : Reach) → with_ends (replaced extent at by reach []) ≡ []
 unfolding replaced

@@ -18,10 +18,10 @@ use Rattle.file_lint.specs.Hints.{begins_so}
 use Rattle.file_lint.specs.ModelNames.{header_in, key_and_rest, lower_of, order_mark}
 use Rattle.file_lint.specs.Near.{near_name, section_names}
 use Rattle.file_lint.specs.Places.{is_equals, is_open, file_lines, from_key, key_in, line_at, place_of_value, rest_at}
-use Rattle.file_lint.specs.declared.mending.Extent.{Extent}
-use Rattle.file_lint.specs.declared.mending.Extent.TheVariants.{Alone, Continued, Section}
-use Rattle.file_lint.specs.declared.mending.Reach.{Reach}
-use Rattle.file_lint.specs.declared.mending.Reach.TheVariants.{Ahead, Within, Past}
+use Rattle.file_lint.specs.declared.mended.Extent.{Extent}
+use Rattle.file_lint.specs.declared.mended.Extent.TheVariants.{Alone, Continued, Section}
+use Rattle.file_lint.specs.declared.mended.Reach.{Reach}
+use Rattle.file_lint.specs.declared.mended.Reach.TheVariants.{Ahead, Within, Past}
 
 -- a mended text, and whether columns or shapes were guessed in it
 pub record MendedText : Type 0 where

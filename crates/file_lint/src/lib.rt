@@ -2,14 +2,15 @@
 //! lines that tell them.
 #![tactic(auto)]
 
-mod checking;
 mod columns;
 mod finding;
+mod finding_text;
 mod hints;
+mod judge;
 mod laws;
 mod limits;
 mod lines;
-mod mending;
+mod mended;
 mod model_errors;
 mod model_warnings;
 mod model_words;
@@ -22,7 +23,6 @@ mod others;
 mod places;
 mod policy;
 mod policy_words;
-mod printing;
 mod row;
 mod rows;
 mod texts;
@@ -30,7 +30,7 @@ mod values;
 mod wants;
 
 pub use finding::{Finding, Level};
+pub use finding_text::{count_of, push_counts, push_findings};
 pub use laws::{errors_begin_with_the_fault, policies_without_fault_have_no_errors};
 pub use model_errors::{ModelLint, lint_model};
 pub use policy::{PolicyLint, lint_policy};
-pub use printing::{count_of, push_counts, push_findings};

@@ -5,7 +5,7 @@ ghost use Rattle.file_lint.specs.ModelErrors.{HasErrors, LintsModel, is_hidden, 
 ghost use Rattle.file_lint.specs.Helps.Rounds.{IsOfBytes};
 
 use crate::finding::Finding;
-use crate::mending::{Mended, mend};
+use crate::mended::{Mended, mend};
 use crate::model_warnings::model_warnings;
 use crate::model_words::error_of;
 use crate::order::in_order;

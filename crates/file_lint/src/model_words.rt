@@ -7,7 +7,7 @@ ghost use Rattle.file_lint.specs.Places.{file_lines, from_key, front_at, line_at
 use crate::finding::{Finding, Level};
 use crate::hints::{begins_so, hint};
 use crate::lines::{cut_at_equals, from_key, key_in, line_at};
-use crate::mending::{key_text, relation_key, word_front};
+use crate::mended::{key_text, relation_key, word_front};
 use crate::names::{has_order_mark, header_in, key_and_rest, lower_of, section_of};
 use crate::near::{near_function, near_section};
 use crate::places::Place;

@@ -6,8 +6,8 @@ ghost use Rattle.policy_table.specs.Tables.{without_rules};
 ghost use Rattle.file_lint.specs.PolicyWords.{policy_error};
 ghost use Rattle.file_lint.specs.PolicyErrors.{HasFirst, LintsLines, LintsPolicy};
 
-use crate::checking::Judge;
 use crate::finding::Finding;
+use crate::judge::Judge;
 use crate::nodes::looked_in;
 use crate::policy_words::policy_error;
 use crate::row::Row;

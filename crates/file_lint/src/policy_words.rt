@@ -11,7 +11,7 @@ use crate::finding::{Finding, Level};
 use crate::hints::begins_so;
 use crate::limits::limit_words;
 use crate::lines::cut_at;
-use crate::mending::relation_key;
+use crate::mended::relation_key;
 use crate::names::has_order_mark;
 use crate::texts::{push, push_number, push_quoted};
 use model_conf::Model;

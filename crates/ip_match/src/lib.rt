@@ -4,13 +4,13 @@
 mod address;
 mod block;
 mod colons;
+mod containment;
 mod dotted;
-mod law;
-mod matching;
+mod laws;
 mod numeral;
 mod parts;
 
 pub use address::{Address, address_is_unique, read_address};
 pub use block::{Block, block_is_unique, read_block};
-pub use law::addresses_are_decided;
-pub use matching::{IpFault, ip_match};
+pub use containment::{IpFault, ip_match};
+pub use laws::addresses_are_decided;

@@ -4,7 +4,7 @@ ghost use Rattle.item_stream.specs.Seen.{seen_held, seen_option};
 
 use crate::kind::{Kind, kind_of};
 use crate::section::Section;
-use perm_base::NoMemory;
+use outside::NoMemory;
 use std::alloc::Global;
 
 // How long sections are at most: the bytes of a line, the lines, and the bytes of all.

@@ -3,9 +3,9 @@
 #![tactic(auto)]
 
 mod held;
-mod keeping;
 mod kind;
 mod laws;
+mod line_bytes;
 mod packet;
 mod section;
 mod sections;

@@ -4,9 +4,9 @@ ghost use Rattle.item_stream.specs.Sections.{GoesTo, ended_at, first_stage, left
 ghost use Rattle.item_stream.specs.Seen.{seen_option};
 
 use crate::held::{Held, section_of, take_end};
-use crate::keeping::{keep, line_end};
+use crate::line_bytes::{keep, line_end};
 use crate::section::Section;
-use perm_base::NoMemory;
+use outside::NoMemory;
 use std::alloc::Global;
 use std::marker::Model;
 use std::mem;

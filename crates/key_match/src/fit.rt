@@ -17,7 +17,7 @@ pub(crate) struct Place {
 
 // What comes of matching byte by byte from a place.
 #[derive(Clone, Copy)]
-enum Stop {
+enum RunEnd {
     // The pattern and the key end together.
     Fits,
     // The key does not fit from this place on.
@@ -46,7 +46,7 @@ enum Reach {
 }
 
 // Matches byte by byte, up to a piece whose part may be chosen.
-fn run(dialect: Dialect, pattern: &[u8], key: &[u8], from: Place) -> Stop
+fn run(dialect: Dialect, pattern: &[u8], key: &[u8], from: Place) -> RunEnd
     requires { from.key ≤ length key.now }
     ensures { StopsAt dialect pattern.now key.now from result }
 {
@@ -57,26 +57,26 @@ fn run(dialect: Dialect, pattern: &[u8], key: &[u8], from: Place) -> Stop
             key: at.key,
         };
         match reading.token {
-            Token::Rest => return Stop::Rest(behind),
-            Token::Stretch => return Stop::Stretch(behind),
+            Token::Rest => return RunEnd::Rest(behind),
+            Token::Stretch => return RunEnd::Stretch(behind),
             Token::Segment(_) => {
                 if at.key == key.len() {
-                    return Stop::KeyEnded;
+                    return RunEnd::KeyEnded;
                 }
                 if key[at.key] == b'/' {
-                    return Stop::Mismatch;
+                    return RunEnd::Mismatch;
                 }
-                return Stop::Stretch(Place {
+                return RunEnd::Stretch(Place {
                     pattern: reading.next,
                     key: at.key + 1,
                 });
             }
             Token::One(test) => {
                 if at.key == key.len() {
-                    return Stop::KeyEnded;
+                    return RunEnd::KeyEnded;
                 }
                 if !passes(test, key[at.key]) {
-                    return Stop::Mismatch;
+                    return RunEnd::Mismatch;
                 }
                 at = Place {
                     pattern: reading.next,
@@ -86,9 +86,9 @@ fn run(dialect: Dialect, pattern: &[u8], key: &[u8], from: Place) -> Stop
         }
     }
     if at.key == key.len() {
-        Stop::Fits
+        RunEnd::Fits
     } else {
-        Stop::Mismatch
+        RunEnd::Mismatch
     }
 }
 
@@ -101,11 +101,11 @@ fn stretch(dialect: Dialect, pattern: &[u8], key: &[u8], from: Place) -> Reach
     let mut mark = from;
     loop {
         match run(dialect, pattern, key, mark) {
-            Stop::Fits => return Reach::Fits,
-            Stop::KeyEnded => return Reach::Nowhere,
-            Stop::Rest(to) => return Reach::Rest(to),
-            Stop::Stretch(to) => mark = to,
-            Stop::Mismatch => {
+            RunEnd::Fits => return Reach::Fits,
+            RunEnd::KeyEnded => return Reach::Nowhere,
+            RunEnd::Rest(to) => return Reach::Rest(to),
+            RunEnd::Stretch(to) => mark = to,
+            RunEnd::Mismatch => {
                 if mark.key == key.len() || key[mark.key] == b'/' {
                     return Reach::NotBeforeSlash;
                 }
@@ -122,11 +122,11 @@ fn reach_rest(dialect: Dialect, pattern: &[u8], key: &[u8], from: Place) -> Reac
         (pieces_from dialect pattern.now from) from result }
 {
     match run(dialect, pattern, key, from) {
-        Stop::Fits => Reach::Fits,
-        Stop::Mismatch => Reach::NotHere,
-        Stop::KeyEnded => Reach::Nowhere,
-        Stop::Rest(to) => Reach::Rest(to),
-        Stop::Stretch(to) => stretch(dialect, pattern, key, to),
+        RunEnd::Fits => Reach::Fits,
+        RunEnd::Mismatch => Reach::NotHere,
+        RunEnd::KeyEnded => Reach::Nowhere,
+        RunEnd::Rest(to) => Reach::Rest(to),
+        RunEnd::Stretch(to) => stretch(dialect, pattern, key, to),
     }
 }
 

@@ -5,7 +5,7 @@ mod alike;
 mod bytes;
 mod fit;
 mod fronts;
-mod law;
+mod laws;
 mod part;
 mod patterns;
 mod star;
@@ -13,7 +13,7 @@ mod token;
 
 pub use alike::key_match4;
 pub use fronts::{glob_match_front, key_match_front, key_match2_front, key_match3_front};
-pub use law::{
+pub use laws::{
     covering_is_decided, fitting_key_has_front, named_part_is_one, pattern_reads_one_way,
 };
 pub use part::{key_get2, key_get3};

@@ -52,7 +52,7 @@ pub(crate) struct Reading<'p> {
 
 // The bytes of an item of a class, from the first to the last, and the place after it.
 #[derive(Clone, Copy)]
-struct Item {
+struct ClassItem {
     first: u8,
     last: u8,
     next: usize,
@@ -241,19 +241,19 @@ fn is_among(items: &[u8], byte: u8) -> bool
 }
 
 // The item at a place of a class.
-fn item_at(items: &[u8], at: usize) -> Item
+fn item_at(items: &[u8], at: usize) -> ClassItem
     requires { at < length items.now }
     ensures { IsItemAt items.now at result }
 {
     let first = items[at];
     if at + 2 < items.len() && items[at + 1] == b'-' {
-        return Item {
+        return ClassItem {
             first,
             last: items[at + 2],
             next: at + 3,
         };
     }
-    Item {
+    ClassItem {
         first,
         last: first,
         next: at + 1,

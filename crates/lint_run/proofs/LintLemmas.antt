@@ -28,10 +28,10 @@ use Rattle.run_status.specs.declared.stop.Stop.{Stop}
 use Rattle.run_status.specs.declared.stop.Stop.TheVariants.{NoModel, NoRelation, CannotRead, TooLong, NoMemory}
 use Rattle.lint_run.specs.Ends.{LintStops}
 use Rattle.lint_run.specs.Helps.{AreLinted, FetchStops, FilesStop, IsPolicyLinted, IsPolicyTold, PolicyFileStops, ShapesStop}
-use Rattle.lint_run.specs.Linting.{FileIs, Lints, absent_in, is_to_lint, lint_asked, lint_of, lint_text, policy_end, shapes_with}
-use Rattle.lint_run.specs.Linting.Lints.{both, model_alone}
+use Rattle.lint_run.specs.Lints.{FileIs, Lints, absent_in, is_to_lint, lint_asked, lint_of, lint_text, policy_end, shapes_with}
+use Rattle.lint_run.specs.Lints.Lints.{both, model_alone}
 use Rattle.lint_run.specs.declared.job.LintJob.{LintJob}
-use Rattle.lint_run.specs.declared.linting.Linted.{Linted}
+use Rattle.lint_run.specs.declared.run.Linted.{Linted}
 
 -- a first word, or none
 pub named_none : (words : List (String Global)) → length words ≡ 0 → false ≡ is_to_lint (texts words)

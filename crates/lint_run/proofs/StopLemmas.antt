@@ -16,7 +16,7 @@ use Rattle.run_status.specs.Parts.{limit_of}
 use Rattle.run_status.specs.Stops.{shape_stop_of}
 use Rattle.run_status.specs.declared.part.Part.{Part}
 use Rattle.lint_run.specs.Helps.{FetchStops, ShapesStop, fetch_stop}
-use Rattle.lint_run.specs.Linting.{absent_in}
+use Rattle.lint_run.specs.Lints.{absent_in}
 
 -- a fetch that ended so, from the shelf's own clause
 pub fetch_stops : (files files_now : Option Files) (calls calls_now : Option (List FetchCall)) (faults faults_now : ℕ) (name : List ℕ) (part : Part) (reason : Fetch)

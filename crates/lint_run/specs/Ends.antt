@@ -11,7 +11,7 @@ use Rattle.run_status.specs.declared.part.Part.TheVariants.{Model, Policy}
 use Rattle.run_status.specs.declared.status.Status.{Status}
 use Rattle.run_status.specs.declared.stop.Stop.{Stop}
 use Rattle.run_status.specs.declared.stop.Stop.TheVariants.{Words, NoRelation, CannotRead, CannotWrite, TooLong, NoMemory}
-use Rattle.lint_run.specs.Linting.{FileIs, Lints, absent_in, lint_asked}
+use Rattle.lint_run.specs.Lints.{FileIs, Lints, absent_in, lint_asked}
 use Rattle.lint_run.specs.declared.job.LintJob.{LintJob}
 
 -- the words ask for a lint, and the fact holds of it

@@ -15,9 +15,9 @@ use Rattle.run_status.specs.declared.part.Part.TheVariants.{Model, Policy}
 use Rattle.run_status.specs.declared.status.Status.{Status}
 use Rattle.run_status.specs.declared.stop.Stop.{Stop}
 use Rattle.run_status.specs.declared.stop.Stop.TheVariants.{NoRelation, CannotRead, TooLong, NoMemory}
-use Rattle.lint_run.specs.Linting.{FileIs, Lints, absent_in, lint_asked, lint_text, policy_end, shapes_with}
+use Rattle.lint_run.specs.Lints.{FileIs, Lints, absent_in, lint_asked, lint_text, policy_end, shapes_with}
 use Rattle.lint_run.specs.declared.job.LintJob.{LintJob}
-use Rattle.lint_run.specs.declared.linting.Linted.{Linted}
+use Rattle.lint_run.specs.declared.run.Linted.{Linted}
 
 -- the stop that comes of a file that was not fetched
 abbrev pub fetch_stop : Part → Fetch → Stop

@@ -1,3 +1,3 @@
-pub mod Linting
+pub mod Lints
 pub mod Ends
 pub mod Helps

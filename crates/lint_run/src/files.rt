@@ -3,7 +3,7 @@ ghost use Rattle.outside.specs.Faults.{Rose};
 ghost use Rattle.outside.specs.Files.{Holds};
 ghost use Rattle.perm_base.specs.Shapes.{AreValid};
 ghost use Rattle.run_status.specs.Parts.{limit_of};
-ghost use Rattle.lint_run.specs.Linting.{absent_in, shapes_with};
+ghost use Rattle.lint_run.specs.Lints.{absent_in, shapes_with};
 ghost use Rattle.lint_run.specs.Helps.{FetchStops, ShapesStop, fetch_stop};
 
 use command_words::Options;

@@ -1,6 +1,6 @@
 ghost use Rattle.std.specs.Prelude.{◌≡◌, ◌<◌, ◌≤◌, IfOk, IfSome, bytes_eq, codes};
 ghost use Rattle.command_words.specs.Items.{texts};
-ghost use Rattle.lint_run.specs.Linting.{is_to_lint, lint_asked, lint_of};
+ghost use Rattle.lint_run.specs.Lints.{is_to_lint, lint_asked, lint_of};
 
 use command_words::{Command, Files, Options, read_words};
 use outside::NoMemory;

@@ -3,8 +3,8 @@
 
 mod files;
 mod job;
-mod linting;
+mod run;
 
 pub use job::asks_for_lint;
-pub use linting::run_lint;
+pub use run::run_lint;
 pub use run_status::Status;

@@ -1,6 +1,6 @@
 ghost use Rattle.std.specs.Prelude.{◌≡◌};
 
-use perm_base::{NoMemory, Share};
+use outside::{NoMemory, Share};
 use policy_table::Edit;
 
 /// What the administrator or a reader does. Seats and notes are numbers that count from 0, in the order in which they were

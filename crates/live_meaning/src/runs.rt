@@ -3,7 +3,7 @@ ghost use Rattle.live_meaning.specs.Replies.{IsStopped, replies_of};
 
 use crate::events::{Event, Reply, StepStop};
 use crate::worlds::{World, step};
-use perm_base::NoMemory;
+use outside::NoMemory;
 use std::alloc::Global;
 
 /// Does events one after the other, and answers each. It stops at the first that is refused, with those before it done. It

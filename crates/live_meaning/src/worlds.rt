@@ -4,7 +4,7 @@ ghost use Rattle.live_meaning.specs.declared.events.StepStop as declared;
 
 use crate::counts::Counts;
 use crate::events::{Event, Reply, StepStop};
-use perm_base::{NoMemory, Share};
+use outside::{NoMemory, Share};
 use std::alloc::Global;
 use std::marker::Model;
 

@@ -5,20 +5,20 @@ use Rattle.std.proofs.lemmas.Bool.Decides.{nat_tests}
 use mathlib.Core.List.{IsPrefix}
 use prog.Atomic.{either}
 use Rattle.logbook.specs.Pages.{Cell, cell, keeps, no_nib, step, Moves, Goes}
-use Rattle.live_pair.specs.declared.edits.Event.{Event}
+use Rattle.live_pair.specs.declared.edits.HistoryEvent.{HistoryEvent}
 use Rattle.live_pair.specs.Helps.Rules.{IsKept, Adds}
 use Rattle.live_pair.proofs.FrontLemmas.{prefix_whole}
 
-abbrev pub shown : List Event → List Event
+abbrev pub shown : List HistoryEvent → List HistoryEvent
 shown log = []
 
-abbrev pub moved : List Event → List Event → ℕ → Type 0
+abbrev pub moved : List HistoryEvent → List HistoryEvent → ℕ → Type 0
 moved xs ys n = Unit {0}
 
 abbrev words : ℕ → List Cell
 words n = (n, true) ∷ (0, true) ∷ []
 
-pub adds_goes : (log v : List Event) (e : Event) (old : ℕ) → length v ≡ old → IsPrefix v log
+pub adds_goes : (log v : List HistoryEvent) (e : HistoryEvent) (old : ℕ) → length v ≡ old → IsPrefix v log
     → (b : Bool) → (length log == old) ≡ b
     → Goes IsKept shown moved 0 (v, (no_nib, None)) (λ n. either (n == old) (old + 1) n) (Adds (step 0 old (old + 1) e) (v, (no_nib, None))) ((length log, true) ∷ (0, true) ∷ []) log
 adds_goes log v e old len pre true is =
@@ -46,7 +46,7 @@ adds_goes log v e old len pre false is =
     )
 
 -- whatever the book is, the exchange adds the event to all that was seen, or finds that the history is longer
-pub adds_moves : (v : List Event) (e : Event) (old : ℕ) → length v ≡ old
+pub adds_moves : (v : List HistoryEvent) (e : HistoryEvent) (old : ℕ) → length v ≡ old
     → Moves IsKept shown moved 0 (v, (no_nib, None)) (λ n. either (n == old) (old + 1) n) (Adds (step 0 old (old + 1) e) (v, (no_nib, None)))
 adds_moves v e old len cs log kept pre away =
     let P : List Cell → Type 0 = λ c. (0 < length c) × ((cell c 0).1 ≡ true) × Goes IsKept shown moved 0 (v, (no_nib, None)) (λ n. either (n == old) (old + 1) n) (Adds (step 0 old (old + 1) e) (v, (no_nib, None))) c log in

@@ -13,10 +13,11 @@ ghost use Rattle.policy_state.specs.States.{StandsFor, tables};
 ghost use Rattle.version_log.specs.Log.{versions};
 
 use crate::front::Front;
-use crate::line::{Line, Shows, SideWriter, show};
+use crate::history_line::{HistoryLine, Shows, SideWriter, show};
 use crate::naming::Naming;
 use edit_calls::{Call, CallRefused};
-use perm_base::{NoMemory, Rule, Text};
+use outside::{NoMemory, Text};
+use perm_base::Rule;
 use policy_desk::Desk;
 use policy_query::QueryRefused;
 use std::alloc::Global;
@@ -31,7 +32,7 @@ pub type Admin<J> = AdminOver<J, SideWriter<J>>;
 pub struct AdminOver<J: Naming, W: Shows> {
     copies: W,
     desk: Desk,
-    line: Line<J>,
+    line: HistoryLine<J>,
     front: Front<J>,
 }
 
@@ -53,7 +54,12 @@ impl<J: Naming, W: Shows> Model for AdminOver<J, W> {
 }
 
 impl<J: Naming, W: Shows> AdminOver<J, W> {
-    pub(crate) fn new(copies: W, desk: Desk, line: Line<J>, front: Front<J>) -> AdminOver<J, W>
+    pub(crate) fn new(
+        copies: W,
+        desk: Desk,
+        line: HistoryLine<J>,
+        front: Front<J>,
+    ) -> AdminOver<J, W>
         requires { IsAdmin J.shapes J.opening J.first line (W.shown copies) front desk }
         ensures { result ≡ record {
           list = front;

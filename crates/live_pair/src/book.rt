@@ -3,7 +3,7 @@ ghost use Rattle.std.specs.Prelude.{◌≡◌, ◌+◌, ◌<◌, ◌≤◌, ◌^
 ghost use Rattle.live_pair.specs.Helps.Rules.{head_of};
 ghost use Rattle.version_log.specs.Log.{most_versions};
 
-use crate::edits::{Edits, Event};
+use crate::edits::{Edits, HistoryEvent};
 use crate::naming::Naming;
 use crate::told::Told;
 use logbook::{Gain, Offer, Plain, Play, Rule, Seen, Start, Word};
@@ -12,7 +12,7 @@ use std::marker::{Model, PhantomData};
 /// The rule of the book.
 pub struct Law;
 
-impl Rule<Event, u64> for Law {
+impl Rule<HistoryEvent, u64> for Law {
     ghost use Rattle.std.specs.Prelude.{[]};
     ghost use base.Fml.{ftrue};
     ghost use Rattle.live_pair.specs.Helps.Rules.{IsKept};
@@ -33,7 +33,7 @@ impl Rule<Event, u64> for Law {
 // Callers trade nothing.
 struct Nothing;
 
-impl Gain<Event, u64> for Nothing {
+impl Gain<HistoryEvent, u64> for Nothing {
     ghost use base.Fml.{ftrue};
 
     ghost after = { λ names about answer. ftrue };
@@ -42,24 +42,24 @@ impl Gain<Event, u64> for Nothing {
 /// A step that adds an event.
 pub struct Add;
 
-impl Play<Event, u64> for Add {
+impl Play<HistoryEvent, u64> for Add {
     ghost use Rattle.live_pair.specs.Helps.Rules.{Adds};
 
     ghost then = { Adds };
 }
 
-impl Plain<Edits, Event, u64> for Add {
+impl Plain<Edits, HistoryEvent, u64> for Add {
     ghost use Rattle.std.specs.Prelude.{None};
-    ghost use Rattle.live_pair.specs.declared.edits.Event.TheVariants.{Staged};
+    ghost use Rattle.live_pair.specs.declared.edits.HistoryEvent.TheVariants.{Staged};
 
     ghost ask = { λ edits. Staged edits };
 
     ghost state = { λ edits. None };
 }
 
-impl Plain<(), Event, u64> for Add {
+impl Plain<(), HistoryEvent, u64> for Add {
     ghost use Rattle.std.specs.Prelude.{None};
-    ghost use Rattle.live_pair.specs.declared.edits.Event.TheVariants.{Publish};
+    ghost use Rattle.live_pair.specs.declared.edits.HistoryEvent.TheVariants.{Publish};
 
     ghost ask = { λ nothing. Publish };
 
@@ -68,12 +68,12 @@ impl Plain<(), Event, u64> for Add {
 
 /// A book with an empty history, for one pair. Contracts see which book it is.
 #[derive(Drop)]
-pub struct Opened {
-    head: Word<Event, u64, Law>,
-    seen: Seen<Event, u64, Law>,
+pub struct OpenedBook {
+    head: Word<HistoryEvent, u64, Law>,
+    seen: Seen<HistoryEvent, u64, Law>,
 }
 
-impl Model for Opened {
+impl Model for OpenedBook {
     ghost use Rattle.std.specs.Prelude.{◌≡◌, []};
     ghost use Rattle.live_pair.specs.Helps.Rules.{head_of};
     ghost use Rattle.logbook.specs.Pages.{Book};
@@ -88,16 +88,16 @@ impl Model for Opened {
 /// The word that all copies share: how long the history is.
 #[derive(Drop)]
 pub struct Head<J: Naming> {
-    word: Word<Event, u64, Law>,
+    word: Word<HistoryEvent, u64, Law>,
     of: PhantomData<J>,
     ghost word_is: { word ≡ head_of J.book },
 }
 
-impl Opened {
+impl OpenedBook {
     /// A book that no other has. It takes no memory.
-    pub fn new() -> Opened {
+    pub fn new() -> OpenedBook {
         let (seen, mut first, _second) = Seen::open(Start::alone(), 0, 0);
-        Opened {
+        OpenedBook {
             head: Word::tracked(0, &mut first),
             seen,
         }
@@ -110,7 +110,7 @@ impl Opened {
         requires few { length J.first ≤ most_versions }
         ensures { result.1 ≡ [] }
     {
-        let Opened { head, seen } = self;
+        let OpenedBook { head, seen } = self;
         let head = Head {
             word: head,
             of: PhantomData,
@@ -120,8 +120,8 @@ impl Opened {
 }
 
 /// Adds an event to all that was seen, and says whether it did.
-pub(crate) fn append_event<J: Naming, X, M: Plain<X, Event, u64>>(
-    seen: &mut Seen<Event, u64, Law>,
+pub(crate) fn append_event<J: Naming, X, M: Plain<X, HistoryEvent, u64>>(
+    seen: &mut Seen<HistoryEvent, u64, Law>,
     head: &Head<J>,
     entries: u64,
     about: &X,
@@ -133,7 +133,7 @@ pub(crate) fn append_event<J: Naming, X, M: Plain<X, Event, u64>>(
     ensures pair { seen.new.book ≡ J.book }
     ensures added { IsTrue result → seen.new.log ≡ seen.old.log ++ M.ask about.now ∷ [] }
 {
-    let mut offer: Offer<Event, u64, Law, Nothing> = seen.plain::<Nothing, X, M>(about);
+    let mut offer: Offer<HistoryEvent, u64, Law, Nothing> = seen.plain::<Nothing, X, M>(about);
     let mut pen = seen.no_pen();
     let found = head
         .word

@@ -1,6 +1,6 @@
 ghost use Rattle.std.specs.Prelude.{◌≡◌, ◌≤◌, IfOk, drop, length};
 
-use perm_base::NoMemory;
+use outside::NoMemory;
 use policy_table::{Edit, copy_edits};
 use std::alloc::Global;
 use std::marker::Model;
@@ -22,7 +22,7 @@ impl Model for Edits {
 
 /// What the history of a pair consists of.
 #[derive(Drop)]
-pub enum Event {
+pub enum HistoryEvent {
     /// Edits were handed over that are in no publish yet.
     Staged(Edits),
     /// All edits that were in none are one publish.

@@ -5,7 +5,7 @@ ghost use Rattle.live_pair.specs.Story.{publishes, unpublished};
 
 use crate::naming::Naming;
 use crate::told::Told;
-use perm_base::Share;
+use outside::Share;
 use std::marker::Model;
 
 /// A published history. Contracts see its publishes, each a list of edits; the first has the edits of the policy that was

@@ -2,29 +2,29 @@
 #![tactic(auto)]
 
 mod admin;
+mod admin_edits;
 mod book;
-mod editing;
 mod edits;
 mod entrance;
 mod front;
+mod history_line;
 mod laws;
-mod line;
 mod naming;
-mod opening;
+mod pair;
 mod places;
 mod seat;
 mod side;
 mod told;
 
 pub use admin::{Admin, AdminOver};
-pub use book::Opened;
+pub use book::OpenedBook;
 pub use entrance::Entrance;
 pub use front::Front;
+pub use history_line::Shows;
 pub use laws::{
     administrators_live, entries_are_legal, fronts_begin_each_other, publishes_are_counted,
 };
-pub use line::Shows;
 pub use naming::Naming;
-pub use opening::open_pair;
+pub use pair::open_pair;
 pub use places::{ListPlaces, PairPlaces, Places, Refused};
 pub use seat::{Entered, Seat, Shut};

@@ -9,7 +9,7 @@ ghost use Rattle.version_log.specs.Log.{versions};
 use crate::entrance::{Entrance, Inside};
 use crate::front::Front;
 use crate::naming::Naming;
-use perm_base::Share;
+use outside::Share;
 use policy_state::PolicyState;
 use std::marker::Model;
 

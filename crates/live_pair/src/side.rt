@@ -2,7 +2,7 @@
 ghost use Rattle.std.specs.Prelude.{◌≡◌, ◌+◌, ◌≤◌, ◌++◌, ◌∷◌, [], IfSome, List, MatchBool, OnErr, OnOk, Some, length, true};
 ghost use Rattle.live_pair.specs.Helps.Sides.{IsUpTo, ending, is_published};
 ghost use Rattle.live_pair.specs.Story.{edits_in, publishes, unpublished};
-ghost use Rattle.live_pair.specs.declared.edits.Event.TheVariants.{Publish, Staged};
+ghost use Rattle.live_pair.specs.declared.edits.HistoryEvent.TheVariants.{Publish, Staged};
 ghost use Rattle.edit_calls.specs.Admitted.{AreAdmitted};
 ghost use Rattle.policy_state.specs.States.{StandsFor, tables};
 ghost use Rattle.policy_table.specs.Tables.{Policy};
@@ -10,12 +10,12 @@ ghost use Rattle.policy_table.specs.declared.change.Change.{Change};
 ghost use Rattle.version_log.specs.Log.{most_versions, versions};
 
 use crate::book::Head;
-use crate::edits::{Edits, Event};
+use crate::edits::{Edits, HistoryEvent};
 use crate::front::Front;
 use crate::naming::Naming;
 use crate::told::Told;
 use left_right::Absorb;
-use perm_base::NoMemory;
+use outside::NoMemory;
 use policy_state::PolicyState;
 use policy_table::Edit;
 use std::alloc::{AllocError, Global};
@@ -24,7 +24,7 @@ use std::sync::Arc;
 
 /// What goes to a copy: some further edits, and the history up to them.
 #[derive(Drop)]
-pub struct Op<J: Naming> {
+pub struct SideOp<J: Naming> {
     edits: Edits,
     told: Told<J>,
     ghost last: { ending told ≡ Some (Staged edits) },
@@ -43,10 +43,10 @@ pub struct Side<J: Naming> {
 
 impl<J: Naming> Model for Side<J> {
     ghost use Rattle.std.specs.Prelude.{◌≡◌, List};
-    ghost use Rattle.live_pair.specs.declared.edits.Event.{Event};
+    ghost use Rattle.live_pair.specs.declared.edits.HistoryEvent.{HistoryEvent};
     ghost use Rattle.live_pair.specs.Helps.Sides.{IsUpTo, is_published};
 
-    ghost Value = { List Event };
+    ghost Value = { List HistoryEvent };
 
     ghost view = { λ s. s.told };
 
@@ -54,27 +54,27 @@ impl<J: Naming> Model for Side<J> {
         × (s.published ≡ is_published s.told) };
 }
 
-impl<J: Naming> Absorb<Op<J>> for Side<J> {
+impl<J: Naming> Absorb<SideOp<J>> for Side<J> {
     // A list of events.
-    type State = [Event; 0];
+    type State = [HistoryEvent; 0];
 
     ghost use Rattle.std.specs.Prelude.{◌++◌, ◌∷◌, []};
     ghost use Rattle.live_pair.specs.Helps.Sides.{closed};
-    ghost use Rattle.live_pair.specs.declared.edits.Event.TheVariants.{Publish};
+    ghost use Rattle.live_pair.specs.declared.edits.HistoryEvent.TheVariants.{Publish};
 
     ghost state = { λ s. closed s };
 
     ghost applied = { λ _ operation. operation.told ++ Publish ∷ [] };
 
     /// The last operation of all makes the publish, at the moment when nothing can fail any more.
-    fn absorb_first(&mut self, operation: &Op<J>, _other: &Side<J>) -> Result<(), AllocError> {
+    fn absorb_first(&mut self, operation: &SideOp<J>, _other: &Side<J>) -> Result<(), AllocError> {
         self.take(operation)?;
         let _published = self.publish();
         Ok(())
     }
 
     /// The publish was made by the other copy.
-    fn absorb_second(&mut self, operation: Op<J>, other: &Side<J>) -> Result<(), Op<J>> {
+    fn absorb_second(&mut self, operation: SideOp<J>, other: &Side<J>) -> Result<(), SideOp<J>> {
         let Ok(()) = self.take(&operation) else {
             return Err(operation);
         };
@@ -83,12 +83,12 @@ impl<J: Naming> Absorb<Op<J>> for Side<J> {
     }
 }
 
-impl<J: Naming> Op<J> {
-    pub(crate) fn new(edits: Edits, told: Told<J>) -> Op<J>
+impl<J: Naming> SideOp<J> {
+    pub(crate) fn new(edits: Edits, told: Told<J>) -> SideOp<J>
         requires { ending told ≡ Some (Staged edits) }
         ensures { result.told ≡ told }
     {
-        Op { edits, told }
+        SideOp { edits, told }
     }
 }
 
@@ -139,7 +139,7 @@ impl<J: Naming> Side<J> {
     }
 
     // Makes the edits, which are the next ones. The log keeps those that are in no publish yet.
-    fn take(&mut self, operation: &Op<J>) -> Result<(), AllocError>
+    fn take(&mut self, operation: &SideOp<J>) -> Result<(), AllocError>
         ensures taken { OnOk result (self.new ≡ operation.now.told) }
         ensures refused { OnErr result (self.new ≡ self.old) }
     {

@@ -2,13 +2,13 @@ ghost use Rattle.std.specs.Prelude.{◌≡◌, ◌+◌, ◌≤◌, ◌++◌, ◌
 ghost use mathlib.Core.List.{IsPrefix};
 ghost use Rattle.live_pair.specs.Helps.Sides.{AreGiven, history};
 ghost use Rattle.live_pair.specs.Story.{edits_in, publishes, unpublished};
-ghost use Rattle.live_pair.specs.declared.edits.Event.TheVariants.{Publish, Staged};
+ghost use Rattle.live_pair.specs.declared.edits.HistoryEvent.TheVariants.{Publish, Staged};
 ghost use Rattle.edit_calls.specs.Admitted.{AreAdmitted};
 ghost use Rattle.policy_table.specs.Changes.{replay};
 ghost use Rattle.version_log.specs.Log.{most_versions};
 
 use crate::book::{Add, Head, Law, append_event};
-use crate::edits::{Edits, Event};
+use crate::edits::{Edits, HistoryEvent};
 use crate::naming::Naming;
 use logbook::Seen;
 use std::marker::{Model, PhantomData};
@@ -22,7 +22,7 @@ pub struct Told<J: Naming> {
     parts: u64,
     waiting: u32,
     version: u32,
-    seen: Seen<Event, u64, Law>,
+    seen: Seen<HistoryEvent, u64, Law>,
     of: PhantomData<J>,
 }
 
@@ -42,10 +42,10 @@ impl<J: Naming> Drop for Told<J> {
 
 impl<J: Naming> Model for Told<J> {
     ghost use Rattle.std.specs.Prelude.{◌≡◌, List};
-    ghost use Rattle.live_pair.specs.declared.edits.Event.{Event};
+    ghost use Rattle.live_pair.specs.declared.edits.HistoryEvent.{HistoryEvent};
     ghost use Rattle.live_pair.specs.Helps.Sides.{AreCounted, AreGiven};
 
-    ghost Value = { List Event };
+    ghost Value = { List HistoryEvent };
 
     ghost view = { λ t. t.seen.log };
 
@@ -56,7 +56,7 @@ impl<J: Naming> Model for Told<J> {
 
 impl<J: Naming> Told<J> {
     /// The beginning in which nothing has happened, for a policy that had so many edits.
-    pub(crate) fn new(seen: Seen<Event, u64, Law>, version: u32) -> Told<J>
+    pub(crate) fn new(seen: Seen<HistoryEvent, u64, Law>, version: u32) -> Told<J>
         requires book { seen.book ≡ J.book }
         requires none { seen.log ≡ [] }
         requires version { version ≡ length J.first }

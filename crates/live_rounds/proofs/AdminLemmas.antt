@@ -5,9 +5,9 @@ use Rattle.answer_lines.specs.declared.answer.Answer.{Answer}
 use Rattle.live_pair.proofs.CallerLemmas.{edits_more, one_less, prefix_self, prefix_trans, prefix_whole}
 use Rattle.live_pair.specs.Admins.{AdminSeen}
 use Rattle.live_pair.specs.Story.{edits_in}
-use Rattle.live_round.specs.Desks.{HasEditsOf}
+use Rattle.desk_session.specs.Desks.{HasEditsOf}
 use Rattle.live_rounds.specs.Administrators.{AreAt, AreDoneBeside, AreReplies, IsAdminAmid, IsAdminBehind, IsAdminStep, list_behind}
-use Rattle.live_round.specs.Steps.{is_request}
+use Rattle.desk_session.specs.Steps.{is_request}
 use Rattle.effect_fold.specs.declared.effect.Effect.TheVariants.{AllowOverride}
 use Rattle.matcher_read.specs.Expression.{truth}
 use Rattle.model_conf.specs.ModelText.{ModelParts}

@@ -14,7 +14,7 @@ use Rattle.live_rounds.specs.Administrators.{AreDoneBeside}
 use Rattle.live_rounds.specs.Answered.{AreAnsweredAt, Rise}
 use Rattle.live_rounds.specs.Done.{EachHasEntered, HaveRefused}
 use Rattle.live_rounds.specs.Helps.Asked.{AreShared}
-use Rattle.live_rounds.specs.Helps.Learning.{HasLearned}
+use Rattle.live_rounds.specs.Helps.Learned.{HasLearned}
 use Rattle.live_rounds.specs.Helps.Posts.{AreKept}
 use Rattle.live_rounds.specs.Requests.{requests}
 use Rattle.live_rounds.specs.Served.{IsPartKept}

@@ -2,11 +2,11 @@
 use Rattle.std.proofs.Common.{◌≡◌, ℕ, zero, suc, ◌+◌, ◌-◌, ◌<◌, ◌≤◌, false, List, [], ◌∷◌, ◌++◌, append_assoc, append-nil, drop, get_or, length, length-append, map, take, take_all, refl, sym, ap, subst, ◌∙◌, arith}
 use Rattle.answer_lines.specs.declared.answer.Answer.{Answer}
 use Rattle.answer_lines.specs.declared.answer.Answer.TheVariants.{Published}
-use Rattle.live_round.proofs.CallerLemmas.{logged_more}
-use Rattle.live_round.specs.Requests.{IsAnsweredBy, Refuses}
+use Rattle.desk_session.proofs.CallerLemmas.{logged_more}
+use Rattle.desk_session.specs.Requests.{IsAnsweredBy, Refuses}
 use Rattle.live_rounds.specs.Answered.{AreAnsweredAt}
 use Rattle.live_rounds.specs.Helps.Asked.{AddsAnswered, AreAnsweredOver, IsAnsweredOver}
-use Rattle.live_round.specs.Steps.{is_request}
+use Rattle.desk_session.specs.Steps.{is_request}
 use Rattle.live_rounds.specs.Requests.{requests}
 use Rattle.live_rounds.proofs.ItemLemmas.{none_requested, one_more, requests_both}
 use Rattle.model_conf.specs.ModelText.{ModelParts}

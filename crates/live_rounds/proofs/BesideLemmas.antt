@@ -6,7 +6,7 @@ use Rattle.live_pair.specs.Story.{edits_in}
 use Rattle.live_rounds.proofs.AdminLemmas.{beside_asked, beside_more, beside_none}
 use Rattle.live_rounds.proofs.ItemLemmas.{one_more, parted}
 use Rattle.live_rounds.specs.Administrators.{AreDoneBeside, IsAdminAmid, IsAdminBehind, IsAdminStep, IsAdminStopped}
-use Rattle.live_round.specs.Steps.{is_request}
+use Rattle.desk_session.specs.Steps.{is_request}
 use Rattle.perm_base.specs.declared.shapes.Shapes.{Shapes}
 use Rattle.policy_table.specs.Tables.{Policy}
 use Rattle.script_read.specs.Said.{Said, seen}

@@ -6,7 +6,7 @@ use Rattle.answer_lines.specs.declared.answer.Answer.TheVariants as answer
 use Rattle.live_pair.specs.Seats.{IsEntered, IsShut, SeatSeen, version_of}
 use Rattle.live_rounds.proofs.CutLemmas.{version_begins}
 use Rattle.live_rounds.specs.Done.{HasEntered, onto_shown, version_shown, versions_shown}
-use Rattle.live_rounds.specs.Helps.Learning.{HasLearned}
+use Rattle.live_rounds.specs.Helps.Learned.{HasLearned}
 use Rattle.live_rounds.specs.Lists.{last_from}
 use Rattle.live_rounds.specs.Requests.{requests}
 use Rattle.live_rounds.specs.Served.{AreServed, IsPartKept, IsServed}

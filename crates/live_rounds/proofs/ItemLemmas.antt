@@ -3,7 +3,7 @@ use Rattle.std.proofs.Common.{◌≡◌, ℕ, zero, suc, ◌+◌, ◌<◌, ◌�
 use Rattle.std.specs.Prelude.{cond, count_by}
 use Rattle.std.proofs.lemmas.List.Recursion.{is_count_by}
 use Rattle.std.proofs.lemmas.List.{map-append, take-append-drop}
-use Rattle.live_round.specs.Steps.{is_request}
+use Rattle.desk_session.specs.Steps.{is_request}
 use Rattle.live_rounds.specs.Requests.{requests}
 use Rattle.script_read.specs.Said.{Reading, Said, seen}
 use Rattle.script_read.specs.Said as said

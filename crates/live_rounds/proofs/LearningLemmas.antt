@@ -6,7 +6,7 @@ use Rattle.std.proofs.lemmas.List.Elements.{AllZip-push, length_all_zip}
 use Rattle.std.proofs.Math.Seq.{drop-cons}
 use Rattle.live_pair.specs.Seats.{SeatSeen}
 use Rattle.live_rounds.proofs.ItemLemmas.{taken}
-use Rattle.live_rounds.specs.Helps.Learning.{HasLearned}
+use Rattle.live_rounds.specs.Helps.Learned.{HasLearned}
 use Rattle.policy_table.specs.declared.change.Change.{Change}
 
 get_behind : {A : Type 0} (xs : List A) (y : A) (ys : List A) (n : ℕ) (d : A) → length xs ≡ n → get_or (xs ++ y ∷ ys) n d ≡ y

@@ -5,9 +5,9 @@ use Rattle.std.specs.Prelude.{IfNone, IfSome, Option, Some, None}
 use Rattle.std.proofs.lemmas.List.{drop_all}
 use Rattle.answer_lines.specs.declared.answer.Answer.{Answer}
 use Rattle.answer_lines.specs.declared.answer.Line.{Line}
-use Rattle.live_rounds.specs.Helps.Merging.{IsMergedOn, IsMergedOut}
+use Rattle.live_rounds.specs.Helps.MergedItems.{IsMergedOn, IsMergedOut}
 use Rattle.live_rounds.specs.Merged.{line_behind, merged}
-use Rattle.live_round.specs.Steps.{is_request}
+use Rattle.desk_session.specs.Steps.{is_request}
 use Rattle.script_read.specs.Said.{Said, seen}
 use Rattle.script_read.specs.Said as said
 use Rattle.script_read.specs.declared.item.Item.{Item}

@@ -17,7 +17,7 @@ use Rattle.live_rounds.proofs.SharesLemmas.{map_drop, map_long, map_take}
 use Rattle.live_rounds.specs.Administrators.{AreDoneBeside, IsAdminAmid, IsAdminBehind}
 use Rattle.live_rounds.specs.Done.{AreEntered, AreLinesOf, HaveLearned}
 use Rattle.live_rounds.specs.Helps.Asked.{AreShared}
-use Rattle.live_rounds.specs.Helps.Learning.{HasLearned}
+use Rattle.live_rounds.specs.Helps.Learned.{HasLearned}
 use Rattle.live_rounds.specs.Helps.Posts.{AreKept}
 use Rattle.live_rounds.specs.Lists.{last_from}
 use Rattle.live_rounds.specs.Merged.{merged}

@@ -2,8 +2,8 @@
 use Rattle.std.proofs.Common.{◌≡◌, List, [], ◌∷◌, None, refl, sym, ap, subst, ◌∙◌}
 use Rattle.live_pair.specs.Admins.{AdminSeen}
 use Rattle.live_pair.specs.Story.{edits_in}
-use Rattle.live_round.proofs.CallerLemmas.{stands_alone, stands_before}
-use Rattle.live_round.specs.Desks.{StandsBehind}
+use Rattle.desk_session.proofs.CallerLemmas.{stands_alone, stands_before}
+use Rattle.desk_session.specs.Desks.{StandsBehind}
 use Rattle.live_rounds.specs.Administrators.{IsAdminBehind}
 use Rattle.perm_base.specs.declared.shapes.Shapes.{Shapes}
 use Rattle.policy_desk.specs.Desks.{IsDesk, Work}

@@ -7,9 +7,9 @@ use Rattle.std.proofs.lemmas.List.{length-map}
 use Rattle.answer_lines.specs.declared.answer.Answer.{Answer}
 use Rattle.answer_lines.specs.declared.answer.Answer.TheVariants as answer
 use Rattle.live_pair.specs.Seats.{IsEntered, IsShut, SeatSeen, version_of}
-use Rattle.live_round.proofs.CallerLemmas.{judged_in, logged_more}
+use Rattle.desk_session.proofs.CallerLemmas.{judged_in, logged_more}
 use Rattle.live_rounds.proofs.ItemLemmas.{none_requested, one_more, parted, requests_both}
-use Rattle.live_round.specs.Steps.{is_request}
+use Rattle.desk_session.specs.Steps.{is_request}
 use Rattle.live_rounds.specs.Requests.{requests}
 use Rattle.live_rounds.specs.Served.{AreServed, IsPartServed, IsServed, IsServedBy}
 use Rattle.live_seat.specs.Decided.{IsExplainedAt, tables_behind}

@@ -13,7 +13,7 @@ use Rattle.live_rounds.proofs.RiseLemmas.{rise_then}
 use Rattle.live_rounds.specs.Administrators.{AreDoneBeside}
 use Rattle.live_rounds.specs.Answered.{AreAnsweredAt, Rise}
 use Rattle.live_rounds.specs.Helps.Asked.{AreAnsweredOver, IsShared}
-use Rattle.live_rounds.specs.Helps.Learning.{HasLearned}
+use Rattle.live_rounds.specs.Helps.Learned.{HasLearned}
 use Rattle.live_rounds.specs.Lists.{last_from}
 use Rattle.live_rounds.specs.Requests.{requests}
 use Rattle.live_rounds.specs.Served.{IsPartKept}

@@ -2,7 +2,7 @@
 use Rattle.std.proofs.Common.{◌≡◌, [], ◌∷◌, ◌++◌}
 use Rattle.answer_lines.specs.declared.answer.Answer.{Answer}
 use Rattle.live_pair.specs.Admins.{AdminSeen}
-use Rattle.live_round.specs.Steps.{IsPlainStep, IsStopped, LeavesBeside}
+use Rattle.desk_session.specs.Steps.{IsPlainStep, IsStopped, LeavesBeside}
 use Rattle.live_rounds.specs.Administrators.{IsAdminStep, IsAdminStopped, list_behind}
 use Rattle.script_read.specs.Said.{Said}
 use Rattle.script_read.specs.Said as said

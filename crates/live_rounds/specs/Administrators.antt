@@ -4,8 +4,8 @@ use mathlib.Core.List.{IsPrefix}
 use Rattle.answer_lines.specs.declared.answer.Answer.{Answer}
 use Rattle.live_pair.specs.Admins.{AdminSeen}
 use Rattle.live_pair.specs.Story.{edits_in}
-use Rattle.live_round.specs.Desks.{HasEditsOf, StandsBehind}
-use Rattle.live_round.specs.Steps.{IsPlainStep, IsStopped}
+use Rattle.desk_session.specs.Desks.{HasEditsOf, StandsBehind}
+use Rattle.desk_session.specs.Steps.{IsPlainStep, IsStopped}
 use Rattle.model_conf.specs.ModelText.{ModelParts}
 use Rattle.perm_base.specs.declared.shapes.Shapes.{Shapes}
 use Rattle.policy_table.specs.Tables.{Policy}

@@ -1,5 +1,5 @@
 -- What only private functions and proofs say.
 pub mod Asked
-pub mod Merging
+pub mod MergedItems
 pub mod Posts
-pub mod Learning
+pub mod Learned

@@ -1,13 +1,13 @@
 ghost use Rattle.std.specs.Prelude.{◌≡◌, ◌++◌, IfOk, List, OnErr, false, map};
 ghost use Rattle.live_rounds.specs.Administrators.{AreDoneBeside, IsAdminAmid, IsAdminBehind, IsAdminStep, IsAdminStopped};
-ghost use Rattle.live_round.specs.Steps.{is_request};
+ghost use Rattle.desk_session.specs.Steps.{is_request};
 ghost use Rattle.script_read.specs.Said.{Said, seen};
 
 use crate::gate::Gate;
 use crate::requests::is_request;
+use desk_session::{Answer, answer_other};
 use live_pair::{Admin, Naming};
-use live_round::{Answer, answer_other};
-use perm_base::NoMemory;
+use outside::NoMemory;
 use script_read::Item;
 use std::alloc::Global;
 use std::sync::Wait;

@@ -4,7 +4,7 @@ ghost use Rattle.live_rounds.specs.Shares.{total};
 
 use crate::posts::Post;
 use live_pair::{Naming, Seat};
-use perm_base::NoMemory;
+use outside::NoMemory;
 use regex_gate::Finder;
 use std::alloc::Global;
 use std::mem;

@@ -1,24 +1,24 @@
 //! Rounds of a session: requests that workers answer at seats of a pair, beside the administrator that does all other items.
 #![tactic(auto)]
 
-mod asking;
+mod asks;
 mod beside;
 mod crew;
-mod dismissing;
+mod dismissal;
 mod gate;
 mod items;
 mod laws;
-mod learning;
-mod merging;
+mod merger;
 mod posts;
 mod requests;
 mod round;
+mod round_work;
 mod rounds;
 mod script;
-mod serving;
-mod sharing;
+mod seat_answers;
+mod seat_fronts;
+mod shares;
 mod together;
-mod working;
 
 pub use gate::{FreeGate, Gate};
 pub use laws::{replies_are_the_lines_of_a_round, seats_answer_at_cuts};

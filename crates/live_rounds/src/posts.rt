@@ -7,10 +7,10 @@ ghost use Rattle.live_rounds.specs.Helps.Posts.{AreServedPosts, IsServedPost};
 
 use crate::gate::Gate;
 use crate::items::items_of;
-use crate::serving::answer_part;
+use crate::seat_answers::answer_part;
 use decision::Program;
+use desk_session::Answer;
 use live_pair::{Naming, Seat};
-use live_round::Answer;
 use regex_gate::Finder;
 use script_read::Script;
 use std::alloc::Global;

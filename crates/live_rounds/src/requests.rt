@@ -1,5 +1,5 @@
 ghost use Rattle.std.specs.Prelude.{◌≡◌, ◌≤◌, count_by, length, map, take};
-ghost use Rattle.live_round.specs.Steps.{is_request};
+ghost use Rattle.desk_session.specs.Steps.{is_request};
 ghost use Rattle.live_rounds.specs.Requests.{requests};
 ghost use Rattle.script_read.specs.Said.{seen};
 

@@ -13,9 +13,9 @@ ghost use Rattle.version_log.specs.Log.{versions};
 use crate::gate::Gate;
 use crate::rounds::run_rounds;
 use decision::Program;
-use live_pair::{Naming, Opened, Places, open_pair};
-use live_round::Lines;
-use perm_base::NoMemory;
+use desk_session::Lines;
+use live_pair::{Naming, OpenedBook, Places, open_pair};
+use outside::NoMemory;
 use policy_desk::Desk;
 use regex_gate::Finder;
 use script_read::Script;
@@ -57,7 +57,7 @@ pub fn run_shared<R: Threads + Wait + Sync, P: Finder, G: Gate, H: Places>(
     ensures counted { H.faults places.old ≤ H.faults places.new }
 {
     desk.holds();
-    let opened = Opened::new();
+    let opened = OpenedBook::new();
     run_over::<Brand, R, P, G, H>(
         rt, alloc, opened, desk, program, script, workers, finders, gate, places,
     )
@@ -67,7 +67,7 @@ pub fn run_shared<R: Threads + Wait + Sync, P: Finder, G: Gate, H: Places>(
 fn run_over<J: Naming + Send + Sync, R: Threads + Wait + Sync, P: Finder, G: Gate, H: Places>(
     rt: &R,
     alloc: Global,
-    opened: Opened,
+    opened: OpenedBook,
     desk: Desk,
     program: &Program,
     script: &Script,

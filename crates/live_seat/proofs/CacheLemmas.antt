@@ -14,7 +14,7 @@ use Rattle.live_pair.specs.Story.{edits_in}
 use Rattle.live_seat.proofs.DecidedLemmas.{decided_at}
 use Rattle.live_seat.specs.Caches.{IsCachedAt, ServesAt, tables_of_version}
 use Rattle.matcher_meaning.specs.Verdicts.{IsJudged, IsVerdict}
-use Rattle.decision.specs.Judging.{IsJudgedWith, RefusedIn}
+use Rattle.decision.specs.Decisions.{IsJudgedWith, RefusedIn}
 use Rattle.model_conf.specs.ModelText.{ModelParts}
 use Rattle.perm_base.specs.declared.shapes.Shapes.{Shapes}
 use Rattle.perm_value.specs.Datum.{Datum}

@@ -1,6 +1,6 @@
 -- What is judged over a state that stands for the edits of publishes, is judged over the tables behind them.
 use Rattle.std.proofs.Common.{◌≡◌, ℕ, List, Option, sym, subst, ◌∙◌}
-use Rattle.decision.specs.Judging.{IsJudgedWith, RefusedIn}
+use Rattle.decision.specs.Decisions.{IsJudgedWith, RefusedIn}
 use Rattle.effect_fold.specs.declared.verdict.Verdict.{Verdict}
 use Rattle.live_pair.specs.Seats.{IsEntered, SeatSeen, version_of}
 use Rattle.live_pair.specs.Story.{edits_in}

@@ -1,6 +1,6 @@
 -- What a request is answered by an entry of a seat, and what the seat is afterwards (Casbin, enforce).
 use Rattle.std.specs.Prelude.{◌≡◌, List, Option}
-use Rattle.decision.specs.Judging.{IsJudgedWith, RefusedIn}
+use Rattle.decision.specs.Decisions.{IsJudgedWith, RefusedIn}
 use Rattle.live_pair.specs.Seats.{IsEntered, IsShut, SeatSeen}
 use Rattle.live_pair.specs.Story.{edits_in}
 use Rattle.live_seat.specs.declared.answered.Answered.{Answered}

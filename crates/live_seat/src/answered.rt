@@ -1,6 +1,6 @@
 use answer_cache::CachedAnswer;
 use effect_fold::Verdict;
-use perm_base::NoMemory;
+use outside::NoMemory;
 
 /// The verdict on a request, and the version of the policy by which it was judged.
 #[derive(Clone, Copy, Debug, PartialEq, Eq)]

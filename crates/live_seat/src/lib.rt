@@ -2,14 +2,14 @@
 #![tactic(auto)]
 
 mod answered;
-mod caching;
-mod deciding;
-mod explaining;
+mod cached;
+mod decided;
+mod explained;
 mod laws;
 mod loan;
 
 pub use answered::{Answered, SeatAnswer, SeatStop};
-pub use caching::decide_seat_cached;
-pub use deciding::decide_seat;
-pub use explaining::explain_seat;
+pub use cached::decide_seat_cached;
+pub use decided::decide_seat;
+pub use explained::explain_seat;
 pub use laws::caches_serve_seats;

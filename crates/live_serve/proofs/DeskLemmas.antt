@@ -3,7 +3,7 @@ use Rattle.std.proofs.Common.{◌≡◌, ℕ, List, [], refl}
 use Rattle.std.specs.Prelude.{codes}
 use Rattle.answer_lines.specs.LineText.{answer_text, numbered}
 use Rattle.answer_lines.specs.declared.answer.Answer.{Answer}
-use Rattle.live_round.specs.Steps as round
+use Rattle.desk_session.specs.Steps as round
 use Rattle.model_conf.specs.ModelText.{ModelParts}
 use Rattle.policy_desk.specs.Desks.{Work}
 use Rattle.regex_gate.specs.Refusals.{Refusals}

@@ -4,10 +4,10 @@ use Rattle.std.specs.Prelude.{◌⊎◌, MatchBool, Some, codes}
 use Rattle.item_stream.specs.Lines.{begins_packet}
 use Rattle.answer_lines.specs.LineText.{answer_text, numbered}
 use Rattle.answer_lines.specs.declared.answer.Answer.{Answer}
-use Rattle.loaded_work.specs.Following.{IsKnown, taken_text}
+use Rattle.loaded_work.specs.Followed.{IsKnown, taken_text}
 use Rattle.log_ship.specs.Followers.{Following, Held}
-use Rattle.log_ship.specs.Taking as packets
-use Rattle.log_ship.specs.Taking.{TextReading, Reads, Takes, after_answer, edit_read}
+use Rattle.log_ship.specs.Taken as packets
+use Rattle.log_ship.specs.Taken.{TextReading, Reads, Takes, after_answer, edit_read}
 use Rattle.log_ship.specs.declared.packet.Packet.{Packet}
 use Rattle.log_ship.specs.declared.taken.Taken.TheVariants.{Repeated, Waiting, Applied}
 use Rattle.model_conf.specs.ModelText.{ModelParts}
@@ -15,7 +15,7 @@ use Rattle.regex_gate.specs.Refusals.{Refusals}
 use Rattle.script_read.specs.Said.{Said}
 use Rattle.script_read.specs.declared.fault.ScriptFault.{ScriptFault}
 use Rattle.live_serve.specs.Followed.{IsFollowed, IsReplied, is_leaders}
-use Rattle.live_serve.specs.Helps.Asking.{IsAsked}
+use Rattle.live_serve.specs.Helps.Asked.{IsAsked}
 use Rattle.live_serve.specs.Lines.{cause_text, refused_text}
 use Rattle.live_serve.specs.Places.{IsStep, follows}
 use Rattle.live_serve.specs.Sayings.{AreAtFault, AreItems, AreNotSent, AreSent, Saying, Says, item, fault, packet, no_packet, too_long}

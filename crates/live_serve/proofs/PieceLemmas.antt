@@ -4,10 +4,10 @@ use Rattle.std.specs.Prelude.{Option, Some, None}
 use Rattle.std.proofs.lemmas.List.{drop-drop, drop_all}
 use Rattle.item_stream.proofs.CallerLemmas.{goes_nowhere, goes_then}
 use Rattle.item_stream.specs.Sections.{GoesTo, Section, Stage, listed}
-use Rattle.live_serve.specs.Helps.Ending.{LeavesEnded, TakesEnded}
+use Rattle.live_serve.specs.Helps.Ended.{LeavesEnded, TakesEnded}
 use Rattle.live_serve.specs.Sayings.{AllSay, Saying}
 use Rattle.live_serve.specs.Places.{Standing, StandsSomewhere, is_followers}
-use Rattle.live_serve.specs.Serving.{Halts, OfSection, Pushed, SectionStops}
+use Rattle.live_serve.specs.Served.{Halts, OfSection, Pushed, SectionStops}
 use Rattle.live_serve.specs.Streams.{LeavesPiece, TakesPiece}
 use Rattle.live_serve.proofs.SayLemmas.{say_one, say_then}
 use Rattle.live_serve.proofs.ServeLemmas.{halts_since, halts_then, pushed_kind, pushed_none, pushed_somewhere, pushed_then, pushed_used, took_all, took_none}

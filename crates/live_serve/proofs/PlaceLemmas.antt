@@ -1,6 +1,6 @@
 -- Steps from one place to another.
 use Rattle.std.proofs.Common.{◌≡◌, ℕ, Bool, true, false, List, [], ◌∷◌, ◌++◌, refl, sym, ap, subst, ◌∙◌}
-use Rattle.live_round.specs.Desks.{StandsBehind}
+use Rattle.desk_session.specs.Desks.{StandsBehind}
 use Rattle.log_ship.specs.Followers.{Following}
 use Rattle.model_conf.specs.ModelText.{ModelParts}
 use Rattle.perm_base.specs.declared.shapes.Shapes.{Shapes}

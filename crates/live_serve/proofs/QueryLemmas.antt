@@ -21,9 +21,9 @@ use Rattle.session_meaning.specs.Replies.{query_reply}
 use Rattle.session_meaning.proofs.CallerLemmas.{QueryTold, names_told, query_told, rows_told, rule_told}
 use Rattle.version_log.specs.Log.{Logged, versions}
 use Rattle.regex_gate.specs.Refusals.{Refusals}
-use Rattle.live_round.specs.Requests.{IsAnsweredBy, Refuses}
+use Rattle.desk_session.specs.Requests.{IsAnsweredBy, Refuses}
 use Rattle.live_serve.specs.Followed.{IsStateReply, is_leaders}
-use Rattle.live_serve.specs.Helps.Asking.{IsAsked, IsQueried, IsReply}
+use Rattle.live_serve.specs.Helps.Asked.{IsAsked, IsQueried, IsReply}
 
 -- ---- queries on the tables
 

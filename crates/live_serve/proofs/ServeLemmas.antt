@@ -1,7 +1,7 @@
 -- Sayings that are answered one after the other.
 use Rattle.std.proofs.Common.{◌≡◌, ℕ, ◌≤◌, List, [], ◌∷◌, ◌++◌, refl, sym, ap, subst, ◌∙◌, append-nil, append_assoc, arith}
 use Rattle.std.specs.Prelude.{Option, Bool}
-use Rattle.live_round.specs.Requests.{Refuses}
+use Rattle.desk_session.specs.Requests.{Refuses}
 use Rattle.model_conf.specs.ModelText.{ModelParts}
 use Rattle.outside.proofs.CallerLemmas.{front_of_next, with_back-append, with_back-nothing}
 use Rattle.outside.specs.Told.{TookFront, with_back}
@@ -10,11 +10,11 @@ use Rattle.run_status.specs.declared.stop.Stop.{Stop}
 use Rattle.run_status.specs.declared.stop.Stop.TheVariants.{CannotWrite, NoMemory}
 use Rattle.script_read.specs.Said.{Said}
 use Rattle.session_meaning.specs.Plain.{all_refused}
-use Rattle.live_serve.specs.Helps.Telling.{TellStops}
+use Rattle.live_serve.specs.Helps.Untold.{TellStops}
 use Rattle.live_serve.specs.Lines.{joined, next_number, number_behind}
 use Rattle.live_serve.specs.Places.{AreSteps, IsStep, Place, Standing, StandsSomewhere, is_followers, state_at}
 use Rattle.live_serve.specs.Sayings.{Saying}
-use Rattle.live_serve.specs.Serving.{AreFirst, Halts, Pushed, Serves, TookFirst, TookSome}
+use Rattle.live_serve.specs.Served.{AreFirst, Halts, Pushed, Serves, TookFirst, TookSome}
 use Rattle.live_serve.proofs.PlaceLemmas.{steps_kind, steps_shapes, steps_somewhere, steps_then}
 use Rattle.live_serve.proofs.TextLemmas.{joined_more, joined_one, logged_then, number_more}
 

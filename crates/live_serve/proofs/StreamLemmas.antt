@@ -5,10 +5,10 @@ use Rattle.std.proofs.lemmas.Bool.{ne_eqb}
 use Rattle.std.proofs.lemmas.List.{length-append}
 use Rattle.item_stream.proofs.CallerLemmas.{goes_all, goes_first, goes_further, goes_nowhere, goes_whole}
 use Rattle.item_stream.specs.Sections.{GoesTo, Section, Stage, first_stage, left_at, listed, sections_of, whole_sections}
-use Rattle.live_serve.specs.Helps.Ending.{LeavesEnded, TakesEnded, at_first}
+use Rattle.live_serve.specs.Helps.Ended.{LeavesEnded, TakesEnded, at_first}
 use Rattle.live_serve.specs.Sayings.{AllSay, Saying}
 use Rattle.live_serve.specs.Places.{Place, Standing, StandsSomewhere, at_desk, follows, is_followers}
-use Rattle.live_serve.specs.Serving.{AreFirst, Halts, Pushed, Serves}
+use Rattle.live_serve.specs.Served.{AreFirst, Halts, Pushed, Serves}
 use Rattle.live_serve.specs.Streams.{AnswerFirst, AreAnswered, IsFirst, LeavesPiece, OfRead, ServeStops, TakesPiece, TookFirstTexts, TookSomeTexts, TookTexts, service}
 use Rattle.live_serve.proofs.PlaceLemmas.{told_from}
 use Rattle.live_serve.proofs.SayLemmas.{say_then}

@@ -2,21 +2,21 @@
 use Rattle.std.proofs.Common.{◌≡◌, ◌⊎◌, ℕ, List, [], ◌∷◌, inl, inr, Ok, Err, refl, sym, subst}
 use Rattle.std.specs.Prelude.{IfErr, MatchResult, OnOk, Option, Result}
 use Rattle.answer_lines.specs.LineText.{numbered}
-use Rattle.loaded_work.specs.Following.{IsKnown, taken_text}
+use Rattle.loaded_work.specs.Followed.{IsKnown, taken_text}
 use Rattle.log_ship.specs.Followers.{Following}
-use Rattle.log_ship.specs.Taking as packets
-use Rattle.log_ship.specs.Taking.{TextReading, Reads, Takes}
+use Rattle.log_ship.specs.Taken as packets
+use Rattle.log_ship.specs.Taken.{TextReading, Reads, Takes}
 use Rattle.log_ship.specs.declared.packet.Packet.{Packet}
 use Rattle.model_conf.specs.ModelText.{ModelParts}
 use Rattle.outside.specs.Told.{with_back}
 use Rattle.regex_gate.specs.Refusals.{Refusals}
 use Rattle.run_status.specs.declared.stop.Stop.{Stop}
 use Rattle.run_status.specs.declared.stop.Stop.TheVariants.{CannotWrite, NoMemory}
-use Rattle.live_serve.specs.Helps.Telling.{TellStops}
+use Rattle.live_serve.specs.Helps.Untold.{TellStops}
 use Rattle.live_serve.specs.Lines.{next_number}
 use Rattle.live_serve.specs.Places.{IsStep, Place, Standing, follows}
 use Rattle.live_serve.specs.Sayings.{packet}
-use Rattle.live_serve.specs.Serving.{Halts, Pushed}
+use Rattle.live_serve.specs.Served.{Halts, Pushed}
 use Rattle.live_serve.proofs.FollowLemmas.{taken_step}
 use Rattle.live_serve.proofs.ServeLemmas.{step_halts, step_pushed, took_none}
 

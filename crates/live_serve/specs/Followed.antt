@@ -4,10 +4,10 @@ use Rattle.std.specs.Prelude.{◌≡◌, ◌⊎◌, ℕ, Bool, MatchBool, true, 
 use Rattle.answer_lines.specs.LineText.{answer_text, numbered}
 use Rattle.answer_lines.specs.declared.answer.Answer.{Answer}
 use Rattle.answer_lines.specs.declared.answer.Answer.TheVariants as answer
-use Rattle.loaded_work.specs.Following.{IsKnown, taken_text}
+use Rattle.loaded_work.specs.Followed.{IsKnown, taken_text}
 use Rattle.log_ship.specs.Followers.{Following}
-use Rattle.log_ship.specs.Taking as packets
-use Rattle.log_ship.specs.Taking.{Takes}
+use Rattle.log_ship.specs.Taken as packets
+use Rattle.log_ship.specs.Taken.{Takes}
 use Rattle.log_ship.specs.declared.packet.Packet.{Packet}
 use Rattle.model_conf.specs.ModelText.{ModelParts}
 use Rattle.policy_query.specs.Edits.{IsEdit, edit_refusal}

@@ -1,4 +1,4 @@
 -- What only private functions and proofs say.
-pub mod Telling
-pub mod Ending
-pub mod Asking
+pub mod Untold
+pub mod Ended
+pub mod Asked

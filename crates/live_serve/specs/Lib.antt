@@ -2,7 +2,7 @@ pub mod Sayings
 pub mod Lines
 pub mod Followed
 pub mod Places
-pub mod Serving
+pub mod Served
 pub mod Streams
 pub mod Standings
 pub mod Helps

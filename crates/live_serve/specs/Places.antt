@@ -1,6 +1,6 @@
 -- Where a clerk stands: at a desk, or with a follower; and what one saying does there.
 use Rattle.std.specs.Prelude.{◌≡◌, ℕ, Bool, true, false, List, [], ◌∷◌, ⊤}
-use Rattle.live_round.specs.Desks.{StandsBehind}
+use Rattle.desk_session.specs.Desks.{StandsBehind}
 use Rattle.log_ship.specs.Followers.{Following}
 use Rattle.model_conf.specs.ModelText.{ModelParts}
 use Rattle.policy_desk.specs.Desks.{Work}

@@ -1,9 +1,9 @@
 -- Where clerks stand.
 use Rattle.live_serve.specs.Places.{Standing, at_desk, follows}
-use Rattle.live_serve.specs.declared.answering.Clerk.{Clerk}
-use Rattle.live_serve.specs.declared.answering.Clerk.TheVariants.{Desk, Follower}
-use Rattle.live_serve.specs.declared.clerk.DeskClerk.{DeskClerk}
-use Rattle.live_serve.specs.declared.follow.FollowerClerk.{FollowerClerk}
+use Rattle.live_serve.specs.declared.clerk.Clerk.{Clerk}
+use Rattle.live_serve.specs.declared.clerk.Clerk.TheVariants.{Desk, Follower}
+use Rattle.live_serve.specs.declared.desk_clerk.DeskClerk.{DeskClerk}
+use Rattle.live_serve.specs.declared.follower_clerk.FollowerClerk.{FollowerClerk}
 
 abbrev pub desk_standing : DeskClerk → Standing
 desk_standing clerk = record { place = at_desk clerk.desk; number = clerk.pen.number }

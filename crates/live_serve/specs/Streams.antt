@@ -4,8 +4,8 @@ use Rattle.item_stream.specs.Sections.{GoesTo, Section, Stage, sections_of, whol
 use Rattle.model_conf.specs.ModelText.{ModelParts}
 use Rattle.outside.specs.Told.{TookFront, with_back, with_front}
 use Rattle.perm_base.specs.declared.shapes.Shapes.{Shapes}
-use Rattle.live_round.specs.Desks.{StandsBehind}
-use Rattle.loaded_work.specs.Following.{Opens}
+use Rattle.desk_session.specs.Desks.{StandsBehind}
+use Rattle.loaded_work.specs.Followed.{Opens}
 use Rattle.log_ship.specs.Followers.{Following}
 use Rattle.policy_state.specs.States.{tables}
 use Rattle.policy_table.specs.Tables.{Policy}
@@ -17,7 +17,7 @@ use Rattle.session_meaning.specs.Plain.{all_refused}
 use Rattle.live_serve.specs.Lines.{AreTexts, joined}
 use Rattle.live_serve.specs.Sayings.{AllSay, Saying}
 use Rattle.live_serve.specs.Places.{AreSteps, Place, Standing, at_desk, follows, is_followers, state_at}
-use Rattle.live_serve.specs.Serving.{Halts, Pushed}
+use Rattle.live_serve.specs.Served.{Halts, Pushed}
 
 -- ---- a piece of a stream
 

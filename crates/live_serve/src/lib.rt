@@ -2,10 +2,10 @@
 //! pushed before more is read.
 #![tactic(auto)]
 
-mod answering;
 mod cause;
 mod clerk;
-mod follow;
+mod desk_clerk;
+mod follower_clerk;
 mod laws;
 mod pen;
 mod piece;
@@ -15,9 +15,9 @@ mod stream;
 mod taken;
 mod text;
 
-pub use answering::Clerk;
-pub use clerk::DeskClerk;
-pub use follow::FollowerClerk;
+pub use clerk::Clerk;
+pub use desk_clerk::DeskClerk;
+pub use follower_clerk::FollowerClerk;
 pub use laws::{items_are_answered_as_in_a_session, script_is_a_stream_of_its_items};
 pub use piece::serve_piece;
 pub use stream::serve_stream;

@@ -1,18 +1,18 @@
 ghost use Rattle.std.specs.Prelude.{◌≡◌, ◌≤◌, ◌⊎◌, ◌++◌, IfErr, MatchResult, OnOk, true};
 ghost use Rattle.answer_lines.specs.LineText.{answer_text, numbered};
 ghost use Rattle.answer_lines.specs.Told.{is_printable};
-ghost use Rattle.loaded_work.specs.Following.{IsKnown, taken_text};
+ghost use Rattle.loaded_work.specs.Followed.{IsKnown, taken_text};
 ghost use Rattle.outside.specs.Faults.{Rose};
 ghost use Rattle.outside.specs.Told.{with_back};
 ghost use Rattle.run_status.specs.declared.stop.Stop.TheVariants as stops;
 ghost use Rattle.live_serve.specs.Lines.{next_number};
-ghost use Rattle.live_serve.specs.Helps.Telling.{TellStops};
+ghost use Rattle.live_serve.specs.Helps.Untold.{TellStops};
 
 use crate::taken::push_taken;
 use crate::text::{push_refused, push_told};
 use answer_lines::{Answer, Line};
 use log_ship::{TakeRefused, Taken};
-use perm_base::{Sink, push_all};
+use outside::{Sink, push_all};
 use run_status::Stop;
 use std::alloc::Global;
 

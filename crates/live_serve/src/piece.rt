@@ -6,10 +6,10 @@ ghost use Rattle.live_serve.specs.Places.{StandsSomewhere, is_followers, state_a
 ghost use Rattle.live_serve.specs.Standings.{standing};
 ghost use Rattle.live_serve.specs.Streams.{LeavesPiece, TakesPiece};
 
-use crate::answering::{Clerk, serve_ended};
+use crate::clerk::{Clerk, serve_ended};
 use decision::Program;
 use item_stream::Sections;
-use perm_base::Sink;
+use outside::Sink;
 use regex_gate::Finder;
 use run_status::Stop;
 use std::alloc::Global;

@@ -2,17 +2,18 @@ ghost use Rattle.std.specs.Prelude.{◌≡◌, ◌≢◌, IfOk, MatchOption, OnE
 ghost use Rattle.std.specs.Option.{option_copied};
 ghost use Rattle.answer_lines.specs.declared.answer.Answer.TheVariants as answer;
 ghost use Rattle.decision.specs.Programs.{Suits};
-ghost use Rattle.live_round.specs.Requests.{Refuses};
+ghost use Rattle.desk_session.specs.Requests.{Refuses};
 ghost use Rattle.policy_query.specs.declared.refused.QueryRefused.TheVariants as query;
 ghost use Rattle.script_read.specs.Named.{is_named};
 ghost use Rattle.script_read.specs.Said.{has, recalls, roles, rows, seen, users};
 ghost use Rattle.live_serve.specs.Followed.{is_leaders};
-ghost use Rattle.live_serve.specs.Helps.Asking.{IsAsked, IsQueried};
+ghost use Rattle.live_serve.specs.Helps.Asked.{IsAsked, IsQueried};
 
 use answer_lines::Answer;
 use decision::{Program, Scratch};
-use live_round::answer_request;
-use perm_base::{NoMemory, Rule, TableId, Text};
+use desk_session::answer_request;
+use outside::{NoMemory, Text};
+use perm_base::{Rule, TableId};
 use policy_query::QueryRefused;
 use policy_state::PolicyState;
 use policy_table::copy_edit;

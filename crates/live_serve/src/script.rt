@@ -6,7 +6,7 @@ ghost use Rattle.script_read.specs.Said.{seen};
 ghost use Rattle.script_read.specs.Script.{IsScript, IsScriptFault};
 
 use log_ship::{PacketFault, Packets, read_packets};
-use perm_base::NoMemory;
+use outside::NoMemory;
 use script_read::{Script, ScriptFault, items_are_named, read_script};
 use std::alloc::Global;
 

@@ -7,13 +7,13 @@ ghost use Rattle.regex_gate.specs.Refusals.{IsUsed};
 ghost use Rattle.live_serve.specs.Places.{StandsSomewhere, is_followers, state_at};
 ghost use Rattle.live_serve.specs.Standings.{standing};
 ghost use Rattle.live_serve.specs.Streams.{IsFirst, OfRead, ServeStops, TookTexts, service};
-ghost use Rattle.live_serve.specs.Helps.Ending.{LeavesEnded, TakesEnded, at_first};
+ghost use Rattle.live_serve.specs.Helps.Ended.{LeavesEnded, TakesEnded, at_first};
 
-use crate::answering::{Clerk, serve_ended};
+use crate::clerk::{Clerk, serve_ended};
 use crate::piece::serve_piece;
 use decision::Program;
 use item_stream::Sections;
-use perm_base::{Sink, Source};
+use outside::{Sink, Source};
 use regex_gate::Finder;
 use run_status::{Part, Stop};
 use std::alloc::Global;

@@ -4,7 +4,7 @@ ghost use Rattle.answer_lines.specs.Told.{is_printable};
 
 use answer_lines::{Line, push_line};
 use itoa::Buffer;
-use perm_base::NoMemory;
+use outside::NoMemory;
 
 /// Appends the line that tells an answer, as `push_line` does, under a number that may be greater than a `Line` has. The line is made
 /// under 0 in `plain` first. It takes memory for the texts alone, and refused is want of it alone.

@@ -6,7 +6,7 @@ use answer_cache::Cache;
 use decision::{Program, Scratch};
 use live_pair::{Naming, Seat};
 use live_seat::{Answered, SeatAnswer, decide_seat, decide_seat_cached};
-use perm_base::NoMemory;
+use outside::NoMemory;
 use perm_value::{Request, request_of_fields};
 use regex_gate::RegexFinder;
 use std::alloc::Global;

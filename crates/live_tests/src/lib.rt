@@ -4,16 +4,16 @@
 #[cfg(test)]
 mod asking;
 #[cfg(test)]
-mod caching;
+mod caches;
 #[cfg(test)]
-mod entering;
+mod desks;
+#[cfg(test)]
+mod entries;
 #[cfg(test)]
 mod meeting;
 #[cfg(test)]
-mod opening;
-#[cfg(test)]
-mod publishing;
+mod publishes;
 #[cfg(test)]
 mod trial;
 #[cfg(test)]
-mod working;
+mod workers;

@@ -4,11 +4,11 @@ ghost use Rattle.decision.specs.Programs.{Suits};
 ghost use Rattle.perm_base.specs.Shapes.{AreValid};
 ghost use Rattle.policy_state.specs.States.{StandsFor};
 
-use crate::caching::asks_by_cache;
-use crate::opening::{desk, program};
-use crate::publishing::publishes_again;
+use crate::caches::asks_by_cache;
+use crate::desks::{desk, program};
+use crate::publishes::publishes_again;
 use decision::Program;
-use live_pair::{Admin, Naming, Opened, PairPlaces, Seat, open_pair};
+use live_pair::{Admin, Naming, OpenedBook, PairPlaces, Seat, open_pair};
 use perm_base::Shapes;
 use policy_desk::Desk;
 use std::alloc::Global;
@@ -46,13 +46,13 @@ fn tried_by<R: Threads + Wait + Abort + Sync>(
     requires valid { AreValid shapes }
 {
     let desk = desk(alloc, shapes)?;
-    tried_over::<Brand, R>(rt, alloc, Opened::new(), desk, program, trial)
+    tried_over::<Brand, R>(rt, alloc, OpenedBook::new(), desk, program, trial)
 }
 
 fn tried_over<J: Naming + Send + Sync, R: Threads + Wait + Abort + Sync>(
     rt: &R,
     alloc: Global,
-    opened: Opened,
+    opened: OpenedBook,
     desk: Desk,
     program: &Program,
     trial: Trial,

@@ -11,8 +11,8 @@ use Rattle.answer_lines.specs.declared.answer.Answer.{Answer}
 use Rattle.answer_lines.specs.declared.answer.Answer.TheVariants as answer
 use Rattle.answer_lines.specs.declared.answer.Line.{Line}
 use Rattle.effect_fold.specs.declared.verdict.Verdict.{Verdict}
-use Rattle.live_round.proofs.CallerLemmas.{alone_before, logged_more, logs_more, none_asked}
-use Rattle.live_round.specs.Requests.{Refuses, TellsAnswer}
+use Rattle.desk_session.proofs.CallerLemmas.{alone_before, logged_more, logs_more, none_asked}
+use Rattle.desk_session.specs.Requests.{Refuses, TellsAnswer}
 use Rattle.matcher_meaning.specs.Verdicts.{IsJudged}
 use Rattle.model_conf.specs.ModelText.{ModelParts}
 use Rattle.near_miss.proofs.CallerLemmas.{misses_for_more}
@@ -40,11 +40,11 @@ use Rattle.session_meaning.specs.Desks.{IsBehind}
 use Rattle.session_meaning.specs.Plain.{IsLine, IsPlain, all_refused, most_number}
 use Rattle.session_meaning.specs.Replies.{IsAnswerTo, IsDecided, IsReply}
 use Rattle.version_log.specs.Log.{versions}
-use Rattle.loaded_work.specs.Explaining.{ArePieces, IsBelow, TellsMisses}
+use Rattle.loaded_work.specs.Explained.{ArePieces, IsBelow, TellsMisses}
 use Rattle.loaded_work.specs.Finders.{HasRefused}
-use Rattle.loaded_work.specs.Helps.Explaining.{ArePushed, ExplainedAll, ExplainedSome, ExplainsLine, PiecesOf, TellsBelow, TellsExplained}
-use Rattle.loaded_work.specs.Helps.Gathering.{Moves}
-use Rattle.loaded_work.specs.Helps.Working.{StopsLine}
+use Rattle.loaded_work.specs.Helps.ExplainedLines.{ArePushed, ExplainedAll, ExplainedSome, ExplainsLine, PiecesOf, TellsBelow, TellsExplained}
+use Rattle.loaded_work.specs.Helps.GatheredLines.{Moves}
+use Rattle.loaded_work.specs.Helps.TaskSteps.{StopsLine}
 use Rattle.loaded_work.proofs.AskLemmas.{HasVerdicts, OneWay, asked, asked_more, one_reading}
 use Rattle.loaded_work.proofs.PieceLemmas.{HasMisses, MorePieces, all_pieces_pushed, are_pieces_more, more_pieces, pieces_first, pieces_front, pushed_more, pushed_moved, pushed_none, stopped_pieces}
 use Rattle.loaded_work.proofs.PrintLemmas.{Run, Seen, says_all, seen_first, seen_later, seen_pushed}

@@ -11,8 +11,8 @@ use Rattle.regex_gate.specs.Refusals.{IsUsed, Refusals}
 use Rattle.run_status.specs.declared.stop.Stop.{Stop}
 use Rattle.run_status.specs.declared.stop.Stop.TheVariants.{NoMemory}
 use Rattle.script_read.specs.Said.{Said}
-use Rattle.loaded_work.specs.Helps.Explaining.{AreExplained, ExplainedAll, ExplainedSome}
-use Rattle.loaded_work.specs.Helps.Working.{IsOpened}
+use Rattle.loaded_work.specs.Helps.ExplainedLines.{AreExplained, ExplainedAll, ExplainedSome}
+use Rattle.loaded_work.specs.Helps.TaskSteps.{IsOpened}
 use Rattle.loaded_work.specs.Sinks.{Taken}
 use Rattle.loaded_work.specs.declared.loaded.Loaded.{Loaded}
 use Rattle.loaded_work.proofs.WorkLemmas.{over_equal}

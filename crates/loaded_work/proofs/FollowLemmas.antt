@@ -7,7 +7,7 @@ use Rattle.answer_lines.specs.LineText.{numbered}
 use Rattle.edit_calls.specs.Admitted.{admits}
 use Rattle.log_ship.proofs.CallerLemmas.{more_tables, more_versions, same_itself, same_tables, same_version}
 use Rattle.log_ship.specs.Followers.{Following, Held, IsSame, version_of}
-use Rattle.log_ship.specs.Taking.{IsAnswer, Reads, TakeAnswer, Takes, TakesAll, TextReading, admitted, after_answer, appended, behind_next, edit_read, left_behind, may_come, most_ahead, put, run_from, take_answer, waits}
+use Rattle.log_ship.specs.Taken.{IsAnswer, Reads, TakeAnswer, Takes, TakesAll, TextReading, admitted, after_answer, appended, behind_next, edit_read, left_behind, may_come, most_ahead, put, run_from, take_answer, waits}
 use Rattle.log_ship.specs.declared.packet.Packet.{Packet}
 use Rattle.log_ship.specs.declared.taken.TakeRefused.TheVariants.{TooFar, Malformed, Misfit, NoMemory}
 use Rattle.log_ship.specs.declared.taken.Taken.TheVariants.{Repeated, Waiting, Applied}
@@ -19,9 +19,9 @@ use Rattle.policy_table.specs.Tables.{Policy}
 use Rattle.policy_table.specs.declared.change.Change.{Change}
 use Rattle.session_meaning.specs.Plain.{most_number, number_behind}
 use Rattle.version_log.specs.Log.{versions}
-use Rattle.loaded_work.specs.Following.{IsFollowed, IsKnown, Opens, policy_text, taken_lines, taken_text}
-use Rattle.loaded_work.specs.Helps.Following.{AreTaken}
-use Rattle.loaded_work.specs.Helps.Working.{IsFirst}
+use Rattle.loaded_work.specs.Followed.{IsFollowed, IsKnown, Opens, policy_text, taken_lines, taken_text}
+use Rattle.loaded_work.specs.Helps.FollowedPackets.{AreTaken}
+use Rattle.loaded_work.specs.Helps.TaskSteps.{IsFirst}
 
 -- ---- packets up to a place
 

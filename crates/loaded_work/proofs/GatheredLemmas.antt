@@ -6,7 +6,7 @@ use Rattle.answer_lines.specs.LineText.{line_text}
 use Rattle.answer_lines.specs.declared.answer.Line.{Line}
 use Rattle.outside.specs.Told.{with_back, TookFront}
 use Rattle.outside.proofs.CallerLemmas.{with_back-append, with_back-nothing}
-use Rattle.loaded_work.specs.Helps.Gathering.{AreGathered, Moves}
+use Rattle.loaded_work.specs.Helps.GatheredLines.{AreGathered, Moves}
 use Rattle.loaded_work.specs.Texts.{text_of_lines}
 
 -- the texts of lines and more

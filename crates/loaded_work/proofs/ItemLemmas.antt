@@ -5,9 +5,9 @@ use Rattle.std.specs.declared.alloc.Global.{Global}
 use Rattle.std.proofs.lemmas.List.{drop_more, length-map, map-append, map_push, take-append-drop, take_more}
 use Rattle.answer_lines.specs.declared.answer.Line.{Line}
 use Rattle.effect_fold.specs.declared.effect.Effect.TheVariants.{AllowOverride}
-use Rattle.live_round.proofs.CallerLemmas.{IsUnderWay, logged_more, under_way_more, under_way_none, way_used}
-use Rattle.live_round.specs.Desks.{StandsBehind}
-use Rattle.live_round.specs.Requests.{Refuses}
+use Rattle.desk_session.proofs.CallerLemmas.{IsUnderWay, logged_more, under_way_more, under_way_none, way_used}
+use Rattle.desk_session.specs.Desks.{StandsBehind}
+use Rattle.desk_session.specs.Requests.{Refuses}
 use Rattle.matcher_read.specs.Expression.{truth}
 use Rattle.model_conf.specs.ModelText.{ModelParts, parts_of}
 use Rattle.outside.specs.Faults.{Rose}
@@ -22,9 +22,9 @@ use Rattle.script_read.specs.Said.{Said, seen}
 use Rattle.script_read.specs.declared.item.Item.{Item}
 use Rattle.session_meaning.specs.Plain.{IsPlain, all_refused, most_number}
 use Rattle.loaded_work.specs.Finders.{HasRefused}
-use Rattle.loaded_work.specs.Helps.Gathering.{AreGathered, Moves}
+use Rattle.loaded_work.specs.Helps.GatheredLines.{AreGathered, Moves}
 use Rattle.loaded_work.specs.Helps.Items.{PushesItem}
-use Rattle.loaded_work.specs.Helps.Working.{LinesOf, PrintedAll, PrintedSome}
+use Rattle.loaded_work.specs.Helps.TaskSteps.{LinesOf, PrintedAll, PrintedSome}
 use Rattle.loaded_work.proofs.AskLemmas.{HasVerdicts, MoreLines, more_lines, stopped_lines}
 use Rattle.loaded_work.proofs.GatheredLemmas.{all_pushed, gathered_more, gathered_moved, gathered_none, stopped_first, stopped_front}
 use Rattle.loaded_work.proofs.PrintLemmas.{Seen, seen_later, seen_pushed}

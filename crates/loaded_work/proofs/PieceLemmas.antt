@@ -21,9 +21,9 @@ use Rattle.script_read.specs.Said.{Reading, Said, asks}
 use Rattle.session_meaning.specs.Plain.{IsPlain, all_refused}
 use Rattle.session_meaning.specs.Replies.{is_decided}
 use Rattle.session_meaning.proofs.CallerLemmas.{all_more, plain_more}
-use Rattle.loaded_work.specs.Explaining.{ArePieces, IsBelow, IsPiece, TellsMisses}
-use Rattle.loaded_work.specs.Helps.Explaining.{ArePushed}
-use Rattle.loaded_work.specs.Helps.Gathering.{Moves}
+use Rattle.loaded_work.specs.Explained.{ArePieces, IsBelow, IsPiece, TellsMisses}
+use Rattle.loaded_work.specs.Helps.ExplainedLines.{ArePushed}
+use Rattle.loaded_work.specs.Helps.GatheredLines.{Moves}
 use Rattle.loaded_work.specs.Texts.{joined}
 use Rattle.loaded_work.proofs.AskLemmas.{HasVerdicts, asked, some_line}
 

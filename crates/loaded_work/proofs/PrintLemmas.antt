@@ -4,8 +4,8 @@ use Rattle.std.specs.Prelude.{Option, IsUtf8, String, min, string_bytes}
 use Rattle.std.specs.declared.alloc.Global.{Global}
 use Rattle.answer_lines.specs.LineText.{line_text}
 use Rattle.answer_lines.specs.declared.answer.Line.{Line}
-use Rattle.live_round.proofs.CallerLemmas.{IsUnderWay, alone, alone_before, logged_more, request_step, under_way_more, under_way_none, way_used}
-use Rattle.live_round.specs.Requests.{Refuses}
+use Rattle.desk_session.proofs.CallerLemmas.{IsUnderWay, alone, alone_before, logged_more, request_step, under_way_more, under_way_none, way_used}
+use Rattle.desk_session.specs.Requests.{Refuses}
 use Rattle.model_conf.specs.ModelText.{ModelParts}
 use Rattle.outside.specs.Faults.{Rose}
 use Rattle.outside.specs.Told.{with_back, TookFront}
@@ -19,8 +19,8 @@ use Rattle.script_read.specs.Script.{IsRequests}
 use Rattle.session_meaning.specs.Plain.{IsPlain, all_refused, most_number}
 use Rattle.version_log.specs.Log.{versions}
 use Rattle.loaded_work.specs.Finders.{HasRefused}
-use Rattle.loaded_work.specs.Helps.Gathering.{AreGathered, Moves}
-use Rattle.loaded_work.specs.Helps.Working.{AnswersLine, LinesOf, PrintedAll, PrintedSome, StopsLine}
+use Rattle.loaded_work.specs.Helps.GatheredLines.{AreGathered, Moves}
+use Rattle.loaded_work.specs.Helps.TaskSteps.{AnswersLine, LinesOf, PrintedAll, PrintedSome, StopsLine}
 use Rattle.loaded_work.specs.Texts.{text_of_lines}
 use Rattle.loaded_work.proofs.AskLemmas.{HasVerdicts, MoreLines, OneWay, asked, asked_more, more_lines, one_reading, stopped_lines}
 use Rattle.loaded_work.proofs.GatheredLemmas.{all_pushed, gathered_more, gathered_moved, gathered_none, stopped_first, stopped_front}

@@ -2,9 +2,9 @@
 use Rattle.std.proofs.Common.{◌≡◌, ℕ, ◌+◌, ◌<◌, ◌≤◌, true, false, List, [], ◌∷◌, ◌++◌, drop, length, take, take_all, refl, sym, ap, subst, ◌∙◌}
 use Rattle.std.specs.Prelude.{None, Option, get_or, map}
 use Rattle.std.proofs.lemmas.List.{map_push, take_more}
-use Rattle.live_round.proofs.CallerLemmas.{alone_before}
-use Rattle.live_round.specs.Desks.{StandsBehind}
-use Rattle.live_round.specs.Requests.{Refuses}
+use Rattle.desk_session.proofs.CallerLemmas.{alone_before}
+use Rattle.desk_session.specs.Desks.{StandsBehind}
+use Rattle.desk_session.specs.Requests.{Refuses}
 use Rattle.log_ship.specs.Packets.{log_packets, shipped}
 use Rattle.model_conf.specs.ModelText.{ModelParts}
 use Rattle.perm_base.specs.declared.shapes.Shapes.{Shapes}
@@ -21,8 +21,8 @@ use Rattle.session_meaning.specs.Desks.{IsBehind, history}
 use Rattle.session_meaning.specs.Replies.{is_decided}
 use Rattle.session_meaning.specs.Versions.{start}
 use Rattle.version_log.specs.Log.{versions}
-use Rattle.loaded_work.specs.Helps.Shipping.{GoesBehind}
-use Rattle.loaded_work.specs.Shipping.{is_done, ship_text}
+use Rattle.loaded_work.specs.Helps.ShippedItems.{GoesBehind}
+use Rattle.loaded_work.specs.Shipped.{is_done, ship_text}
 
 -- an item that is passed over changes nothing
 passed_asks : (item : Said) → is_done item ≡ false → only_asks item ≡ true

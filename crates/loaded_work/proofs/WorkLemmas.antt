@@ -9,7 +9,7 @@ use Rattle.answer_lines.specs.declared.answer.Line.{Line}
 use Rattle.decision.proofs.CallerLemmas.{suits_columns}
 use Rattle.decision.specs.Programs.{Suits}
 use Rattle.policy_index.specs.Keys.{KeyParts, is_below}
-use Rattle.live_round.specs.Scripts.{AreScriptLines}
+use Rattle.desk_session.specs.Scripts.{AreScriptLines}
 use Rattle.model_conf.specs.ModelText.{ModelParts}
 use Rattle.outside.specs.Faults.{Rose}
 use Rattle.outside.specs.Told.{with_back}
@@ -21,7 +21,7 @@ use Rattle.run_status.specs.declared.stop.Stop.{Stop}
 use Rattle.run_status.specs.declared.stop.Stop.TheVariants.{NoMemory}
 use Rattle.script_read.specs.Said.{Said}
 use Rattle.loaded_work.specs.Finders.{HasRefused}
-use Rattle.loaded_work.specs.Helps.Working.{AreAnswered, LinesOf, LinesStop, PrintedAll, PrintedSome}
+use Rattle.loaded_work.specs.Helps.TaskSteps.{AreAnswered, LinesOf, LinesStop, PrintedAll, PrintedSome}
 use Rattle.loaded_work.specs.Texts.{joined, text_of_lines}
 use Rattle.loaded_work.specs.Sinks.{Taken}
 use Rattle.loaded_work.specs.declared.loaded.Loaded.{Loaded}

@@ -2,7 +2,7 @@ pub mod Sinks
 pub mod Finders
 pub mod Texts
 pub mod Roles
-pub mod Explaining
-pub mod Shipping
-pub mod Following
+pub mod Explained
+pub mod Shipped
+pub mod Followed
 pub mod Helps

@@ -1,9 +1,9 @@
 ghost use Rattle.std.specs.Prelude.{◌≡◌, ◌≤◌, OnOk, OnErr, string_bytes, []};
 ghost use Rattle.outside.specs.Faults.{Rose};
 ghost use Rattle.outside.specs.Told.{TookFront};
-ghost use Rattle.loaded_work.specs.Helps.Gathering.{Moves};
+ghost use Rattle.loaded_work.specs.Helps.GatheredLines.{Moves};
 
-use perm_base::{Failed, Sink, push_all};
+use outside::{Failed, Sink, push_all};
 
 // How many bytes of answers are gathered before they are pushed.
 const GATHERED: usize = 16_384;

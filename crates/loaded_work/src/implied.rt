@@ -10,15 +10,16 @@ ghost use Rattle.policy_query.specs.declared.refused.QueryRefused.TheVariants as
 ghost use Rattle.policy_state.specs.States.{tables};
 ghost use Rattle.rbac_query.specs.Asked.{AreImplicitRoles, AreImplicitUsers, hierarchy};
 ghost use Rattle.rbac_query.specs.Permissions.{AreImplicitPermissions};
-ghost use Rattle.loaded_work.specs.Helps.Working.{IsReady, Showed, TextStops};
+ghost use Rattle.loaded_work.specs.Helps.TaskSteps.{IsReady, Showed, TextStops};
 ghost use Rattle.loaded_work.specs.Roles.{IsImplied, IsReplied, line_of};
 
 use crate::loaded::Loaded;
-use crate::opening::open_state;
+use crate::opened::open_state;
 use answer_lines::{Answer, Line, push_line};
 use command_words::Subject;
 use model_conf::Model;
-use perm_base::{NoMemory, Sink, TableId, push_all};
+use outside::{NoMemory, Sink, push_all};
+use perm_base::TableId;
 use policy_state::PolicyState;
 use rbac_query::{QueryRefused, implicit_permissions, implicit_roles, implicit_users};
 use run_status::Stop;

@@ -1,25 +1,25 @@
 //! What commands do over a model and a policy that were loaded: requests, items and packets are answered, and the answers pushed.
 #![tactic(auto)]
 
-mod enforcing;
-mod explaining;
-mod following;
+mod court;
+mod followed;
 mod gather;
+mod guide;
 mod implied;
 mod loaded;
-mod opening;
-mod reporting;
+mod opened;
+mod reports;
 mod session;
-mod shipping;
+mod shipped;
 mod taken_lines;
 
-pub use enforcing::{Court, ask, enforce, next_number};
-pub use explaining::explain;
-pub use following::follow;
+pub use court::{Court, ask, enforce, next_number};
+pub use followed::follow;
 pub use gather::push_full;
+pub use guide::explain;
 pub use implied::implicit;
 pub use loaded::Loaded;
-pub use opening::{Opened, open_loaded};
-pub use reporting::report;
+pub use opened::{Opened, open_loaded};
+pub use reports::report;
 pub use session::{print_lines, serve};
-pub use shipping::ship;
+pub use shipped::ship;

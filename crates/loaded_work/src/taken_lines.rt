@@ -1,10 +1,10 @@
 ghost use Rattle.std.specs.Prelude.{◌++◌, Err, OnOk, codes, decimal};
 ghost use Rattle.answer_lines.specs.LineText.{Appends, numbered};
-ghost use Rattle.loaded_work.specs.Following.{IsKnown, done_text, refused_text, taken_text};
+ghost use Rattle.loaded_work.specs.Followed.{IsKnown, done_text, refused_text, taken_text};
 
 use itoa::Buffer;
 use log_ship::{TakeRefused, Taken};
-use perm_base::NoMemory;
+use outside::NoMemory;
 
 /// Appends the line of what became of a packet. Refused is want of memory, here or where the packet was taken.
 pub(crate) fn push_taken(

@@ -4,7 +4,7 @@ use Rattle.log_ship.proofs.AppendLemmas.{same_version}
 use Rattle.log_ship.proofs.TakeLemmas.{IsAdvanced, IsFresh, advanced_is, advanced_kept, applied_same, applied_told, fresh_is, in_front, misfit_same, misfit_told, refused_same, run_fits, waiting_kept}
 use Rattle.log_ship.specs.Followers.{Following, Held, IsFollowing, IsSame, IsSameState, Rises, version_of}
 use Rattle.log_ship.specs.Helps.Waits.{next_front, next_run}
-use Rattle.log_ship.specs.Taking.{after_answer, edit_answer, is_repeated, may_come, put, with_edits}
+use Rattle.log_ship.specs.Taken.{after_answer, edit_answer, is_repeated, may_come, put, with_edits}
 use Rattle.log_ship.specs.declared.taken.Taken.TheVariants.{Applied}
 use Rattle.log_ship.specs.declared.taken.TakeRefused.TheVariants.{Misfit}
 use Rattle.policy_state.specs.States.{State}

@@ -2,7 +2,7 @@
 use Rattle.std.proofs.Common.{◌≡◌, ℕ, zero, suc, ◌+◌, ◌-◌, ◌≤◌, Bool, true, false, cond, List, [], ◌∷◌, ◌++◌, drop, take, slice_get, length, length-append, length-take, Some, refl, sym, ap, subst, ◌∙◌, arith}
 use Rattle.edit_calls.specs.Admitted.{AreAdmitted, admits}
 use Rattle.log_ship.specs.Followers.{IsSameState}
-use Rattle.log_ship.specs.Taking.{admitted, with_edits}
+use Rattle.log_ship.specs.Taken.{admitted, with_edits}
 use Rattle.perm_base.specs.declared.shapes.Shapes.{Shapes}
 use Rattle.policy_state.specs.States.{State, StandsFor, tables}
 use Rattle.policy_table.specs.Changes.{edited, replay}

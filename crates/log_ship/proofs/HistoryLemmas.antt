@@ -8,7 +8,7 @@ use Rattle.std.proofs.lemmas.Bool.Decides.{Decides-eqb}
 use Rattle.std.proofs.lemmas.List.Elements.{All-cons, All-head, All-nil, All-tail}
 use Rattle.std.proofs.lemmas.Option.{same_Some}
 use Rattle.edit_calls.specs.Admitted.{AreAdmitted, admits, is_fitting, may_stand}
-use Rattle.log_ship.specs.Taking.{rules_may_stand}
+use Rattle.log_ship.specs.Taken.{rules_may_stand}
 use Rattle.perm_base.specs.declared.shapes.Shapes.{Shapes}
 use Rattle.perm_base.specs.declared.shapes.TableId.{TableId}
 use Rattle.policy_state.proofs.CallerLemmas.{has_stood}

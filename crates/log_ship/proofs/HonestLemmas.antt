@@ -12,7 +12,7 @@ use Rattle.log_ship.proofs.AppendLemmas.{all_admitted, same_stands, same_version
 use Rattle.log_ship.proofs.HistoryLemmas.{AllMay, drop_at, edit_at, sound_may, within_at}
 use Rattle.log_ship.specs.Followers.{Following, Held, IsSame, Rises, version_of}
 use Rattle.log_ship.specs.Honest.{Follows, IsHistory, IsNumbered}
-use Rattle.log_ship.specs.Taking.{TakeAnswer, appended, behind_next, edit_answer, is_repeated, may_come, most_ahead, run_from, take_answer, with_edits}
+use Rattle.log_ship.specs.Taken.{TakeAnswer, appended, behind_next, edit_answer, is_repeated, may_come, most_ahead, run_from, take_answer, with_edits}
 use Rattle.log_ship.specs.declared.taken.Taken.TheVariants.{Repeated, Waiting, Applied}
 use Rattle.log_ship.specs.declared.taken.TakeRefused.TheVariants.{TooFar, Malformed, Misfit, NoMemory}
 use Rattle.perm_base.specs.declared.shapes.Shapes.{Shapes}

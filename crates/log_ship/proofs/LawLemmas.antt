@@ -9,7 +9,7 @@ use Rattle.log_ship.proofs.TakeLemmas.{advanced_kept, fresh_is, waiting_kept}
 use Rattle.log_ship.proofs.WaitLemmas.{all_drop, all_put, gap_missing, run_waits}
 use Rattle.log_ship.specs.Followers.{Following, Held, IsSame, version_of}
 use Rattle.log_ship.specs.Honest.{AppliesLeast, Follows, IsFair, IsHistory, IsHonest, IsLeastLeft, IsNumbered, has_come}
-use Rattle.log_ship.specs.Taking.{IsAnswer, TakeAnswer, Takes, TakesAll, after_answer, appended, behind_next, left_behind, may_come, put, run_from, take_answer, waits, with_edits}
+use Rattle.log_ship.specs.Taken.{IsAnswer, TakeAnswer, Takes, TakesAll, after_answer, appended, behind_next, left_behind, may_come, put, run_from, take_answer, waits, with_edits}
 use Rattle.log_ship.specs.declared.packet.Packet.{Packet}
 use Rattle.log_ship.specs.declared.taken.Taken.TheVariants.{Repeated, Waiting, Applied}
 use Rattle.log_ship.specs.declared.taken.TakeRefused.TheVariants.{TooFar, Malformed, Misfit, NoMemory}

@@ -11,7 +11,7 @@ use Rattle.log_ship.proofs.WaitLemmas.{all_drop, all_put, put_first, rises_gap, 
 use Rattle.log_ship.specs.Followers.{Following, Held, IsFollowing, IsSame, IsSameState, Rises, version_of}
 use Rattle.log_ship.specs.Helps.Looks.{IsLook, IsNew}
 use Rattle.log_ship.specs.Helps.Waits.{next_front, next_run}
-use Rattle.log_ship.specs.Taking.{IsAnswer, Reads, TakeAnswer, Takes, TextReading, admitted, after_answer, appended, behind_next, edit_answer, edit_read, is_repeated, left_behind, may_come, most_ahead, put, rules_may_stand, run_from, take_answer, text_answer, waits, with_edits}
+use Rattle.log_ship.specs.Taken.{IsAnswer, Reads, TakeAnswer, Takes, TextReading, admitted, after_answer, appended, behind_next, edit_answer, edit_read, is_repeated, left_behind, may_come, most_ahead, put, rules_may_stand, run_from, take_answer, text_answer, waits, with_edits}
 use Rattle.log_ship.specs.declared.packet.Packet.{Packet}
 use Rattle.log_ship.specs.declared.taken.Taken.TheVariants.{Repeated, Waiting, Applied}
 use Rattle.log_ship.specs.declared.taken.TakeRefused.{TakeRefused}

@@ -5,7 +5,7 @@ use Rattle.std.specs.List.{AllByRecursion, insert, list_any, prefix_len}
 use Rattle.std.proofs.lemmas.Bool.{eqb-false, eqb-true, le-leb, lt-leb, lt-ltb, ltb-false, ltb-true, or_parts}
 use Rattle.log_ship.specs.Followers.{Held, Rises}
 use Rattle.log_ship.specs.Helps.Waits.{held_by, run_len}
-use Rattle.log_ship.specs.Taking.{put, run_from, waits}
+use Rattle.log_ship.specs.Taken.{put, run_from, waits}
 use Rattle.policy_table.specs.declared.change.Change.{Change}
 use Rattle.version_log.specs.Log.{most_versions}
 

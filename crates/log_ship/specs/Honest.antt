@@ -3,7 +3,7 @@ use Rattle.std.specs.Prelude.{◌≡◌, ℕ, ◌+◌, ◌-◌, ◌<◌, ◌≤�
 use Rattle.std.specs.List.{AllByRecursion}
 use Rattle.edit_calls.specs.Admitted.{AreAdmitted}
 use Rattle.log_ship.specs.Followers.{Following, Held, IsFollowing, version_of}
-use Rattle.log_ship.specs.Taking.{TakeAnswer, waits}
+use Rattle.log_ship.specs.Taken.{TakeAnswer, waits}
 use Rattle.log_ship.specs.declared.packet.Packet.{Packet}
 use Rattle.log_ship.specs.declared.taken.Taken.TheVariants.{Repeated, Waiting, Applied}
 use Rattle.log_ship.specs.declared.taken.TakeRefused.TheVariants.{TooFar, Malformed, Misfit, NoMemory}

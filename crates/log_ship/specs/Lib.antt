@@ -1,6 +1,6 @@
 pub mod Packets
 pub mod PacketText
 pub mod Followers
-pub mod Taking
+pub mod Taken
 pub mod Honest
 pub mod Helps

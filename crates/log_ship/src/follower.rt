@@ -1,8 +1,8 @@
 ghost use Rattle.std.specs.Prelude.{◌≡◌, []};
 ghost use Rattle.log_ship.specs.Followers.{IsFollowing, version_of};
 
-use crate::waiting::WaitingEdits;
-use perm_base::Share;
+use crate::waiting_edits::WaitingEdits;
+use outside::Share;
 use policy_state::PolicyState;
 use policy_table::Tables;
 use std::alloc::Global;

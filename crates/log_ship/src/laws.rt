@@ -3,7 +3,7 @@ ghost use Rattle.std.specs.List.{AllByRecursion};
 ghost use Rattle.log_ship.specs.Followers.{Following};
 ghost use Rattle.log_ship.specs.Honest.{AppliesLeast, Follows, IsFair, IsHistory, IsHonest};
 ghost use Rattle.log_ship.specs.PacketText.{ArePackets, IsPacketFault};
-ghost use Rattle.log_ship.specs.Taking.{Reads, TakeAnswer, Takes, TakesAll, TextReading};
+ghost use Rattle.log_ship.specs.Taken.{Reads, TakeAnswer, Takes, TakesAll, TextReading};
 ghost use Rattle.log_ship.specs.declared.packet.Packet.{Packet};
 ghost use Rattle.log_ship.specs.declared.packet_fault.PacketFault.{PacketFault};
 ghost use Rattle.policy_table.specs.Tables.{Policy};

@@ -2,17 +2,17 @@
 //! front of the leader's edits.
 #![tactic(auto)]
 
-mod appending;
+mod acceptance;
+mod appended;
 mod follower;
 mod laws;
 mod packet;
 mod packet_fault;
 mod packet_read;
+mod packet_text;
 mod ship_refused;
-mod shipping;
 mod taken;
-mod taking;
-mod waiting;
+mod waiting_edits;
 
 pub use follower::Follower;
 pub use laws::{
@@ -22,6 +22,6 @@ pub use laws::{
 pub use packet::{Packet, Packets};
 pub use packet_fault::PacketFault;
 pub use packet_read::read_packets;
+pub use packet_text::{packet_of, print_packet, print_packets};
 pub use ship_refused::ShipRefused;
-pub use shipping::{packet_of, print_packet, print_packets};
 pub use taken::{TakeRefused, Taken};

@@ -1,4 +1,4 @@
-use perm_base::{Share, Text};
+use outside::{Share, Text};
 use std::marker::Model;
 
 /// An edit on its way from a leader to followers: its number, counted from 1, and its text, as `print_edit` prints it. What

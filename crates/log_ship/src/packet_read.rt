@@ -8,7 +8,7 @@ ghost use Rattle.text_parts.specs.Lines.{has_byte, with_ends};
 use crate::packet::{Packet, Packets};
 use crate::packet_fault::PacketFault;
 use itoa::Buffer;
-use perm_base::{NoMemory, Text};
+use outside::{NoMemory, Text};
 use std::alloc::Global;
 use text_parts::cut_at;
 

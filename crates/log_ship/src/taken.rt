@@ -1,4 +1,4 @@
-use perm_base::NoMemory;
+use outside::NoMemory;
 
 /// What became of a packet that was taken.
 #[derive(Clone, Copy, Debug, PartialEq, Eq)]

@@ -11,7 +11,7 @@ use Rattle.matcher_meaning.specs.Cases.{Case}
 use Rattle.matcher_meaning.specs.Comes.{RuleComesTo, TruthIs, all_at}
 use Rattle.matcher_meaning.proofs.CallerLemmas.{placed_nodes}
 use Rattle.matcher_code.specs.Compiled.{IsRule, as_answer, code_of}
-use Rattle.matcher_code.specs.Helps.Placing.{placed}
+use Rattle.matcher_code.specs.Helps.NodePlaces.{placed}
 use Rattle.matcher_code.specs.Machine.{CodeComesTo}
 use Rattle.matcher_code.specs.Rules.{IsVerified, greatest_height}
 use Rattle.matcher_code.specs.declared.op.Op.{Op}

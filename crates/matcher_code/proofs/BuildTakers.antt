@@ -12,7 +12,7 @@ use Rattle.model_conf.specs.RuleText.{has_eval}
 use Rattle.matcher_meaning.specs.Comes.{all_at, each_at, is_taker, takes_memory}
 use Rattle.matcher_meaning.specs.Meaning.{is_search, is_search_call, searches, some_searches}
 use Rattle.matcher_code.specs.Compiled.{op_at, column_number, attributes, skip, op_or_none, right_begins, joins, calls, behind, compiled, members, arguments, code_of, has_eval_op, has_search_op}
-use Rattle.matcher_code.specs.Running as code
+use Rattle.matcher_code.specs.RunEnds as code
 use Rattle.matcher_code.specs.declared.op.Op.{Op}
 use Rattle.matcher_code.specs.declared.op.Instruction.{Instruction}
 use Rattle.matcher_code.specs.declared.op.Instruction.TheVariants as i

@@ -12,11 +12,11 @@ use Rattle.model_conf.specs.ModelText.{ModelParts}
 use Rattle.matcher_meaning.specs.Comes.{each_at}
 use Rattle.outside.specs.declared.fault.NoMemory.{NoMemory}
 use Rattle.matcher_code.specs.Compiled.{op_at, column_number, attributes, skip, op_or_none, right_begins, joins, names_asked, behind, behind_members, compiled, members, arguments}
-use Rattle.matcher_code.specs.Helps.Landing.{landed}
-use Rattle.matcher_code.specs.Helps.Placing.{placed, each_placed}
+use Rattle.matcher_code.specs.Helps.Targets.{landed}
+use Rattle.matcher_code.specs.Helps.NodePlaces.{placed, each_placed}
 use Rattle.matcher_code.specs.declared.op.Op.{Op}
 use Rattle.matcher_code.specs.declared.op.Instruction.TheVariants as i
-use Rattle.matcher_code.proofs.BuildLanding.{members_land}
+use Rattle.matcher_code.proofs.BuildTargets.{members_land}
 use Rattle.matcher_code.proofs.BuildPlaces.{ends_at, members_end_at, joined_length, skips_length}
 
 -- ---- the expression of a tree, one level at a time, with the places that a walk gives

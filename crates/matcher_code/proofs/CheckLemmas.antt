@@ -2,10 +2,10 @@
 use Rattle.std.proofs.Common.{arith, ◌≡◌, ◌≢◌, ◌⊎◌, inl, inr, ℕ, ◌+◌, ◌<◌, ◌≤◌, ◌==◌, Bool, true, false, nat_le, nat_lt, max, List, length, Option, Some, None, option_map, slice_get, refl, sym, ap, subst, ◌∙◌}
 use Rattle.std.proofs.lemmas.Bool.{and_parts, and_from, cases_lt, eq-eqb, eqb-false, eqb-true, ltb-true, ltb-false, leb-true}
 use Rattle.std.proofs.lemmas.Option.{slice_get_past}
-use Rattle.matcher_code.specs.Helps.Checking.{IsClear, IsKnown, IsWalked, clash_with, earlier_of}
+use Rattle.matcher_code.specs.Helps.Checks.{IsClear, IsKnown, IsWalked, clash_with, earlier_of}
 use Rattle.matcher_code.specs.Rules.{KeepsRules, IsVerified, finds, height_behind, height_at, height_landing, is_right, jump, lies_behind, names_rightly}
-use Rattle.matcher_code.specs.declared.checking.Known.{Known}
-use Rattle.matcher_code.specs.declared.checking.Walk.{Walk}
+use Rattle.matcher_code.specs.declared.height_walk.Known.{Known}
+use Rattle.matcher_code.specs.declared.height_walk.Walk.{Walk}
 use Rattle.matcher_code.specs.declared.op.Op.{Op}
 use Rattle.matcher_code.specs.declared.op.Instruction.{Instruction}
 use Rattle.matcher_code.specs.declared.op.Instruction.TheVariants as i

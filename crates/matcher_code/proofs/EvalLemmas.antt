@@ -30,15 +30,15 @@ use Rattle.matcher_code.specs.Helps.Ends.{refused_by, stop_of}
 use Rattle.matcher_code.specs.Helps.Runs.{ComesFrom, IsAt, LeadsOn, RunEnds, StandsAt, some_searches}
 use Rattle.matcher_code.specs.Machine.{CodeComesTo, Executes, field_at, goes}
 use Rattle.matcher_code.specs.Rules.{CodeParts, IsCode}
-use Rattle.matcher_code.specs.Running.{IsAnswer, IsValueOf, IsWantOfMemory, evaluates, searches, some_takes_memory, takes_memory}
+use Rattle.matcher_code.specs.RunEnds.{IsAnswer, IsValueOf, IsWantOfMemory, evaluates, searches, some_takes_memory, takes_memory}
 use Rattle.matcher_code.specs.declared.halt.Halt.{Halt}
 use Rattle.matcher_code.specs.declared.halt.Halt.TheVariants as halt
 use Rattle.matcher_code.specs.declared.op.Op.{Op}
 use Rattle.matcher_code.specs.declared.op.Instruction.{Instruction}
 use Rattle.matcher_code.specs.declared.op.Instruction.TheVariants as i
 use Rattle.matcher_code.specs.declared.pause.Pause.{Pause}
-use Rattle.matcher_code.specs.declared.stop.Stop.{Stop}
-use Rattle.matcher_code.specs.declared.stop.Stop.TheVariants as stop
+use Rattle.matcher_code.specs.declared.no_truth.NoTruth.{NoTruth}
+use Rattle.matcher_code.specs.declared.no_truth.NoTruth.TheVariants as stop
 use Rattle.matcher_code.proofs.BuildUses.{column_there, field_there, number_within}
 use Rattle.matcher_code.proofs.CheckLemmas.{kept_parts}
 use Rattle.matcher_code.proofs.RunLemmas.{comes_fault, comes_whole, leads_then}
@@ -116,14 +116,14 @@ pub eval_rule : (case : Case) (at column : ℕ) (bytes : List ℕ) (rule : Expre
 eval_rule case at column bytes rule r are within is says comes = inr (rule, subst (λ (text : List ℕ). IsRuleText case.model text rule) (is ∙ sym (text_there case column are within)) says, comes)
 
 -- what is said of each answer is said of a stop
-pub stop_says : {X Y : Type 0} (Says Other : Option (ℕ × List ℕ) → Evaluation → Type 0) (value : X → Datum) (other : Y → Datum) (Refused : Option (List ℕ) → Type 0) (why : Stop) → ((refused : Option (ℕ × List ℕ)) (r : Evaluation) → Says refused r → Other refused r)
+pub stop_says : {X Y : Type 0} (Says Other : Option (ℕ × List ℕ) → Evaluation → Type 0) (value : X → Datum) (other : Y → Datum) (Refused : Option (List ℕ) → Type 0) (why : NoTruth) → ((refused : Option (ℕ × List ℕ)) (r : Evaluation) → Says refused r → Other refused r)
     → IsAnswer Says value Refused (Err why) → IsAnswer Other other Refused (Err why)
 stop_says Says Other value other Refused (stop.Fault failed_) says (inl (none, is)) = inl (none, says None (Err failed_) is)
 stop_says Says Other value other Refused (stop.Fault failed_) says (inr (pattern, refused, cause, is)) = inr (pattern, refused, cause, says (Some (failed_.at, pattern)) (Err failed_) is)
 stop_says Says Other value other Refused stop.NoMemory says none = none
 
 -- what is said of each answer is said of an end
-pub answer_says : {X : Type 0} (Says Other : Option (ℕ × List ℕ) → Evaluation → Type 0) (value : X → Datum) (Refused : Option (List ℕ) → Type 0) (r : Result X Stop) → ((refused : Option (ℕ × List ℕ)) (answer : Evaluation) → Says refused answer → Other refused answer)
+pub answer_says : {X : Type 0} (Says Other : Option (ℕ × List ℕ) → Evaluation → Type 0) (value : X → Datum) (Refused : Option (List ℕ) → Type 0) (r : Result X NoTruth) → ((refused : Option (ℕ × List ℕ)) (answer : Evaluation) → Says refused answer → Other refused answer)
     → IsAnswer Says value Refused r → IsAnswer Other value Refused r
 answer_says Says Other value Refused (Ok x) says (none, is) = (none, says None (Ok (value x)) is)
 answer_says Says Other value Refused (Err why) says is = stop_says Says Other value value Refused why says is
@@ -183,7 +183,7 @@ eval_goes case code place before standing after pushed at column b is_code is le
     (leads_then case code.ops 0 place standing [] (map datum_of_view before) (map datum_of_view after) leads stands.leads) stands.there executes).1
 
 -- an `eval` that stops is the whole run's stop
-pub eval_stops : (case : Case) (ops : List Op) (place : ℕ) (before : List Datum) (standing : ℕ) (after : List Datum) (at column : ℕ) (why : Stop) (first old now : Refusals)
+pub eval_stops : (case : Case) (ops : List Op) (place : ℕ) (before : List Datum) (standing : ℕ) (after : List Datum) (at column : ℕ) (why : NoTruth) (first old now : Refusals)
     → LeadsOn case ops 0 [] place before → StandsAt case ops place before standing after at column → old ≡ first
     → IsAnswer (λ refused answer. Evaluates (where_refused case refused) at (get_or case.model.policy column []) answer) (λ b. datum.truth b) (RefusedOnly old now) (Err why)
     → IsValueOf case ops (RefusedOnly first now) (Err why)

@@ -7,7 +7,7 @@ mod ComparedLemmas
 mod EvalLemmas
 mod BuildCode
 mod BuildHeights
-mod BuildLanding
+mod BuildTargets
 mod BuildOps
 mod BuildPlaces
 mod BuildRules

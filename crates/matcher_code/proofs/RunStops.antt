@@ -15,7 +15,7 @@ use Rattle.matcher_code.specs.Helps.Ends.{IsAskedRightly, StepEnds}
 use Rattle.matcher_code.specs.Helps.Runs.{ComesFrom, IsAt, LeadsOn, RunEnds, StandsAt}
 use Rattle.matcher_code.specs.Machine.{Executes, goes}
 use Rattle.matcher_code.specs.Rules.{IsCode, IsVerified, CodeParts, is_right, finds, leaves, height_at, height_behind, names_rightly}
-use Rattle.matcher_code.specs.Running.{searches}
+use Rattle.matcher_code.specs.RunEnds.{searches}
 use Rattle.matcher_code.specs.declared.halt.Halt.{Halt}
 use Rattle.matcher_code.specs.declared.halt.Halt.TheVariants as halt
 use Rattle.matcher_code.specs.declared.op.Op.{Op}

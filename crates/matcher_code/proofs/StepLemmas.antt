@@ -14,7 +14,7 @@ use Rattle.matcher_meaning.specs.Cases.{Case, where_refused}
 use Rattle.matcher_meaning.specs.Meaning.{is_search}
 use Rattle.matcher_code.specs.Helps.Ends.{CallEnds, IsDone, NextEnds, StepEnds}
 use Rattle.matcher_code.specs.Machine.{Next, failed, goes, Called, Does, Executes, taken}
-use Rattle.matcher_code.specs.Running.{searches}
+use Rattle.matcher_code.specs.RunEnds.{searches}
 use Rattle.matcher_code.specs.declared.halt.Halt.{Halt}
 use Rattle.matcher_code.specs.declared.halt.Halt.TheVariants as halt
 use Rattle.matcher_code.specs.declared.op.Op.{Op}

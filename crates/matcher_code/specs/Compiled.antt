@@ -10,7 +10,7 @@ use Rattle.matcher_read.specs.declared.tree.Operator.TheVariants as operators
 use Rattle.model_conf.specs.ModelText.{ModelParts}
 use Rattle.model_conf.specs.RuleText.{IsRuleText}
 use Rattle.matcher_meaning.specs.Answers.{Evaluation}
-use Rattle.matcher_code.specs.Running.{evaluates, searches}
+use Rattle.matcher_code.specs.RunEnds.{evaluates, searches}
 use Rattle.matcher_code.specs.declared.op.Op.{Op}
 use Rattle.matcher_code.specs.declared.op.Instruction.{Instruction}
 use Rattle.matcher_code.specs.declared.op.Instruction.TheVariants as i

@@ -1,7 +1,7 @@
 -- What the checker, the run and the making of code keep: helps for proofs, which no public clause cites.
-pub mod Checking
-pub mod Landing
-pub mod Placing
+pub mod Checks
+pub mod Targets
+pub mod NodePlaces
 pub mod Ends
 pub mod Steps
 pub mod Runs

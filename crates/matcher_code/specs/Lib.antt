@@ -1,5 +1,5 @@
 pub mod Machine
 pub mod Rules
-pub mod Running
+pub mod RunEnds
 pub mod Compiled
 pub mod Helps

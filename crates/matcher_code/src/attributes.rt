@@ -5,7 +5,7 @@ ghost use Rattle.matcher_code.specs.Helps.Ends.{answer_of};
 
 use crate::faults::fault;
 use effect_fold::{Cause, Fault};
-use perm_base::Text;
+use outside::Text;
 use perm_value::View;
 
 /// The attribute of a value with a name.

@@ -2,7 +2,7 @@
 
 ghost use Rattle.std.specs.Prelude.{◌≡◌, ◌^◌, ◌<◌, ◌≤◌, ◌++◌, ◌∷◌, [], List, OnOk, length, map};
 ghost use Rattle.matcher_code.specs.Compiled.{joins, names_asked, op_at, op_or_none, skip};
-ghost use Rattle.matcher_code.specs.Helps.Landing.{landed};
+ghost use Rattle.matcher_code.specs.Helps.Targets.{landed};
 ghost use Rattle.matcher_code.specs.declared.op.Op.{Op};
 
 use crate::op::{Instruction, Op};

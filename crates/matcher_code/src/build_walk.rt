@@ -3,7 +3,7 @@
 ghost use Rattle.std.specs.Prelude.{◌≡◌, ◌^◌, ◌<◌, ◌++◌, OnOk, length, map};
 ghost use Rattle.matcher_read.specs.Expression.{expression, expressions_of};
 ghost use Rattle.matcher_code.specs.Compiled.{arguments, attributes, compiled, members, column_number};
-ghost use Rattle.matcher_code.specs.Helps.Placing.{each_placed, placed};
+ghost use Rattle.matcher_code.specs.Helps.NodePlaces.{each_placed, placed};
 
 use crate::build_ops::{names_of, push, push_join, push_miss, push_skip};
 use crate::op::{Instruction, Op};

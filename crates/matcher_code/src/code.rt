@@ -2,7 +2,7 @@ ghost use Rattle.std.specs.Prelude.{◌≡◌};
 ghost use Rattle.matcher_code.specs.Rules.{IsCode, code_parts};
 
 use crate::op::Op;
-use perm_base::Share;
+use outside::Share;
 use std::marker::Model;
 
 /// Instructions of a matcher that keep the rules of code. Contracts see them, the numbers of columns of a request and of

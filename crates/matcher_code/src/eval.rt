@@ -11,18 +11,18 @@ ghost use Rattle.matcher_meaning.specs.Comes.{Evaluates, RuleComesTo};
 ghost use Rattle.matcher_code.specs.Compiled.{IsRule, has_eval_op};
 ghost use Rattle.matcher_code.specs.Helps.Ends.{case_for, stop_of};
 ghost use Rattle.matcher_code.specs.Machine.{field_at};
-ghost use Rattle.matcher_code.specs.Running.{IsAnswer, IsValueOf};
+ghost use Rattle.matcher_code.specs.RunEnds.{IsAnswer, IsValueOf};
 
 use crate::asked::Asked;
-use crate::building::build_rule;
+use crate::builder::build_rule;
 use crate::code::Code;
 use crate::faults::fault;
 use crate::halt::Halt;
 use crate::links::Links;
+use crate::no_truth::NoTruth;
 use crate::pause::Pause;
 use crate::run_on::run_on;
-use crate::stack::{Places, Stack, WideStack};
-use crate::stop::Stop;
+use crate::stack::{FixedStack, Stack, WideStack};
 use effect_fold::Cause;
 use matcher_read::Tree;
 use model_conf::{Model, RuleTextFault, read_rule_text};
@@ -41,7 +41,7 @@ pub(crate) fn evaluated<K: Links, P: Finder>(
     at: u32,
     links: &K,
     finder: &mut P,
-) -> Result<bool, Stop>
+) -> Result<bool, NoTruth>
     requires { column < length model.now.policy }
     ensures { IsAnswer (λ refused answer. Evaluates (where_refused
         (case_for model.now asked.entry (K.shapes links.now) (K.policy links.now)) refused)
@@ -52,8 +52,8 @@ pub(crate) fn evaluated<K: Links, P: Finder>(
     let _columns = model.policy_columns();
     match read_rule_text(alloc, model, text_of(asked.row, column)) {
         Ok(rule) => rule_truth(alloc, model, &rule, asked, at, links, finder),
-        Err(RuleTextFault::NoRule) => Err(Stop::Fault(fault(Cause::RuleText, at))),
-        Err(RuleTextFault::NoMemory) => Err(Stop::NoMemory),
+        Err(RuleTextFault::NoRule) => Err(NoTruth::Fault(fault(Cause::RuleText, at))),
+        Err(RuleTextFault::NoMemory) => Err(NoTruth::NoMemory),
     }
 }
 
@@ -66,7 +66,7 @@ fn rule_truth<K: Links, P: Finder>(
     at: u32,
     links: &K,
     finder: &mut P,
-) -> Result<bool, Stop>
+) -> Result<bool, NoTruth>
     requires { IsRule model.now (expression rule.now) }
     ensures { IsAnswer (λ refused answer. RuleComesTo (where_refused
         (case_for model.now asked.entry (K.shapes links.now) (K.policy links.now)) refused)
@@ -74,7 +74,7 @@ fn rule_truth<K: Links, P: Finder>(
         (RefusedOnly (P.refusals finder.old) (P.refusals finder.new)) result }
 {
     let Ok(code) = build_rule(alloc, model, rule, at) else {
-        return Err(Stop::NoMemory);
+        return Err(NoTruth::NoMemory);
     };
     let value = match rule_value(&code, asked, links, finder) {
         Ok(value) => value,
@@ -102,7 +102,7 @@ fn rule_value<'a, K: Links, P: Finder>(
     asked: Asked<'a>,
     links: &K,
     finder: &mut P,
-) -> Result<View<'a>, Stop>
+) -> Result<View<'a>, NoTruth>
     requires height { code.now.height ≤ 1024 }
     requires evals { has_eval_op code.now.ops ≡ false }
     ensures { (model : ModelParts) → IsValueOf
@@ -110,10 +110,10 @@ fn rule_value<'a, K: Links, P: Finder>(
         (RefusedOnly (P.refusals finder.old) (P.refusals finder.new)) result }
 {
     if code.height() <= 16 {
-        let mut stack: Stack<'a, 16> = Places::new();
+        let mut stack: Stack<'a, 16> = FixedStack::new();
         return value_over(code, asked, links, finder, &mut stack);
     }
-    let mut stack: WideStack<'a> = Places::new();
+    let mut stack: WideStack<'a> = FixedStack::new();
     value_over(code, asked, links, finder, &mut stack)
 }
 
@@ -124,7 +124,7 @@ fn value_over<'a, K: Links, P: Finder, const N: usize>(
     links: &K,
     finder: &mut P,
     stack: &mut Stack<'a, N>,
-) -> Result<View<'a>, Stop>
+) -> Result<View<'a>, NoTruth>
     requires room { code.now.height ≤ N }
     requires empty { stack.old ≡ [] }
     requires evals { has_eval_op code.now.ops ≡ false }
@@ -140,12 +140,12 @@ fn value_over<'a, K: Links, P: Finder, const N: usize>(
 }
 
 /// Why a run stopped: a search that was refused is a fault of its place.
-pub(crate) fn stop_of(halt: Halt<'_>) -> Stop
+pub(crate) fn stop_of(halt: Halt<'_>) -> NoTruth
     ensures { result ≡ stop_of halt.entry }
 {
     match halt {
-        Halt::Fault(failed) => Stop::Fault(failed),
-        Halt::Refused { at, .. } => Stop::Fault(fault(Cause::Pattern, at)),
-        Halt::NoMemory => Stop::NoMemory,
+        Halt::Fault(failed) => NoTruth::Fault(failed),
+        Halt::Refused { at, .. } => NoTruth::Fault(fault(Cause::Pattern, at)),
+        Halt::NoMemory => NoTruth::NoMemory,
     }
 }

@@ -1,5 +1,5 @@
 use matcher_read::{Function, Operator};
-use perm_base::Text;
+use outside::Text;
 
 /// An instruction of a matcher's code, and the place in the matcher's text of the node that it serves, counted from 1.
 #[derive(Drop)]

@@ -6,7 +6,7 @@ ghost use Rattle.matcher_code.specs.Helps.Runs.{IsAt, RunEnds};
 
 use crate::asked::Asked;
 use crate::code::Code;
-use crate::comparing::advance;
+use crate::comparison::advance;
 use crate::halt::Halt;
 use crate::links::Links;
 use crate::pause::Pause;

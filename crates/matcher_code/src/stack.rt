@@ -7,19 +7,19 @@ use std::marker::Model;
 
 /// A stack of at most `N` values, which lie in it. Contracts see them, the top first. It takes no memory.
 #[derive(Drop)]
-pub struct Places<T, const N: usize> {
+pub struct FixedStack<T, const N: usize> {
     places: [T; N],
     // The place of the top value; they lie from there to the end.
     top: usize,
 }
 
 /// A stack of values over borrowed parts.
-pub type Stack<'a, const N: usize> = Places<View<'a>, N>;
+pub type Stack<'a, const N: usize> = FixedStack<View<'a>, N>;
 
 /// A stack with room for each matcher that a model holds.
 pub type WideStack<'a> = Stack<'a, 1024>;
 
-impl<T, const N: usize> Model for Places<T, N> {
+impl<T, const N: usize> Model for FixedStack<T, N> {
     ghost use Rattle.std.specs.Prelude.{List, ◌≡◌, ◌≤◌, drop, length};
 
     ghost Value = { List T };
@@ -29,12 +29,12 @@ impl<T, const N: usize> Model for Places<T, N> {
     ghost invariant = { λ s. (s.top ≤ N) × (length s.places ≡ N) };
 }
 
-impl<T: Copy, const N: usize> Places<T, N> {
+impl<T: Copy, const N: usize> FixedStack<T, N> {
     // An empty stack, whose places hold this value.
-    fn filled(value: T) -> Places<T, N>
+    fn filled(value: T) -> FixedStack<T, N>
         ensures { result ≡ [] }
     {
-        Places {
+        FixedStack {
             places: [value; N],
             top: N,
         }
@@ -75,11 +75,11 @@ impl<T: Copy, const N: usize> Places<T, N> {
     }
 }
 
-impl<'a, const N: usize> Places<View<'a>, N> {
+impl<'a, const N: usize> FixedStack<View<'a>, N> {
     /// An empty stack.
     pub fn new() -> Stack<'a, N>
         ensures { result ≡ [] }
     {
-        Places::filled(View::Truth(false))
+        FixedStack::filled(View::Truth(false))
     }
 }

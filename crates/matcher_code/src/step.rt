@@ -13,15 +13,15 @@ ghost use Rattle.matcher_code.specs.Rules.{finds, leaves};
 
 use crate::asked::{Asked, field_of, request_value};
 use crate::calls::{Called, call_of_three, call_of_two};
-use crate::doing::{
-    put, put_attribute, put_joined, put_miss, put_negated, put_opposed, put_truth, skip_member,
-    skip_where,
-};
 use crate::halt::Halt;
 use crate::heights::arity;
 use crate::links::Links;
 use crate::op::{Instruction, Op};
 use crate::stack::Stack;
+use crate::stack_ops::{
+    put, put_attribute, put_joined, put_miss, put_negated, put_opposed, put_truth, skip_member,
+    skip_where,
+};
 use effect_fold::Fault;
 use perm_value::View;
 use regex_gate::Finder;

@@ -1,6 +1,6 @@
 -- The nodes of what derives, by its tokens.
 use Rattle.std.proofs.Common.{◌≡◌, ℕ, ◌+◌, Bool, false, cond, List, [], ◌∷◌, ◌++◌, codes, refl, ap, ◌∙◌, arith}
-use Rattle.matcher_read.specs.Helps.Counting.{is_node, node_count}
+use Rattle.matcher_read.specs.Helps.Counts.{is_node, node_count}
 use Rattle.matcher_read.specs.Expression.{Expression, Expressions, nodes, all_nodes}
 use Rattle.matcher_read.specs.Grammar.{Rule, Derives, DerivesList, by_part, by_join, by_comparison, by_members, by_negation, by_opposite, by_call, by_parentheses, by_last, by_more}
 use Rattle.matcher_read.specs.Tokens.{Placed, placed}

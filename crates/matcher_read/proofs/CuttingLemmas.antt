@@ -6,7 +6,7 @@ use Rattle.std.proofs.lemmas.List.Sums.{prefix_len-drop_all, prefix_len-drop_no,
 use Rattle.std.proofs.Math.Seq.{drop-append_seam}
 use Rattle.text_parts.specs.Blanks.{AreBlanks, behind_blanks, is_blank}
 use Rattle.matcher_read.specs.Tokens.{Placed, placed, IsLongest, IsCut, ended, strayed, one_token}
-use Rattle.matcher_read.specs.Helps.Cutting.{Found, sized_token, token_at, Cut, onto_cut, cut_at_token, cut_full, blanks, cut_within, cut}
+use Rattle.matcher_read.specs.Helps.Cuts.{Found, sized_token, token_at, Cut, onto_cut, cut_at_token, cut_full, blanks, cut_within, cut}
 use Rattle.text_parts.proofs.BlankLemmas.{behind_blanks-drop}
 use Rattle.text_parts.proofs.CallerLemmas.{prefix_len-passing, list_all-prefix}
 use Rattle.matcher_read.proofs.TokenLemmas.{token_at-spelled, token_at-longest, token_at-full, token_at-is, token_at-none, token_at-stray}

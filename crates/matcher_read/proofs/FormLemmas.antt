@@ -1,6 +1,6 @@
 -- The tokens with each `eval ( p.column )` as one, and the loop that makes them.
 use Rattle.std.proofs.Common.{◌≡◌, ℕ, List, [], ◌∷◌, Option, Some, None, option_map, refl, ap}
-use Rattle.matcher_read.specs.Helps.Forming.{evals_behind}
+use Rattle.matcher_read.specs.Helps.Forms.{evals_behind}
 use Rattle.matcher_read.specs.Tokens.{Placed, placed, eval, eval_column, with_evals}
 
 -- the loop gives the tokens with each `eval ( p.column )` as one

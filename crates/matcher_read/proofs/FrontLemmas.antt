@@ -10,7 +10,7 @@ use Rattle.text_parts.specs.Lines.{has_byte}
 use Rattle.text_parts.specs.Names.{is_letter, is_word}
 use Rattle.matcher_read.specs.Tokens.{is_reserved}
 use Rattle.matcher_read.specs.Tokens as token
-use Rattle.matcher_read.specs.Helps.Cutting.{begins_name, sized_token, goes_on, name_size, is_quote, name_at, number_at, text_at, sign_at, token_at}
+use Rattle.matcher_read.specs.Helps.Cuts.{begins_name, sized_token, goes_on, name_size, is_quote, name_at, number_at, text_at, sign_at, token_at}
 use Rattle.text_parts.proofs.CallerLemmas.{boundary-passing, boundary_behind, word_ascii, word_from_letter}
 use Rattle.matcher_read.proofs.NameLemmas.{name_size-le-length}
 use Rattle.matcher_read.proofs.TokenLemmas.{text_at-closed, text_at-open}

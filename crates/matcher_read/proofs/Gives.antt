@@ -8,7 +8,7 @@ use Rattle.matcher_read.specs.Tokens.{Placed, placed, operator}
 use Rattle.matcher_read.specs.Tokens as token
 use Rattle.matcher_read.specs.declared.tree.Operator.{Operator}
 use Rattle.matcher_read.specs.declared.tree.Operator.TheVariants as op
-use Rattle.matcher_read.specs.Helps.Giving.{fresh, entry, Gives, holds_list}
+use Rattle.matcher_read.specs.Helps.Given.{fresh, entry, Gives, holds_list}
 use Rattle.matcher_read.specs.Helps.Machine.{Lefts, Kind, parentheses, members, arguments, Frame, Control, wants, has, opens, State, no_lefts, comparison_of, and_of, or_of, left_of, state_of, with_operand, pushed, Rank, term_rank, sum_rank, comparing_rank, rank, operates, parts, closes, step}
 
 -- what a part gives, the rule gives

@@ -25,7 +25,7 @@ mod RunLists
 mod RunParts
 mod Runs
 mod SoundLemmas
-mod Standing
+mod StateLemmas
 mod StandingSteps
 mod TokenFaults
 mod TokenLemmas

@@ -6,7 +6,7 @@ use Rattle.matcher_read.specs.Tokens.{Token, Placed, placed, name, called, numbe
 use Rattle.std.specs.Prelude.{option_map}
 use Rattle.matcher_read.specs.Helps.TokenLists.{TokenList, HasDigits, end_of, placed_of, token_of}
 use Rattle.matcher_read.specs.declared.token.PlacedToken.{PlacedToken}
-use Rattle.matcher_read.specs.Helps.Cutting.{Found, sized_token, token_at, or_one, Cut, onto_cut, cut_full, blanks, cut_within, cut, listed, IsAtEnd, IsLeft, begins_opening, name_by, marked}
+use Rattle.matcher_read.specs.Helps.Cuts.{Found, sized_token, token_at, or_one, Cut, onto_cut, cut_full, blanks, cut_within, cut, listed, IsAtEnd, IsLeft, begins_opening, name_by, marked}
 use Rattle.matcher_read.proofs.TokenLemmas.{token_at-spelled, token_at-full}
 use Rattle.matcher_read.proofs.CuttingLemmas.{blanks-behind, cut_within-front, cut_full-at, cut_full-token, cut_within-one, cut-is}
 

@@ -9,7 +9,7 @@ use Rattle.std.specs.List.{AllByRecursion, join_with_byte, list_all, onto_first}
 use Rattle.text_parts.specs.Names.{is_identifier, is_letter, is_word}
 use Rattle.matcher_read.specs.Tokens.{name, IsSpelling, as_name}
 use Rattle.matcher_read.specs.Helps.TokenLists.{pieces}
-use Rattle.matcher_read.specs.Helps.Cutting.{begins_name, goes_on, name_size}
+use Rattle.matcher_read.specs.Helps.Cuts.{begins_name, goes_on, name_size}
 use Rattle.text_parts.proofs.CallerLemmas.{word_from_letter, words_of}
 
 -- what a byte is

@@ -9,10 +9,10 @@ use Rattle.matcher_read.specs.Tokens as token
 use Rattle.matcher_read.specs.declared.tree.Operator.{Operator}
 use Rattle.matcher_read.specs.declared.tree.Operator.TheVariants as op
 use Rattle.matcher_read.specs.Helps.Machine.{Left, Lefts, Kind, parentheses, members, arguments, Frame, State, Control, wants, has, has_members, opens, start, state_of, with_operand, pushed, goes, left_of, or_of, sum_of, Rank, term_rank, sum_rank, comparing_rank, and_rank, or_rank, rank, joins, operates, parts, closes, name_operand, is_in, step_wants, step_has, step_members, step_opens, step_by, step, levels_of, depth, levels_at}
-use Rattle.matcher_read.specs.Helps.Taking.{joins_by}
+use Rattle.matcher_read.specs.Helps.TakenTokens.{joins_by}
 use Rattle.matcher_read.specs.declared.words.Chain.TheVariants as chain
 use Rattle.matcher_read.proofs.Ranks.{compares_is, joins_is}
-use Rattle.matcher_read.proofs.Standing.{Wanting, Having, Compared, Awaits, Complete, Outside, Stands, Holds}
+use Rattle.matcher_read.proofs.StateLemmas.{Wanting, Having, Compared, Awaits, Complete, Outside, Stands, Holds}
 use Rattle.matcher_read.proofs.StandingSteps.{operand_stands, having_compared, compared_complete, term_stands, sum_stands, comparison_stands, or_stands, and_stands, in_stands, positive, sign_stands, opening_stands, comma_stands, closing_parentheses, closing_call, closing_members}
 
 -- the state that is next, if its levels are not too many, holds for the tokens

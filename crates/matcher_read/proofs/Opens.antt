@@ -6,7 +6,7 @@ use Rattle.matcher_read.specs.Grammar.{Derives, by_text, DerivesList, by_last, o
 use Rattle.matcher_read.specs.Tokens.{Placed, placed, called, opening, closing}
 use Rattle.matcher_read.specs.Tokens as token
 use Rattle.matcher_read.specs.Helps.Machine.{Lefts, no_lefts, Kind, parentheses, members, arguments, Frame, Control, wants, has, has_members, opens, State, start, state_of, pushed, or_of, comparison_of, final_value, step, levels_of, levels_at, depth, goes, goes_within}
-use Rattle.matcher_read.proofs.Standing.{Wanting, Having, expressions_before, Outside, Stands, Holds, Complete}
+use Rattle.matcher_read.proofs.StateLemmas.{Wanting, Having, expressions_before, Outside, Stands, Holds, Complete}
 use Rattle.matcher_read.proofs.StandingSteps.{start_stands, operand_stands, having_compared, compared_complete, closing_parentheses, closing_call, closing_members}
 use Rattle.matcher_read.proofs.Passes.{goes_levels, goes_one, within_more}
 use Rattle.matcher_read.proofs.OpenSteps.{AfterToken, step_after, opening_after}

@@ -8,7 +8,7 @@ use Rattle.std.proofs.lemmas.Str.Pattern.{IsSplitOnceResult, split_once_first}
 use Rattle.std.specs.List.{position_or_len, after_first, slice_split, join_with_byte}
 use Rattle.std.specs.Str.{bytes_eq}
 use Rattle.matcher_read.specs.Helps.Machine.{name_operand, is_in}
-use Rattle.matcher_read.specs.Helps.Naming.{request_of, policy_of}
+use Rattle.matcher_read.specs.Helps.NameParts.{request_of, policy_of}
 use Rattle.matcher_read.specs.Helps.TokenLists.{pieces}
 use Rattle.matcher_read.specs.Tokens.{name, column_of, is_eval_name, is_reserved}
 use denote.Ref.{Bor}

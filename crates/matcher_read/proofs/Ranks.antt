@@ -3,7 +3,7 @@ use Rattle.std.proofs.Common.{◌≡◌, true, refl}
 use Rattle.std.proofs.lemmas.Bool.{false≢true}
 use Rattle.matcher_read.specs.Grammar.{IsPartOf, and_or, cmp_and, term_sum, unary_term, Joins, or_joins, and_joins, plus_joins, minus_joins, times_joins, over_joins, remainder_joins, Compares, equal_compares, not_equal_compares, less_compares, at_most_compares, greater_compares, at_least_compares, cmp_rule}
 use Rattle.matcher_read.specs.Helps.Machine.{Rank, comparing_rank, rank}
-use Rattle.matcher_read.specs.Helps.Taking.{joins_by, part_of, rule_of}
+use Rattle.matcher_read.specs.Helps.TakenTokens.{joins_by, part_of, rule_of}
 use Rattle.matcher_read.specs.declared.tree.Operator.{Operator}
 use Rattle.matcher_read.specs.declared.tree.Operator.TheVariants as op
 use Rattle.matcher_read.specs.declared.words.Chain.{Chain}

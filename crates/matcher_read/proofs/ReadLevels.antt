@@ -4,12 +4,12 @@ use Rattle.std.proofs.lemmas.Bool.{and_from, false≢true}
 use Rattle.std.specs.List.{list_all}
 use Rattle.matcher_read.specs.Calls.{callee_of, is_known, takes}
 use Rattle.matcher_read.specs.Expression.{Expression, among, call, expressions_of, count}
-use Rattle.matcher_read.specs.Helps.Giving.{fresh, entry, Gives, holds_list}
+use Rattle.matcher_read.specs.Helps.Given.{fresh, entry, Gives, holds_list}
 use Rattle.matcher_read.specs.Grammar.{cmp_rule, sum_rule, prim_rule, Derives, by_members, by_call}
 use Rattle.matcher_read.specs.Helps.Machine.{Lefts, Frame, Kind, members, arguments, wants, has, has_members, opens, State, Rank, term_rank, sum_rank, comparing_rank, and_rank, or_rank, rank, is_in, joins, asks, no_lefts, levels_of, depth, step, call_fault, verdict, state_of, with_operand, pushed, closes, final_value}
 use Rattle.matcher_read.specs.Matcher.{most_levels, is_sound, are_sound, is_closed}
-use Rattle.matcher_read.specs.Helps.Parsing.{StopsAt, Read, Fails, ReachesList, ReadList, FailsList}
-use Rattle.matcher_read.specs.Helps.Taking.{may_follow, follows, head_is, is_closing, Takes, IsUnexpected}
+use Rattle.matcher_read.specs.Helps.Parsed.{StopsAt, Read, Fails, ReachesList, ReadList, FailsList}
+use Rattle.matcher_read.specs.Helps.TakenTokens.{may_follow, follows, head_is, is_closing, Takes, IsUnexpected}
 use Rattle.matcher_read.specs.Helps.TokenLists.{TokenList}
 use Rattle.matcher_read.specs.Tokens.{Placed, placed, Token, operator}
 use Rattle.matcher_read.specs.Tokens as token

@@ -2,12 +2,12 @@
 use Rattle.std.proofs.Common.{◌≡◌, ℕ, suc, ◌+◌, Bool, true, false, cond, List, [], ◌∷◌, ◌++◌, Option, None, Err, refl, ap, sym, ◌∙◌, subst, arith, append_assoc, append-nil, inl, inr, ◌⊎◌}
 use Rattle.std.proofs.lemmas.Bool.{and_from, and_parts, false≢true}
 use Rattle.matcher_read.specs.Expression.{Expression, Expressions, no_more, one_more, expressions_of}
-use Rattle.matcher_read.specs.Helps.Giving.{Gives, holds_list}
+use Rattle.matcher_read.specs.Helps.Given.{Gives, holds_list}
 use Rattle.matcher_read.specs.Grammar.{or_rule, Derives, DerivesList, by_last, by_more}
 use Rattle.matcher_read.specs.Helps.Machine.{is_in, parts, Lefts, Frame, Kind, Control, wants, opens, State, no_lefts, levels_of, depth, step, verdict, state_of, pushed, final_value}
 use Rattle.matcher_read.specs.Matcher.{most_levels, is_sound, are_sound}
-use Rattle.matcher_read.specs.Helps.Parsing.{StopsAt, Read, Fails, ReadList, FailsList}
-use Rattle.matcher_read.specs.Helps.Taking.{may_follow, head_is, is_closing, is_opening, is_comma, Takes, Stays, IsUnexpected, ToldAt}
+use Rattle.matcher_read.specs.Helps.Parsed.{StopsAt, Read, Fails, ReadList, FailsList}
+use Rattle.matcher_read.specs.Helps.TakenTokens.{may_follow, head_is, is_closing, is_opening, is_comma, Takes, Stays, IsUnexpected, ToldAt}
 use Rattle.matcher_read.specs.Helps.TokenLists.{TokenList}
 use Rattle.matcher_read.specs.Tokens.{Placed, placed, Token, operator}
 use Rattle.matcher_read.specs.Tokens as token

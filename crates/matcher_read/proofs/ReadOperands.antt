@@ -8,13 +8,13 @@ use Rattle.std.specs.Str.{bytes_eq}
 use Rattle.std.specs.Str.Parse.{digits_value}
 use Rattle.matcher_read.specs.Calls.{callee_of, is_known}
 use Rattle.matcher_read.specs.Expression.{Expression, text, whole, truth, request, evaluated}
-use Rattle.matcher_read.specs.Helps.Giving.{entry, Gives}
+use Rattle.matcher_read.specs.Helps.Given.{entry, Gives}
 use Rattle.matcher_read.specs.Grammar.{or_rule, unary_rule, prim_rule, Derives, by_parentheses, by_negation, by_opposite, by_text, by_number, by_eval}
-use Rattle.matcher_read.specs.Helps.Naming.{policy_of}
+use Rattle.matcher_read.specs.Helps.NameParts.{policy_of}
 use Rattle.matcher_read.specs.Helps.Machine.{Lefts, Frame, parentheses, wants, opens, State, no_lefts, depth, levels_at, step, token_fault, call_fault, verdict, state_of, with_operand, pushed, name_operand, final_value, arguments, parts}
 use Rattle.matcher_read.specs.Matcher.{most_levels, first_wide, is_sound, is_closed}
-use Rattle.matcher_read.specs.Helps.Parsing.{StopsAt, Read, Fails}
-use Rattle.matcher_read.specs.Helps.Taking.{may_follow, head_is, is_closing, is_opening, is_sign, is_minus, is_called, is_strange, Takes, IsUnexpected, ToldAt, sign_token, signed_by, operand_of, first_operand}
+use Rattle.matcher_read.specs.Helps.Parsed.{StopsAt, Read, Fails}
+use Rattle.matcher_read.specs.Helps.TakenTokens.{may_follow, head_is, is_closing, is_opening, is_sign, is_minus, is_called, is_strange, Takes, IsUnexpected, ToldAt, sign_token, signed_by, operand_of, first_operand}
 use Rattle.matcher_read.specs.Helps.TokenLists.{TokenList, end_of}
 use Rattle.matcher_read.specs.Tokens.{Placed, placed, Token, operator}
 use Rattle.matcher_read.specs.Tokens as token

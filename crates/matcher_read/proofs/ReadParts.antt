@@ -4,12 +4,12 @@ use Rattle.std.proofs.lemmas.Bool.{and_from, false≢true}
 use Rattle.std.proofs.lemmas.List.Folds.{list_all-append}
 use Rattle.std.specs.List.{list_all}
 use Rattle.matcher_read.specs.Expression.{Expression, binary}
-use Rattle.matcher_read.specs.Helps.Giving.{fresh, entry, Gives}
+use Rattle.matcher_read.specs.Helps.Given.{fresh, entry, Gives}
 use Rattle.matcher_read.specs.Grammar.{Rule, cmp_rule, sum_rule, IsPartOf, and_or, cmp_and, sum_cmp, term_sum, unary_term, prim_unary, Joins, or_joins, and_joins, plus_joins, minus_joins, times_joins, over_joins, remainder_joins, by_part, by_join, by_comparison}
 use Rattle.matcher_read.specs.Helps.Machine.{Lefts, Left, Frame, State, Rank, term_rank, sum_rank, comparing_rank, and_rank, or_rank, rank, is_in, levels_of, depth, step, verdict, has, state_of}
 use Rattle.matcher_read.specs.Matcher.{most_levels, is_sound, is_closed}
-use Rattle.matcher_read.specs.Helps.Parsing.{Front, StopsAt, Read, Fails}
-use Rattle.matcher_read.specs.Helps.Taking.{joins_by, follows, may_follow, goes_on_by, head_is, Takes, Stays}
+use Rattle.matcher_read.specs.Helps.Parsed.{Front, StopsAt, Read, Fails}
+use Rattle.matcher_read.specs.Helps.TakenTokens.{joins_by, follows, may_follow, goes_on_by, head_is, Takes, Stays}
 use Rattle.matcher_read.specs.Helps.TokenLists.{TokenList}
 use Rattle.matcher_read.specs.Tokens.{Placed, placed, Token, operator}
 use Rattle.matcher_read.specs.Tokens as token

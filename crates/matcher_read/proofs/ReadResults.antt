@@ -7,8 +7,8 @@ use Rattle.matcher_read.specs.Calls.{callee_of, is_known, takes}
 use Rattle.matcher_read.specs.Expression.{Callee, Expression, call, count, expression, expressions_of}
 use Rattle.matcher_read.specs.Grammar.{Rule, or_rule, unary_rule, prim_rule, prim_unary}
 use Rattle.matcher_read.specs.Helps.Machine.{Rank, term_rank, rank}
-use Rattle.matcher_read.specs.Helps.Parsing.{Read, Fails, ReadsBy, ReadList, FailsList, ReadsList}
-use Rattle.matcher_read.specs.Helps.Taking.{callee, first_operand, goes_on_by, head_is, joins_by, is_called, is_opening, is_sign, may_follow, operand_of, part_of, rule_of, Stays, Takes}
+use Rattle.matcher_read.specs.Helps.Parsed.{Read, Fails, ReadsBy, ReadList, FailsList, ReadsList}
+use Rattle.matcher_read.specs.Helps.TakenTokens.{callee, first_operand, goes_on_by, head_is, joins_by, is_called, is_opening, is_sign, may_follow, operand_of, part_of, rule_of, Stays, Takes}
 use Rattle.matcher_read.specs.Helps.TokenLists.{TokenList, end_of}
 use Rattle.matcher_read.specs.Tokens.{Placed, placed}
 use Rattle.matcher_read.specs.Tokens as token

@@ -4,8 +4,8 @@ use Rattle.std.proofs.lemmas.Bool.{le-leb}
 use Rattle.std.proofs.lemmas.Bool.{lt-leb}
 use Rattle.matcher_read.specs.Expression.{Expression}
 use Rattle.matcher_read.specs.Matcher.{most_levels}
-use Rattle.matcher_read.specs.Helps.Parsing.{StopsAt}
-use Rattle.matcher_read.specs.Helps.Taking.{place_of_first}
+use Rattle.matcher_read.specs.Helps.Parsed.{StopsAt}
+use Rattle.matcher_read.specs.Helps.TakenTokens.{place_of_first}
 use Rattle.matcher_read.specs.Helps.TokenLists.{end_of}
 use Rattle.matcher_read.specs.Tokens.{Placed}
 use Rattle.matcher_read.specs.declared.fault.MatcherFault.{MatcherFault}

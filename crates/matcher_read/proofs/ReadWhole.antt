@@ -2,15 +2,15 @@
 use Rattle.std.proofs.Common.{◌≡◌, ◌≢◌, ℕ, ◌+◌, ◌<◌, ◌≤◌, nat_lt, true, false, List, [], ◌∷◌, ◌++◌, length, Option, Some, None, Result, Ok, Err, IfErr, IfOk, MatchResult, refl, ap, sym, ◌∙◌, subst, arith, append-nil, ltb-true, ltb-false, length-append}
 use Rattle.std.specs.List.{list_all}
 use Rattle.std.specs.Result.{IsErrAnd}
-use Rattle.matcher_read.specs.Helps.Counting.{IsWithin, is_ended, node_count}
+use Rattle.matcher_read.specs.Helps.Counts.{IsWithin, is_ended, node_count}
 use Rattle.matcher_read.specs.Expression.{Expression, expression}
 use Rattle.matcher_read.specs.Faults.{AreFine, IsFault, too_many_nodes, within}
-use Rattle.matcher_read.specs.Helps.Giving.{Gives}
+use Rattle.matcher_read.specs.Helps.Given.{Gives}
 use Rattle.matcher_read.specs.Grammar.{Derives, or_rule}
 use Rattle.matcher_read.specs.Helps.Machine.{State, no_lefts, start, step, verdict}
 use Rattle.matcher_read.specs.Matcher.{IsMatcher, is_closed, is_sound, most_bytes, most_levels, most_nodes}
-use Rattle.matcher_read.specs.Helps.Parsing.{Fails, Read, StopsAt}
-use Rattle.matcher_read.specs.Helps.Taking.{head_is, may_follow, place_of_next, place_of_first}
+use Rattle.matcher_read.specs.Helps.Parsed.{Fails, Read, StopsAt}
+use Rattle.matcher_read.specs.Helps.TakenTokens.{head_is, may_follow, place_of_next, place_of_first}
 use Rattle.matcher_read.specs.Helps.TokenLists.{TokenList, end_of}
 use Rattle.matcher_read.specs.Tokens.{IsCut, ended, strayed, one_token, Placed, placed, Token, as_read}
 use Rattle.matcher_read.specs.declared.fault.MatcherFault.{MatcherFault}

@@ -10,7 +10,7 @@ use Rattle.matcher_read.specs.Matcher.{is_sound, are_sound, most_levels}
 use Rattle.matcher_read.specs.declared.fault.MatcherFault.TheVariants.{WrongArguments, UnknownFunction}
 use Rattle.matcher_read.specs.Helps.Machine.{Lefts, State, step, depth, parentheses, members, arguments, Frame, wants, has_members, opens, no_lefts, state_of, with_operand, pushed, call_fault}
 use Rattle.matcher_read.proofs.Passes.{Passes, passes_both, passes_more, passes_none, passes_weaker}
-use Rattle.matcher_read.specs.Helps.Giving.{fresh, entry}
+use Rattle.matcher_read.specs.Helps.Given.{fresh, entry}
 use Rattle.matcher_read.proofs.Gives.{step_in, step_opens, with_one, comma_behind, closing_behind, step_parenthesis, step_called}
 use Rattle.matcher_read.proofs.RunParts.{GivesList, list_of, list_of_same, list_of_count, Fine, fine_front, fine_behind, fine_first, fine_second, Runs, RunsList, shallow_fault}
 

@@ -14,7 +14,7 @@ use Rattle.matcher_read.specs.Helps.Machine.{State, step, depth, levels_at, toke
 use Rattle.matcher_read.proofs.Ranks.{comparing}
 use Rattle.matcher_read.proofs.ReadSteps.{quiet}
 use Rattle.matcher_read.proofs.Passes.{Passes, passes_both, passes_more, passes_none, passes_weaker}
-use Rattle.matcher_read.specs.Helps.Giving.{fresh, entry, Gives, holds_list}
+use Rattle.matcher_read.specs.Helps.Given.{fresh, entry, Gives, holds_list}
 use Rattle.matcher_read.proofs.Gives.{gives_part, same_entry, Continues, join_continues, comparison_continues}
 
 -- ---- expressions as lists

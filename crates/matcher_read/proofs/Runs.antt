@@ -13,7 +13,7 @@ use Rattle.matcher_read.specs.declared.fault.MatcherFault.TheVariants.{Unexpecte
 use Rattle.matcher_read.specs.Helps.Machine.{State, Kind, goes, goes_within, depth, verdict, final_value, start, Lefts, members, Frame, Control, wants, no_lefts, comparison_of, or_of, state_of, levels_of}
 use Rattle.matcher_read.proofs.Passes.{within_goes}
 use Rattle.matcher_read.proofs.Passes.{reads, verdict_behind}
-use Rattle.matcher_read.specs.Helps.Giving.{entry, Gives, holds_list}
+use Rattle.matcher_read.specs.Helps.Given.{entry, Gives, holds_list}
 use Rattle.matcher_read.proofs.Gives.{step_negation, step_opposite, step_text, step_unclosed, step_number, step_true, step_false, step_request, step_policy, step_eval}
 use Rattle.matcher_read.proofs.RunParts.{list_of, are_closed, Fine, GivesList, Runs, RunsList, shallow_fault, shallow_levels, runs_part, runs_join, runs_comparison, runs_sign, runs_operand}
 use Rattle.matcher_read.proofs.RunLists.{number_before, list_last, list_more, runs_parentheses, runs_call, runs_members}

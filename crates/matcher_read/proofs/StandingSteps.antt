@@ -6,7 +6,7 @@ use Rattle.matcher_read.specs.Grammar.{Derives, by_part, by_join, by_comparison,
 use Rattle.matcher_read.specs.Tokens.{Placed, Token, placed, name, called, operator, opening, closing, comma}
 use Rattle.matcher_read.specs.declared.tree.Operator.{Operator}
 use Rattle.matcher_read.specs.Helps.Machine.{Lefts, no_lefts, Kind, parentheses, members, arguments, Frame, joined_left, left_of, signed, and_of, or_of, term_of, sum_of}
-use Rattle.matcher_read.proofs.Standing.{Leads, Upper, under, Lower, behind, Within, Wanting, Having, Compared, Asking, Awaits, expressions_before, Outside, Complete}
+use Rattle.matcher_read.proofs.StateLemmas.{Leads, Upper, under, Lower, behind, Within, Wanting, Having, Compared, Asking, Awaits, expressions_before, Outside, Complete}
 
 nothing_leads : {n : ℕ} {part rule : Rule} → IsPartOf part rule → Leads n part rule None []
 nothing_leads p us e d = by_part p d

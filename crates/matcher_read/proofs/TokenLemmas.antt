@@ -17,7 +17,7 @@ use Rattle.text_parts.specs.Lines.{has_byte}
 use Rattle.text_parts.specs.Names.{is_identifier, is_letter, is_word}
 use Rattle.matcher_read.specs.Tokens.{Token, name, number, text, unclosed, operator, exclamation, opening, closing, comma, sign, IsQuote, IsSpelling, as_name, as_number, as_text, as_unclosed, as_operator, as_exclamation, as_opening, as_closing, as_comma, IsFront, IsLongest, BeginsNoToken}
 use Rattle.matcher_read.specs.Helps.TokenLists.{pieces}
-use Rattle.matcher_read.specs.Helps.Cutting.{Found, sized_token, begins_name, name_size, is_quote, sign_of_two, operator_of, mark_of, sign_of_one, or_mark, or_one, sign_at, name_at, number_at, quoted, text_at, token_at}
+use Rattle.matcher_read.specs.Helps.Cuts.{Found, sized_token, begins_name, name_size, is_quote, sign_of_two, operator_of, mark_of, sign_of_one, or_mark, or_one, sign_at, name_at, number_at, quoted, text_at, token_at}
 use Rattle.matcher_read.specs.declared.tree.Operator.{Operator}
 use Rattle.matcher_read.specs.declared.tree.Operator.TheVariants as op
 use Rattle.text_parts.proofs.CallerLemmas.{digit_is_no_letter, list_all-prefix, position-None, position-none_before, prefix_len-passing, word_from_letter}

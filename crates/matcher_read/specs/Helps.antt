@@ -1,10 +1,10 @@
 -- Helps for the proofs, which no public clause cites.
 pub mod TokenLists
-pub mod Forming
-pub mod Cutting
-pub mod Naming
+pub mod Forms
+pub mod Cuts
+pub mod NameParts
 pub mod Machine
-pub mod Giving
-pub mod Taking
-pub mod Parsing
-pub mod Counting
+pub mod Given
+pub mod TakenTokens
+pub mod Parsed
+pub mod Counts

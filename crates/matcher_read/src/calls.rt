@@ -1,7 +1,7 @@
 ghost use Rattle.std.specs.Prelude.{◌≡◌, ◌+◌, option_map, position, MatchOption, false};
 ghost use Rattle.std.specs.Str.{bytes_eq};
 ghost use Rattle.matcher_read.specs.Calls.{callee_of, is_known, relation_names, takes as accepts};
-ghost use Rattle.matcher_read.specs.Helps.Taking.{callee};
+ghost use Rattle.matcher_read.specs.Helps.TakenTokens.{callee};
 ghost use Rattle.matcher_read.specs.Helps.TokenLists.{pieces};
 
 use crate::tree::Function;

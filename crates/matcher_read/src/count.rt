@@ -1,5 +1,5 @@
 ghost use Rattle.std.specs.Prelude.{◌≡◌, nat_lt};
-ghost use Rattle.matcher_read.specs.Helps.Counting.{is_node as is_node_token, node_count};
+ghost use Rattle.matcher_read.specs.Helps.Counts.{is_node as is_node_token, node_count};
 ghost use Rattle.matcher_read.specs.Matcher.{most_nodes};
 ghost use Rattle.matcher_read.specs.Helps.TokenLists.{token_of};
 

@@ -1,5 +1,5 @@
 ghost use Rattle.std.specs.Prelude.{◌≡◌, ◌<◌, ◌≤◌, None, Some, List, [], ◌∷◌, Option, IfSome, MatchOption, drop, length, option_map, ℕ};
-ghost use Rattle.matcher_read.specs.Helps.Forming.{BeginsWith, eval_at, evals_behind};
+ghost use Rattle.matcher_read.specs.Helps.Forms.{BeginsWith, eval_at, evals_behind};
 ghost use Rattle.matcher_read.specs.Helps.TokenLists.{HasDigits, end_of, pieces, placed_of, token_of};
 ghost use Rattle.matcher_read.specs.Matcher.{most_bytes};
 ghost use Rattle.matcher_read.specs.Tokens as token;
@@ -20,7 +20,7 @@ pub(crate) struct Forms<'a> {
 
 impl<'a> Model for Forms<'a> {
     ghost use Rattle.std.specs.Prelude.{option_map};
-    ghost use Rattle.matcher_read.specs.Helps.Forming.{IsFormed, formed};
+    ghost use Rattle.matcher_read.specs.Helps.Forms.{IsFormed, formed};
     ghost use Rattle.matcher_read.specs.Helps.TokenLists.{TokenList, placed_of};
 
     ghost Value = { TokenList };

@@ -6,12 +6,12 @@ mod count;
 mod fault;
 mod forms;
 mod kinds;
-mod law;
+mod laws;
 mod names;
 mod nodes;
 mod number;
 mod parser;
-mod reading;
+mod reader;
 mod token;
 mod tokens;
 mod tree;
@@ -19,9 +19,9 @@ mod words;
 
 pub use fault::MatcherFault;
 pub use kinds::{NodeKind, has_node};
-pub use law::{
+pub use laws::{
     every_text_is_a_matcher_or_at_fault, faulty_text_is_no_matcher, functions_have_names,
     text_has_one_fault, text_says_one_matcher,
 };
-pub use reading::read_matcher;
+pub use reader::read_matcher;
 pub use tree::{Function, Operator, Tree};

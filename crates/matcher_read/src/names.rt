@@ -3,7 +3,7 @@ ghost use Rattle.matcher_read.specs.Expression as tree;
 ghost use Rattle.matcher_read.specs.Expression.{expression};
 ghost use Rattle.matcher_read.specs.Helps.Machine.{name_operand};
 ghost use Rattle.matcher_read.specs.Helps.TokenLists.{pieces};
-ghost use Rattle.matcher_read.specs.Helps.Naming.{policy_of, request_of, truth_of};
+ghost use Rattle.matcher_read.specs.Helps.NameParts.{policy_of, request_of, truth_of};
 
 use crate::tree::Tree;
 use outside::{NoMemory, Text};

@@ -2,7 +2,7 @@ ghost use Rattle.std.specs.Prelude.{◌≡◌, ◌≢◌, Err, false, IfOk, Matc
 ghost use Rattle.matcher_read.specs.Calls.{takes as accepts};
 ghost use Rattle.matcher_read.specs.Expression as tree;
 ghost use Rattle.matcher_read.specs.Expression.{count, expression, expressions_of};
-ghost use Rattle.matcher_read.specs.Helps.Taking.{callee, operand_of, signed_by};
+ghost use Rattle.matcher_read.specs.Helps.TakenTokens.{callee, operand_of, signed_by};
 ghost use Rattle.matcher_read.specs.Helps.TokenLists.{HasDigits, token_of};
 
 use crate::calls::{Called, takes};

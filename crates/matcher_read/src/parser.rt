@@ -1,9 +1,9 @@
 ghost use Rattle.std.specs.Prelude.{◌≡◌, ◌≢◌, Err, false, true, MatchBool, MatchResult, Ok, ℕ};
-ghost use Rattle.matcher_read.specs.Helps.Counting.{IsWithin, is_ended};
+ghost use Rattle.matcher_read.specs.Helps.Counts.{IsWithin, is_ended};
 ghost use Rattle.matcher_read.specs.Expression.{expression};
 ghost use Rattle.matcher_read.specs.Grammar.{cmp_rule, prim_rule, unary_rule};
-ghost use Rattle.matcher_read.specs.Helps.Parsing.{ReadsBy, ReadsList};
-ghost use Rattle.matcher_read.specs.Helps.Taking.{
+ghost use Rattle.matcher_read.specs.Helps.Parsed.{ReadsBy, ReadsList};
+ghost use Rattle.matcher_read.specs.Helps.TakenTokens.{
   Stays,
   Takes,
   TakesClosing,

@@ -2,7 +2,7 @@ ghost use Rattle.std.specs.Prelude.{◌≡◌, ◌<◌, ◌≤◌, ◌+◌, ◌-
 ghost use Rattle.std.specs.Char.{is_ascii_digit};
 ghost use Rattle.std.specs.List.{prefix_len};
 ghost use Rattle.std.specs.Str.{IsCharBoundary};
-ghost use Rattle.matcher_read.specs.Helps.Cutting.{begins_name, sized_token, goes_on, is_quote, name_at, name_size, number_at, sign_at, sign_of_one, sign_of_two, text_at, token_at};
+ghost use Rattle.matcher_read.specs.Helps.Cuts.{begins_name, sized_token, goes_on, is_quote, name_at, name_size, number_at, sign_at, sign_of_one, sign_of_two, text_at, token_at};
 ghost use Rattle.matcher_read.specs.Helps.TokenLists.{token_of};
 
 use crate::tree::Operator;

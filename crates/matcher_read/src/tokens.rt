@@ -1,5 +1,5 @@
 ghost use Rattle.std.specs.Prelude.{◌≡◌, ◌+◌, ◌<◌, ◌≤◌, [], ◌∷◌, IfSome, MatchOption, drop, length};
-ghost use Rattle.matcher_read.specs.Helps.Cutting.{begins_opening, blanks, cut, marked};
+ghost use Rattle.matcher_read.specs.Helps.Cuts.{begins_opening, blanks, cut, marked};
 ghost use Rattle.matcher_read.specs.Matcher.{most_bytes};
 ghost use Rattle.matcher_read.specs.Helps.TokenLists.{HasDigits, end_of, pieces, placed_of, token_of};
 ghost use Rattle.matcher_read.specs.Tokens.{is_reserved, with_calls};
@@ -20,7 +20,7 @@ pub(crate) struct Tokens<'a> {
 
 impl<'a> Model for Tokens<'a> {
     ghost use Rattle.std.specs.Prelude.{option_map};
-    ghost use Rattle.matcher_read.specs.Helps.Cutting.{IsLeft, listed};
+    ghost use Rattle.matcher_read.specs.Helps.Cuts.{IsLeft, listed};
     ghost use Rattle.matcher_read.specs.Helps.TokenLists.{TokenList, placed_of};
 
     ghost Value = { TokenList };

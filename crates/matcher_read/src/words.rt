@@ -1,7 +1,7 @@
 ghost use Rattle.std.specs.Prelude.{◌≡◌, ◌∷◌, MatchBool, [], codes, false};
 ghost use Rattle.matcher_read.specs.Grammar.{cmp_rule};
 ghost use Rattle.matcher_read.specs.Helps.Machine.{is_in as is_in_word, rank};
-ghost use Rattle.matcher_read.specs.Helps.Taking.{joins_by, rule_of};
+ghost use Rattle.matcher_read.specs.Helps.TakenTokens.{joins_by, rule_of};
 ghost use Rattle.matcher_read.specs.Helps.TokenLists.{pieces};
 
 use crate::calls::Called;

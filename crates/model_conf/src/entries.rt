@@ -7,8 +7,8 @@ ghost use Rattle.model_conf.specs.Statements as statements;
 ghost use Rattle.model_conf.specs.Helps.Steps.{Takes};
 
 use crate::fault::ModelFault;
-use crate::joining::{join_lines, open_front};
-use crate::saying::{LineContent, read_said};
+use crate::joined_lines::{join_lines, open_front};
+use crate::line_content::{LineContent, read_said};
 use crate::sections::{Section, key_named, section_named};
 use outside::NoMemory;
 use std::alloc::Global;

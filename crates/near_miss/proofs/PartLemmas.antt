@@ -19,7 +19,7 @@ use Rattle.model_conf.proofs.PrintLemmas.{printed-parts}
 use Rattle.decision.specs.Plans.{conjuncts}
 use Rattle.near_miss.specs.Parts.{AreParts, HasNoModel, IsPart, is_told, part_text, with_matcher}
 use Rattle.near_miss.specs.Written.{written}
-use Rattle.near_miss.specs.Helps.Making.{IsUnread, seen}
+use Rattle.near_miss.specs.Helps.MadeParts.{IsUnread, seen}
 use Rattle.near_miss.proofs.ListLemmas.{zip_append}
 
 -- ---- the text before the matcher

@@ -17,10 +17,10 @@ use Rattle.matcher_meaning.specs.Cases.{Case, where_refused}
 use Rattle.matcher_meaning.specs.Comes.{TruthIs}
 use Rattle.matcher_code.specs.Compiled.{as_answer}
 use Rattle.matcher_code.specs.Rules.{CodeParts}
-use Rattle.matcher_code.specs.Running.{IsValueOf}
+use Rattle.matcher_code.specs.RunEnds.{IsValueOf}
 use Rattle.matcher_code.specs.declared.op.Op.{Op}
-use Rattle.matcher_code.specs.declared.stop.Stop.{Stop}
-use Rattle.matcher_code.specs.declared.stop.Stop.TheVariants as stop
+use Rattle.matcher_code.specs.declared.no_truth.NoTruth.{NoTruth}
+use Rattle.matcher_code.specs.declared.no_truth.NoTruth.TheVariants as stop
 use Rattle.near_miss.specs.Misses.{HaveTruths, Lacks, case_at, lacking}
 use Rattle.near_miss.specs.Helps.Codes.{IsCodeOf}
 use Rattle.near_miss.specs.Helps.Rows.{IsSeen, IsTruthGiven, StandsFor, lack_of, standing_with, truth_in}
@@ -64,7 +64,7 @@ fault_given case code of_model Refused IsBad more failed (inr (pattern, bad, cau
     inr (pattern, more pattern bad, cause, subst (λ (t : Result Bool Fault). TruthIs (where_refused case (Some (failed.at, pattern))) case.model.matcher t) (fault_said said.0 failed said.1) said.2)
 
 -- what the finder refused in a run
-pub value_used : (case : Case) (ops : List Op) (before now : Refusals) (r : Result View Stop) → IsValueOf case ops (RefusedOnly before now) r → IsUsed before now
+pub value_used : (case : Case) (ops : List Op) (before now : Refusals) (r : Result View NoTruth) → IsValueOf case ops (RefusedOnly before now) r → IsUsed before now
 value_used case ops before now (Ok v) is = used_same before now is.0
 value_used case ops before now (Err (stop.Fault failed)) (inl is) = used_same before now is.0
 value_used case ops before now (Err (stop.Fault failed)) (inr is) = used_one before now (Some is.0) is.1

@@ -1,11 +1,10 @@
 ghost use Rattle.std.specs.Prelude.{◌≡◌, [], IfOk};
 ghost use Rattle.near_miss.specs.Parts.{AreParts};
 
-use crate::making::{is_told, parts_in};
 use crate::part::Part;
+use crate::parts::{is_told, parts_in};
 use model_conf::Model;
-use outside::NoMemory;
-use perm_base::Share;
+use outside::{NoMemory, Share};
 use std::alloc::Global;
 
 /// The parts of a model's matcher, ready to be judged for rows. Contracts see each as a model of its own.

@@ -5,11 +5,11 @@ mod explainer;
 mod laws;
 mod lines;
 mod links;
-mod making;
 mod misses;
 mod part;
-mod printing;
+mod parts;
 mod row;
+mod tree_text;
 mod words;
 
 pub use explainer::{Explainer, make_explainer};

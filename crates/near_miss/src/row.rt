@@ -10,7 +10,7 @@ ghost use Rattle.near_miss.specs.Helps.Rows.{IsTruthGiven, lack_of, standing_wit
 use crate::links::StateLinks;
 use crate::part::Part;
 use effect_fold::Fault;
-use matcher_code::{Stop, WideStack, run};
+use matcher_code::{NoTruth, WideStack, run};
 use matcher_meaning::case_answer_is_there;
 use outside::NoMemory;
 use perm_base::Rule;
@@ -118,8 +118,8 @@ fn truth<'a, P: Finder>(
         stack,
     ) {
         Ok(value) => Ok(Ok(truth_in(value))),
-        Err(Stop::Fault(fault)) => Ok(Err(fault)),
-        Err(Stop::NoMemory) => Err(NoMemory),
+        Err(NoTruth::Fault(fault)) => Ok(Err(fault)),
+        Err(NoTruth::NoMemory) => Err(NoMemory),
     }
 }
 

@@ -13,10 +13,6 @@ mod shapes;
 mod table_names;
 
 pub use fields::push_texts;
-pub use outside::{
-    Failed, Fetch, ListShelf, ListSink, ListSource, NoMemory, ReadStop, Share, Shelf, Sink, Source,
-    SureShelf, SureSink, SureSource, Text, push_all, read_all,
-};
 pub use patterns::is_pattern;
 pub use quoted::{
     FieldFault, every_line_is_fields_or_at_fault, fault_of_a_line_is_unique,

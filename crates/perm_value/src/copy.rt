@@ -2,7 +2,7 @@ ghost use Rattle.std.specs.Prelude.{◌≡◌, IfOk, map};
 ghost use Rattle.perm_value.specs.Seen.{datum, members};
 
 use crate::value::Value;
-use perm_base::{NoMemory, Text};
+use outside::{NoMemory, Text};
 use std::alloc::Global;
 use std::collections::BTreeMap;
 

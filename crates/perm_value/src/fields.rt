@@ -8,7 +8,8 @@ ghost use Rattle.perm_value.specs.declared.request.RequestFault.TheVariants as f
 
 use crate::request::{Request, RequestFault};
 use crate::value::Value;
-use perm_base::{FieldFault, NoMemory, Text, first_field};
+use outside::{NoMemory, Text};
+use perm_base::{FieldFault, first_field};
 use std::alloc::Global;
 
 // How many fields a line has at most.

@@ -10,7 +10,7 @@ ghost use Rattle.perm_value.specs.declared.request.RequestFault.TheVariants as f
 
 use crate::request::{Request, RequestFault};
 use crate::value::Value;
-use perm_base::{NoMemory, Text};
+use outside::{NoMemory, Text};
 use serde_json::Value as Json;
 use std::alloc::Global;
 use std::collections::BTreeMap;

@@ -4,7 +4,7 @@
 mod compare;
 mod copy;
 mod fields;
-mod hashing;
+mod hashes;
 mod json;
 mod request;
 mod value;

@@ -5,7 +5,8 @@ ghost use Rattle.perm_value.specs.Seen.{datum, datum_of_view};
 
 use crate::copy::copy_values;
 use crate::value::{Value, View};
-use perm_base::{FieldFault, NoMemory, Share};
+use outside::{NoMemory, Share};
+use perm_base::FieldFault;
 use std::alloc::Global;
 use std::marker::Model;
 

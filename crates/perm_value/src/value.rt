@@ -3,7 +3,7 @@ ghost use Rattle.perm_value.specs.Attribute.{attribute, member_of, HasAttribute}
 ghost use Rattle.perm_value.specs.Datum.{Datum, HasRisingNames};
 ghost use Rattle.perm_value.specs.Seen.{datum, datum_of_view, members};
 
-use perm_base::{Share, Text};
+use outside::{Share, Text};
 use std::collections::BTreeMap;
 
 /// A value of a request. An object has each name once, and its names rise by bytes.

@@ -6,7 +6,7 @@ use Rattle.perm_base.specs.declared.shapes.Shapes.{Shapes}
 use Rattle.perm_base.specs.declared.shapes.TableId.{TableId}
 use Rattle.perm_base.specs.declared.shapes.TableId.TheVariants.{P, G}
 use Rattle.std.specs.Option.{option_map_or}
-use Rattle.policy_csv.specs.Helps.Filling.{ranked_if}
+use Rattle.policy_csv.specs.Helps.Filled.{ranked_if}
 use Rattle.policy_csv.specs.Policy.{with_entry}
 use Rattle.policy_csv.specs.declared.entry.Entry.{Entry}
 use Rattle.policy_table.proofs.CallerLemmas.{by_rank_none, by_rank_one, length_ranked, passed_ranked, place_number, ranked_other, ranked_own, stands-by_rank}

@@ -10,7 +10,7 @@ use Rattle.policy_csv.proofs.ReadingLemmas.{reading, reading_fault, reading_more
 use Rattle.policy_csv.specs.Faults.{IsLineFault, IsTextFault}
 use Rattle.text_parts.specs.Full.{given_number}
 use Rattle.policy_csv.specs.Helps.Entries.{IsStop}
-use Rattle.policy_csv.specs.Helps.Filling.{IsFilled, TookLine, ranked_if}
+use Rattle.policy_csv.specs.Helps.Filled.{IsFilled, TookLine, ranked_if}
 use Rattle.text_parts.specs.Full.{full_lines}
 use Rattle.policy_csv.specs.Policy.{SaysRule, with_entry}
 use Rattle.policy_csv.specs.declared.entry.Entry.{Entry}

@@ -1,3 +1,3 @@
 -- What only private functions and proofs say.
 pub mod Entries
-pub mod Filling
+pub mod Filled

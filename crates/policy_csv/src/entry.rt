@@ -9,7 +9,8 @@ ghost use Rattle.policy_csv.specs.Policy.{SaysRule};
 ghost use Rattle.policy_table.specs.Limits.{columns_of};
 
 use crate::fault::PolicyFault;
-use perm_base::{FieldFault, NoMemory, Rule, Shapes, TableId, Text, read_fields};
+use outside::{NoMemory, Text};
+use perm_base::{FieldFault, Rule, Shapes, TableId, read_fields};
 use policy_table::{columns_of, has_short_fields};
 use std::alloc::Global;
 use text_parts::cut_at;

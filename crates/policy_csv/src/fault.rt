@@ -1,6 +1,6 @@
 ghost use Rattle.std.specs.Prelude.{◌≡◌};
 
-use perm_base::NoMemory;
+use outside::NoMemory;
 use policy_table::Limit;
 
 /// Why a text is not read as a policy. Lines are counted from 1, columns in bytes from 1; a number above 2^32 - 1 is

@@ -3,10 +3,10 @@
 
 mod entry;
 mod fault;
-mod filling;
+mod fill;
 mod laws;
 mod policy;
-mod printing;
+mod printer;
 
 pub use entry::{Entry, read_entry};
 pub use fault::PolicyFault;
@@ -15,4 +15,4 @@ pub use laws::{
     text_has_one_policy_fault, text_says_one_policy,
 };
 pub use policy::read_policy;
-pub use printing::print_policy;
+pub use printer::print_policy;

@@ -2,7 +2,7 @@ ghost use Rattle.std.specs.Prelude.{◌≡◌, ◌≢◌, IfErr, IfOk, MatchResu
 ghost use Rattle.perm_base.specs.Shapes.{AreValid};
 ghost use Rattle.policy_csv.specs.Faults.{IsPolicyFault};
 ghost use Rattle.policy_csv.specs.Helps.Entries.{IsStop};
-ghost use Rattle.policy_csv.specs.Helps.Filling.{IsFilled, TookLine, ranked_if};
+ghost use Rattle.policy_csv.specs.Helps.Filled.{IsFilled, TookLine, ranked_if};
 ghost use Rattle.policy_csv.specs.Policy.{IsPolicy};
 ghost use Rattle.policy_csv.specs.declared.fault.PolicyFault as declared;
 ghost use Rattle.policy_table.specs.Limits.{AreSound};
@@ -10,7 +10,7 @@ ghost use Rattle.policy_table.specs.Tables.{Policy};
 
 use crate::entry::read_entry;
 use crate::fault::PolicyFault;
-use crate::filling::{put, ranked_if};
+use crate::fill::{put, ranked_if};
 use perm_base::Shapes;
 use policy_table::{Tables, no_tables};
 use std::alloc::Global;

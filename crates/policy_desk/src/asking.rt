@@ -8,7 +8,8 @@ ghost use Rattle.policy_state.specs.States.{tables};
 ghost use Rattle.policy_table.specs.Tables.{rows};
 
 use crate::desk::Desk;
-use perm_base::{Rule, Text};
+use outside::Text;
+use perm_base::Rule;
 use policy_query::{QueryRefused, names_refusal, users_at};
 use policy_table::Edit;
 use std::alloc::Global;

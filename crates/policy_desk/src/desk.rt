@@ -3,7 +3,7 @@ ghost use Rattle.policy_desk.specs.Desks.{IsDesk};
 ghost use Rattle.policy_state.specs.States.{tables};
 
 use crate::drafts::Drafts;
-use perm_base::{NoMemory, Share};
+use outside::{NoMemory, Share};
 use policy_state::PolicyState;
 use policy_table::Edit;
 use std::alloc::Global;

@@ -17,9 +17,10 @@ ghost use Rattle.policy_table.specs.Tables.{AreLists, IsKept, rows};
 ghost use Rattle.policy_table.specs.declared.change.Change.{Change};
 
 use edit_calls::{Call, CallRefused, Known, resolve};
-use perm_base::{NoMemory, Shapes, Share, TableId, Text};
+use outside::{NoMemory, Share, Text};
+use perm_base::{Shapes, TableId};
 use policy_index::Finders;
-use policy_table::{Edit, Prepared, Step, Tables};
+use policy_table::{Edit, PreparedTables, TableStep, Tables};
 use std::alloc::Global;
 use std::marker::Model;
 use std::slice;
@@ -222,7 +223,7 @@ fn value_of(alloc: Global, role: &Text) -> Result<Vec<Text>, NoMemory>
 
 // Makes in tables what was prepared, and lets their finders follow. It cannot be refused: where memory for the finders runs out,
 // they are let go.
-fn make_all(alloc: Global, tables: &mut Tables, finders: &mut Finders, prepared: Prepared)
+fn make_all(alloc: Global, tables: &mut Tables, finders: &mut Finders, prepared: PreparedTables)
     requires tables { IsPreparedFor tables.old prepared }
     requires finders { AreFindersIn tables.old finders.old }
     ensures policy { tables.new.policy ≡ edited prepared tables.old.policy }
@@ -234,7 +235,7 @@ fn make_all(alloc: Global, tables: &mut Tables, finders: &mut Finders, prepared:
 }
 
 // Makes one step, the first of those that were prepared.
-fn make_one(alloc: Global, tables: &mut Tables, finders: &mut Finders, step: Step)
+fn make_one(alloc: Global, tables: &mut Tables, finders: &mut Finders, step: TableStep)
     requires tables { (changes : List Change) × IsPreparedFor tables.old (step ∷ changes) }
     requires finders { AreFindersIn tables.old finders.old }
     ensures policy { tables.new.policy ≡ changed step tables.old.policy }

@@ -11,7 +11,8 @@ ghost use Rattle.version_log.specs.Log.{versions};
 
 use crate::desk::Desk;
 use edit_calls::{Call, CallRefused};
-use perm_base::{NoMemory, Rule, Text};
+use outside::{NoMemory, Text};
+use perm_base::Rule;
 use policy_query::QueryRefused;
 use std::alloc::Global;
 

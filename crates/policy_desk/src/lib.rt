@@ -2,11 +2,11 @@
 #![tactic(auto)]
 
 mod asking;
-mod calling;
+mod calls;
 mod desk;
 mod drafts;
 mod editor;
-mod publishing;
+mod publishes;
 
 pub use desk::{Desk, open_desk};
 pub use editor::Editor;

@@ -13,11 +13,11 @@ use Rattle.std.proofs.lemmas.Slice.Eq.{bytes_eq-Decides}
 use Rattle.policy_table.specs.Tables.{Fields}
 use Rattle.policy_index.specs.Found.{AddsSlots, passes_at}
 use Rattle.policy_index.specs.Hashes.{IsKeyOf, fields_hash, front_hash, front_mark, mark_of, marks_of, most_front, pattern_mark, short_front, start_hash, text_hash, whole_hash}
-use Rattle.policy_index.specs.Helps.Finding.{AddsMarks, has_front_below, is_found, is_front_below, is_sought}
+use Rattle.policy_index.specs.Helps.FoundSlots.{AddsMarks, has_front_below, is_found, is_front_below, is_sought}
 use Rattle.policy_index.specs.Helps.Kept.{has_front, has_hash, is_front}
 use Rattle.policy_index.specs.Keys.{KeyParts, agrees, begins_so, fits_pattern, front_of, has_texts, is_whole, may_fit}
 use Rattle.policy_index.specs.Places.{has_text}
-use Rattle.policy_index.specs.declared.key.Front.{Front}
+use Rattle.policy_index.specs.declared.key.FrontColumn.{FrontColumn}
 use Rattle.policy_index.specs.declared.key.FrontKind.{FrontKind}
 use Rattle.policy_index.specs.declared.mark.Mark.{Mark}
 
@@ -96,7 +96,7 @@ found_pattern kind hash pattern text fits = by (is_whole kind pattern) fits
 
 -- ---- a row that agrees
 
-pattern_there : (front : Front) (asked : List ℕ) (rule : Fields) → fits_pattern (Some front) asked rule ≡ true → may_fit front.kind (get_or rule front.column []) asked ≡ true
+pattern_there : (front : FrontColumn) (asked : List ℕ) (rule : Fields) → fits_pattern (Some front) asked rule ≡ true → may_fit front.kind (get_or rule front.column []) asked ≡ true
 pattern_there front asked rule fits = by rule front.column fits
   where
     by : (l : Fields) (column : ℕ) → option_map_or (λ (pattern : List ℕ). may_fit front.kind pattern asked) (slice_get l column) false ≡ true → may_fit front.kind (get_or l column []) asked ≡ true
@@ -109,7 +109,7 @@ sought_rule key texts asked hash rule is agree =
     let parts = and_parts (has_texts key.columns texts rule) (fits_pattern key.pattern asked rule) agree in
     by key.pattern (fields_texts key.columns texts rule hash is parts.0) parts.1
   where
-    by : (pattern : Option Front) → fields_hash key.columns rule ≡ hash → fits_pattern pattern asked rule ≡ true → is_sought pattern hash asked (mark_of (record { columns = key.columns; pattern = pattern }) rule) ≡ true
+    by : (pattern : Option FrontColumn) → fields_hash key.columns rule ≡ hash → fits_pattern pattern asked rule ≡ true → is_sought pattern hash asked (mark_of (record { columns = key.columns; pattern = pattern }) rule) ≡ true
     by None same fits = own_hash hash (record { hash = fields_hash key.columns rule; front = None }) same
     by (Some front) same fits =
         subst (λ (h : ℕ). is_found hash asked (pattern_mark front.kind h (get_or rule front.column [])) ≡ true) (sym same)

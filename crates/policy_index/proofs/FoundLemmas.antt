@@ -6,7 +6,7 @@ use Rattle.std.specs.Option.{option_map_or}
 use Rattle.std.proofs.lemmas.Bool.{eq-eqb, lt-ltb}
 use Rattle.std.proofs.lemmas.List.Elements.{All-cons, All-nil}
 use Rattle.std.proofs.lemmas.List.Sums.{sum_by-cons}
-use Rattle.policy_index.specs.Helps.Finding.{AddsMarks}
+use Rattle.policy_index.specs.Helps.FoundSlots.{AddsMarks}
 use Rattle.policy_index.specs.Helps.Kept.{AreCounted, AreListed, has_front, has_hash, has_hash_at, one_if}
 use Rattle.policy_index.specs.Lists.{Lists, slots_at}
 use Rattle.policy_index.specs.declared.mark.Mark.{Mark}

@@ -21,7 +21,7 @@ use Rattle.policy_table.specs.Slots.{AreSlots}
 use Rattle.policy_table.specs.Tables.{Fields, same, stands}
 use Rattle.policy_table.proofs.CallerLemmas.{same-Decides}
 use Rattle.policy_index.specs.Found.{AddsSlots, ArePlacesOf, FindRows}
-use Rattle.policy_index.specs.Helps.Finding.{ArePlacesOfEach, IsPlaceOf}
+use Rattle.policy_index.specs.Helps.FoundSlots.{ArePlacesOfEach, IsPlaceOf}
 use Rattle.policy_index.specs.Places.{has_text, has_text_at, places_of}
 use Rattle.policy_index.proofs.LawLemmas.{exact_places, rising_places}
 

@@ -2,7 +2,7 @@
 use Rattle.std.specs.Prelude.{◌≡◌, ℕ, ◌+◌, ◌*◌, ◌%◌, ◌^◌, List, [], fold, length, take, get_or, map, Option, Some, None, if◌then◌else◌}
 use Rattle.policy_table.specs.Tables.{Fields}
 use Rattle.policy_index.specs.Keys.{KeyParts, front_of, is_whole}
-use Rattle.policy_index.specs.declared.key.Front.{Front}
+use Rattle.policy_index.specs.declared.key.FrontColumn.{FrontColumn}
 use Rattle.policy_index.specs.declared.key.FrontKind.{FrontKind}
 use Rattle.policy_index.specs.declared.mark.Mark.{Mark}
 
@@ -50,7 +50,7 @@ front_mark hash front = record { hash = front_hash hash front; front = Some (len
 abbrev pub pattern_mark : FrontKind → ℕ → List ℕ → Mark
 pattern_mark kind hash pattern = if is_whole kind pattern then record { hash = whole_hash hash pattern; front = None } else front_mark hash (short_front kind pattern)
 
-abbrev pub mark_behind : Option Front → ℕ → Fields → Mark
+abbrev pub mark_behind : Option FrontColumn → ℕ → Fields → Mark
 mark_behind None hash rule = record { hash = hash; front = None }
 mark_behind (Some front) hash rule = pattern_mark front.kind hash (get_or rule front.column [])
 

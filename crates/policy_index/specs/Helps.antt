@@ -1,4 +1,4 @@
 -- What only private functions and proofs say.
 pub mod Kept
-pub mod Finding
+pub mod FoundSlots
 pub mod Filters

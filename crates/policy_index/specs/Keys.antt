@@ -6,14 +6,14 @@ use Rattle.std.specs.Str.{bytes_eq}
 use Rattle.key_match.specs.Fronts.{brace_front, colon_front, glob_front, star_front}
 use Rattle.policy_table.specs.Tables.{Fields}
 use Rattle.policy_index.specs.Places.{has_text}
-use Rattle.policy_index.specs.declared.key.Front.{Front}
+use Rattle.policy_index.specs.declared.key.FrontColumn.{FrontColumn}
 use Rattle.policy_index.specs.declared.key.FrontKind.{FrontKind}
 use Rattle.policy_index.specs.declared.key.FrontKind.TheVariants.{Star, Colon, Brace, CutBrace, Glob}
 
 -- the columns whose texts count, and the column whose pattern does, or none
 pub record KeyParts : Type 0 where
   pub columns : List ℕ
-  pub pattern : Option Front
+  pub pattern : Option FrontColumn
 
 -- the front of a pattern
 abbrev pub front_of : FrontKind → List ℕ → List ℕ
@@ -44,7 +44,7 @@ abbrev pub may_fit : FrontKind → List ℕ → List ℕ → Bool
 may_fit kind pattern text = if is_whole kind pattern then bytes_eq pattern text else begins_so (front_of kind pattern) text
 
 -- it may fit the pattern in the rule's column
-abbrev pub fits_pattern : Option Front → List ℕ → Fields → Bool
+abbrev pub fits_pattern : Option FrontColumn → List ℕ → Fields → Bool
 fits_pattern None text rule = true
 fits_pattern (Some front) text rule = option_map_or (λ (pattern : List ℕ). may_fit front.kind pattern text) (slice_get rule front.column) false
 
@@ -61,7 +61,7 @@ agrees key texts asked rule = has_texts key.columns texts rule && fits_pattern k
 
 -- each column of the key is below a number of columns
 abbrev pub is_below : ℕ → KeyParts → Bool
-is_below count key = list_all (λ (column : ℕ). nat_lt column count) key.columns && option_map_or (λ (front : Front). nat_lt front.column count) key.pattern true
+is_below count key = list_all (λ (column : ℕ). nat_lt column count) key.columns && option_map_or (λ (front : FrontColumn). nat_lt front.column count) key.pattern true
 
 -- each rule has the columns of the key
 abbrev pub HaveColumns : KeyParts → List Fields → Type 0

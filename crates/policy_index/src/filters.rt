@@ -5,7 +5,7 @@ ghost use Rattle.policy_index.specs.Hashes.{IsKeyOf};
 ghost use Rattle.policy_index.specs.Helps.Filters.{columns_from, texts_of};
 
 use crate::hashes::{hash_with, start_hash};
-use perm_base::{NoMemory, Text};
+use outside::{NoMemory, Text};
 use std::alloc::Global;
 
 // A rule has fewer columns.

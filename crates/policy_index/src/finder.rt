@@ -14,8 +14,9 @@ ghost use Rattle.policy_index.specs.Keys.{has_texts};
 
 use crate::index::Index;
 use crate::key::RowKey;
-use crate::ordering::put_rows_in_order;
-use perm_base::{NoMemory, Rule, Share, TableId};
+use crate::order::put_rows_in_order;
+use outside::{NoMemory, Share};
+use perm_base::{Rule, TableId};
 use policy_table::{Change, Tables};
 use std::alloc::Global;
 use std::marker::Model;

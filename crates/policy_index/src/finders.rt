@@ -11,7 +11,8 @@ ghost use Rattle.policy_index.specs.Found.{FindRows};
 
 use crate::filters::{sought_columns, values_hash};
 use crate::finder::Finder;
-use perm_base::{Share, TableId, Text};
+use outside::{Share, Text};
+use perm_base::TableId;
 use policy_table::{Change, Tables};
 use std::alloc::Global;
 use std::marker::Model;

@@ -1,7 +1,7 @@
 ghost use Rattle.std.specs.Prelude.{◌≡◌, ℕ, ◌+◌, ◌<◌, ◌^◌, IfSome, get_or, length, nat_lt, replicate};
 ghost use Rattle.policy_index.specs.Helps.Kept.{is_front, one_if};
 
-use perm_base::Share;
+use outside::Share;
 use std::marker::Model;
 
 const SIZES: usize = 256;

@@ -4,7 +4,7 @@ ghost use Rattle.policy_index.specs.Hashes.{most_front, short_front};
 ghost use Rattle.policy_index.specs.Keys.{front_of, is_below, is_whole, of_column, tells_whole};
 
 use key_match::{glob_match_front, key_match_front, key_match2_front, key_match3_front};
-use perm_base::{NoMemory, Share};
+use outside::{NoMemory, Share};
 use std::alloc::Global;
 use std::marker::Model;
 
@@ -28,7 +28,7 @@ pub enum FrontKind {
 
 /// A column of patterns, counted from 0, and the function that these are for.
 #[derive(Clone, Copy, Debug, PartialEq, Eq)]
-pub struct Front {
+pub struct FrontColumn {
     pub column: u32,
     pub kind: FrontKind,
 }
@@ -37,7 +37,7 @@ pub struct Front {
 #[derive(Drop)]
 pub struct RowKey {
     columns: Vec<u32>,
-    pattern: Option<Front>,
+    pattern: Option<FrontColumn>,
 }
 
 impl Model for RowKey {
@@ -50,7 +50,7 @@ impl Model for RowKey {
 
 impl RowKey {
     /// That of these columns and of a column of patterns, or none.
-    pub fn new(columns: Vec<u32>, pattern: Option<Front>) -> RowKey
+    pub fn new(columns: Vec<u32>, pattern: Option<FrontColumn>) -> RowKey
         ensures { result ≡ record { columns = columns.items; pattern = pattern } }
     {
         RowKey { columns, pattern }
@@ -76,7 +76,7 @@ impl RowKey {
     }
 
     /// The column whose pattern counts, or none.
-    pub fn pattern(&self) -> Option<Front>
+    pub fn pattern(&self) -> Option<FrontColumn>
         ensures { result ≡ self.now.pattern }
     {
         self.pattern

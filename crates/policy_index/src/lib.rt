@@ -2,28 +2,28 @@
 //! table fit a filter.
 #![tactic(auto)]
 
+mod changes;
 mod filters;
 mod finder;
 mod finders;
-mod finding;
-mod following;
 mod fronts;
 mod growing;
 mod hashes;
 mod index;
 mod key;
-mod law;
+mod laws;
 mod mark;
-mod ordering;
+mod order;
 mod places;
-mod reserving;
+mod room;
 mod slot_list;
+mod slot_search;
 mod slots;
 
 pub use finders::Finders;
 pub use hashes::{hash_with, start_hash};
 pub use index::Index;
-pub use key::{Front, FrontKind, RowKey};
-pub use law::{fitting_text_may_fit, places_are_exact};
+pub use key::{FrontColumn, FrontKind, RowKey};
+pub use laws::{fitting_text_may_fit, places_are_exact};
 pub use mark::Mark;
-pub use ordering::put_in_order;
+pub use order::put_in_order;

@@ -3,7 +3,7 @@ ghost use Rattle.policy_index.specs.Hashes.{fields_hash, front_mark, mark_behind
 ghost use Rattle.policy_index.specs.Keys.{is_below};
 
 use crate::hashes::{hash_front, hash_of_fields, hash_whole};
-use crate::key::{Front, FrontKind, RowKey, is_whole, short_front};
+use crate::key::{FrontColumn, FrontKind, RowKey, is_whole, short_front};
 use perm_base::Rule;
 
 /// What an index keeps of a row: the hash by which it is found, and the length of the front of its pattern, where it is found

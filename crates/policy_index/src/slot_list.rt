@@ -1,7 +1,7 @@
 ghost use Rattle.std.specs.Prelude.{◌≡◌, ◌+◌, ◌-◌, ◌<◌, ◌≤◌, ◌==◌, [], ◌∷◌, ◌++◌, IfOk, OnOk, get_or, length, slice_set, swap_remove};
 ghost use Rattle.smallvec.specs.SmallVec.{small_vec_len};
 
-use perm_base::{NoMemory, Share};
+use outside::{NoMemory, Share};
 use smallvec::SmallVec;
 use std::alloc::Global;
 use std::marker::Model;

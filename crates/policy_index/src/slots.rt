@@ -6,7 +6,7 @@ ghost use Rattle.policy_index.specs.Lists.{room_at, slots_at};
 
 use crate::slot_list::SlotList;
 use indexmap::IndexMap;
-use perm_base::{NoMemory, Share};
+use outside::{NoMemory, Share};
 use std::alloc::Global;
 use std::marker::Model;
 

@@ -11,7 +11,8 @@ ghost use Rattle.policy_query.specs.Names.{is_asked, named_columns, names_beside
 
 use crate::names::{ROLE, USER, is_asked, names_beside, rule_of};
 use indexmap::IndexSet;
-use perm_base::{NoMemory, Rule, TableId, Text};
+use outside::{NoMemory, Text};
+use perm_base::{Rule, TableId};
 use policy_table::Tables;
 use std::alloc::Global;
 use std::str;

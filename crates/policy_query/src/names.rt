@@ -8,7 +8,8 @@ ghost use Rattle.policy_query.specs.Names.{is_asked, is_of, named_columns, names
 
 use crate::refused::QueryRefused;
 use indexmap::IndexSet;
-use perm_base::{NoMemory, Rule, Shapes, TableId, Text};
+use outside::{NoMemory, Text};
+use perm_base::{Rule, Shapes, TableId};
 use policy_table::{Rows, Tables};
 use std::alloc::Global;
 

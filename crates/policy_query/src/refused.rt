@@ -1,4 +1,5 @@
-use perm_base::{NoMemory, TableId};
+use outside::NoMemory;
+use perm_base::TableId;
 
 /// Why a query is refused.
 #[derive(Clone, Copy, Debug, PartialEq, Eq)]

@@ -5,7 +5,8 @@ ghost use Rattle.policy_query.specs.Answers.{IsAnswer};
 ghost use Rattle.policy_query.specs.Rules.{filter_refusal, has_answer, rows_answer};
 
 use crate::refused::QueryRefused;
-use perm_base::{NoMemory, Rule, Rules, Shapes, TableId};
+use outside::NoMemory;
+use perm_base::{Rule, Rules, Shapes, TableId};
 use policy_table::{Rows, Tables, columns_of, fits_filter};
 use std::alloc::Global;
 

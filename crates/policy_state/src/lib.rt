@@ -2,16 +2,16 @@
 //! all.
 #![tactic(auto)]
 
-mod asking;
-mod editing;
-mod indexing;
+mod edits;
+mod indexes;
 mod laws;
 mod prepared;
-mod querying;
+mod queries;
+mod questions;
 mod sections;
 mod state;
 
 pub use laws::states_stand_for_their_history;
 pub use policy_query::QueryRefused;
-pub use prepared::{Prepared, PreparedParts};
+pub use prepared::{PreparedParts, PreparedState};
 pub use state::{PolicyState, make_state};

@@ -5,8 +5,8 @@ use std::marker::Model;
 /// to start afterwards. Contracts see that version, and what is ready in each part.
 #[derive(Drop)]
 pub struct PreparedParts {
-    pub(crate) tables: policy_table::Prepared,
-    pub(crate) sections: Vec<role_domain::Prepared>,
+    pub(crate) tables: policy_table::PreparedTables,
+    pub(crate) sections: Vec<role_domain::PreparedSection>,
     pub(crate) start: u32,
 }
 
@@ -27,12 +27,12 @@ impl Model for PreparedParts {
 /// Edits that are ready to be made in a policy, and the version at which its log is to start afterwards. Contracts see the
 /// edits, that version, and what is ready in each part.
 #[derive(Drop)]
-pub struct Prepared {
+pub struct PreparedState {
     pub(crate) parts: PreparedParts,
     pub(crate) edits: Vec<Edit>,
 }
 
-impl Model for Prepared {
+impl Model for PreparedState {
     ghost use Rattle.policy_state.specs.Ready.{Ready};
 
     ghost Value = { Ready };

@@ -8,9 +8,10 @@ ghost use Rattle.policy_table.specs.Changes.{applies, edited, flat};
 ghost use Rattle.policy_table.specs.Limits.{AreSound};
 ghost use Rattle.policy_table.specs.Tables.{Policy};
 
-use perm_base::{NoMemory, Shapes, Share};
+use outside::{NoMemory, Share};
+use perm_base::Shapes;
 use policy_table::{Edit, Tables};
-use role_domain::{Prepared, RoleSection};
+use role_domain::{PreparedSection, RoleSection};
 use std::alloc::Global;
 use std::marker::Model;
 
@@ -87,7 +88,7 @@ impl Sections {
         alloc: Global,
         edits: &[Edit],
         tables: &Tables,
-    ) -> Result<Vec<Prepared>, NoMemory>
+    ) -> Result<Vec<PreparedSection>, NoMemory>
         requires possible { applies (flat edits.now) tables.now.policy ≡ true }
         requires each { All (CanTake edits.now tables.now.policy) self.old }
         ensures kept { map kept_of self.new ≡ map kept_of self.old }
@@ -103,7 +104,7 @@ impl Sections {
     }
 
     /// Makes in each section what was prepared for it. It takes no memory.
-    pub(crate) fn commit(&mut self, prepared: Vec<Prepared>)
+    pub(crate) fn commit(&mut self, prepared: Vec<PreparedSection>)
         requires { (after : Policy) × CanLink after self.old prepared.items }
         ensures kept { map kept_of self.new ≡ map kept_of self.old }
         ensures each { (after : Policy) → CanLink after self.old prepared.items

@@ -11,9 +11,10 @@ ghost use Rattle.policy_table.specs.declared.change.Change.{Change};
 ghost use Rattle.version_log.specs.EditText.{NameRules};
 ghost use Rattle.version_log.specs.Log.{most_versions, versions};
 
-use crate::indexing::{copy_index, make_index};
+use crate::indexes::{copy_index, make_index};
 use crate::sections::Sections;
-use perm_base::{NoMemory, RoleShapes, Shapes, Share, TableId};
+use outside::{NoMemory, Share};
+use perm_base::{RoleShapes, Shapes, TableId};
 use policy_index::{Index, RowKey};
 use policy_table::Tables;
 use std::alloc::Global;

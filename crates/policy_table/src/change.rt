@@ -1,7 +1,8 @@
 ghost use Rattle.std.specs.Prelude.{◌≡◌, IfOk};
 ghost use Rattle.policy_table.specs.Changes.{table_of};
 
-use perm_base::{NoMemory, Rule, Share, TableId};
+use outside::{NoMemory, Share};
+use perm_base::{Rule, TableId};
 use std::alloc::Global;
 use std::marker::Model;
 

@@ -13,10 +13,11 @@ ghost use Rattle.policy_table.specs.Tables.{same, stands};
 
 use crate::change::Change;
 use crate::domains::{Domains, domain_text};
-use crate::prepared::Step;
+use crate::prepared::TableStep;
 use crate::rows::Rows;
 use crate::table::Table;
-use perm_base::{Fit, NoMemory, Rule, Text};
+use outside::{NoMemory, Text};
+use perm_base::{Fit, Rule};
 use std::alloc::Global;
 use std::marker::Model;
 
@@ -222,7 +223,7 @@ impl CountedTable {
     }
 
     /// Makes a change.
-    pub(crate) fn make(&mut self, ranked: bool, step: Step)
+    pub(crate) fn make(&mut self, ranked: bool, step: TableStep)
         requires rising { RiseWhere ranked self.old.rules }
         requires possible { suits step self.old.rules ≡ true }
         requires room { puts step ≤ self.old.spare }

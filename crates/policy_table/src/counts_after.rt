@@ -12,7 +12,8 @@ use crate::change::Edit;
 use crate::domains::Domains;
 use crate::moved::{Way, moved_domains};
 use crate::tables::Tables;
-use perm_base::{NoMemory, RoleShape, Shapes, TableId, Text};
+use outside::{NoMemory, Text};
+use perm_base::{RoleShape, Shapes, TableId};
 use std::alloc::Global;
 
 /// What the limits need of a relation's domains.

@@ -7,7 +7,8 @@ ghost use Rattle.policy_table.specs.Limits.{domains_of};
 
 use crate::patterns::Patterns;
 use indexmap::IndexMap;
-use perm_base::{Fit, NoMemory, Rule, Share, Text};
+use outside::{NoMemory, Share, Text};
+use perm_base::{Fit, Rule};
 use std::alloc::Global;
 use std::marker::Model;
 

@@ -14,7 +14,7 @@ mod passed;
 mod patterns;
 mod prepared;
 mod rank;
-mod ranking;
+mod ranked_rows;
 mod rows;
 mod rows_after;
 mod table;
@@ -28,6 +28,6 @@ pub use laws::{
     tables_within_limits_are_lists,
 };
 pub use limit::{Limit, columns_of, has_short_fields};
-pub use prepared::{Prepared, Step};
+pub use prepared::{PreparedTables, TableStep};
 pub use rows::Rows;
 pub use tables::{Tables, no_tables, ranked_tables};

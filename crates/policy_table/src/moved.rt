@@ -5,7 +5,8 @@ ghost use Rattle.policy_table.specs.Limits.{domains_of};
 
 use crate::change::Change;
 use crate::domains::{Domains, domain_text};
-use perm_base::{NoMemory, Rule, Share, TableId};
+use outside::{NoMemory, Share};
+use perm_base::{Rule, TableId};
 use std::alloc::Global;
 
 /// Into a table, or out of it.

@@ -11,7 +11,8 @@ use crate::counts_after::counts_after;
 use crate::limit::Limit;
 use crate::rows_after::rows_after;
 use crate::tables::Tables;
-use perm_base::{NoMemory, Shapes, TableId};
+use outside::NoMemory;
+use perm_base::{Shapes, TableId};
 use std::alloc::Global;
 
 const MOST_POLICY_ROWS: u64 = 200_000;

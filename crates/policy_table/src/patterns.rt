@@ -3,7 +3,8 @@ ghost use Rattle.perm_base.specs.Patterns.{is_pattern};
 ghost use Rattle.perm_base.specs.declared.shapes.Fit as declared;
 ghost use Rattle.policy_table.specs.Helps.Domains.{pattern_count};
 
-use perm_base::{Fit, Share, is_pattern};
+use outside::Share;
+use perm_base::{Fit, is_pattern};
 
 /// How many texts are patterns of each function.
 #[derive(Clone, Copy)]

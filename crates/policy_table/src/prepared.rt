@@ -6,23 +6,24 @@ ghost use Rattle.policy_table.specs.Helps.Moves.{put_domain};
 use crate::change::{Change, Edit};
 use crate::domains::domain_text;
 use crate::tables::place;
-use perm_base::{NoMemory, TableId, Text};
+use outside::{NoMemory, Text};
+use perm_base::TableId;
 use std::alloc::Global;
 use std::marker::Model;
 
 /// Edits that are ready to be made. Contracts see the changes that they make.
-pub struct Prepared {
-    steps: Vec<Step>,
+pub struct PreparedTables {
+    steps: Vec<TableStep>,
 }
 
 // Written out, so that a caller's proof sees one call and not the drop of each field.
-impl Drop for Prepared {
+impl Drop for PreparedTables {
     fn drop(self) {
-        let Prepared { steps: _steps } = self;
+        let PreparedTables { steps: _steps } = self;
     }
 }
 
-impl Model for Prepared {
+impl Model for PreparedTables {
     ghost use Rattle.std.specs.Prelude.{List};
     ghost use Rattle.policy_table.specs.declared.change.Change.{Change};
 
@@ -33,13 +34,13 @@ impl Model for Prepared {
 
 /// A change that is ready to be made. Contracts see the change.
 #[derive(Drop)]
-pub struct Step {
+pub struct TableStep {
     change: Change,
     // That of the rule that it puts in, where it puts one in.
     domain: Text,
 }
 
-impl Model for Step {
+impl Model for TableStep {
     ghost use Rattle.std.specs.Prelude.{◌≡◌};
     ghost use Rattle.policy_table.specs.Helps.Moves.{put_domain};
     ghost use Rattle.policy_table.specs.declared.change.Change.{Change};
@@ -51,16 +52,16 @@ impl Model for Step {
     ghost invariant = { λ s. s.domain ≡ put_domain s.change };
 }
 
-impl Prepared {
+impl PreparedTables {
     /// The edits as steps.
-    pub(crate) fn of_edits(alloc: Global, edits: &[Edit]) -> Result<Prepared, NoMemory>
+    pub(crate) fn of_edits(alloc: Global, edits: &[Edit]) -> Result<PreparedTables, NoMemory>
         ensures { IfOk result (λ prepared. prepared ≡ flat edits.now) }
     {
         let mut steps = Vec::new(alloc);
         for edit in edits {
             push_steps(alloc, &mut steps, edit.as_slice())?;
         }
-        Ok(Prepared { steps })
+        Ok(PreparedTables { steps })
     }
 
     /// The room that the changes need in the table at a place.
@@ -77,22 +78,22 @@ impl Prepared {
     }
 
     /// The changes one after the other, each of them ready to be made at its turn. It takes no memory.
-    pub fn into_steps(self) -> Vec<Step>
+    pub fn into_steps(self) -> Vec<TableStep>
         ensures { result.items ≡ self }
     {
-        let Prepared { steps } = self;
+        let PreparedTables { steps } = self;
         steps
     }
 }
 
-impl Step {
+impl TableStep {
     // The step that makes a change.
-    fn of(alloc: Global, change: &Change) -> Result<Step, NoMemory>
+    fn of(alloc: Global, change: &Change) -> Result<TableStep, NoMemory>
         ensures { IfOk result (λ step. step ≡ change.now) }
     {
         let domain = put_domain(alloc, change)?;
         let change = change.copy(alloc)?;
-        Ok(Step { change, domain })
+        Ok(TableStep { change, domain })
     }
 
     /// The change that it makes.
@@ -129,11 +130,11 @@ impl Step {
 }
 
 // Adds the steps that make these changes.
-fn push_steps(alloc: Global, steps: &mut Vec<Step>, changes: &[Change]) -> Result<(), NoMemory>
+fn push_steps(alloc: Global, steps: &mut Vec<TableStep>, changes: &[Change]) -> Result<(), NoMemory>
     ensures { OnOk result (steps.new.items ≡ steps.old.items ++ changes.now) }
 {
     for change in changes {
-        steps.push(Step::of(alloc, change)?)?;
+        steps.push(TableStep::of(alloc, change)?)?;
     }
     Ok(())
 }

@@ -14,9 +14,10 @@ ghost use Rattle.policy_table.specs.declared.change.Change.{Change};
 
 use crate::change::{Change, Edit};
 use crate::counted_table::CountedTable;
-use crate::prepared::{Prepared, Step};
+use crate::prepared::{PreparedTables, TableStep};
 use crate::rows::Rows;
-use perm_base::{Fit, NoMemory, Rule, Share, TableId, Text};
+use outside::{NoMemory, Share, Text};
+use perm_base::{Fit, Rule, TableId};
 use std::alloc::Global;
 use std::marker::Model;
 
@@ -284,7 +285,7 @@ impl Tables {
 
     /// Makes edits ready, so that `commit` needs no memory. The rules are as before, whatever the answer, and edits that
     /// were prepared before stay so.
-    pub fn prepare(&mut self, alloc: Global, edits: &[Edit]) -> Result<Prepared, NoMemory>
+    pub fn prepare(&mut self, alloc: Global, edits: &[Edit]) -> Result<PreparedTables, NoMemory>
         requires possible { applies (flat edits.now) self.old.policy ≡ true }
         requires few { AreLists (edited (flat edits.now) self.old.policy).lists }
         ensures unchanged { self.new.policy ≡ self.old.policy }
@@ -294,14 +295,14 @@ impl Tables {
         ensures stays { (changes : List Change)
             → IsPreparedFor self.old changes → IsPreparedFor self.new changes }
     {
-        let prepared = Prepared::of_edits(alloc, edits)?;
+        let prepared = PreparedTables::of_edits(alloc, edits)?;
         reserve(&mut self.tables, &prepared)?;
         Ok(prepared)
     }
 
     /// Makes the edits that were prepared for these tables as they stand. It takes no memory. A caller that keeps slots
     /// takes the edits apart by `into_steps` and follows each step, before `make` makes it.
-    pub fn commit(&mut self, prepared: Prepared)
+    pub fn commit(&mut self, prepared: PreparedTables)
         requires { IsPreparedFor self.old prepared }
         ensures policy { self.new.policy ≡ edited prepared self.old.policy }
         ensures slots { self.new.slots ≡ slots_edited prepared self.old.slots }
@@ -314,7 +315,7 @@ impl Tables {
     /// Makes one step, the first of changes that were prepared for these tables as they stand; the others are prepared for
     /// them afterwards. It takes no memory. Which slots it moves is told by `slots_changed`: it puts a rule into the next
     /// slot, or the rule of the last slot into that of the rule that it takes out, or a new rule into that of the old one.
-    pub fn make(&mut self, step: Step)
+    pub fn make(&mut self, step: TableStep)
         requires { (changes : List Change) × IsPreparedFor self.old (step ∷ changes) }
         ensures policy { self.new.policy ≡ changed step self.old.policy }
         ensures slots { self.new.slots ≡ slots_changed step self.old.slots }
@@ -406,7 +407,7 @@ fn is_ranked(ranked: bool, table: TableId) -> bool
 }
 
 // Makes the room that the changes need.
-fn reserve(tables: &mut [CountedTable; TABLES], prepared: &Prepared) -> Result<(), NoMemory>
+fn reserve(tables: &mut [CountedTable; TABLES], prepared: &PreparedTables) -> Result<(), NoMemory>
     ensures unchanged { lists_of tables.new ≡ lists_of tables.old }
     ensures slots { slots_of tables.new ≡ slots_of tables.old }
     ensures counted { counted_of tables.new ≡ counted_of tables.old }

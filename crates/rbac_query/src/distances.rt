@@ -9,7 +9,8 @@ ghost use Rattle.rbac_query.specs.Helps.Entries.{user_in};
 ghost use Rattle.rbac_query.specs.Helps.Runs.{AreAsFar, AreInOrder};
 ghost use Rattle.rbac_query.specs.Report.{asked};
 
-use perm_base::{RoleShape, Text};
+use outside::Text;
+use perm_base::RoleShape;
 use role_domain::{RoleSection, Steps};
 use std::marker::Brand;
 use std::sync::ledger::{Blank, Ledger};

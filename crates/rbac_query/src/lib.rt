@@ -4,17 +4,17 @@
 
 mod distances;
 mod fields;
-mod law;
+mod laws;
 mod names;
 mod permissions;
 mod records;
-mod reporting;
+mod reports;
 mod stop;
 mod subjects;
 
-pub use law::{permissions_are_one, relation_has_one_report};
+pub use laws::{permissions_are_one, relation_has_one_report};
 pub use names::{implicit_roles, implicit_users};
 pub use permissions::implicit_permissions;
 pub use policy_query::QueryRefused;
-pub use reporting::report;
+pub use reports::report;
 pub use stop::ReportStop;

@@ -6,7 +6,7 @@ ghost use Rattle.rbac_query.specs.Helps.Stops.{IsStop};
 use crate::stop::ReportStop;
 use csv::{Error, WriterBuilder};
 use itoa::Buffer;
-use perm_base::NoMemory;
+use outside::NoMemory;
 use std::alloc::Global;
 
 /// Appends the record of a role that a user has in a domain. Where the text gets too long, it stops.

@@ -1,4 +1,4 @@
-use perm_base::NoMemory;
+use outside::NoMemory;
 
 /// Why there is no report.
 #[derive(Clone, Copy, Debug, PartialEq, Eq)]

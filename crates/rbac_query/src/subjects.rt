@@ -3,7 +3,8 @@ ghost use Rattle.rbac_query.specs.Helps.Subjects.{is_plain, shown};
 ghost use Rattle.rbac_query.specs.Report.{AreSubjects};
 
 use crate::fields::text_or_empty;
-use perm_base::{NoMemory, RoleShape, is_pattern};
+use outside::NoMemory;
+use perm_base::{RoleShape, is_pattern};
 use policy_table::Rows;
 use std::alloc::Global;
 use std::collections::BTreeSet;

@@ -1,6 +1,6 @@
 //! What refused searches for patterns that cannot be read change: nothing. A definition and its law.
 #![tactic(auto)]
 
-mod unread_law;
+mod laws;
 
-pub use unread_law::unreadable_patterns_are_refused_without_effect;
+pub use laws::unreadable_patterns_are_refused_without_effect;

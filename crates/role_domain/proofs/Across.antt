@@ -17,8 +17,8 @@ use Rattle.role_domain.specs.Domains.{ArePatterns}
 use Rattle.role_domain.specs.Helps.Walks.{inner}
 use Rattle.role_domain.specs.Relations.{HasFewRoles, Relation, Tells, counted, fit_of, has_pattern, named, pair_of, terms_of}
 use Rattle.role_domain.specs.declared.terms.Terms.{Terms}
-use Rattle.role_domain.proofs.Counting.{Passes, passing_counts, some_passes}
-use Rattle.role_domain.proofs.Fitting.{fits_same}
+use Rattle.role_domain.proofs.CountLemmas.{Passes, passing_counts, some_passes}
+use Rattle.role_domain.proofs.FitLemmas.{fits_same}
 use Rattle.role_graph.specs.Graph.{shape_of}
 use Rattle.role_graph.specs.Groups.{times}
 use Rattle.role_graph.proofs.CallerLemmas.{same_itself, stands_from_times, times_from_stands}

@@ -21,10 +21,10 @@ use Rattle.role_domain.specs.Sections.{IsSectionOf, Section, relation_of}
 use Rattle.role_domain.specs.declared.domain.Domain.{Domain}
 use Rattle.role_domain.specs.declared.terms.Terms.{Terms}
 use Rattle.role_domain.proofs.Across.{Alike, all_implied_across, alike_on, depth_across, far_across, few_across, graph_alike, graph_of, has_across, inner_of, linked_across, outer_alike, outer_of, patterns_alike, reaches_across, row_counts, users_across}
-use Rattle.role_domain.proofs.Bringing.{FitsDecided, tells_of, test_of}
-use Rattle.role_domain.proofs.Counting.{Passes, count_agree_on, count_alike, count_filter, count_map, pairs_of, passing_counts, some_passes, times_pairs}
-use Rattle.role_domain.proofs.Fitting.{fits_same}
-use Rattle.role_domain.proofs.Walking.{far_told, linked_told}
+use Rattle.role_domain.proofs.BringLemmas.{FitsDecided, tells_of, test_of}
+use Rattle.role_domain.proofs.CountLemmas.{Passes, count_agree_on, count_alike, count_filter, count_map, pairs_of, passing_counts, some_passes, times_pairs}
+use Rattle.role_domain.proofs.FitLemmas.{fits_same}
+use Rattle.role_domain.proofs.WalkLemmas.{far_told, linked_told}
 use Rattle.role_graph.specs.Graph.{Graph, GraphReaches, IsGraphFar, asked_rows as graph_asked, shape_of}
 use Rattle.role_graph.specs.Groups.{times}
 use Rattle.role_graph.proofs.CallerLemmas.{same_itself, stands_from_times}

@@ -12,7 +12,7 @@ use Rattle.indexmap.specs.IndexMap.{insert_entry}
 use Rattle.perm_base.specs.declared.shapes.RoleShape.{RoleShape}
 use Rattle.policy_table.specs.Tables.{Fields}
 use Rattle.role_graph.specs.Groups.{times}
-use Rattle.role_graph.proofs.Copying.{copied_all, copied_next, key_text, seen}
+use Rattle.role_graph.proofs.CopyLemmas.{copied_all, copied_next, key_text, seen}
 use Rattle.role_domain.specs.Domains.{AreDomains, Domains, IsDomain, IsRight, by_text, found}
 use Rattle.role_domain.specs.Helps.Copies.{Content, content_of, contents_of}
 use Rattle.role_domain.specs.Relations.{Relation}

@@ -18,7 +18,7 @@ use Rattle.role_domain.specs.Domains.{ArePatterns}
 use Rattle.role_domain.specs.Helps.Turns.{IsTurned, said_of, stands_after, stands_behind, turns}
 use Rattle.role_domain.specs.Relations.{has_pattern}
 use Rattle.role_domain.specs.declared.terms.Terms.{Terms}
-use Rattle.role_domain.proofs.Counting.{count_agree_on, count_alike, count_both, count_filter, times_distinct}
+use Rattle.role_domain.proofs.CountLemmas.{count_agree_on, count_alike, count_both, count_filter, times_distinct}
 use Rattle.role_graph.specs.Groups.{times}
 use Rattle.role_graph.proofs.CallerLemmas.{once, times_both, times_filter}
 use Rattle.role_meaning.proofs.CallerLemmas.{stands_cases, stands_nowhere}

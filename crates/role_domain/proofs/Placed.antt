@@ -18,7 +18,7 @@ use Rattle.role_domain.specs.Helps.Turns.{CanTurn, first_turn}
 use Rattle.role_domain.specs.Relations.{Relation, Tells, counted, has_pattern, named, pair_of}
 use Rattle.role_domain.specs.declared.domain.Domain.{Domain}
 use Rattle.role_domain.specs.declared.terms.Terms.{Terms}
-use Rattle.role_domain.proofs.Counting.{count_agree, count_more, count_nothing, count_split, count_weaker, counted_long, times_pairs}
+use Rattle.role_domain.proofs.CountLemmas.{count_agree, count_more, count_nothing, count_split, count_weaker, counted_long, times_pairs}
 use Rattle.role_domain.proofs.Keyed.{same_text}
 use Rattle.role_domain.proofs.StepLemmas.{plain_told}
 use Rattle.role_graph.specs.Groups.{times}

@@ -7,7 +7,7 @@ use Rattle.std.specs.Str.{bytes_eq}
 use Rattle.indexmap.specs.IndexMap.{IndexMap, Updates}
 use Rattle.role_domain.specs.Domains.{by_text, found}
 use Rattle.role_domain.proofs.Keyed.{found_other, found_there, same_key, text_itself}
-use Rattle.role_domain.proofs.Touching.{texts_push}
+use Rattle.role_domain.proofs.TouchLemmas.{texts_push}
 
 found_last : {X : Type 0} (entries : List (List ℕ × X)) (text : List ℕ) (value : X) → found entries text ≡ None → found (entries ++ (text, value) ∷ []) text ≡ Some value
 found_last {X} [] text value none = ap (λ (b : Bool). cond b (Some value) None) (text_itself text)

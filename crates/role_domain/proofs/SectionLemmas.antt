@@ -23,7 +23,7 @@ use Rattle.role_domain.specs.Sections.{Draft, IsPreparedFor, IsSectionOf, Sectio
 use Rattle.role_domain.specs.Steps.{AreReady, Touched}
 use Rattle.role_domain.specs.declared.terms.Terms.{Terms}
 use Rattle.role_domain.proofs.ChangeLemmas.{columns_after}
-use Rattle.role_domain.proofs.Counting.{Passes, count_agree, count_all, count_filter, count_map, count_nothing, some_passes}
+use Rattle.role_domain.proofs.CountLemmas.{Passes, count_agree, count_all, count_filter, count_map, count_nothing, some_passes}
 use Rattle.role_domain.proofs.MoveLemmas.{all_stands, patterns_turned, stands_changed, turned}
 use Rattle.role_graph.specs.Groups.{times}
 use Rattle.role_graph.proofs.CallerLemmas.{times_from_stands}

@@ -14,9 +14,9 @@ use Rattle.role_domain.specs.Helps.Turns.{CanStep, Turn, after_of}
 use Rattle.role_domain.specs.Relations.{Relation, Tells, counted, has_pattern, named, pair_of}
 use Rattle.role_domain.specs.Steps.{IsReady}
 use Rattle.role_domain.specs.declared.domain.Domain.{Domain}
-use Rattle.role_domain.specs.declared.prepared.Step.TheVariants.{Changed}
-use Rattle.role_domain.proofs.Counting.{count_agree, count_split, count_weaker, counted_long}
-use Rattle.role_domain.proofs.Fitting.{fits_same}
+use Rattle.role_domain.specs.declared.prepared.DomainStep.TheVariants.{Changed}
+use Rattle.role_domain.proofs.CountLemmas.{count_agree, count_split, count_weaker, counted_long}
+use Rattle.role_domain.proofs.FitLemmas.{fits_same}
 use Rattle.role_graph.specs.Graph.{Edit, IsPreparedFor}
 use Rattle.role_graph.specs.Groups.{after, times}
 use Rattle.role_meaning.specs.Links.{domain_of}

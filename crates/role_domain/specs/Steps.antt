@@ -7,14 +7,14 @@ use Rattle.policy_table.specs.Tables.{Fields}
 use Rattle.role_domain.specs.Domains.{Domains, IsDomain, IsRight, found}
 use Rattle.role_domain.specs.Relations.{Relation, Tells, counted, named}
 use Rattle.role_domain.specs.declared.domain.Domain.{Domain}
-use Rattle.role_domain.specs.declared.prepared.Step.{Step}
-use Rattle.role_domain.specs.declared.prepared.Step.TheVariants.{Gone, New, Changed}
+use Rattle.role_domain.specs.declared.prepared.DomainStep.{DomainStep}
+use Rattle.role_domain.specs.declared.prepared.DomainStep.TheVariants.{Gone, New, Changed}
 use Rattle.role_graph.specs.Graph.{Edit, IsPreparedFor}
 use Rattle.role_graph.specs.Groups.{after, times}
 
 -- the touched domains by their texts
 abbrev pub Touched : Type 0
-Touched = List (List ℕ × Step)
+Touched = List (List ℕ × DomainStep)
 
 abbrev pub is_touched : List ℕ → Touched → Bool
 is_touched text touched = list_any (bytes_eq text) (keys_of touched)
@@ -31,7 +31,7 @@ pub record IsChanged (relation : Relation) (text : List ℕ) (there : Option Dom
   pub rows : (test : List ℕ → Bool) → Tells relation.terms.domains text test → (one : Fields) → times one (after edit.changed domain.graph.rows) ≡ counted test one relation.rows
 
 -- the step makes of what is found at the text what is to be found there
-abbrev pub IsReady : Relation → List ℕ → Option Domain → Step → Type 0
+abbrev pub IsReady : Relation → List ℕ → Option Domain → DomainStep → Type 0
 IsReady relation text there Gone = named text relation.rows ≡ 0
 IsReady relation text there (New domain) = IsDomain relation text domain
 IsReady relation text there (Changed own edit) = IsChanged relation text there own edit
@@ -40,5 +40,5 @@ IsReady relation text there (Changed own edit) = IsChanged relation text there o
 pub record AreReady (relation : Relation) (touched : Touched) (domains : Domains) : Type 0 where
   pub once : IsDistinct bytes_eq (keys_of touched)
   pub room : length touched ≤ domains.spare
-  pub each : All (λ (one : List ℕ × Step). IsReady relation one.0 (found domains.entries one.0) one.1) touched
+  pub each : All (λ (one : List ℕ × DomainStep). IsReady relation one.0 (found domains.entries one.0) one.1) touched
   pub others : (text : List ℕ) → is_touched text touched ≡ false → IsRight relation text (found domains.entries text)

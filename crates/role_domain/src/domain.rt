@@ -12,7 +12,8 @@ ghost use Rattle.role_graph.specs.Groups.{times};
 
 use crate::patterns::fitting;
 use crate::terms::Terms;
-use perm_base::{Fit, NoMemory, Rule, Share, TableId, is_pattern};
+use outside::{NoMemory, Share};
+use perm_base::{Fit, Rule, TableId, is_pattern};
 use policy_table::Tables;
 use role_graph::{GraphBuilder, RoleGraph};
 use role_meaning::links_are_decided;

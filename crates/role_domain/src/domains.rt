@@ -14,9 +14,9 @@ ghost use Rattle.role_graph.specs.Groups.{after, times};
 ghost use Rattle.policy_table.specs.Tables.{Fields};
 
 use crate::domain::Domain;
-use crate::prepared::Step;
+use crate::prepared::DomainStep;
 use indexmap::IndexMap;
-use perm_base::{NoMemory, Share};
+use outside::{NoMemory, Share};
 use std::alloc::Global;
 use std::marker::Model;
 
@@ -112,7 +112,7 @@ impl Domains {
     }
 
     /// Makes of touched domains what is to become of them.
-    pub(crate) fn make(&mut self, mut touched: Vec<(Vec<u8>, Step)>)
+    pub(crate) fn make(&mut self, mut touched: Vec<(Vec<u8>, DomainStep)>)
         requires { (relation : Relation) × AreReady relation (by_text touched.items) self.old }
         ensures { (relation : Relation) → AreReady relation (by_text touched.items) self.old
             → AreDomains relation self.new.entries }
@@ -123,7 +123,7 @@ impl Domains {
     }
 
     // Makes of one domain what is to become of it.
-    fn make_one(&mut self, text: Vec<u8>, step: Step)
+    fn make_one(&mut self, text: Vec<u8>, step: DomainStep)
         requires ready { (relation : Relation)
             × IsReady relation text.items (found self.old.entries text.items) step }
         requires room { 0 < self.old.spare }
@@ -135,9 +135,9 @@ impl Domains {
         ensures spare { self.old.spare ≤ self.new.spare + 1 }
     {
         match step {
-            Step::Gone => self.take(text.as_slice()),
-            Step::New(domain) => self.put(text, domain),
-            Step::Changed { own, edit } => self.change(text.as_slice(), own, edit),
+            DomainStep::Gone => self.take(text.as_slice()),
+            DomainStep::New(domain) => self.put(text, domain),
+            DomainStep::Changed { own, edit } => self.change(text.as_slice(), own, edit),
         }
     }
 
@@ -165,7 +165,7 @@ impl Domains {
     }
 
     // Edits the graph of a text's domain.
-    fn change(&mut self, text: &[u8], own: u64, edit: role_graph::Prepared)
+    fn change(&mut self, text: &[u8], own: u64, edit: role_graph::PreparedGraph)
         requires { (domain : Domain) × (found self.old.entries text.now ≡ Some domain)
             × IsPreparedFor domain.graph edit }
         ensures there { (domain : Domain) → found self.old.entries text.now ≡ Some domain

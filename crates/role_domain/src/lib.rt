@@ -3,6 +3,7 @@
 #![tactic(auto)]
 
 mod domain;
+mod domain_steps;
 mod domains;
 mod moves;
 mod patterns;
@@ -10,12 +11,11 @@ mod places;
 mod prepared;
 mod rows;
 mod section;
-mod stepping;
 mod tallies;
 mod tally;
 mod terms;
 mod walk;
 
-pub use prepared::Prepared;
+pub use prepared::PreparedSection;
 pub use role_graph::{Reach, Room, Steps};
 pub use section::RoleSection;

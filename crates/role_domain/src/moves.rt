@@ -9,7 +9,8 @@ ghost use Rattle.policy_table.specs.Tables.{Fields, rows, same, stands};
 ghost use Rattle.role_domain.specs.Helps.Turns.{said_of, stands_after, stands_behind, turns};
 
 use indexmap::IndexMap;
-use perm_base::{NoMemory, Rule, TableId};
+use outside::NoMemory;
+use perm_base::{Rule, TableId};
 use policy_table::{Change, Edit, Tables};
 use std::alloc::Global;
 

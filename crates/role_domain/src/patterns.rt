@@ -8,7 +8,8 @@ ghost use Rattle.role_graph.specs.Groups.{times};
 
 use crate::moves::{Standings, stands_now};
 use crate::rows::{domain_of, pair_of};
-use perm_base::{Fit, NoMemory, Rule, is_pattern};
+use outside::NoMemory;
+use perm_base::{Fit, Rule, is_pattern};
 use policy_table::Rows;
 use role_meaning::fits;
 use std::alloc::Global;

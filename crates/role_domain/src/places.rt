@@ -8,7 +8,8 @@ ghost use Rattle.role_domain.specs.Helps.Placing.{HavePlaces};
 
 use crate::rows::domain_of;
 use indexmap::IndexMap;
-use perm_base::{NoMemory, Rule};
+use outside::NoMemory;
+use perm_base::Rule;
 use policy_table::Rows;
 use std::alloc::Global;
 use std::marker::Model;

@@ -9,7 +9,7 @@ use std::marker::Model;
 
 /// What becomes of a domain.
 #[derive(Drop)]
-pub(crate) enum Step {
+pub(crate) enum DomainStep {
     /// No row has its text any more.
     Gone,
     /// A domain whose text no row had.
@@ -17,28 +17,28 @@ pub(crate) enum Step {
     /// An edit of its graph, and how many rows have its text afterwards.
     Changed {
         own: u64,
-        edit: role_graph::Prepared,
+        edit: role_graph::PreparedGraph,
     },
 }
 
 /// Edits that `RoleSection::commit` makes. Contracts see what becomes of each domain that they touch,
 /// and the rows with a pattern as their domain afterwards.
-pub struct Prepared {
-    touched: Vec<(Vec<u8>, Step)>,
+pub struct PreparedSection {
+    touched: Vec<(Vec<u8>, DomainStep)>,
     patterns: Vec<Rule>,
 }
 
 // Written out, so that a caller's proof sees one call and not the drop of each field.
-impl Drop for Prepared {
+impl Drop for PreparedSection {
     fn drop(self) {
-        let Prepared {
+        let PreparedSection {
             touched: _touched,
             patterns: _patterns,
         } = self;
     }
 }
 
-impl Model for Prepared {
+impl Model for PreparedSection {
     ghost use Rattle.role_domain.specs.Sections.{Draft};
     ghost use Rattle.role_domain.specs.Domains.{by_text};
 
@@ -50,20 +50,20 @@ impl Model for Prepared {
     } };
 }
 
-impl Prepared {
-    pub(crate) fn new(touched: Vec<(Vec<u8>, Step)>, patterns: Vec<Rule>) -> Prepared
+impl PreparedSection {
+    pub(crate) fn new(touched: Vec<(Vec<u8>, DomainStep)>, patterns: Vec<Rule>) -> PreparedSection
         ensures touched { result.touched ≡ by_text touched.items }
         ensures patterns { result.patterns ≡ patterns.items }
     {
-        Prepared { touched, patterns }
+        PreparedSection { touched, patterns }
     }
 
     /// What becomes of the touched domains, and the rows with a pattern as their domain.
-    pub(crate) fn into_parts(self) -> (Vec<(Vec<u8>, Step)>, Vec<Rule>)
+    pub(crate) fn into_parts(self) -> (Vec<(Vec<u8>, DomainStep)>, Vec<Rule>)
         ensures touched { by_text result.0.items ≡ self.touched }
         ensures patterns { result.1.items ≡ self.patterns }
     {
-        let Prepared { touched, patterns } = self;
+        let PreparedSection { touched, patterns } = self;
         (touched, patterns)
     }
 }

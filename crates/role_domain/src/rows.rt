@@ -4,7 +4,8 @@ ghost use Rattle.std.specs.Prelude.{◌≡◌, ◌≤◌, IfOk, [], length};
 ghost use Rattle.role_meaning.specs.Links.{domain_of};
 ghost use Rattle.role_domain.specs.Relations.{pair_of};
 
-use perm_base::{NoMemory, Rule, Text};
+use outside::{NoMemory, Text};
+use perm_base::Rule;
 use std::alloc::Global;
 
 /// The domain of a row: its third field, or the empty text where it has none.

@@ -21,11 +21,12 @@ use crate::domain::graph_of;
 use crate::domains::Domains;
 use crate::moves::{moved, said};
 use crate::patterns::{copy_rows, fitting, patterns_after, patterns_of};
-use crate::prepared::Prepared;
+use crate::prepared::PreparedSection;
 use crate::terms::terms_of;
 use crate::walk::{depth, distance, has_roles};
 use dist_rows::Steps;
-use perm_base::{NoMemory, RoleShape, Rule, Share, TableId, Text};
+use outside::{NoMemory, Share, Text};
+use perm_base::{RoleShape, Rule, TableId};
 use policy_table::{Edit, Rows, Tables};
 use role_graph::{Reach, RoleGraph, Room};
 use role_meaning::links_are_decided;
@@ -359,7 +360,7 @@ impl RoleSection {
         alloc: Global,
         edits: &[Edit],
         tables: &Tables,
-    ) -> Result<Prepared, NoMemory>
+    ) -> Result<PreparedSection, NoMemory>
         requires section { IsSectionOf self.old (rows tables.now.policy (G self.old.shape.number)) }
         requires possible { applies (flat edits.now) tables.now.policy ≡ true }
         requires columns { all_columns (role_columns self.old.shape)
@@ -383,14 +384,14 @@ impl RoleSection {
         let go = moved(alloc, tables, table, &said, false)?;
         let patterns = patterns_after(alloc, terms.domains, &self.patterns, &said, &come)?;
         let touched = self.domains.prepare(alloc, terms, &come, &go, &patterns)?;
-        Ok(Prepared::new(touched, patterns))
+        Ok(PreparedSection::new(touched, patterns))
     }
 
     /// Makes the edits that were prepared for this section as it stands. It takes no memory. Its time
     /// grows with the edits and, in each domain that they touch, with the distances that are kept there
     /// and change: where the last row of a role goes, with all of them. Where a role gets a role in a
     /// domain without distances, its roles are gone over, 1,024 at most.
-    pub fn commit(&mut self, prepared: Prepared)
+    pub fn commit(&mut self, prepared: PreparedSection)
         requires { (after : List Fields) × IsPreparedFor self.old after prepared }
         ensures shape { self.new.shape ≡ self.old.shape }
         ensures limit { self.new.limit ≡ self.old.limit }

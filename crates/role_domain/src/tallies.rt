@@ -11,7 +11,8 @@ ghost use Rattle.role_domain.specs.Relations.{pair_of};
 use crate::rows::pair_of;
 use crate::tally::Tally;
 use indexmap::IndexMap;
-use perm_base::{NoMemory, Rule};
+use outside::NoMemory;
+use perm_base::Rule;
 use std::alloc::Global;
 use std::marker::Model;
 

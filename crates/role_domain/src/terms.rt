@@ -3,7 +3,8 @@
 ghost use Rattle.std.specs.Prelude.{◌≡◌};
 ghost use Rattle.role_domain.specs.Relations.{fit_of, terms_of};
 
-use perm_base::{Fit, RoleShape, Share};
+use outside::Share;
+use perm_base::{Fit, RoleShape};
 
 /// How the names and the domains of a relation are compared, and the hierarchy limit.
 #[derive(Clone, Copy)]

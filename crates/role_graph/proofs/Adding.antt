@@ -15,11 +15,11 @@ use Rattle.policy_table.specs.Tables.{Fields, same}
 use Rattle.role_graph.specs.Groups.{Group, row, rows_of, times}
 use Rattle.role_graph.specs.Helps.Edits.{standing}
 use Rattle.role_graph.specs.Helps.Kept.{AreKept, AreLinks, Kept, Parts, group_of, linked_of, roles_in, roles_under}
-use Rattle.role_graph.proofs.Changing.{put_pattern, put_text}
-use Rattle.role_graph.proofs.Counting.{rows_both, some_rows, times_linked_all}
-use Rattle.role_graph.proofs.Editing.{count_more, no_other, once, this_role}
+use Rattle.role_graph.proofs.ChangeLemmas.{put_pattern, put_text}
+use Rattle.role_graph.proofs.CountLemmas.{rows_both, some_rows, times_linked_all}
+use Rattle.role_graph.proofs.EditLemmas.{count_more, no_other, once, this_role}
 use Rattle.role_graph.proofs.Entries.{Entry, is_user, lookup_roles}
-use Rattle.role_graph.proofs.Putting.{apart_from, overlay_none, others_kept, same_key, same_text}
+use Rattle.role_graph.proofs.PutLemmas.{apart_from, overlay_none, others_kept, same_key, same_text}
 
 -- ---- one list of roles is written in its place
 

@@ -13,7 +13,7 @@ use Rattle.std.proofs.lemmas.Map.Views.{IsSome-lookup_from_Contains}
 use Rattle.std.proofs.lemmas.Option.{same_Some}
 use Rattle.std.proofs.lemmas.Slice.Eq.{bytes_eq-Decides}
 use Rattle.role_graph.specs.Keyed.{by_text, found}
-use Rattle.role_graph.proofs.Putting.{same_key, same_text}
+use Rattle.role_graph.proofs.PutLemmas.{same_key, same_text}
 
 -- the key has this text
 abbrev pub is_text : List ℕ → Vec ℕ → Bool

@@ -14,8 +14,8 @@ use Rattle.role_graph.specs.Helps.Kept.{AreLinks, linked_of, Parts}
 use Rattle.role_graph.specs.Helps.Marks.{Extends, IsSet}
 use Rattle.role_graph.specs.Helps.Walks.{FitsAt, no_group}
 use Rattle.role_graph.proofs.GroupRows.{InGroup, in_group, row_stands}
-use Rattle.role_graph.proofs.Marking.{extends_weaker}
-use Rattle.role_graph.proofs.Walking.{HasMarked}
+use Rattle.role_graph.proofs.MarkLemmas.{extends_weaker}
+use Rattle.role_graph.proofs.WalkLemmas.{HasMarked}
 
 -- a group behind the first part is marked, where all of the second are
 pub behind_count : (parts : Parts) (name : List ℕ) (upto : ℕ) (all new all_after new_after : List ℕ) → length parts.patterned.groups ≤ upto → HasMarked (linked_of parts) name (length parts.plain.groups) upto all new all_after new_after → (at : ℕ) → length parts.plain.groups ≤ at → FitsAt (linked_of parts) name at → IsSet all_after at

@@ -5,7 +5,7 @@ use Rattle.dist_rows.specs.Squares.{IsSquare, cell_of, lowered, relaxed, row_of,
 use Rattle.dist_rows.proofs.CallerLemmas.{relaxed_other, relaxed_own, with_cell_column, with_cell_own, with_cell_row}
 use Rattle.role_meaning.specs.Distances.{farthest}
 use Rattle.role_meaning.specs.Least.{IsLeast}
-use Rattle.role_graph.specs.Helps.Mending.{AreHit, AreTold, IsKept, IsMending, IsReset, IsStable}
+use Rattle.role_graph.specs.Helps.Mended.{AreHit, AreTold, IsKept, IsMending, IsReset, IsStable}
 use Rattle.role_graph.specs.Helps.Squares.{Chain, IsBefore, IsBegun, IsClosed, IsMarked, IsNear, IsNodeLink}
 use Rattle.role_graph.specs.Helps.Walks.{Linked}
 use Rattle.role_graph.proofs.Chains.{chain_itself, chain_joined, chain_link, chain_none, chain_weaker}

@@ -21,12 +21,12 @@ use Rattle.role_graph.specs.Groups.{Group, row, rows_of}
 use Rattle.role_graph.specs.Helps.Distances.{ReachesBy, ReachesByGroup, ReachesBySome}
 use Rattle.role_graph.specs.Helps.Squares.{AreNodes, IsExact, name_at}
 use Rattle.role_graph.specs.Helps.Walks.{FitsAt, IsLink, Linked, no_group}
-use Rattle.role_graph.proofs.Bridging.{reaches_cases, reaches_link, reaches_none}
-use Rattle.role_graph.proofs.Editing.{once}
-use Rattle.role_graph.proofs.Gathering.{role_reached}
+use Rattle.role_graph.proofs.BridgeLemmas.{reaches_cases, reaches_link, reaches_none}
+use Rattle.role_graph.proofs.EditLemmas.{once}
+use Rattle.role_graph.proofs.GatherLemmas.{role_reached}
 use Rattle.role_graph.proofs.GroupRows.{row_stands}
 use Rattle.role_graph.proofs.Leasts.{least_alike, least_below, least_either, least_none}
-use Rattle.role_graph.proofs.Naming.{ReachesIn}
+use Rattle.role_graph.proofs.NameLemmas.{ReachesIn}
 
 -- ---- by way of a role
 

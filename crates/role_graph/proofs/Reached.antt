@@ -15,18 +15,18 @@ use Rattle.role_graph.specs.Helps.Distances.{AreWithin}
 use Rattle.role_graph.specs.Helps.Kept.{AreLinks, Parts, linked_of, roles_in}
 use Rattle.role_graph.specs.Helps.Lists.{GoesOnFrom, Lists}
 use Rattle.role_graph.specs.Helps.Marks.{IsNext, IsSet}
-use Rattle.role_graph.specs.Helps.Reaching.{HasRoleIn, IsReach, SetsAlso}
+use Rattle.role_graph.specs.Helps.ReachMarks.{HasRoleIn, IsReach, SetsAlso}
 use Rattle.role_graph.specs.Helps.Squares.{AreNodes, IsMarked, name_at}
 use Rattle.role_graph.specs.Helps.Walks.{AreReached, FitsAt, GoesOn, IsEntered, IsLink, IsRoleAt, Linked, no_group}
-use Rattle.role_graph.proofs.Bridging.{one_node, reaches_none}
-use Rattle.role_graph.proofs.Committing.{counted_stands}
-use Rattle.role_graph.proofs.Counting.{stands_from_times, times_from_stands, times_linked}
-use Rattle.role_graph.proofs.Gathering.{counted_some, role_reached}
-use Rattle.role_graph.proofs.Marking.{none_marked}
-use Rattle.role_graph.proofs.Naming.{ReachesIn}
+use Rattle.role_graph.proofs.BridgeLemmas.{one_node, reaches_none}
+use Rattle.role_graph.proofs.CommitLemmas.{counted_stands}
+use Rattle.role_graph.proofs.CountLemmas.{stands_from_times, times_from_stands, times_linked}
+use Rattle.role_graph.proofs.GatherLemmas.{counted_some, role_reached}
+use Rattle.role_graph.proofs.MarkLemmas.{none_marked}
+use Rattle.role_graph.proofs.NameLemmas.{ReachesIn}
 use Rattle.role_graph.proofs.Rooms.{nodes_many}
 use Rattle.role_graph.proofs.ShortLists.{AreSmall, IsFirstListed, IsNextListed, behind_stands, first_listed, mark_of, marks_of, next_listed, place_of}
-use Rattle.role_graph.proofs.Walking.{entered_more, first_reached, group_link, next_reached, reached_on, stuck}
+use Rattle.role_graph.proofs.WalkLemmas.{entered_more, first_reached, group_link, next_reached, reached_on, stuck}
 
 -- ---- walks that enter groups
 

@@ -11,10 +11,10 @@ use Rattle.role_graph.specs.Groups.{Group, times}
 use Rattle.role_graph.specs.Helps.Edits.{IsRun, counted_rows, overlay, standing}
 use Rattle.role_graph.specs.Helps.Kept.{Parts, roles_in}
 use Rattle.role_graph.specs.Helps.Roles.{Counted, count_of}
-use Rattle.role_graph.proofs.Committing.{counted_stands}
-use Rattle.role_graph.proofs.Counting.{times_both}
-use Rattle.role_graph.proofs.Editing.{Gives, no_other, once, this_role, times_more}
-use Rattle.role_graph.proofs.Putting.{same_text, text_itself}
+use Rattle.role_graph.proofs.CommitLemmas.{counted_stands}
+use Rattle.role_graph.proofs.CountLemmas.{times_both}
+use Rattle.role_graph.proofs.EditLemmas.{Gives, no_other, once, this_role, times_more}
+use Rattle.role_graph.proofs.PutLemmas.{same_text, text_itself}
 
 -- ---- rows that are counted
 

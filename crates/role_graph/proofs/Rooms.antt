@@ -15,7 +15,7 @@ use Rattle.role_graph.specs.Groups.{rows_of}
 use Rattle.role_graph.specs.Helps.Names.{AreTexts, items_of}
 use Rattle.role_graph.specs.Helps.Squares.{AreNodes}
 use Rattle.role_graph.specs.Helps.Walks.{Linked}
-use Rattle.role_graph.proofs.Gathering.{any_stands, stands_any}
+use Rattle.role_graph.proofs.GatherLemmas.{any_stands, stands_any}
 
 -- ---- nodes and different roles
 

@@ -14,8 +14,8 @@ use Rattle.role_graph.specs.Helps.Marks.{IsNext, IsSet}
 use Rattle.role_graph.specs.Helps.Walks.{FitsAt, GoesOn, HasSought, IsFirst, IsRoleAt, IsSought, Linked, ReachesSought, no_group}
 use Rattle.role_graph.specs.declared.walk.Sought.{Sought}
 use Rattle.role_graph.proofs.LinkLemmas.{IsPlace, fits_pattern, fits_text, pattern_fits, text_first, text_none}
-use Rattle.role_graph.proofs.Marking.{none_marked, set_here, set_keeps, set_only}
-use Rattle.role_graph.proofs.Seeking.{IsSeeking, seek_begins, seek_ends, seek_on, seek_past, seek_stops}
+use Rattle.role_graph.proofs.MarkLemmas.{none_marked, set_here, set_keeps, set_only}
+use Rattle.role_graph.proofs.SeekLemmas.{IsSeeking, seek_begins, seek_ends, seek_on, seek_past, seek_stops}
 
 -- ---- what is listed
 

@@ -13,8 +13,8 @@ use Rattle.indexmap.proofs.CallerLemmas.{insert_entry-new, keys-insert_entry-pre
 use Rattle.role_graph.specs.Helps.Names.{items_of}
 use Rattle.role_graph.specs.Helps.Roles.{Counted, HasNames, HasNoZero, IsName, count_of, number_in}
 use Rattle.role_graph.specs.Keyed.{by_text, found}
-use Rattle.role_graph.proofs.Putting.{same_key}
-use Rattle.role_graph.proofs.Editing.{once}
+use Rattle.role_graph.proofs.PutLemmas.{same_key}
+use Rattle.role_graph.proofs.EditLemmas.{once}
 
 -- one role more is counted
 pub added_one : (role name : List ℕ) (count : ℕ) (start : Counted) (new : List (List ℕ × ℕ)) → count ≡ count_of start role + 1 → ((q : List ℕ) → found new q ≡ cond (bytes_eq q role) (Some count) (found start.entries q)) → number_in new name ≡ count_of start name + once (bytes_eq name role)

@@ -6,8 +6,8 @@ pub mod Kept
 pub mod Edits
 pub mod Names
 pub mod Squares
-pub mod Mending
+pub mod Mended
 pub mod Distances
 pub mod Users
 pub mod Lists
-pub mod Reaching
+pub mod ReachMarks

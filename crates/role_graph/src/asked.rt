@@ -12,10 +12,10 @@ ghost use Rattle.role_graph.specs.Helps.Kept.{AreLinks, linked_of};
 ghost use Rattle.role_graph.specs.Helps.Roles.{nodes_of};
 ghost use Rattle.role_graph.specs.Helps.Squares.{AreNodes, IsExact, name_at};
 
-use crate::links::Links;
+use crate::link_groups::LinkGroups;
 use crate::roles::Roles;
 use dist_rows::{DistRows, Steps};
-use perm_base::Text;
+use outside::Text;
 use std::sync::ledger::Ledger;
 
 /// The greatest number of links that is told, and the greatest distance.
@@ -28,7 +28,7 @@ pub(crate) const TOO_FAR: u8 = 255;
 /// or there is none: one cell, or one for each row of a name that is no role, and none where a row
 /// links the two.
 pub(crate) fn nearest<L: Ledger>(
-    links: &Links,
+    links: &LinkGroups,
     roles: &Roles,
     square: &DistRows,
     x: &[u8],
@@ -61,7 +61,7 @@ pub(crate) fn nearest<L: Ledger>(
 
 // The same for another name, by its rows.
 fn nearest_by_rows<L: Ledger>(
-    links: &Links,
+    links: &LinkGroups,
     roles: &Roles,
     square: &DistRows,
     x: &[u8],
@@ -90,7 +90,7 @@ fn nearest_by_rows<L: Ledger>(
 
 // The least number of links by way of some of the roles.
 fn nearest_by_roles<L: Ledger>(
-    links: &Links,
+    links: &LinkGroups,
     roles: &Roles,
     square: &DistRows,
     names: &[Text],
@@ -115,7 +115,7 @@ fn nearest_by_roles<L: Ledger>(
 
 // The least number of links by way of a role.
 fn nearest_by_role<L: Ledger>(
-    _links: &Links,
+    _links: &LinkGroups,
     roles: &Roles,
     square: &DistRows,
     name: &[u8],

@@ -8,16 +8,17 @@ ghost use Rattle.role_graph.specs.Groups.{row, times};
 ghost use Rattle.role_meaning.specs.Links.{role_of, user_of};
 
 use crate::graph::{RoleGraph, graph_of};
-use crate::links::Links;
+use crate::link_groups::LinkGroups;
 use crate::roles::Roles;
-use perm_base::{Fit, NoMemory, Rule};
+use outside::NoMemory;
+use perm_base::{Fit, Rule};
 use std::alloc::Global;
 use std::marker::Model;
 
 /// A graph that is being made: rows come one after the other, and the distances between roles are found once all are there.
 /// Contracts see the rows, how names are compared with users, the hierarchy limit, and what is counted of the rows.
 pub struct GraphBuilder {
-    links: Links,
+    links: LinkGroups,
     limit: u8,
     roles: Roles,
     count: usize,
@@ -65,7 +66,7 @@ impl GraphBuilder {
         ensures counted { IsCounted result }
     {
         GraphBuilder {
-            links: Links::new(alloc, names),
+            links: LinkGroups::new(alloc, names),
             limit,
             roles: Roles::new(alloc),
             count: 0,

@@ -7,14 +7,14 @@ ghost use Rattle.role_graph.specs.Helps.Kept.{linked_of};
 ghost use Rattle.role_graph.specs.Helps.Roles.{nodes_of};
 ghost use Rattle.role_graph.specs.Helps.Squares.{AreNodes, Grows, IsBefore, IsBegun, IsClosed, IsExact, IsLinking, IsNear, IsNodeLink, name_at};
 
-use crate::inserting::insert_link;
-use crate::links::Links;
-use crate::mending::drop_gone;
-use crate::reserving::{FEW_LINKED, FEW_ROLES, count_linked};
+use crate::insertion::insert_link;
+use crate::link_groups::LinkGroups;
+use crate::repair::drop_gone;
 use crate::roles::Roles;
-use crate::touching::{MOST_NODES, NodeMarks, nodes_from};
+use crate::room::{FEW_LINKED, FEW_ROLES, count_linked};
+use crate::touched::{MOST_NODES, NodeMarks, nodes_from};
 use dist_rows::DistRows;
-use perm_base::{NoMemory, Text};
+use outside::{NoMemory, Text};
 use std::alloc::Global;
 
 /// Makes the square follow an edit that was made: `whole` tells that no role is gone, and `touched`
@@ -23,7 +23,7 @@ use std::alloc::Global;
 pub(crate) fn refresh(
     square: &mut DistRows,
     alloc: Global,
-    links: &Links,
+    links: &LinkGroups,
     roles: &Roles,
     whole: bool,
     touched: NodeMarks,
@@ -46,7 +46,11 @@ pub(crate) fn refresh(
 }
 
 /// The square of the roles of a graph.
-pub(crate) fn square_of(alloc: Global, links: &Links, roles: &Roles) -> Result<DistRows, NoMemory>
+pub(crate) fn square_of(
+    alloc: Global,
+    links: &LinkGroups,
+    roles: &Roles,
+) -> Result<DistRows, NoMemory>
     requires { AreNodes (linked_of links.now) (nodes_of roles.now) }
     ensures { IfOk result (λ square. 0 < length square.cells
         → IsExact (linked_of links.now) (nodes_of roles.now) square.cells) }
@@ -64,25 +68,25 @@ pub(crate) fn square_of(alloc: Global, links: &Links, roles: &Roles) -> Result<D
 }
 
 // Whether no distances are kept, and none are to be.
-fn is_flat(square: &DistRows, links: &Links, roles: &Roles, touched: &NodeMarks) -> bool
+fn is_flat(square: &DistRows, links: &LinkGroups, roles: &Roles, touched: &NodeMarks) -> bool
     ensures { IsTrue result → length square.now.cells ≡ 0 }
 {
     square.size() == 0 && !gets_links(links, roles, touched)
 }
 
 // Whether a touched node has a link, and distances are to be kept.
-fn gets_links(links: &Links, roles: &Roles, touched: &NodeMarks) -> bool {
+fn gets_links(links: &LinkGroups, roles: &Roles, touched: &NodeMarks) -> bool {
     has_links(links, roles, touched) && are_kept(links, roles)
 }
 
 // Whether distances are to be kept: some role has links of its own, and either the roles are few, or those with links are not.
-fn are_kept(links: &Links, roles: &Roles) -> bool {
+fn are_kept(links: &LinkGroups, roles: &Roles) -> bool {
     let linked = count_linked(links, roles);
     linked > 0 && (roles.len() <= FEW_ROLES || linked >= FEW_LINKED)
 }
 
 // Whether a touched node has a link.
-fn has_links(links: &Links, roles: &Roles, touched: &NodeMarks) -> bool {
+fn has_links(links: &LinkGroups, roles: &Roles, touched: &NodeMarks) -> bool {
     for node in 0..roles.len().min(MOST_NODES) {
         if touched[node] && links.has_fitting(roles.name_at(node)) {
             return true;
@@ -101,7 +105,7 @@ fn has_room(square: &DistRows, roles: &Roles) -> bool
 }
 
 // Makes the square follow, where there is room.
-fn follow(square: &mut DistRows, links: &Links, roles: &Roles, whole: bool, touched: NodeMarks)
+fn follow(square: &mut DistRows, links: &LinkGroups, roles: &Roles, whole: bool, touched: NodeMarks)
     requires nodes { AreNodes (linked_of links.now) (nodes_of roles.now) }
     requires few { length (nodes_of roles.now) ≤ most_nodes }
     requires before { IsTrue whole → 0 < length square.old.cells
@@ -127,7 +131,7 @@ fn keeps_places(square: &DistRows, whole: bool) -> bool
 // touched.
 fn begin(
     square: &mut DistRows,
-    links: &Links,
+    links: &LinkGroups,
     roles: &Roles,
     whole: bool,
     touched: NodeMarks,
@@ -208,7 +212,7 @@ fn add_node(square: &mut DistRows)
 }
 
 // Puts the links of touched nodes in.
-fn link_touched(square: &mut DistRows, links: &Links, roles: &Roles, touched: &NodeMarks)
+fn link_touched(square: &mut DistRows, links: &LinkGroups, roles: &Roles, touched: &NodeMarks)
     requires nodes { AreNodes (linked_of links.now) (nodes_of roles.now) }
     requires few { length (nodes_of roles.now) ≤ most_nodes }
     requires linking { IsLinking (linked_of links.now) (nodes_of roles.now) touched.now 0
@@ -224,7 +228,7 @@ fn link_touched(square: &mut DistRows, links: &Links, roles: &Roles, touched: &N
 }
 
 // Puts the links of a node in.
-fn link_node(square: &mut DistRows, links: &Links, roles: &Roles, node: u32)
+fn link_node(square: &mut DistRows, links: &LinkGroups, roles: &Roles, node: u32)
     requires closed { IsClosed square.old.cells }
     requires long { length square.old.cells ≡ length (nodes_of roles.now) }
     requires few { length (nodes_of roles.now) ≤ most_nodes }

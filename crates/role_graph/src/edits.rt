@@ -9,10 +9,11 @@ ghost use Rattle.role_graph.specs.Helps.Edits.{counted_rows, overlay, standing};
 ghost use Rattle.role_graph.specs.Helps.Roles.{count_of};
 ghost use Rattle.role_graph.specs.Helps.Walks.{no_group};
 
-use crate::links::Links;
+use crate::link_groups::LinkGroups;
 use crate::roles::Roles;
 use indexmap::IndexMap;
-use perm_base::{NoMemory, Rule, Text};
+use outside::{NoMemory, Text};
+use perm_base::Rule;
 use std::alloc::Global;
 use std::marker::Model;
 
@@ -83,7 +84,12 @@ impl Edits {
     }
 
     /// Adds a row of two fields, given the graph that is edited.
-    pub(crate) fn add(&mut self, links: &Links, alloc: Global, rule: &Rule) -> Result<(), NoMemory>
+    pub(crate) fn add(
+        &mut self,
+        links: &LinkGroups,
+        alloc: Global,
+        rule: &Rule,
+    ) -> Result<(), NoMemory>
         requires { length rule.now ≡ 2 }
         ensures { OnOk result ((one : Fields) → standing links.now self.new one
             ≡ standing links.now self.old one + (if same one rule.now then 1 else 0)) }
@@ -97,7 +103,7 @@ impl Edits {
     /// that of the roles that the user has.
     pub(crate) fn remove_counted(
         &mut self,
-        links: &Links,
+        links: &LinkGroups,
         alloc: Global,
         user: &[u8],
         gone: Roles,
@@ -113,7 +119,12 @@ impl Edits {
     }
 
     // Takes a user out, and gives the roles that it has so far.
-    fn take(&mut self, links: &Links, alloc: Global, user: &[u8]) -> Result<Vec<Text>, NoMemory>
+    fn take(
+        &mut self,
+        links: &LinkGroups,
+        alloc: Global,
+        user: &[u8],
+    ) -> Result<Vec<Text>, NoMemory>
         ensures roles { IfOk result (λ roles. roles.items
             ≡ overlay self.old (roles_in links.now user.now) user.now) }
         ensures others { OnOk result ((name : List ℕ) (base : List (List ℕ))

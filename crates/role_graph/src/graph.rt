@@ -19,19 +19,20 @@ use crate::asked::{FARTHEST, TOO_FAR, nearest};
 use crate::closure::{refresh, square_of};
 use crate::edits::Edits;
 use crate::implied::implied;
-use crate::links::Links;
-use crate::listing::listed;
-use crate::prepared::{Prepared, names_of, roles_of};
+use crate::link_groups::LinkGroups;
+use crate::prepared::{PreparedGraph, names_of, roles_of};
 use crate::reach::{Reach, Room};
-use crate::reaching::{mark_kept, mark_walked};
-use crate::removing::remove_all;
-use crate::reserving::reserve_square;
+use crate::reached_roles::{mark_kept, mark_walked};
+use crate::removal::remove_all;
+use crate::role_list::listed;
 use crate::roles::Roles;
-use crate::touching::touched;
+use crate::room::reserve_square;
+use crate::touched::touched;
 use crate::users::users_among;
 use crate::walk::{depth, distance};
 use dist_rows::{DistRows, Steps};
-use perm_base::{Fit, NoMemory, Rule, Share, Text};
+use outside::{NoMemory, Share, Text};
+use perm_base::{Fit, Rule};
 use policy_table::Rows;
 use std::alloc::Global;
 use std::marker::Model;
@@ -45,7 +46,7 @@ use std::sync::ledger::Ledger;
 /// more than 128 roles fewer than 32 have roles of their own.
 pub struct RoleGraph {
     alloc: Global,
-    links: Links,
+    links: LinkGroups,
     limit: u8,
     // How many rows have each role, and how many rows there are.
     roles: Roles,
@@ -97,7 +98,7 @@ pub fn new_graph(alloc: Global, names: Fit, limit: u8) -> RoleGraph
 {
     RoleGraph {
         alloc,
-        links: Links::new(alloc, names),
+        links: LinkGroups::new(alloc, names),
         limit,
         roles: Roles::new(alloc),
         count: 0,
@@ -108,7 +109,7 @@ pub fn new_graph(alloc: Global, names: Fit, limit: u8) -> RoleGraph
 /// A graph of links, whose rows have these roles and are so many.
 pub(crate) fn graph_of(
     alloc: Global,
-    links: Links,
+    links: LinkGroups,
     limit: u8,
     roles: Roles,
     count: usize,
@@ -302,7 +303,7 @@ impl RoleGraph {
         alloc: Global,
         insert: &[Rule],
         remove: &[Rule],
-    ) -> Result<Prepared, NoMemory>
+    ) -> Result<PreparedGraph, NoMemory>
         requires insert { All (λ row. length row ≡ 2) insert.now }
         requires remove { All (λ row. length row ≡ 2) remove.now }
         requires stand { (row : Fields) → times row remove.now ≤ times row self.old.rows }
@@ -333,11 +334,11 @@ impl RoleGraph {
             &added,
             removed.len(),
         )?;
-        Ok(Prepared::new(edits, added, removed))
+        Ok(PreparedGraph::new(edits, added, removed))
     }
 
     /// Makes edits that were prepared for the graph as it stands. It takes no memory.
-    pub fn commit(&mut self, prepared: Prepared)
+    pub fn commit(&mut self, prepared: PreparedGraph)
         requires { IsPreparedFor self.old prepared }
         ensures rows { (row : Fields) → times row self.new.rows
             ≡ times row (after prepared.changed self.old.rows) }
@@ -364,7 +365,12 @@ impl RoleGraph {
 impl Share for RoleGraph {}
 
 // Adds rows, one after the other.
-fn add_all(edits: &mut Edits, links: &Links, alloc: Global, rows: &[Rule]) -> Result<(), NoMemory>
+fn add_all(
+    edits: &mut Edits,
+    links: &LinkGroups,
+    alloc: Global,
+    rows: &[Rule],
+) -> Result<(), NoMemory>
     requires two { All (λ row. length row ≡ 2) rows.now }
     ensures { OnOk result ((row : Fields) → standing links.now edits.new row
         ≡ standing links.now edits.old row + times row rows.now) }

@@ -9,7 +9,7 @@ ghost use Rattle.role_graph.specs.Helps.Walks.{no_group};
 
 use crate::edits::copy_all;
 use indexmap::IndexMap;
-use perm_base::{NoMemory, Share, Text};
+use outside::{NoMemory, Share, Text};
 use std::alloc::Global;
 use std::marker::Model;
 

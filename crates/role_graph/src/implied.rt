@@ -12,18 +12,18 @@ ghost use Rattle.role_graph.specs.Helps.Kept.{linked_of};
 ghost use Rattle.role_graph.specs.Helps.Marks.{IsSet};
 ghost use Rattle.role_graph.specs.Helps.Names.{Adds, AreGathered, is_before};
 
-use crate::links::Links;
+use crate::link_groups::LinkGroups;
 use crate::marks::Marks;
 use crate::walk::{begin, step};
 use indexmap::IndexSet;
-use perm_base::{NoMemory, Text};
+use outside::{NoMemory, Text};
 use std::alloc::Global;
 use std::cmp::Ordering;
 
 /// The names other than `x` that it reaches by at most `most` links, the nearer first, those of one
 /// distance by bytes.
 pub(crate) fn implied(
-    links: &Links,
+    links: &LinkGroups,
     alloc: Global,
     x: &[u8],
     most: u8,
@@ -50,7 +50,7 @@ pub(crate) fn implied(
 
 // The roles of groups that are not the name and not seen yet.
 fn gather(
-    links: &Links,
+    links: &LinkGroups,
     alloc: Global,
     x: &[u8],
     groups: &Marks,

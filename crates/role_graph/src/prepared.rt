@@ -8,22 +8,23 @@ ghost use Rattle.role_graph.specs.Graph.{Edit};
 
 use crate::edits::Edits;
 use crate::names::Names;
-use perm_base::{NoMemory, Rule, Text};
+use outside::{NoMemory, Text};
+use perm_base::Rule;
 use std::alloc::Global;
 use std::marker::Model;
 
 /// An edit of a graph that `RoleGraph::commit` makes. Contracts see the users whose rows change, each
 /// with the roles that it has afterwards, and the roles of the rows that come and of those that go.
-pub struct Prepared {
+pub struct PreparedGraph {
     edits: Edits,
     added: Names,
     removed: Vec<Text>,
 }
 
 // Written out, so that a caller's proof sees one call and not the drop of each field.
-impl Drop for Prepared {
+impl Drop for PreparedGraph {
     fn drop(self) {
-        let Prepared {
+        let PreparedGraph {
             edits: _edits,
             added: _added,
             removed: _removed,
@@ -31,7 +32,7 @@ impl Drop for Prepared {
     }
 }
 
-impl Model for Prepared {
+impl Model for PreparedGraph {
     ghost use Rattle.role_graph.specs.Graph.{Edit};
 
     ghost Value = { Edit };
@@ -43,13 +44,13 @@ impl Model for Prepared {
     } };
 }
 
-impl Prepared {
-    pub(crate) fn new(edits: Edits, added: Names, removed: Vec<Text>) -> Prepared
+impl PreparedGraph {
+    pub(crate) fn new(edits: Edits, added: Names, removed: Vec<Text>) -> PreparedGraph
         ensures changed { result.changed ≡ edits }
         ensures added { result.added ≡ added }
         ensures removed { result.removed ≡ removed.items }
     {
-        Prepared {
+        PreparedGraph {
             edits,
             added,
             removed,
@@ -62,7 +63,7 @@ impl Prepared {
         ensures added { result.1 ≡ self.added }
         ensures removed { result.2.items ≡ self.removed }
     {
-        let Prepared {
+        let PreparedGraph {
             edits,
             added,
             removed,

@@ -3,11 +3,11 @@
 ghost use Rattle.std.specs.Prelude.{◌≡◌, ◌↔◌, IsTrue};
 ghost use Rattle.role_graph.specs.Groups.{rows_of};
 ghost use Rattle.role_graph.specs.Helps.Kept.{linked_of};
-ghost use Rattle.role_graph.specs.Helps.Reaching.{IsReach};
+ghost use Rattle.role_graph.specs.Helps.ReachMarks.{IsReach};
 ghost use Rattle.role_graph.specs.Helps.Roles.{nodes_of};
 ghost use Rattle.role_graph.specs.Reach.{ReachesName};
 
-use crate::links::Links;
+use crate::link_groups::LinkGroups;
 use crate::marks::Marks;
 use crate::roles::Roles;
 use std::marker::Model;
@@ -31,7 +31,7 @@ impl Room {
 /// graph, how names are compared with users, the limit, and the name.
 #[derive(Drop)]
 pub struct Reach<'a> {
-    links: &'a Links,
+    links: &'a LinkGroups,
     roles: &'a Roles,
     name: &'a [u8],
     limit: u8,
@@ -42,7 +42,7 @@ pub struct Reach<'a> {
 impl<'a> Model for Reach<'a> {
     ghost use Rattle.role_graph.specs.Groups.{rows_of};
     ghost use Rattle.role_graph.specs.Helps.Kept.{linked_of};
-    ghost use Rattle.role_graph.specs.Helps.Reaching.{IsReach};
+    ghost use Rattle.role_graph.specs.Helps.ReachMarks.{IsReach};
     ghost use Rattle.role_graph.specs.Helps.Roles.{nodes_of};
     ghost use Rattle.role_graph.specs.Reach.{Reached};
 
@@ -62,7 +62,7 @@ impl<'a> Model for Reach<'a> {
 impl<'a> Reach<'a> {
     /// That of these marks.
     pub(crate) fn of(
-        links: &'a Links,
+        links: &'a LinkGroups,
         roles: &'a Roles,
         name: &'a [u8],
         limit: u8,

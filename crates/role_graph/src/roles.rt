@@ -8,7 +8,7 @@ ghost use Rattle.role_graph.specs.Helps.Roles.{HasNames, HasNoZero, count_of, no
 
 use crate::names::Names;
 use indexmap::IndexMap;
-use perm_base::{NoMemory, Share, Text};
+use outside::{NoMemory, Share, Text};
 use std::alloc::Global;
 use std::marker::Model;
 use std::str;

@@ -6,10 +6,10 @@ ghost use Rattle.role_graph.specs.Helps.Kept.{linked_of};
 ghost use Rattle.role_graph.specs.Helps.Lists.{FitsSome, GoesOnFrom, HasSoughtFrom, Lists};
 ghost use Rattle.role_graph.specs.Helps.Walks.{FitsAt, IsEntered, IsFirst};
 
-use crate::links::Links;
+use crate::link_groups::LinkGroups;
 use crate::walk::{Sought, is_sought, some_is_sought};
 use arrayvec::ArrayVec;
-use perm_base::Text;
+use outside::Text;
 
 /// How many groups a list holds.
 const FEW: usize = 32;
@@ -19,7 +19,12 @@ pub(crate) type Listed = ArrayVec<usize, FEW>;
 
 /// The least number of links, up to `most`, by which a name reaches one that is sought, where a walk
 /// comes to no more groups than a list holds. It takes no memory.
-pub(crate) fn seek_near(links: &Links, x: &[u8], sought: Sought, most: u8) -> Option<Option<u8>>
+pub(crate) fn seek_near(
+    links: &LinkGroups,
+    x: &[u8],
+    sought: Sought,
+    most: u8,
+) -> Option<Option<u8>>
     requires { most ≤ 254 }
     ensures { IfSome result (λ found. IsFirst (linked_of links.now) sought.entry x.now most
         found) }
@@ -51,7 +56,7 @@ pub(crate) fn seek_near(links: &Links, x: &[u8], sought: Sought, most: u8) -> Op
 
 /// The groups that a name enters by at most so many links, where these are no more than a list holds.
 /// It takes no memory.
-pub(crate) fn list_entered(links: &Links, x: &[u8], most: u8) -> Option<Listed>
+pub(crate) fn list_entered(links: &LinkGroups, x: &[u8], most: u8) -> Option<Listed>
     requires { most ≤ 254 }
     ensures { IfSome result (λ listed. (at : ℕ) → Contains listed.items at
         ↔ IsEntered (linked_of links.now) x.now most at) }
@@ -76,7 +81,7 @@ pub(crate) fn list_entered(links: &Links, x: &[u8], most: u8) -> Option<Listed>
 }
 
 // Whether one of the groups from a place of the list on has a role that is sought.
-fn has_sought(links: &Links, sought: Sought, listed: &[usize], from: usize) -> bool
+fn has_sought(links: &LinkGroups, sought: Sought, listed: &[usize], from: usize) -> bool
     requires { (at : ℕ) → Contains listed.now at → at < length (linked_of links.now).groups }
     ensures { IsTrue result ↔ HasSoughtFrom (linked_of links.now) sought.entry listed.now from
         (length listed.now) }
@@ -91,7 +96,7 @@ fn has_sought(links: &Links, sought: Sought, listed: &[usize], from: usize) -> b
 
 // Lists the groups whose users the roles of the listed groups from a place on fit, and tells whether
 // there is room.
-fn list_on(links: &Links, listed: &mut Listed, from: usize) -> bool
+fn list_on(links: &LinkGroups, listed: &mut Listed, from: usize) -> bool
     requires { (at : ℕ) → Contains listed.old.items at → at < length (linked_of links.now).groups }
     ensures { result ≡ true → Lists
         (GoesOnFrom (linked_of links.now) listed.old.items from (length listed.old.items))
@@ -108,7 +113,7 @@ fn list_on(links: &Links, listed: &mut Listed, from: usize) -> bool
 }
 
 // Lists the groups whose users some of the names fits, and tells whether there is room.
-fn list_all(links: &Links, names: &[Text], listed: &mut Listed) -> bool
+fn list_all(links: &LinkGroups, names: &[Text], listed: &mut Listed) -> bool
     ensures { result ≡ true → Lists (FitsSome (linked_of links.now) names.now)
         (FitsSome (linked_of links.now) names.now) listed.old.items listed.new.items }
 {

@@ -15,17 +15,18 @@ ghost use Rattle.role_graph.specs.Helps.Users.{AreLeading, Chooses, FitsMarked, 
 ghost use Rattle.role_graph.specs.Helps.Walks.{IsRoleAt};
 
 use crate::implied::{add_one, sort};
-use crate::links::Links;
+use crate::link_groups::LinkGroups;
 use crate::marks::Marks;
 use indexmap::IndexSet;
-use perm_base::{NoMemory, Rule, Text, is_pattern};
+use outside::{NoMemory, Text};
+use perm_base::{Rule, is_pattern};
 use policy_table::Rows;
 use std::alloc::Global;
 
 /// The users of rows, no patterns and none of them `x`, that reach it by at most `most` links: each
 /// once, by bytes. The links are walked from `x` back, a level after the other.
 pub(crate) fn users_among(
-    links: &Links,
+    links: &LinkGroups,
     alloc: Global,
     x: &[u8],
     most: u8,
@@ -51,7 +52,7 @@ pub(crate) fn users_among(
 }
 
 // The groups that lead to a name by at most `most` links.
-fn leading(links: &Links, x: &[u8], most: u8) -> Marks
+fn leading(links: &LinkGroups, x: &[u8], most: u8) -> Marks
     requires { most ≤ 254 }
     ensures { AreLeading (linked_of links.now) x.now most result }
 {
@@ -67,7 +68,7 @@ fn leading(links: &Links, x: &[u8], most: u8) -> Marks
 }
 
 // The groups of which some role is a name, or fits the user of a marked group.
-fn step_back(links: &Links, x: &[u8], marks: &Marks) -> Marks
+fn step_back(links: &LinkGroups, x: &[u8], marks: &Marks) -> Marks
     ensures { (at : ℕ) → IsSet result at ↔ GoesBack (linked_of links.now) x.now marks.now at }
 {
     let mut more = Marks::new();
@@ -81,7 +82,7 @@ fn step_back(links: &Links, x: &[u8], marks: &Marks) -> Marks
 }
 
 // Whether some of the roles is a name, or fits the user of a marked group.
-fn some_on_way(links: &Links, x: &[u8], marks: &Marks, roles: &[Text]) -> bool
+fn some_on_way(links: &LinkGroups, x: &[u8], marks: &Marks, roles: &[Text]) -> bool
     ensures { IsTrue result ↔ ((role : List ℕ) × Contains roles.now role
         × IsOnWay (linked_of links.now) x.now marks.now role) }
 {
@@ -93,14 +94,14 @@ fn some_on_way(links: &Links, x: &[u8], marks: &Marks, roles: &[Text]) -> bool
     false
 }
 
-fn is_on_way(links: &Links, x: &[u8], marks: &Marks, role: &[u8]) -> bool
+fn is_on_way(links: &LinkGroups, x: &[u8], marks: &Marks, role: &[u8]) -> bool
     ensures { IsTrue result ↔ IsOnWay (linked_of links.now) x.now marks.now role.now }
 {
     role == x || fits_marked(links, marks, role)
 }
 
 // Whether a name fits the user of a marked group.
-fn fits_marked(links: &Links, marks: &Marks, name: &[u8]) -> bool
+fn fits_marked(links: &LinkGroups, marks: &Marks, name: &[u8]) -> bool
     ensures { IsTrue result ↔ FitsMarked (linked_of links.now) marks.now name.now }
 {
     let _few = links.len();
@@ -131,7 +132,7 @@ fn has_new(more: &Marks, marks: &Marks) -> bool
 // Adds the user of a row, unless it is a pattern, or does not fit the user of a marked group, or is
 // the name or seen already.
 fn add_user(
-    links: &Links,
+    links: &LinkGroups,
     alloc: Global,
     x: &[u8],
     leading: &Marks,

@@ -10,10 +10,10 @@ ghost use Rattle.role_graph.specs.Helps.Kept.{linked_of};
 ghost use Rattle.role_graph.specs.Helps.Marks.{Extends, IsNext, IsSet};
 ghost use Rattle.role_graph.specs.Helps.Walks.{FitsAt, GoesOn, HasSought, IsDistance, IsFirst, IsRoleAt, IsSought};
 
-use crate::links::Links;
+use crate::link_groups::LinkGroups;
 use crate::marks::Marks;
 use crate::short::seek_near;
-use perm_base::Text;
+use outside::Text;
 
 /// What a walk looks for: a name, or any name without roles.
 #[derive(Clone, Copy)]
@@ -24,7 +24,7 @@ pub(crate) enum Sought<'a> {
 
 /// The least number of links, up to `most`, by which one name reaches the other. It takes no
 /// memory.
-pub(crate) fn distance(links: &Links, x: &[u8], y: &[u8], most: u8) -> Option<u8>
+pub(crate) fn distance(links: &LinkGroups, x: &[u8], y: &[u8], most: u8) -> Option<u8>
     requires { most ≤ 254 }
     ensures { IsDistance (linked_of links.now) x.now y.now most result }
 {
@@ -33,7 +33,7 @@ pub(crate) fn distance(links: &Links, x: &[u8], y: &[u8], most: u8) -> Option<u8
 
 /// The least number of links, up to `most`, by which a name reaches one without roles, and one more
 /// than `most` where it reaches none. It takes no memory.
-pub(crate) fn depth(links: &Links, x: &[u8], most: u8) -> u8
+pub(crate) fn depth(links: &LinkGroups, x: &[u8], most: u8) -> u8
     requires { most ≤ 254 }
     ensures { IsDepth (shape_of links.now.names) (rows_of (linked_of links.now).groups) most None
         x.now result }
@@ -43,7 +43,7 @@ pub(crate) fn depth(links: &Links, x: &[u8], most: u8) -> u8
 }
 
 // The least number of links, up to `most`, by which a name reaches one that is sought.
-fn seek(links: &Links, x: &[u8], sought: Sought, most: u8) -> Option<u8>
+fn seek(links: &LinkGroups, x: &[u8], sought: Sought, most: u8) -> Option<u8>
     requires { most ≤ 254 }
     ensures { IsFirst (linked_of links.now) sought.entry x.now most result }
 {
@@ -55,7 +55,7 @@ fn seek(links: &Links, x: &[u8], sought: Sought, most: u8) -> Option<u8>
 
 // The same for a walk that comes to many groups, which it marks.
 #[inline(never)]
-fn seek_far(links: &Links, x: &[u8], sought: Sought, most: u8) -> Option<u8>
+fn seek_far(links: &LinkGroups, x: &[u8], sought: Sought, most: u8) -> Option<u8>
     requires { most ≤ 254 }
     ensures { IsFirst (linked_of links.now) sought.entry x.now most result }
 {
@@ -77,7 +77,7 @@ fn seek_far(links: &Links, x: &[u8], sought: Sought, most: u8) -> Option<u8>
 }
 
 /// Whether a name is sought.
-pub(crate) fn is_sought(links: &Links, sought: Sought, name: &[u8]) -> bool
+pub(crate) fn is_sought(links: &LinkGroups, sought: Sought, name: &[u8]) -> bool
     ensures { IsTrue result ↔ IsSought (linked_of links.now) sought.entry name.now }
 {
     match sought {
@@ -87,7 +87,7 @@ pub(crate) fn is_sought(links: &Links, sought: Sought, name: &[u8]) -> bool
 }
 
 /// Whether some of the names is sought.
-pub(crate) fn some_is_sought(links: &Links, sought: Sought, names: &[Text]) -> bool
+pub(crate) fn some_is_sought(links: &LinkGroups, sought: Sought, names: &[Text]) -> bool
     ensures { IsTrue result ↔ ((name : List ℕ) × Contains names.now name
         × IsSought (linked_of links.now) sought.entry name) }
 {
@@ -100,7 +100,7 @@ pub(crate) fn some_is_sought(links: &Links, sought: Sought, names: &[Text]) -> b
 }
 
 /// Marks the groups whose users a name fits, and tells which of them were not marked.
-pub(crate) fn begin(links: &Links, name: &[u8], reached: &mut Marks) -> Marks
+pub(crate) fn begin(links: &LinkGroups, name: &[u8], reached: &mut Marks) -> Marks
     ensures marked { (at : ℕ) → FitsAt (linked_of links.now) name.now at → IsSet reached.new at }
     ensures marks { IsNext (λ at. FitsAt (linked_of links.now) name.now at) reached.old
         reached.new result }
@@ -111,7 +111,7 @@ pub(crate) fn begin(links: &Links, name: &[u8], reached: &mut Marks) -> Marks
 }
 
 // Whether one of the groups has a role that is sought.
-fn has_sought(links: &Links, sought: Sought, groups: &Marks) -> bool
+fn has_sought(links: &LinkGroups, sought: Sought, groups: &Marks) -> bool
     requires { (at : ℕ) → IsSet groups.now at → at < length (linked_of links.now).groups }
     ensures { IsTrue result
         ↔ HasSought (linked_of links.now) sought.entry (IsSet groups.now) }
@@ -134,7 +134,7 @@ pub(crate) fn holds(texts: &[Text], name: &[u8]) -> bool
 }
 
 /// Goes one link on from groups, and tells which were not reached before.
-pub(crate) fn step(links: &Links, groups: &Marks, reached: &mut Marks) -> Marks
+pub(crate) fn step(links: &LinkGroups, groups: &Marks, reached: &mut Marks) -> Marks
     requires { (at : ℕ) → IsSet groups.now at → at < length (linked_of links.now).groups }
     ensures marked { (from at : ℕ) (role : List ℕ) → IsSet groups.now from
         → IsRoleAt (linked_of links.now) role from
@@ -152,7 +152,7 @@ pub(crate) fn step(links: &Links, groups: &Marks, reached: &mut Marks) -> Marks
 }
 
 // Marks the groups whose users some name fits, and notes as new those that were not marked.
-fn mark_all(links: &Links, names: &[Text], reached: &mut Marks, fresh: &mut Marks)
+fn mark_all(links: &LinkGroups, names: &[Text], reached: &mut Marks, fresh: &mut Marks)
     ensures marked { (at : ℕ) (name : List ℕ) → Contains names.now name
         → FitsAt (linked_of links.now) name at → IsSet reached.new at }
     ensures marks { Extends (λ at. (name : List ℕ) × Contains names.now name

@@ -2,12 +2,12 @@
 //! roles it has by links.
 #![tactic(auto)]
 
-mod fitting;
-mod law;
+mod fit;
+mod laws;
 mod plain;
 
-pub use fitting::fits;
-pub use law::{
+pub use fit::fits;
+pub use laws::{
     depth_is_one, distance_is_one, distance_tells_links, implied_roles_are_one,
     implied_users_are_one, links_are_decided, links_go_on, more_links_reach_no_less,
     order_by_depth, plain_names_fit_themselves_alone, same_rows_reach_the_same,

@@ -4,7 +4,7 @@ ghost use Rattle.std.specs.Prelude.{◌≡◌, ◌↔◌, IsTrue, [], get_or, op
 ghost use Rattle.role_meaning.specs.Links.{CountsIn, Reaches, user_of};
 ghost use Rattle.role_meaning.specs.Fits.{Fits};
 
-use crate::fitting::fits;
+use crate::fit::fits;
 use perm_base::{RoleShape, Rule};
 
 /// Whether the one name reaches the other by at most so many links. It tries every chain of rows,

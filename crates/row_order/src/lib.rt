@@ -3,11 +3,11 @@
 #![tactic(auto)]
 
 mod cells;
+mod compaction;
 mod counts;
 mod ids;
+mod insertion;
 mod order;
-mod packing;
-mod placing;
 mod room;
 
 pub use ids::Ids;

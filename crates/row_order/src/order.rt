@@ -23,7 +23,7 @@ ghost use Rattle.row_order.specs.Orders.{renamed};
 use crate::cells::{cell_at, cell_holding, clear_cell};
 use crate::counts::{BLOCK, number_at};
 use crate::ids::Ids;
-use crate::placing::{append, insert_at};
+use crate::insertion::{append, insert_at};
 use crate::room::{fill_cells, fill_counts, prepare_cells, prepare_counts};
 use outside::{NoMemory, Share};
 use std::alloc::Global;

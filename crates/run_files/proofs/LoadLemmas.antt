@@ -16,7 +16,7 @@ use Rattle.run_status.specs.declared.part.Part.TheVariants.{Model, Policy}
 use Rattle.run_status.specs.declared.stop.Stop.{Stop}
 use Rattle.run_status.specs.declared.stop.Stop.TheVariants.{NoModel, NoRelation, NoPolicy, CannotRead, TooLong, NoMemory}
 use Rattle.run_files.specs.Files.{FileIs, ModelSuits, ModelIs, shapes_with}
-use Rattle.run_files.specs.Helps.Reading.{ModelStops, PolicyStops, ShapesStop}
+use Rattle.run_files.specs.Helps.ReadStops.{ModelStops, PolicyStops, ShapesStop}
 use Rattle.run_files.specs.Loads.{LoadStops, both_fetches}
 
 pub model_load : (files : Option Files) (names : FileNames) (options : Option Options) (told : List FetchCall → Type 0) (rose : Type 0) (stop : Stop) → ModelStops files names.model (λ failed. told (call names.model failed ∷ [])) rose stop → LoadStops files names options told rose stop

@@ -28,7 +28,7 @@ use Rattle.run_status.specs.declared.part.Part.TheVariants.{Model, Policy, Input
 use Rattle.run_status.specs.declared.stop.Stop.{Stop}
 use Rattle.run_status.specs.declared.stop.Stop.TheVariants.{CannotRead, TooLong, NoMemory}
 use Rattle.run_files.specs.Files.{absent_in, domains_in, limit_in, names_in, shapes_with}
-use Rattle.run_files.specs.Helps.Reading.{FetchStops, ModelStops, PolicyStops, ShapesStop, fetch_stop}
+use Rattle.run_files.specs.Helps.ReadStops.{FetchStops, ModelStops, PolicyStops, ShapesStop, fetch_stop}
 
 -- a fetch that ended so, from the shelf's own clause
 pub fetch_stops : (files files_now : Option Files) (calls calls_now : Option (List FetchCall)) (faults faults_now : ℕ) (name : List ℕ) (part : Part) (reason : Fetch)

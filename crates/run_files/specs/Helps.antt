@@ -1,2 +1,2 @@
 -- What only private functions and proofs say.
-pub mod Reading
+pub mod ReadStops

@@ -6,7 +6,7 @@ use crate::status::Status;
 use log_ship::PacketFault;
 use matcher_read::MatcherFault;
 use model_conf::{ModelFault, ShapeFault};
-use perm_base::{Failed, NoMemory};
+use outside::{Failed, NoMemory};
 use policy_csv::PolicyFault;
 use script_read::ScriptFault;
 

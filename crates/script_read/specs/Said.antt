@@ -6,8 +6,8 @@ use Rattle.perm_value.specs.Datum.{Datum}
 use Rattle.perm_value.specs.Seen.{datum}
 use Rattle.perm_value.specs.declared.request.RequestFault.{RequestFault}
 use Rattle.policy_table.specs.Tables.{Fields}
-use Rattle.script_read.specs.declared.item.Asked.{Asked}
-use Rattle.script_read.specs.declared.item.Asked.TheVariants.{Request, Refused}
+use Rattle.script_read.specs.declared.item.RequestLine.{RequestLine}
+use Rattle.script_read.specs.declared.item.RequestLine.TheVariants.{Request, Refused}
 use Rattle.script_read.specs.declared.item.Item.{Item}
 use Rattle.script_read.specs.declared.item.Item.TheVariants as item
 
@@ -28,7 +28,7 @@ pub data Said : Type 0 where
   recalls : ℕ → Said
 
 -- what is seen of a request
-abbrev pub reading : Asked → Reading
+abbrev pub reading : RequestLine → Reading
 reading (Request values) = Ok (map datum values)
 reading (Refused fault) = Err fault
 

@@ -6,7 +6,8 @@ ghost use Rattle.script_read.specs.Items.{count_of, filter_of, name_of, names_of
 ghost use Rattle.script_read.specs.Items.{numeral, relation_of, rows_of, rule_of, table_of};
 
 use crate::fault::LineCause;
-use perm_base::{Rule, TableId, Text};
+use outside::Text;
+use perm_base::{Rule, TableId};
 
 /// A table, and the fields of a rule.
 pub(crate) fn rule_of(mut fields: Vec<Text>) -> Result<(TableId, Rule), LineCause>

@@ -14,7 +14,8 @@ use crate::fields::fields_at;
 use crate::line_item::alone;
 use crate::word::{ends_block, word_and_arguments};
 use edit_calls::{Call, Pairs};
-use perm_base::{NoMemory, Rule, Rules, TableId, Text};
+use outside::{NoMemory, Text};
+use perm_base::{Rule, Rules, TableId};
 use std::alloc::Global;
 use text_parts::{given_number, next_full_line};
 

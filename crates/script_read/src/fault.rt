@@ -1,6 +1,6 @@
 ghost use Rattle.std.specs.Prelude.{◌≡◌};
 
-use perm_base::NoMemory;
+use outside::NoMemory;
 
 /// Why a line is no item. Of several causes the first that is listed here is told.
 #[derive(Clone, Copy, Debug, PartialEq, Eq)]

@@ -5,7 +5,8 @@ ghost use Rattle.script_read.specs.Helps.Given.{Gives, fields_read};
 ghost use Rattle.std.specs.Prelude.{IfOk};
 
 use crate::fault::{LineCause, ScriptFault};
-use perm_base::{FieldFault, Text, read_fields};
+use outside::Text;
+use perm_base::{FieldFault, read_fields};
 use std::alloc::Global;
 
 /// Reads a text of the line of this number as fields.

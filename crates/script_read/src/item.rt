@@ -1,10 +1,11 @@
 use edit_calls::Call;
-use perm_base::{Rule, Share, TableId, Text};
+use outside::{Share, Text};
+use perm_base::{Rule, TableId};
 use perm_value::{Request, RequestFault};
 
 /// A request, or why the line is none.
 #[derive(Drop)]
-pub enum Asked {
+pub enum RequestLine {
     Request(Request),
     Refused(RequestFault),
 }
@@ -13,7 +14,7 @@ pub enum Asked {
 #[derive(Drop)]
 pub enum Item {
     /// Asks for the decision on a request.
-    Ask(Asked),
+    Ask(RequestLine),
     /// Makes a management call.
     Edit(Call),
     /// Publishes the edits so far as a version.
@@ -50,6 +51,6 @@ pub enum Item {
     History(u32),
 }
 
-impl Share for Asked {}
+impl Share for RequestLine {}
 
 impl Share for Item {}

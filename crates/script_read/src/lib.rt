@@ -10,18 +10,18 @@ mod item;
 mod laws;
 mod line_item;
 mod lines;
-mod reading;
+mod reader;
 mod requests;
 mod script;
 mod word;
 
 pub use fault::{LineCause, ScriptFault};
-pub use item::{Asked, Item};
+pub use item::{Item, RequestLine};
 pub use laws::{
     every_input_is_requests_or_at_fault, every_text_is_a_script_or_at_fault,
     faulty_text_is_no_script, input_says_one_list_of_requests, items_are_named,
     text_has_one_script_fault, text_says_one_script, texts_are_read_in_one_way,
 };
-pub use reading::read_script;
+pub use reader::read_script;
 pub use requests::{next_request, read_request, read_request_over};
 pub use script::Script;

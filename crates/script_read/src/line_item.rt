@@ -15,7 +15,7 @@ use crate::item::Item;
 use crate::requests::ask;
 use crate::word::{CallVerb, Verb, verb_named, word_and_arguments};
 use edit_calls::Call;
-use perm_base::Text;
+use outside::Text;
 use std::alloc::Global;
 
 /// Reads a line that begins no block. It has this number.

@@ -6,8 +6,8 @@ ghost use Rattle.script_read.specs.Lines.{requests_of};
 ghost use Rattle.script_read.specs.Reads.{Says};
 ghost use Rattle.script_read.specs.Said.{reading};
 
-use crate::item::Asked;
-use perm_base::NoMemory;
+use crate::item::RequestLine;
+use outside::NoMemory;
 use perm_value::{Request, RequestFault, Value, request_of_json, request_over_fields};
 use std::alloc::Global;
 use text_parts::{is_passed, next_text_line};
@@ -55,12 +55,12 @@ pub fn read_request_over(
 }
 
 /// Reads the line of a request; where it is none, the answer says why.
-pub(crate) fn ask(alloc: Global, json: bool, line: &str) -> Result<Asked, NoMemory>
+pub(crate) fn ask(alloc: Global, json: bool, line: &str) -> Result<RequestLine, NoMemory>
     ensures { IfOk result (λ asked. request_read json line.now ≡ reading asked) }
 {
     match read_request(alloc, json, line) {
-        Ok(request) => Ok(Asked::Request(request)),
+        Ok(request) => Ok(RequestLine::Request(request)),
         Err(RequestFault::NoMemory) => Err(NoMemory),
-        Err(fault) => Ok(Asked::Refused(fault)),
+        Err(fault) => Ok(RequestLine::Refused(fault)),
     }
 }

@@ -1,7 +1,7 @@
 ghost use Rattle.std.specs.Prelude.{◌≡◌, length};
 
 use crate::item::Item;
-use perm_base::Share;
+use outside::Share;
 use std::marker::Model;
 
 /// The items of a text in their order. Contracts see the list of its items.

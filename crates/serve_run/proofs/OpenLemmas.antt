@@ -12,9 +12,9 @@ use Rattle.policy_table.specs.Tables.{Policy, rows}
 use Rattle.run_files.specs.Files.{AreFiles, shapes_with}
 use Rattle.run_files.specs.Loads.{IsLoaded}
 use Rattle.serve_run.specs.Helps.Opened.{IsMade, IsOpened}
-use Rattle.serve_run.specs.declared.opened.Opened.{Opened}
+use Rattle.serve_run.specs.declared.opened.OpenedFiles.{OpenedFiles}
 
-pub opened_is : (files : Option Files) (names : FileNames) (options : Option Options) (loaded : Loaded) (opened : Opened) → IsLoaded files names options loaded → IsMade loaded opened → IsOpened files names options opened
+pub opened_is : (files : Option Files) (names : FileNames) (options : Option Options) (loaded : Loaded) (opened : OpenedFiles) → IsLoaded files names options loaded → IsMade loaded opened → IsOpened files names options opened
 opened_is files names options loaded opened is made =
     let so = made.is_opened in
     record {

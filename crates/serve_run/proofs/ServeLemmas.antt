@@ -1,8 +1,8 @@
 -- A stream that is served over what the files of a job were opened to.
 use Rattle.std.proofs.Common.{◌≡◌, ℕ, Bool, true, false, List, [], inl, inr, refl, sym, ap, subst, ◌∙◌}
 use Rattle.std.specs.Prelude.{Option, Some, None}
-use Rattle.live_round.proofs.CallerLemmas.{alone_before}
-use Rattle.live_round.specs.Desks.{StandsBehind}
+use Rattle.desk_session.proofs.CallerLemmas.{alone_before}
+use Rattle.desk_session.specs.Desks.{StandsBehind}
 use Rattle.live_serve.specs.Places.{Place, Standing, at_desk, follows, is_followers, state_at}
 use Rattle.item_stream.specs.Sections.{sections_of}
 use Rattle.live_serve.specs.Streams.{IsFirst, OfRead, Service, TookTexts, service}
@@ -18,7 +18,7 @@ use Rattle.policy_table.specs.Tables.{Policy}
 use Rattle.policy_table.specs.declared.change.Change.{Change}
 use Rattle.serve_run.specs.Helps.Opened.{IsOpened}
 use Rattle.run_files.specs.Loads.{both_fetches}
-use Rattle.serve_run.specs.declared.opened.Opened.{Opened}
+use Rattle.serve_run.specs.declared.opened.OpenedFiles.{OpenedFiles}
 use Rattle.run_status.proofs.CallerLemmas.{is_never_done}
 use Rattle.run_status.specs.Messages.{line_of}
 use Rattle.run_status.specs.Statuses.{status_of}
@@ -29,8 +29,8 @@ use Rattle.run_status.specs.declared.stop.Stop.{Stop}
 use Rattle.session_meaning.specs.Desks.{IsBehind}
 use Rattle.version_log.specs.Log.{versions}
 use Rattle.serve_run.specs.Announced.{serving_line}
-use Rattle.serve_run.specs.Helps.Serving as helps
-use Rattle.serve_run.specs.Helps.Serving.{Announces, IsReady, ServedJob, ServedOpened, StopsJob, StopsOpened, opened_service}
+use Rattle.serve_run.specs.Helps.ServedStreams as helps
+use Rattle.serve_run.specs.Helps.ServedStreams.{Announces, IsReady, ServedJob, ServedOpened, StopsJob, StopsOpened, opened_service}
 use Rattle.serve_run.specs.Moments.{AskedErr, Moment}
 use Rattle.serve_run.specs.Services as services
 use Rattle.serve_run.specs.Services.{EndsServing, HasServed, IsAnnounced, IsCutOff, IsOpen, IsServed, StopsServing, service_on}
@@ -53,7 +53,7 @@ abbrev made : Bool → Bool → ModelParts → Shapes → Policy → Service
 made json follow model shapes opening = record { json = json; follow = follow; model = model; shapes = shapes; opening = opening }
 
 -- a place with the state that was opened serves over it
-same_place : (job : Job) (opened : Opened) (place : Place) → is_followers place ≡ job.follow → state_at place ≡ opened.state → service job.json opened.program place ≡ opened_service job opened
+same_place : (job : Job) (opened : OpenedFiles) (place : Place) → is_followers place ≡ job.follow → state_at place ≡ opened.state → service job.json opened.program place ≡ opened_service job opened
 same_place job opened place kind same = ap (λ (s : State). made job.json (is_followers place) opened.program s.shapes (tables s)) same ∙ ap (λ (f : Bool). made job.json f opened.program opened.state.shapes (tables opened.state)) kind
 
 -- a follower of a state of version 0, at which nothing waits, is at its first
@@ -68,7 +68,7 @@ desk_ready at desk state is none same no_pending keeps_all floor = subst (IsRead
 pub follower_ready : (at : Standing) (follower : Following) (state : State) → at ≡ record { place = follows follower; number = 0 } → versions state.log ≡ 0 → follower.state ≡ state → follower.waiting ≡ [] → IsReady state true at
 follower_ready at follower state is none same empty = subst (IsReady state true) (sym is) (record { kind = refl; state_is = same; first = follower_first follower state none same empty; no_line = refl })
 
-module _ (job : Job) (opened : Opened) (place : Place) (kind : is_followers place ≡ job.follow) (same : state_at place ≡ opened.state) (before now : Moment) (told : Announces job opened.rules before now) where
+module _ (job : Job) (opened : OpenedFiles) (place : Place) (kind : is_followers place ≡ job.follow) (same : state_at place ≡ opened.state) (before now : Moment) (told : Announces job opened.rules before now) where
   pub stream_served : OfRead before.left now.left (λ read. TookTexts (service job.json opened.program place) before.refused now.refused (sections_of (is_followers place) read) before.out now.out) → ServedOpened job opened before now
   stream_served so = record { told = told; served = subst (λ (on : Service). IsServed on before now) (same_place job opened place kind same) so }
 
@@ -81,7 +81,7 @@ module _ (job : Job) (opened : Opened) (place : Place) (kind : is_followers plac
 abbrev pub shelved : Option (List FetchCall) → ℕ → Moment → Moment
 shelved calls faults at = record at { calls = calls; shelf_faults = faults }
 
-module _ (files : Option Files) (job : Job) (opened : Opened) (is : IsOpened files job.files job.options opened) (calls calls_now : Option (List FetchCall)) (faults faults_now : ℕ) (fetched : Adds calls calls_now (both_fetches job.files false)) where
+module _ (files : Option Files) (job : Job) (opened : OpenedFiles) (is : IsOpened files job.files job.options opened) (calls calls_now : Option (List FetchCall)) (faults faults_now : ℕ) (fetched : Adds calls calls_now (both_fetches job.files false)) where
   same_service : opened_service job opened ≡ service_on job opened.program (tables opened.state)
   same_service = ap (λ (s : Shapes). made job.json job.follow opened.program s (tables opened.state)) is.shapes_are
 

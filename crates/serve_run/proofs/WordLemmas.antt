@@ -13,7 +13,7 @@ use Rattle.command_words.specs.Items.{is_dashes, texts}
 use Rattle.command_words.specs.declared.command.Command.{Command}
 use Rattle.command_words.specs.declared.command.Command.TheVariants as command
 use Rattle.run_files.specs.Files.{limit_in}
-use Rattle.serve_run.specs.Helps.Reading.{all_texts}
+use Rattle.serve_run.specs.Helps.WordTexts.{all_texts}
 use Rattle.serve_run.specs.Words.{begins_follow, behind_follow, has_workers, is_to_follow, is_to_serve, is_workers, job_asked, job_of, session_of}
 use Rattle.serve_run.specs.declared.words.Job.{Job}
 

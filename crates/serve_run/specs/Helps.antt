@@ -1,4 +1,4 @@
 -- What only private functions and proofs say.
-pub mod Reading
-pub mod Serving
+pub mod WordTexts
+pub mod ServedStreams
 pub mod Opened

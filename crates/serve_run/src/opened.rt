@@ -1,5 +1,5 @@
 ghost use Rattle.std.specs.Prelude.{◌≡◌, ◌≤◌, ◌<◌, IfOk, IfErr, OnOk, false};
-ghost use Rattle.loaded_work.specs.Helps.Working.{IsReady};
+ghost use Rattle.loaded_work.specs.Helps.TaskSteps.{IsReady};
 ghost use Rattle.outside.specs.Faults.{Rose};
 ghost use Rattle.outside.specs.Log.{Adds};
 ghost use Rattle.run_files.specs.Files.{limit_in};
@@ -9,7 +9,8 @@ ghost use Rattle.serve_run.specs.Helps.Opened.{IsMade, IsOpened};
 use command_words::{Files, Options};
 use decision::Program;
 use loaded_work::{Loaded, open_loaded};
-use perm_base::{NoMemory, Shelf, TableId};
+use outside::{NoMemory, Shelf};
+use perm_base::TableId;
 use policy_state::PolicyState;
 use run_files::load_files;
 use run_status::Stop;
@@ -17,7 +18,7 @@ use std::alloc::Global;
 
 /// What is answered by: the program of a model, the state of a policy that suits it, and how many rules its table p has.
 #[derive(Drop)]
-pub(crate) struct Opened {
+pub(crate) struct OpenedFiles {
     pub program: Program,
     pub state: PolicyState,
     pub rules: u32,
@@ -29,7 +30,7 @@ pub(crate) fn open_files<F: Shelf>(
     shelf: &mut F,
     files: &Files<'_>,
     options: &Option<Options>,
-) -> Result<Opened, Stop>
+) -> Result<OpenedFiles, Stop>
     requires { (0 < limit_in options.now) × (limit_in options.now ≤ 250) }
     ensures opened { IfOk result (IsOpened (F.files shelf.old) files.now options.now) }
     ensures fetched { OnOk result (Adds (F.calls shelf.old) (F.calls shelf.new)
@@ -46,13 +47,13 @@ pub(crate) fn open_files<F: Shelf>(
 }
 
 // Opens what was loaded, and counts the rules of p.
-fn open_counted(alloc: Global, loaded: Loaded) -> Result<Opened, NoMemory>
+fn open_counted(alloc: Global, loaded: Loaded) -> Result<OpenedFiles, NoMemory>
     requires { IsReady loaded }
     ensures { IfOk result (IsMade loaded) }
 {
     let rules = loaded.tables.len(TableId::P);
     let opened = open_loaded(alloc, loaded)?;
-    Ok(Opened {
+    Ok(OpenedFiles {
         program: opened.program,
         state: opened.state,
         rules,

@@ -5,10 +5,10 @@ ghost use Rattle.std.specs.List.{starts_with};
 ghost use Rattle.std.specs.Option.{option_and_then};
 ghost use Rattle.run_files.specs.Files.{limit_in};
 ghost use Rattle.serve_run.specs.Words.{begins_follow, behind_follow, has_workers, is_to_follow, is_to_serve, is_workers, job_of, session_of};
-ghost use Rattle.serve_run.specs.Helps.Reading.{all_texts};
+ghost use Rattle.serve_run.specs.Helps.WordTexts.{all_texts};
 
 use command_words::{Command, Files, Options, read_words};
-use perm_base::NoMemory;
+use outside::NoMemory;
 use std::alloc::Global;
 
 /// What is done: the files, what is said of roles, whether requests are JSON, and whether the stream is a follower's.

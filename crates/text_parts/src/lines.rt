@@ -2,7 +2,7 @@ ghost use Rattle.std.specs.Prelude.{◌≡◌, ◌<◌, ◌++◌, ℕ, List, [],
 ghost use Rattle.text_parts.specs.Lines.{AreLines, has_byte, lines_of, with_ends, without_cr};
 ghost use Rattle.text_parts.specs.Numbered.{text_lines};
 
-use crate::cutting::cut_at;
+use crate::cuts::cut_at;
 
 /// The first line of a text, without its LF, and what stands behind it.
 pub fn next_line(text: &str) -> Option<(&str, &str)>

@@ -27,8 +27,8 @@ use Rattle.version_log.specs.declared.edit_fault.EditFault.{EditFault}
 use Rattle.version_log.specs.declared.edit_fault.EditFault.TheVariants.{Malformed}
 use Rattle.version_log.specs.declared.edit_read.Place.{Place}
 use Rattle.version_log.specs.declared.edit_read.Place.TheVariants.{Between, Half, Ended}
-use Rattle.version_log.specs.declared.item.Item.{Item}
-use Rattle.version_log.specs.declared.item.Item.TheVariants.{Signed, End}
+use Rattle.version_log.specs.declared.item.EditItem.{EditItem}
+use Rattle.version_log.specs.declared.item.EditItem.TheVariants.{Signed, End}
 use Rattle.version_log.specs.declared.item.Sign.{Sign}
 
 -- ---- the rule of a line
@@ -89,11 +89,11 @@ rule_decides text = by (line_decides text)
 
 -- it says something
 record SaysItem (line : List ℕ) : Type 0 where
-  item : Item
+  item : EditItem
   says : Says line item
 
 abbrev SaysNothing : List ℕ → Type 0
-SaysNothing line = (item : Item) → ¬ (Says line item)
+SaysNothing line = (item : EditItem) → ¬ (Says line item)
 
 signed_by : (byte : ℕ) (text : List ℕ) (sign : Sign) → sign_byte sign ≡ byte → HasRule (IsSpelled text) ⊎ NoRule (IsSpelled text) → SaysItem (byte ∷ 32 ∷ text) ⊎ SaysNothing (byte ∷ 32 ∷ text)
 signed_by byte text sign is (inl has) =
@@ -132,7 +132,7 @@ malformed text number is = inr (Malformed number, is)
 abbrev Goes : List ℕ → List (List ℕ) → Type 0
 Goes text rest = (front : List (List ℕ)) (changes : List Change) (place : Place) → HasRead front changes place → lines_of text ≡ front ++ rest → IsToldBy text
 
-stepped : (text line : List ℕ) (rest front : List (List ℕ)) (changes : List Change) (place : Place) (item : Item) → Goes text rest → HasRead front changes place → lines_of text ≡ front ++ line ∷ rest → Says line item → IsUtf8 line
+stepped : (text line : List ℕ) (rest front : List (List ℕ)) (changes : List Change) (place : Place) (item : EditItem) → Goes text rest → HasRead front changes place → lines_of text ≡ front ++ line ∷ rest → Says line item → IsUtf8 line
     → (after : Option (Place × Option Change)) → step place item ≡ after → IsToldBy text
 stepped text line rest front changes place item go read lines says utf8 None e =
     malformed text (number_at (length front)) (stray_at text front rest changes place line (number_at (length front)) read lines (stray_item front changes place line item read says e) refl)

@@ -29,8 +29,8 @@ use Rattle.version_log.specs.EditText.{IsNamedRule, change_items, items_of, sign
 use Rattle.version_log.specs.Helps.Items.{Says, items_at, items_by, step}
 use Rattle.version_log.specs.declared.edit_read.Place.{Place}
 use Rattle.version_log.specs.declared.edit_read.Place.TheVariants.{Between, Half, Ended}
-use Rattle.version_log.specs.declared.item.Item.{Item}
-use Rattle.version_log.specs.declared.item.Item.TheVariants.{Signed, End}
+use Rattle.version_log.specs.declared.item.EditItem.{EditItem}
+use Rattle.version_log.specs.declared.item.EditItem.TheVariants.{Signed, End}
 use Rattle.version_log.specs.declared.item.Sign.{Sign}
 use Rattle.version_log.specs.declared.item.Sign.TheVariants.{Inserted, Removed, Old, New}
 
@@ -163,14 +163,14 @@ not_end line sign table rule a says =
     absurd cc
 
 -- a line says one thing
-pub says_once : (line : List ℕ) (one other : Item) → Says line one → Says line other → one ≡ other
+pub says_once : (line : List ℕ) (one other : EditItem) → Says line one → Says line other → one ≡ other
 says_once line End End a b = refl
 says_once line End (Signed sign table rule) a b = absurd (not_end line sign table rule (line_is line sign table rule b) a)
 says_once line (Signed sign table rule) End a b = absurd (not_end line sign table rule (line_is line sign table rule a) b)
 says_once line (Signed sign table rule) (Signed other there new) a b = one_line line sign other table there rule new (line_is line sign table rule a) (line_is line other there new b)
 
 -- and holds no LF
-pub says_whole : (line : List ℕ) (item : Item) → Says line item → has_byte 10 line ≡ false
+pub says_whole : (line : List ℕ) (item : EditItem) → Says line item → has_byte 10 line ≡ false
 says_whole line End says = let e : line ≡ codes "." = cc in ap (has_byte 10) e
 says_whole line (Signed sign table rule) says =
     let a = line_is line sign table rule says in
@@ -179,11 +179,11 @@ says_whole line (Signed sign table rule) says =
 
 -- ---- where a reader stands
 
-pub run : Place → List Item → Option Place
+pub run : Place → List EditItem → Option Place
 run place [] = Some place
 run place (item ∷ items) = option_and_then (λ (after : Place). run after items) (option_map (λ (s : Place × Option Change). s.0) (step place item))
 
-run_changes : (changes : List Change) (rest : List Item) → run Between (flat_map change_items changes ++ rest) ≡ run Between rest
+run_changes : (changes : List Change) (rest : List EditItem) → run Between (flat_map change_items changes ++ rest) ≡ run Between rest
 unfolding run
 run_changes [] rest = refl
 run_changes (Insert table rule ∷ changes) rest = run_changes changes rest
@@ -194,18 +194,18 @@ run_edit : (changes : List Change) → run Between (items_of changes) ≡ Some E
 unfolding run
 run_edit changes = run_changes changes (End ∷ [])
 
-run_at : (place : Place) (rest : List Item) → run Between (items_at place ++ rest) ≡ run place rest
+run_at : (place : Place) (rest : List EditItem) → run Between (items_at place ++ rest) ≡ run place rest
 unfolding run
 run_at Between rest = refl
 run_at (Half table old) rest = refl
 run_at Ended rest = refl
 
-run_by : (changes : List Change) (place : Place) (rest : List Item) → run Between (items_by changes place ++ rest) ≡ run place rest
+run_by : (changes : List Change) (place : Place) (rest : List EditItem) → run Between (items_by changes place ++ rest) ≡ run place rest
 run_by changes place rest =
     ap (run Between) (append_assoc (flat_map change_items changes) (items_at place) rest) ∙ run_changes changes (items_at place ++ rest) ∙ run_at place rest
 
 -- no edit goes on with an item that may not stand there
-pub no_step : (changes more : List Change) (place : Place) (item : Item) (rest : List Item) → step place item ≡ None → items_of more ≡ items_by changes place ++ item ∷ rest → ⊥
+pub no_step : (changes more : List Change) (place : Place) (item : EditItem) (rest : List EditItem) → step place item ≡ None → items_of more ≡ items_by changes place ++ item ∷ rest → ⊥
 unfolding run
 no_step changes more place item rest none e =
     let stops : run place (item ∷ rest) ≡ None = ap (λ (o : Option (Place × Option Change)). option_and_then (λ (after : Place). run after rest) (option_map (λ (s : Place × Option Change). s.0) o)) none in
@@ -219,11 +219,11 @@ has_ended changes more place e =
     let both : Some Ended ≡ Some place = sym (run_edit more) ∙ ap (run Between) (e ∙ sym (append-nil (items_by changes place))) ∙ run_by changes place [] in
     cc
 
-Gives : Place → Item → Option (Place × Option Change) → Type 0
+Gives : Place → EditItem → Option (Place × Option Change) → Type 0
 Gives place item None = ⊤
 Gives place item (Some s) = flat_map change_items (option_to_list s.1) ++ items_at s.0 ≡ items_at place ++ item ∷ []
 
-step_gives : (place : Place) (item : Item) → Gives place item (step place item)
+step_gives : (place : Place) (item : EditItem) → Gives place item (step place item)
 unfolding Gives
 step_gives Between End = refl
 step_gives Between (Signed Inserted table rule) = refl
@@ -242,17 +242,17 @@ step_gives (Half table old) (Signed New there new) = by (is_table table there) r
 step_gives Ended item = tt
 
 -- what was read behind one line more
-pub after_step : (changes : List Change) (place after : Place) (item : Item) (change : Option Change) → step place item ≡ Some (after, change) → items_by (changes ++ option_to_list change) after ≡ items_by changes place ++ item ∷ []
+pub after_step : (changes : List Change) (place after : Place) (item : EditItem) (change : Option Change) → step place item ≡ Some (after, change) → items_by (changes ++ option_to_list change) after ≡ items_by changes place ++ item ∷ []
 unfolding Gives
 after_step changes place after item change e =
     let gives : flat_map change_items (option_to_list change) ++ items_at after ≡ items_at place ++ item ∷ [] = subst (Gives place item) e (step_gives place item) in
-    ap (λ (l : List Item). l ++ items_at after) (flat_map-append change_items changes (option_to_list change))
+    ap (λ (l : List EditItem). l ++ items_at after) (flat_map-append change_items changes (option_to_list change))
     ∙ append_assoc (flat_map change_items changes) (flat_map change_items (option_to_list change)) (items_at after)
-    ∙ ap (λ (l : List Item). flat_map change_items changes ++ l) gives ∙ sym (append_assoc (flat_map change_items changes) (items_at place) (item ∷ []))
+    ∙ ap (λ (l : List EditItem). flat_map change_items changes ++ l) gives ∙ sym (append_assoc (flat_map change_items changes) (items_at place) (item ∷ []))
 
 -- ---- an edit has one list of items
 
-collect : List Item → List Change
+collect : List EditItem → List Change
 collect [] = []
 collect (End ∷ items) = []
 collect (Signed Inserted table rule ∷ items) = Insert table rule ∷ collect items

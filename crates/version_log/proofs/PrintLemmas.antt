@@ -6,7 +6,7 @@ use Rattle.std.proofs.lemmas.List.Concat.{flat_map-append}
 use Rattle.policy_table.specs.declared.change.Change.{Change}
 use Rattle.text_parts.specs.Lines.{with_ends}
 use Rattle.version_log.specs.EditText.{change_items, edit_lines, item_lines, printed_edit}
-use Rattle.version_log.specs.declared.item.Item.TheVariants.{End}
+use Rattle.version_log.specs.declared.item.EditItem.TheVariants.{End}
 
 -- the text of the lines of changes
 abbrev pub changes_text : List Change → List ℕ

@@ -19,62 +19,62 @@ use Rattle.version_log.specs.declared.edit_fault.EditFault.{EditFault}
 use Rattle.version_log.specs.declared.edit_fault.EditFault.TheVariants.{Malformed, NoMemory}
 use Rattle.version_log.specs.declared.edit_read.Place.{Place}
 use Rattle.version_log.specs.declared.edit_read.Place.TheVariants.{Between, Half, Ended}
-use Rattle.version_log.specs.declared.item.Item.{Item}
-use Rattle.version_log.specs.declared.item.Item.TheVariants.{Signed, End}
+use Rattle.version_log.specs.declared.item.EditItem.{EditItem}
+use Rattle.version_log.specs.declared.item.EditItem.TheVariants.{Signed, End}
 use Rattle.version_log.specs.declared.item.Sign.TheVariants.{Old, New}
 
 -- ---- lists side by side
 
-zip_both : (lines more : List (List ℕ)) (items rest : List Item) → AllZip Says lines items → AllZip Says more rest → AllZip Says (lines ++ more) (items ++ rest)
+zip_both : (lines more : List (List ℕ)) (items rest : List EditItem) → AllZip Says lines items → AllZip Says more rest → AllZip Says (lines ++ more) (items ++ rest)
 zip_both [] more [] rest one other = other
 zip_both [] more (item ∷ items) rest one other = absurd one
 zip_both (line ∷ lines) more [] rest one other = absurd one
 zip_both (line ∷ lines) more (item ∷ items) rest one other = (one.0, zip_both lines more items rest one.1 other)
 
 -- items in two parts, beside lines in two parts
-record InParts (lines more : List (List ℕ)) (all : List Item) : Type 0 where
-  items : List Item
-  rest : List Item
+record InParts (lines more : List (List ℕ)) (all : List EditItem) : Type 0 where
+  items : List EditItem
+  rest : List EditItem
   parts : all ≡ items ++ rest
   one : AllZip Says lines items
   other : AllZip Says more rest
 
-in_parts : (lines more : List (List ℕ)) (all : List Item) → AllZip Says (lines ++ more) all → InParts lines more all
+in_parts : (lines more : List (List ℕ)) (all : List EditItem) → AllZip Says (lines ++ more) all → InParts lines more all
 in_parts [] more all says = record { items = []; rest = all; parts = refl; one = tt; other = says }
 in_parts (line ∷ lines) more [] says = absurd says
 in_parts (line ∷ lines) more (item ∷ all) says =
     let p = in_parts lines more all says.1 in
-    record { items = item ∷ p.items; rest = p.rest; parts = ap (λ (l : List Item). item ∷ l) p.parts; one = (says.0, p.one); other = p.other }
+    record { items = item ∷ p.items; rest = p.rest; parts = ap (λ (l : List EditItem). item ∷ l) p.parts; one = (says.0, p.one); other = p.other }
 
-all_once : (lines : List (List ℕ)) (one other : List Item) → AllZip Says lines one → AllZip Says lines other → one ≡ other
+all_once : (lines : List (List ℕ)) (one other : List EditItem) → AllZip Says lines one → AllZip Says lines other → one ≡ other
 all_once [] [] [] a b = refl
 all_once [] [] (item ∷ other) a b = absurd b
 all_once [] (item ∷ one) other a b = absurd a
 all_once (line ∷ lines) [] other a b = absurd a
 all_once (line ∷ lines) (item ∷ one) [] a b = absurd b
 all_once (line ∷ lines) (item ∷ one) (it ∷ other) a b =
-    ap (λ (i : Item). i ∷ one) (says_once line item it a.0 b.0) ∙ ap (λ (l : List Item). it ∷ l) (all_once lines one other a.1 b.1)
+    ap (λ (i : EditItem). i ∷ one) (says_once line item it a.0 b.0) ∙ ap (λ (l : List EditItem). it ∷ l) (all_once lines one other a.1 b.1)
 
-lines_are : (lines : List (List ℕ)) (items : List Item) → AllZip Says lines items → lines ≡ flat_map item_lines items
+lines_are : (lines : List (List ℕ)) (items : List EditItem) → AllZip Says lines items → lines ≡ flat_map item_lines items
 lines_are [] [] says = refl
 lines_are [] (item ∷ items) says = absurd says
 lines_are (line ∷ lines) [] says = absurd says
 lines_are (line ∷ lines) (item ∷ items) says =
     ap (λ (l : List (List ℕ)). line ∷ l) (lines_are lines items says.1) ∙ ap (λ (l : List (List ℕ)). l ++ flat_map item_lines items) says.0.spelling
 
-all_written : (lines : List (List ℕ)) (items : List Item) → AllZip Says lines items → AllByRecursion IsWritten items
+all_written : (lines : List (List ℕ)) (items : List EditItem) → AllZip Says lines items → AllByRecursion IsWritten items
 all_written [] [] says = tt
 all_written [] (item ∷ items) says = absurd says
 all_written (line ∷ lines) [] says = absurd says
 all_written (line ∷ lines) (item ∷ items) says = (says.0.written, all_written lines items says.1)
 
-all_whole : (lines : List (List ℕ)) (items : List Item) → AllZip Says lines items → AllByRecursion (λ (line : List ℕ). has_byte 10 line ≡ false) lines
+all_whole : (lines : List (List ℕ)) (items : List EditItem) → AllZip Says lines items → AllByRecursion (λ (line : List ℕ). has_byte 10 line ≡ false) lines
 all_whole [] items says = tt
 all_whole (line ∷ lines) [] says = absurd says
 all_whole (line ∷ lines) (item ∷ items) says = (says_whole line item says.0, all_whole lines items says.1)
 
 -- items that can be written have a line each
-item_says : (item : Item) (items : List Item) → IsWritten item → AllZip Says (flat_map item_lines items) items → AllZip Says (flat_map item_lines (item ∷ items)) (item ∷ items)
+item_says : (item : EditItem) (items : List EditItem) → IsWritten item → AllZip Says (flat_map item_lines items) items → AllZip Says (flat_map item_lines (item ∷ items)) (item ∷ items)
 item_says End items written rest = (record { spelling = refl; written = written }, rest)
 item_says (Signed sign table rule) items written rest = by (name_of table) refl written.names.named
   where
@@ -83,15 +83,15 @@ item_says (Signed sign table rule) items written rest = by (name_of table) refl 
     by (Some name) is some =
         rw is (record { spelling = rw is refl; written = written }, rest)
 
-edit_says : (items : List Item) → AllByRecursion IsWritten items → AllZip Says (flat_map item_lines items) items
+edit_says : (items : List EditItem) → AllByRecursion IsWritten items → AllZip Says (flat_map item_lines items) items
 edit_says [] written = tt
 edit_says (item ∷ items) written = item_says item items written.0 (edit_says items written.1)
 
-written_both : (items rest : List Item) → AllByRecursion IsWritten items → AllByRecursion IsWritten rest → AllByRecursion IsWritten (items ++ rest)
+written_both : (items rest : List EditItem) → AllByRecursion IsWritten items → AllByRecursion IsWritten rest → AllByRecursion IsWritten (items ++ rest)
 written_both [] rest one other = other
 written_both (item ∷ items) rest one other = (one.0, written_both items rest one.1 other)
 
-written_behind : (items rest : List Item) → AllByRecursion IsWritten (items ++ rest) → AllByRecursion IsWritten rest
+written_behind : (items rest : List EditItem) → AllByRecursion IsWritten (items ++ rest) → AllByRecursion IsWritten rest
 written_behind [] rest all = all
 written_behind (item ∷ items) rest all = written_behind items rest all.1
 
@@ -109,7 +109,7 @@ front_of_all Q (line ∷ lines) more all = (all.0, front_of_all Q lines more all
 
 -- ---- lines that were read are a front
 
-front_by : (front : List (List ℕ)) (changes more : List Change) (place : Place) (rest : List Item) → HasRead front changes place → items_of more ≡ items_by changes place ++ rest → AllByRecursion IsWritten rest → AreFront front
+front_by : (front : List (List ℕ)) (changes more : List Change) (place : Place) (rest : List EditItem) → HasRead front changes place → items_of more ≡ items_by changes place ++ rest → AllByRecursion IsWritten rest → AreFront front
 front_by front changes more place rest read e written = record {
   changes = more;
   rest = flat_map item_lines rest;
@@ -122,20 +122,20 @@ end_written : IsWritten End
 end_written = record { names = tt; whole = tt }
 
 pub front_read : (front : List (List ℕ)) (changes : List Change) (place : Place) → HasRead front changes place → AreFront front
-front_read front changes Between read = front_by front changes changes Between (End ∷ []) read (ap (λ (l : List Item). l ++ End ∷ []) (sym (append-nil (flat_map change_items changes)))) (end_written, tt)
+front_read front changes Between read = front_by front changes changes Between (End ∷ []) read (ap (λ (l : List EditItem). l ++ End ∷ []) (sym (append-nil (flat_map change_items changes)))) (end_written, tt)
 front_read front changes Ended read = front_by front changes changes Ended [] read (sym (append-nil (items_by changes Ended))) tt
 front_read front changes (Half table old) read =
     let written = written_behind (flat_map change_items changes) (Signed Old table old ∷ []) (all_written front (items_by changes (Half table old)) read.says) in
     let items : items_of (changes ++ Replace table old old ∷ []) ≡ items_by changes (Half table old) ++ Signed New table old ∷ End ∷ []
-    = ap (λ (l : List Item). l ++ End ∷ []) (flat_map-append change_items changes (Replace table old old ∷ []))
+    = ap (λ (l : List EditItem). l ++ End ∷ []) (flat_map-append change_items changes (Replace table old old ∷ []))
     ∙ append_assoc (flat_map change_items changes) (Signed Old table old ∷ Signed New table old ∷ []) (End ∷ []) ∙ sym (append_assoc (flat_map change_items changes) (Signed Old table old ∷ []) (Signed New table old ∷ End ∷ [])) in
     front_by front changes (changes ++ Replace table old old ∷ []) (Half table old) (Signed New table old ∷ End ∷ []) read items (record { names = written.0.names; whole = written.0.whole }, (end_written, tt))
 
 -- a line behind them that is one of an edit's
 record GoesOn (changes : List Change) (place : Place) (line : List ℕ) : Type 0 where
   more : List Change
-  item : Item
-  rest : List Item
+  item : EditItem
+  rest : List EditItem
   items : items_of more ≡ items_by changes place ++ item ∷ rest
   says : Says line item
   utf8 : IsUtf8 line
@@ -146,24 +146,24 @@ goes_on front changes place line read f =
     = subst (λ (l : List (List ℕ)). AllZip Says l (items_of f.changes)) (f.parts ∙ append_assoc front (line ∷ []) f.rest) (edit_says (items_of f.changes) f.writable) in
     let p = in_parts front (line ∷ f.rest) (items_of f.changes) says in
     let same : p.items ≡ items_by changes place = all_once front p.items (items_by changes place) p.one read.says in
-    by p.rest p.other (p.parts ∙ ap (λ (l : List Item). l ++ p.rest) same)
+    by p.rest p.other (p.parts ∙ ap (λ (l : List EditItem). l ++ p.rest) same)
   where
-    by : (rest : List Item) → AllZip Says (line ∷ f.rest) rest → items_of f.changes ≡ items_by changes place ++ rest → GoesOn changes place line
+    by : (rest : List EditItem) → AllZip Says (line ∷ f.rest) rest → items_of f.changes ≡ items_by changes place ++ rest → GoesOn changes place line
     by [] other e = absurd other
     by (item ∷ rest) other e = record { more = f.changes; item = item; rest = rest; items = e; says = other.0; utf8 = last_of IsUtf8 front line f.utf8 }
 
-pub stray_line : (front : List (List ℕ)) (changes : List Change) (place : Place) (line : List ℕ) → HasRead front changes place → (IsUtf8 line → (item : Item) → ¬ (Says line item)) → ¬ (AreFront (front ++ line ∷ []))
+pub stray_line : (front : List (List ℕ)) (changes : List Change) (place : Place) (line : List ℕ) → HasRead front changes place → (IsUtf8 line → (item : EditItem) → ¬ (Says line item)) → ¬ (AreFront (front ++ line ∷ []))
 stray_line front changes place line read nothing f =
     let g = goes_on front changes place line read f in
     nothing g.utf8 g.item g.says
 
-pub stray_item : (front : List (List ℕ)) (changes : List Change) (place : Place) (line : List ℕ) (item : Item) → HasRead front changes place → Says line item → step place item ≡ None → ¬ (AreFront (front ++ line ∷ []))
+pub stray_item : (front : List (List ℕ)) (changes : List Change) (place : Place) (line : List ℕ) (item : EditItem) → HasRead front changes place → Says line item → step place item ≡ None → ¬ (AreFront (front ++ line ∷ []))
 stray_item front changes place line item read says none f =
     let g = goes_on front changes place line read f in
     let same : g.item ≡ item = says_once line g.item item g.says says in
-    no_step changes g.more place item g.rest none (g.items ∙ ap (λ (i : Item). items_by changes place ++ i ∷ g.rest) same)
+    no_step changes g.more place item g.rest none (g.items ∙ ap (λ (i : EditItem). items_by changes place ++ i ∷ g.rest) same)
 
-pub taken_line : (front : List (List ℕ)) (changes all : List Change) (place after : Place) (line : List ℕ) (item : Item) (change : Option Change) → HasRead front changes place → Says line item × IsUtf8 line → has_byte 10 line ≡ false
+pub taken_line : (front : List (List ℕ)) (changes all : List Change) (place after : Place) (line : List ℕ) (item : EditItem) (change : Option Change) → HasRead front changes place → Says line item × IsUtf8 line → has_byte 10 line ≡ false
     → step place item ≡ Some (after, change) → all ≡ changes ++ option_to_list change → HasRead (front ++ line ∷ []) all after
 taken_line front changes all place after line item change read is whole steps e =
     let items : items_by all after ≡ items_by changes place ++ item ∷ [] = ap (λ (l : List Change). items_by l after) e ∙ after_step changes place after item change steps in
@@ -372,11 +372,11 @@ only_fault_from text (Err NoMemory) (Malformed line) found fault is = λ some. a
 
 -- ---- what is printed
 
-written_of : (items : List Item) → AllByRecursion NamesRule items → AllByRecursion IsWhole items → AllByRecursion IsWritten items
+written_of : (items : List EditItem) → AllByRecursion NamesRule items → AllByRecursion IsWhole items → AllByRecursion IsWritten items
 written_of [] names whole = tt
 written_of (item ∷ items) names whole = (record { names = names.0; whole = whole.0 }, written_of items names.1 whole.1)
 
-whole_more : (items rest : List Item) → AllByRecursion IsWhole items → AllByRecursion IsWhole rest → AllByRecursion IsWhole (items ++ rest)
+whole_more : (items rest : List EditItem) → AllByRecursion IsWhole items → AllByRecursion IsWhole rest → AllByRecursion IsWhole (items ++ rest)
 whole_more [] rest one other = other
 whole_more (item ∷ items) rest one other = (one.0, whole_more items rest one.1 other)
 
@@ -385,7 +385,7 @@ pub change_whole : (changes : List Change) (at : ℕ) (change : Change) → at <
 change_whole changes at change within is all one =
     let next : take (at + 1) changes ≡ take at changes ++ change ∷ [] = take_more changes at change within ∙ ap (λ (c : Change). take at changes ++ c ∷ []) (sym is) in
     let items : flat_map change_items (take (at + 1) changes) ≡ flat_map change_items (take at changes) ++ change_items change
-    = ap (flat_map change_items) next ∙ flat_map-append change_items (take at changes) (change ∷ []) ∙ ap (λ (l : List Item). flat_map change_items (take at changes) ++ l) (append-nil (change_items change)) in
+    = ap (flat_map change_items) next ∙ flat_map-append change_items (take at changes) (change ∷ []) ∙ ap (λ (l : List EditItem). flat_map change_items (take at changes) ++ l) (append-nil (change_items change)) in
     subst (AllByRecursion IsWhole) (sym items) (whole_more (flat_map change_items (take at changes)) (change_items change) all one)
 
 -- what is printed of an edit is its text

@@ -14,8 +14,8 @@ use Rattle.policy_table.specs.Tables.{Fields}
 use Rattle.version_log.proofs.ItemLemmas.{line_is, named_fields, says_line}
 use Rattle.version_log.specs.EditText.{sign_byte}
 use Rattle.version_log.specs.Helps.Items.{IsNamed, IsPrinted, IsSpelled, Says}
-use Rattle.version_log.specs.declared.item.Item.{Item}
-use Rattle.version_log.specs.declared.item.Item.TheVariants.{Signed, End}
+use Rattle.version_log.specs.declared.item.EditItem.{EditItem}
+use Rattle.version_log.specs.declared.item.EditItem.TheVariants.{Signed, End}
 use Rattle.version_log.specs.declared.item.Sign.{Sign}
 
 pub rest_whole : (fields rest : Fields) → rest ≡ remove fields 0 → list_any has_line_end fields ≡ false → list_any has_line_end rest ≡ false
@@ -69,12 +69,12 @@ line_spelled line text sign other table rule parts says =
     record { name = is.name; named = is.named; spelling = cc; some = is.writable.some; few = is.writable.few; fields = is.fields }
 
 -- a sign and no rule
-pub signed_nothing : (line text : List ℕ) (sign : Sign) → line ≡ sign_byte sign ∷ 32 ∷ text → ((table : TableId) (rule : Fields) → ¬ (IsSpelled text table rule)) → (item : Item) → ¬ (Says line item)
+pub signed_nothing : (line text : List ℕ) (sign : Sign) → line ≡ sign_byte sign ∷ 32 ∷ text → ((table : TableId) (rule : Fields) → ¬ (IsSpelled text table rule)) → (item : EditItem) → ¬ (Says line item)
 signed_nothing line text sign parts none End says = let e : line ≡ codes "." = cc in absurd cc
 signed_nothing line text sign parts none (Signed other table rule) says = none table rule (line_spelled line text sign other table rule parts says)
 
 -- no sign, and not the last line
-pub unsigned_nothing : (line : List ℕ) → line ≢ codes "." → ((sign : Sign) (rest : List ℕ) → ¬ (line ≡ sign_byte sign ∷ 32 ∷ rest)) → (item : Item) → ¬ (Says line item)
+pub unsigned_nothing : (line : List ℕ) → line ≢ codes "." → ((sign : Sign) (rest : List ℕ) → ¬ (line ≡ sign_byte sign ∷ 32 ∷ rest)) → (item : EditItem) → ¬ (Says line item)
 unsigned_nothing line other none End says = other cc
 unsigned_nothing line other none (Signed sign table rule) says =
     let is = line_is line sign table rule says in

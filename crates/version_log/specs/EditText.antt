@@ -12,8 +12,8 @@ use Rattle.policy_table.specs.declared.change.Change.TheVariants.{Insert, Remove
 use Rattle.text_parts.specs.Lines.{lines_of, with_ends}
 use Rattle.version_log.specs.declared.edit_fault.EditFault.{EditFault}
 use Rattle.version_log.specs.declared.edit_fault.EditFault.TheVariants.{Malformed, NoMemory}
-use Rattle.version_log.specs.declared.item.Item.{Item}
-use Rattle.version_log.specs.declared.item.Item.TheVariants.{Signed, End}
+use Rattle.version_log.specs.declared.item.EditItem.{EditItem}
+use Rattle.version_log.specs.declared.item.EditItem.TheVariants.{Signed, End}
 use Rattle.version_log.specs.declared.item.Sign.{Sign}
 use Rattle.version_log.specs.declared.item.Sign.TheVariants.{Inserted, Removed, Old, New}
 
@@ -25,18 +25,18 @@ sign_byte Old = 60
 sign_byte New = 62
 
 -- what the lines of a change say
-abbrev pub change_items : Change → List Item
+abbrev pub change_items : Change → List EditItem
 change_items (Insert table rule) = Signed Inserted table rule ∷ []
 change_items (Remove table rule) = Signed Removed table rule ∷ []
 change_items (Replace table old new) = Signed Old table old ∷ Signed New table new ∷ []
 
 -- what the lines of an edit say
-abbrev pub items_of : List Change → List Item
+abbrev pub items_of : List Change → List EditItem
 items_of changes = flat_map change_items changes ++ End ∷ []
 
 -- a line is its sign, a blank, and the table's name and the rule's fields, as fields are printed; a table without a name has
 -- no line
-abbrev pub item_lines : Item → List (List ℕ)
+abbrev pub item_lines : EditItem → List (List ℕ)
 item_lines (Signed sign table rule) = option_map_or (λ (name : List ℕ). (sign_byte sign ∷ 32 ∷ field.printed (name ∷ rule)) ∷ []) (name_of table) []
 item_lines End = codes "." ∷ []
 
@@ -55,7 +55,7 @@ pub record IsNamedRule (table : TableId) (rule : Fields) : Type 0 where
   pub few : length rule ≤ 32
 
 -- a line names such a rule
-abbrev pub NamesRule : Item → Type 0
+abbrev pub NamesRule : EditItem → Type 0
 NamesRule (Signed sign table rule) = IsNamedRule table rule
 NamesRule End = ⊤
 
@@ -64,12 +64,12 @@ abbrev pub NameRules : List Change → Type 0
 NameRules changes = AllByRecursion NamesRule (items_of changes)
 
 -- no field of the rule that a line names holds a line end
-abbrev pub IsWhole : Item → Type 0
+abbrev pub IsWhole : EditItem → Type 0
 IsWhole (Signed sign table rule) = AreFields rule
 IsWhole End = ⊤
 
 -- what a line may say: such a rule, without line ends
-pub record IsWritten (item : Item) : Type 0 where
+pub record IsWritten (item : EditItem) : Type 0 where
   pub names : NamesRule item
   pub whole : IsWhole item
 

@@ -1,6 +1,6 @@
 ghost use Rattle.std.specs.Prelude.{◌≡◌};
 
-use perm_base::NoMemory;
+use outside::NoMemory;
 
 /// Why a text is not read as an edit. Lines are counted from 1; a number above 2^32 - 1 is given as 2^32 - 1.
 #[derive(Clone, Copy, Debug, PartialEq, Eq)]

@@ -3,10 +3,11 @@ ghost use Rattle.std.specs.List.{AllByRecursion};
 ghost use Rattle.perm_base.specs.LineEnds.{AreFields};
 ghost use Rattle.text_parts.specs.Lines.{with_ends};
 ghost use Rattle.version_log.specs.EditText.{IsEditText, IsWhole, NameRules, change_items, item_lines, printed_edit};
-ghost use Rattle.version_log.specs.declared.item.Item.TheVariants.{Signed};
+ghost use Rattle.version_log.specs.declared.item.EditItem.TheVariants.{Signed};
 
 use crate::item::Sign;
-use perm_base::{NoMemory, Rule, TableId, Text, push_named};
+use outside::{NoMemory, Text};
+use perm_base::{Rule, TableId, push_named};
 use policy_table::{Change, Edit};
 use std::alloc::Global;
 

@@ -6,9 +6,10 @@ ghost use Rattle.version_log.specs.Helps.Items.{HasRead, step};
 ghost use Rattle.version_log.specs.declared.edit_fault.EditFault as declared;
 
 use crate::edit_fault::EditFault;
-use crate::item::{Item, Sign};
+use crate::item::{EditItem, Sign};
 use crate::item_read::read_item;
-use perm_base::{NoMemory, Rule, TableId};
+use outside::NoMemory;
+use perm_base::{Rule, TableId};
 use policy_table::{Change, Edit};
 use std::alloc::Global;
 
@@ -102,13 +103,13 @@ fn take(alloc: Global, reading: Reading, line: &[u8]) -> Result<Option<Reading>,
 }
 
 // The place behind a line, and the change that it completes.
-fn step(place: Place, item: Item) -> Option<(Place, Option<Change>)>
+fn step(place: Place, item: EditItem) -> Option<(Place, Option<Change>)>
     ensures { result ≡ step place item }
 {
     match place {
         Place::Between => match item {
-            Item::End => Some((Place::Ended, None)),
-            Item::Signed { sign, table, rule } => match sign {
+            EditItem::End => Some((Place::Ended, None)),
+            EditItem::Signed { sign, table, rule } => match sign {
                 Sign::Inserted => Some((Place::Between, Some(Change::Insert { table, rule }))),
                 Sign::Removed => Some((Place::Between, Some(Change::Remove { table, rule }))),
                 Sign::Old => Some((Place::Half { table, old: rule }, None)),
@@ -116,7 +117,7 @@ fn step(place: Place, item: Item) -> Option<(Place, Option<Change>)>
             },
         },
         Place::Half { table, old } => match item {
-            Item::Signed {
+            EditItem::Signed {
                 sign: Sign::New,
                 table: there,
                 rule: new,

@@ -18,7 +18,7 @@ pub(crate) enum Sign {
 
 /// What a line of an edit's text says.
 #[derive(Drop)]
-pub(crate) enum Item {
+pub(crate) enum EditItem {
     /// A rule of a table, behind a sign.
     Signed {
         sign: Sign,

@@ -6,27 +6,28 @@ ghost use Rattle.version_log.specs.EditText.{sign_byte};
 ghost use Rattle.version_log.specs.Helps.Items.{IsNamed, IsPrinted, IsReadAs, IsSpelled};
 ghost use Rattle.version_log.specs.declared.item.Sign as declared_sign;
 
-use crate::item::{Item, Sign};
-use perm_base::{FieldFault, NoMemory, Rule, TableId, Text, print_fields, read_fields};
+use crate::item::{EditItem, Sign};
+use outside::{NoMemory, Text};
+use perm_base::{FieldFault, Rule, TableId, print_fields, read_fields};
 use std::alloc::Global;
 
 const MOST_FIELDS: usize = 32;
 
 /// What a line says, if it is spelled as it is printed.
-pub(crate) fn read_item(alloc: Global, line: &[u8]) -> Result<Option<Item>, NoMemory>
+pub(crate) fn read_item(alloc: Global, line: &[u8]) -> Result<Option<EditItem>, NoMemory>
     ensures { IfOk result (IsReadAs line.now) }
 {
     let Ok(line) = str::from_utf8(line) else {
         return Ok(None);
     };
     if line == "." {
-        return Ok(Some(Item::End));
+        return Ok(Some(EditItem::End));
     }
     let Some((sign, text)) = cut_sign(line) else {
         return Ok(None);
     };
     match read_rule(alloc, text)? {
-        Some((table, rule)) => Ok(Some(Item::Signed { sign, table, rule })),
+        Some((table, rule)) => Ok(Some(EditItem::Signed { sign, table, rule })),
         None => Ok(None),
     }
 }

@@ -2,7 +2,7 @@ ghost use Rattle.std.specs.Prelude.{◌≡◌, ◌+◌, ◌-◌, ◌<◌, ◌≤
 ghost use Rattle.policy_table.specs.declared.change.Change.{Change};
 ghost use Rattle.version_log.specs.Log.{Stands, most_versions, versions};
 
-use perm_base::{NoMemory, Share};
+use outside::{NoMemory, Share};
 use policy_table::{Edit, copy_edit};
 use std::alloc::Global;
 use std::collections::VecDeque;

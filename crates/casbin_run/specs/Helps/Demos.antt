@@ -7,7 +7,7 @@ use Rattle.run_status.specs.Told.{IsTold}
 use Rattle.run_status.specs.declared.status.Status.{Status}
 use Rattle.run_status.specs.declared.status.Status.TheVariants.{Done, NoMemory, WriteFault}
 use Rattle.run_status.specs.declared.stop.Stop.TheVariants as stop
-use Rattle.loaded_work.specs.Helps.Working.{Showed, ShowedSome}
+use Rattle.loaded_work.specs.Helps.TaskSteps.{Showed, ShowedSome}
 use Rattle.loaded_work.specs.Sinks.{Taken}
 
 abbrev pub DemoEnds : (count workers : ℕ) → (out out_now err err_now : Taken) → Status → Type 0

@@ -7,7 +7,7 @@ use Rattle.policy_table.specs.Tables.{Fields, rows}
 use Rattle.matcher_meaning.specs.Cases.{Case}
 use Rattle.matcher_meaning.specs.Verdicts.{case_of}
 use Rattle.decision.specs.Helps.Parts.{IsProgram}
-use Rattle.decision.specs.Helps.Reaching.{KnowsLinks}
+use Rattle.decision.specs.Helps.ReachedNames.{KnowsLinks}
 use Rattle.decision.specs.declared.asking.Asking.{Asking}
 
 -- the request over the tables of the policy, without a row, and with nothing refused

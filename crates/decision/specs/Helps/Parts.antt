@@ -10,8 +10,8 @@ use Rattle.matcher_meaning.specs.Perm.{names_policy}
 use Rattle.matcher_code.specs.Compiled.{as_answer}
 use Rattle.matcher_code.specs.Machine.{CodeComesTo}
 use Rattle.matcher_code.specs.Rules.{CodeParts}
-use Rattle.matcher_code.specs.Running.{some_takes_memory}
-use Rattle.decision.specs.Helps.Planning.{IsPlanOf}
+use Rattle.matcher_code.specs.RunEnds.{some_takes_memory}
+use Rattle.decision.specs.Helps.KeptPlans.{IsPlanOf}
 use Rattle.decision.specs.declared.plan.KeptPlan.{KeptPlan}
 
 -- the code of the model's matcher, whether this names a column of the policy, the places of the columns `eft` and `dom`, and what is kept of the plan

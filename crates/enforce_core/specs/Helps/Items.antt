@@ -1,6 +1,6 @@
 -- What an item comes to that is done at a desk.
 use Rattle.std.specs.Prelude.{Result, Ok, Err}
-use Rattle.live_round.specs.Steps.{IsStopped}
+use Rattle.desk_session.specs.Steps.{IsStopped}
 use Rattle.policy_desk.specs.Desks.{Work}
 use Rattle.script_read.specs.Said.{Said}
 use Rattle.enforce_core.specs.Called.{IsDone, IsTold}

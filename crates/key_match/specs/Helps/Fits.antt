@@ -5,8 +5,8 @@ use Rattle.key_match.specs.Patterns.{is_some_text}
 use Rattle.key_match.specs.Helps.Tokens.{pieces_at}
 use Rattle.key_match.specs.declared.token.Dialect.{Dialect}
 use Rattle.key_match.specs.declared.fit.Place.{Place}
-use Rattle.key_match.specs.declared.fit.Stop.{Stop}
-use Rattle.key_match.specs.declared.fit.Stop.TheVariants as stop
+use Rattle.key_match.specs.declared.fit.RunEnd.{RunEnd}
+use Rattle.key_match.specs.declared.fit.RunEnd.TheVariants as stop
 use Rattle.key_match.specs.declared.fit.Reach.{Reach}
 use Rattle.key_match.specs.declared.fit.Reach.TheVariants as reach
 
@@ -58,7 +58,7 @@ pub record GoesTo (dialect : Dialect) (pattern key : List ℕ) (pieces : List Pi
   pub ahead : IsAhead pattern key from to
 
 -- what each stop says
-abbrev pub StopsAt : Dialect → List ℕ → List ℕ → Place → Stop → Type 0
+abbrev pub StopsAt : Dialect → List ℕ → List ℕ → Place → RunEnd → Type 0
 StopsAt dialect pattern key from stop.Fits = pieces_fit (pieces_from dialect pattern from) (drop from.key key) ≡ true
 StopsAt dialect pattern key from stop.Mismatch = pieces_fit (pieces_from dialect pattern from) (drop from.key key) ≡ false
 StopsAt dialect pattern key from stop.KeyEnded = end_fits (pieces_fit (pieces_from dialect pattern from)) (drop from.key key) ≡ false

@@ -9,7 +9,7 @@ use Rattle.key_match.specs.declared.token.Token.TheVariants as token
 use Rattle.key_match.specs.declared.token.ByteTest.{ByteTest}
 use Rattle.key_match.specs.declared.token.ByteTest.TheVariants as test
 use Rattle.key_match.specs.declared.token.Reading.{Reading}
-use Rattle.key_match.specs.declared.token.Item.{Item}
+use Rattle.key_match.specs.declared.token.ClassItem.{ClassItem}
 
 abbrev pub set_of : ByteTest → ByteSet
 set_of (test.Only byte) = Only byte
@@ -63,7 +63,7 @@ pub record IsReadAt (dialect : Dialect) (pattern : List ℕ) (at : ℕ) (found :
   pub within : found.next ≤ length pattern
 
 -- the item read at a place of a class is the first of its ranges
-pub record IsItemAt (items : List ℕ) (at : ℕ) (found : Item) : Type 0 where
+pub record IsItemAt (items : List ℕ) (at : ℕ) (found : ClassItem) : Type 0 where
   pub ranges : ranges_of (drop at items) ≡ record { first = found.first; last = found.last } ∷ ranges_of (drop found.next items)
   pub after : at < found.next
   pub within : found.next ≤ length items

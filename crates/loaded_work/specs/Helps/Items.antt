@@ -3,7 +3,7 @@ use Rattle.std.specs.Prelude.{ℕ, String}
 use Rattle.std.specs.declared.alloc.Global.{Global}
 use Rattle.answer_lines.specs.LineText.{Appends, line_text}
 use Rattle.answer_lines.specs.declared.answer.Answer.{Answer}
-use Rattle.live_round.specs.Steps.{IsStep}
+use Rattle.desk_session.specs.Steps.{IsStep}
 use Rattle.model_conf.specs.ModelText.{ModelParts}
 use Rattle.policy_desk.specs.Desks.{Work}
 use Rattle.regex_gate.specs.Refusals.{Refusals}

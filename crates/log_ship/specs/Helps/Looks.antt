@@ -1,7 +1,7 @@
 -- What is found where a packet is looked at before anything changes.
 use Rattle.std.specs.Prelude.{◌≡◌, ◌+◌, ◌≤◌, true, false, List, Option, Some, None, Result, Ok, Err}
 use Rattle.log_ship.specs.Followers.{Following, version_of}
-use Rattle.log_ship.specs.Taking.{IsAnswer, Reads, TextReading, is_repeated, may_come, most_ahead, take_answer}
+use Rattle.log_ship.specs.Taken.{IsAnswer, Reads, TextReading, is_repeated, may_come, most_ahead, take_answer}
 use Rattle.log_ship.specs.declared.packet.Packet.{Packet}
 use Rattle.log_ship.specs.declared.taken.TakeRefused.{TakeRefused}
 use Rattle.policy_table.specs.declared.change.Change.{Change}

@@ -1,7 +1,7 @@
 -- Edits that wait, as they are kept: their numbers beside them.
 use Rattle.std.specs.Prelude.{◌≡◌, ℕ, ◌+◌, ◌==◌, if◌then◌else◌, suc, List, [], ◌∷◌, Option, IfSome}
 use Rattle.log_ship.specs.Followers.{Following, Held, IsFollowing}
-use Rattle.log_ship.specs.Taking.{admitted, run_from}
+use Rattle.log_ship.specs.Taken.{admitted, run_from}
 use Rattle.policy_state.specs.States.{State, tables}
 use Rattle.policy_table.specs.Held.{Held as HeldTables}
 use Rattle.policy_table.specs.declared.change.Change.{Change}

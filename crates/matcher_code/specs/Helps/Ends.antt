@@ -18,15 +18,15 @@ use Rattle.matcher_code.specs.declared.calls.Called.{Called}
 use Rattle.matcher_code.specs.declared.calls.Called.TheVariants as called
 use Rattle.matcher_code.specs.declared.halt.Halt.{Halt}
 use Rattle.matcher_code.specs.declared.halt.Halt.TheVariants as halt
-use Rattle.matcher_code.specs.Running.{case_of, searches}
+use Rattle.matcher_code.specs.RunEnds.{case_of, searches}
 use Rattle.matcher_code.specs.declared.asked.Asked.{Asked}
 use Rattle.matcher_code.specs.declared.op.Op.{Op}
 use Rattle.matcher_code.specs.declared.op.Instruction.{Instruction}
 use Rattle.matcher_code.specs.declared.op.Instruction.TheVariants as i
 use Rattle.matcher_code.specs.declared.step.Step.{Step}
 use Rattle.matcher_code.specs.declared.step.Step.TheVariants as step
-use Rattle.matcher_code.specs.declared.stop.Stop.{Stop}
-use Rattle.matcher_code.specs.declared.stop.Stop.TheVariants as stop
+use Rattle.matcher_code.specs.declared.no_truth.NoTruth.{NoTruth}
+use Rattle.matcher_code.specs.declared.no_truth.NoTruth.TheVariants as stop
 
 -- an answer over borrowed parts
 abbrev pub answer_of : Result View Fault → Evaluation
@@ -105,7 +105,7 @@ IsAskedRightly (i.Role number names) = (names ≡ 2) ⊎ (names ≡ 3)
 IsAskedRightly _ = ⊤
 
 -- why a run stopped: a search that was refused is a fault of its place
-abbrev pub stop_of : Halt → Stop
+abbrev pub stop_of : Halt → NoTruth
 stop_of (halt.Fault fault) = stop.Fault fault
 stop_of (halt.Refused at pattern) = stop.Fault (record { cause = Pattern; at = at })
 stop_of halt.NoMemory = stop.NoMemory

@@ -9,7 +9,7 @@ use Rattle.matcher_meaning.specs.Answers.{Evaluation, fails}
 use Rattle.matcher_meaning.specs.Cases.{Case, where_refused}
 use Rattle.matcher_code.specs.Machine.{Runs}
 use Rattle.matcher_code.specs.Rules.{height_at}
-use Rattle.matcher_code.specs.Running.{searches}
+use Rattle.matcher_code.specs.RunEnds.{searches}
 use Rattle.matcher_code.specs.declared.halt.Halt.{Halt}
 use Rattle.matcher_code.specs.declared.halt.Halt.TheVariants as halt
 use Rattle.matcher_code.specs.declared.op.Op.{Op}

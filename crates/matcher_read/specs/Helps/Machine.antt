@@ -4,7 +4,7 @@ use Rattle.std.specs.Str.{bytes_eq}
 use Rattle.std.specs.Str.Parse.{digits_value}
 use Rattle.matcher_read.specs.Calls.{callee_of, is_known, takes}
 use Rattle.matcher_read.specs.Expression.{Expression, text, whole, evaluated, negation, opposite, binary, among, call, expressions_of}
-use Rattle.matcher_read.specs.Helps.Naming.{policy_of, request_of, truth_of}
+use Rattle.matcher_read.specs.Helps.NameParts.{policy_of, request_of, truth_of}
 use Rattle.matcher_read.specs.Matcher.{first_wide, most_levels}
 use Rattle.matcher_read.specs.Tokens.{Placed, Token, name, called, number, unclosed, operator, exclamation, opening, closing, comma}
 use Rattle.matcher_read.specs.Tokens as token

@@ -4,8 +4,8 @@ use Rattle.model_conf.specs.Sections.{Entry, entry, said_fault}
 use Rattle.model_conf.specs.Statements.{LineContent, header, pair, nothing}
 use Rattle.model_conf.specs.declared.fault.ModelFault.{ModelFault}
 use Rattle.model_conf.specs.declared.fault.ModelFault.TheVariants as fault
-use Rattle.model_conf.specs.declared.saying.LineContent.{LineContent as ContentBytes}
-use Rattle.model_conf.specs.declared.saying.LineContent.TheVariants as said
+use Rattle.model_conf.specs.declared.line_content.LineContent.{LineContent as ContentBytes}
+use Rattle.model_conf.specs.declared.line_content.LineContent.TheVariants as said
 use Rattle.model_conf.specs.declared.sections.Section.{Section}
 use Rattle.model_conf.specs.declared.sections.Section.TheVariants as section
 

@@ -13,8 +13,8 @@ use Rattle.text_parts.specs.Lines.{has_byte}
 use Rattle.version_log.specs.EditText.{IsWritten, change_items, item_lines}
 use Rattle.version_log.specs.declared.edit_read.Place.{Place}
 use Rattle.version_log.specs.declared.edit_read.Place.TheVariants.{Between, Half, Ended}
-use Rattle.version_log.specs.declared.item.Item.{Item}
-use Rattle.version_log.specs.declared.item.Item.TheVariants.{Signed, End}
+use Rattle.version_log.specs.declared.item.EditItem.{EditItem}
+use Rattle.version_log.specs.declared.item.EditItem.TheVariants.{Signed, End}
 use Rattle.version_log.specs.declared.item.Sign.TheVariants.{Inserted, Removed, Old, New}
 
 -- the fields are the name of a table and a rule of 1 to 32 fields
@@ -42,17 +42,17 @@ pub record IsPrinted (text : List ℕ) (fields : Fields) : Type 0 where
   pub whole : AreFields fields
 
 -- the line says this
-pub record Says (line : List ℕ) (item : Item) : Type 0 where
+pub record Says (line : List ℕ) (item : EditItem) : Type 0 where
   pub spelling : line ∷ [] ≡ item_lines item
   pub written : IsWritten item
 
 -- what a line of UTF-8 is read as: what it says, or nothing where it says nothing
-abbrev pub IsReadAs : List ℕ → Option Item → Type 0
-IsReadAs line None = IsUtf8 line → (item : Item) → ¬ (Says line item)
+abbrev pub IsReadAs : List ℕ → Option EditItem → Type 0
+IsReadAs line None = IsUtf8 line → (item : EditItem) → ¬ (Says line item)
 IsReadAs line (Some item) = Says line item × IsUtf8 line
 
 -- the place behind a line, and the change that it completes; none where it may not stand there
-abbrev pub step : Place → Item → Option (Place × Option Change)
+abbrev pub step : Place → EditItem → Option (Place × Option Change)
 step Between End = Some (Ended, None)
 step Between (Signed Inserted table rule) = Some (Between, Some (Insert table rule))
 step Between (Signed Removed table rule) = Some (Between, Some (Remove table rule))
@@ -66,13 +66,13 @@ step (Half table old) (Signed New there new) = if is_table table there then Some
 step Ended item = None
 
 -- what was read since the last change that is complete
-abbrev pub items_at : Place → List Item
+abbrev pub items_at : Place → List EditItem
 items_at Between = []
 items_at (Half table old) = Signed Old table old ∷ []
 items_at Ended = End ∷ []
 
 -- what was read
-abbrev pub items_by : List Change → Place → List Item
+abbrev pub items_by : List Change → Place → List EditItem
 items_by changes place = flat_map change_items changes ++ items_at place
 
 -- these lines were read, each whole, up to this place behind these changes

@@ -3,7 +3,7 @@ use Rattle.std.specs.Prelude.{string_bytes}
 use Rattle.std.specs.Str.{IsUtf8}
 use Rattle.script_read.specs.Lines.{requests_of}
 use Rattle.script_read.specs.Reads.{Reader}
-use Rattle.cached_work.specs.Helps.Caching.{IsGoodCache}
+use Rattle.cached_work.specs.Helps.CacheSteps.{IsGoodCache}
 use Rattle.cached_work.proofs.CachedLemmas.{IsCached}
 use Rattle.loaded_work.proofs.CallerLemmas.{run_over, seen_between}
 use Rattle.cached_work.proofs.cached.print_cached.Given as goal

@@ -1,6 +1,6 @@
 use Rattle.std.proofs.Common.{refl}
 use Rattle.answer_lines.specs.declared.answer.Answer.TheVariants as answer
-use Rattle.live_round.proofs.CallerLemmas.{answers_fault}
+use Rattle.desk_session.proofs.CallerLemmas.{answers_fault}
 use Rattle.cached_work.proofs.cached.push_asked.Goals as goal
 
 pub returns-in_ok-push_line-in-Refused-clause-told : goal.returns-in_ok-push_line-in-Refused-clause-told

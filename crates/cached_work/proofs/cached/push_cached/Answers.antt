@@ -1,5 +1,5 @@
 use Rattle.std.proofs.lemmas.Result.{IfOk-weaker}
-use Rattle.live_round.proofs.CallerLemmas.{none_asked, on_err_of}
+use Rattle.desk_session.proofs.CallerLemmas.{none_asked, on_err_of}
 use Rattle.script_read.specs.Said.{reading}
 use Rattle.cached_work.proofs.cached.push_cached.Goals as goal
 

@@ -1,6 +1,6 @@
 use Rattle.std.proofs.Common.{ap, map, refl}
 use Rattle.answer_lines.specs.declared.answer.Answer.TheVariants as answer
-use Rattle.live_round.proofs.CallerLemmas.{answers_arity, answers_decided, decided_printable}
+use Rattle.desk_session.proofs.CallerLemmas.{answers_arity, answers_decided, decided_printable}
 use Rattle.perm_value.specs.Seen.{datum}
 use Rattle.version_log.specs.Log.{versions}
 use Rattle.cached_work.proofs.CachedLemmas.{found_turn}

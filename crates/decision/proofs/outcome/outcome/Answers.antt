@@ -2,8 +2,8 @@ use Rattle.std.proofs.Common.{rules, ◌≡◌, ◌∙◌, List, Bool, Ok, Err, 
 use Rattle.std.specs.Prelude.{option_copied}
 use Rattle.effect_fold.specs.declared.outcome.Outcome.TheVariants.{Unmatched}
 use Rattle.perm_value.specs.Datum.{truth}
-use Rattle.matcher_code.specs.Running.{IsAnswer}
-use Rattle.matcher_code.specs.declared.stop.Stop.{Stop}
+use Rattle.matcher_code.specs.RunEnds.{IsAnswer}
+use Rattle.matcher_code.specs.declared.no_truth.NoTruth.{NoTruth}
 use Rattle.matcher_meaning.specs.Cases.{at_row}
 use Rattle.matcher_meaning.specs.Perm.{outcome_of}
 use Rattle.regex_gate.specs.Refusals.{RefusedOnly}
@@ -28,4 +28,4 @@ pub returns-in-Err-Fault-clause-comes : goal.returns-in-Err-Fault-clause-comes
 returns-in-Err-Fault-clause-comes g c =
     let Refused : Option (List ℕ) → Type 0 = RefusedOnly (g.P.Finder.refusals c.args.finder.now) (g.P.Finder.refusals c.truth.new.finder) in
     comes_to_fault (case_in c.args.asking.now) Refused (option_copied c.args.row) c.in-Err-Fault.fault
-    (subst (λ (why : Stop). IsAnswer {X = Bool} (SaysTruth (at_row (case_in c.args.asking.now) (option_copied c.args.row))) truth Refused (Err why)) c.in-Err-Fault.field-0-is c.in-Err-Fault.ensures.truth)
+    (subst (λ (why : NoTruth). IsAnswer {X = Bool} (SaysTruth (at_row (case_in c.args.asking.now) (option_copied c.args.row))) truth Refused (Err why)) c.in-Err-Fault.field-0-is c.in-Err-Fault.ensures.truth)

@@ -1,6 +1,6 @@
 use Rattle.std.proofs.Common.{◌≡◌, ◌++◌, drop, map}
 use Rattle.decision.specs.Plans.{policy_places}
-use Rattle.decision.specs.Helps.Planning.{pair_seen}
+use Rattle.decision.specs.Helps.KeptPlans.{pair_seen}
 use Rattle.decision.proofs.plan.policy_places.Given as goal
 
 abbrev pub invariant-loop-pair : goal.invariant-loop-pair

@@ -1,6 +1,6 @@
 use Rattle.std.proofs.Common.{◌≡◌, ◌++◌, drop, map}
 use Rattle.model_conf.specs.Shapes.{place_of}
-use Rattle.decision.specs.Helps.Planning.{asked_in, seen}
+use Rattle.decision.specs.Helps.KeptPlans.{asked_in, seen}
 use Rattle.decision.proofs.plan.push_asked.Given as goal
 
 abbrev pub invariant-loop-part : goal.invariant-loop-part

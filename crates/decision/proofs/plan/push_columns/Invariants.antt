@@ -1,7 +1,7 @@
 use Rattle.std.proofs.Common.{◌≡◌, ◌++◌, drop, map}
 use Rattle.matcher_read.specs.Expression.{expression, expressions_of}
 use Rattle.model_conf.specs.Shapes.{place_of}
-use Rattle.decision.specs.Helps.Planning.{asked_among}
+use Rattle.decision.specs.Helps.KeptPlans.{asked_among}
 use Rattle.decision.proofs.plan.push_columns.Given as goal
 
 abbrev pub invariant-loop-tree : goal.invariant-loop-tree

@@ -1,6 +1,6 @@
 use Rattle.std.proofs.Common.{◌≡◌, ◌++◌, drop, map}
 use Rattle.decision.specs.Plans.{pairs_in}
-use Rattle.decision.specs.Helps.Planning.{pair_seen, seen}
+use Rattle.decision.specs.Helps.KeptPlans.{pair_seen, seen}
 use Rattle.decision.proofs.plan.push_pairs.Given as goal
 
 abbrev pub invariant-loop-part : goal.invariant-loop-part

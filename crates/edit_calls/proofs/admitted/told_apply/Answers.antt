@@ -1,6 +1,6 @@
 use Rattle.std.proofs.Common.{rules, arith, refl, ◌≡◌, false, true, sym, subst, ◌∙◌}
 use Rattle.std.proofs.lemmas.Option.{slice_get_read}
-use Rattle.edit_calls.specs.Helps.Standing.{AreTold}
+use Rattle.edit_calls.specs.Helps.ToldRules.{AreTold}
 use Rattle.edit_calls.proofs.StandingLemmas.{goes_on, made_behind, none_applies, none_told, stops}
 use Rattle.edit_calls.proofs.admitted.told_apply.Goals as goal
 

@@ -1,6 +1,6 @@
 use Rattle.std.proofs.Common.{◌≡◌, true, take}
 use Rattle.policy_table.specs.Changes.{applies, edited}
-use Rattle.edit_calls.specs.Helps.Standing.{AreTold}
+use Rattle.edit_calls.specs.Helps.ToldRules.{AreTold}
 use Rattle.edit_calls.proofs.admitted.told_apply.Given as goal
 
 -- the changes in front apply, and behind them rules stand as is told

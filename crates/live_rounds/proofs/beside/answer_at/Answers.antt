@@ -1,4 +1,4 @@
-use Rattle.live_round.proofs.CallerLemmas.{on_err_of}
+use Rattle.desk_session.proofs.CallerLemmas.{on_err_of}
 use Rattle.live_rounds.proofs.StepLemmas.{admin_step, admin_stopped}
 use Rattle.script_read.specs.Said.{seen}
 use Rattle.live_rounds.proofs.beside.answer_at.Goals as goal

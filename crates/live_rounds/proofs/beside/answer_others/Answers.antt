@@ -1,5 +1,5 @@
 use Rattle.std.proofs.Common.{◌≡◌, ◌++◌, ◌∷◌, [], rules, sym, ◌∙◌}
-use Rattle.live_round.proofs.CallerLemmas.{on_err_of}
+use Rattle.desk_session.proofs.CallerLemmas.{on_err_of}
 use Rattle.live_rounds.proofs.BesideLemmas.{done_all, done_asked, done_first, done_more, done_stopped, done_unsaid}
 use Rattle.live_rounds.proofs.beside.answer_others.Goals as goal
 

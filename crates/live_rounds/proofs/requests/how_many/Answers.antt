@@ -2,7 +2,7 @@ use Rattle.std.proofs.Common.{rules, tests, ◌∙◌}
 use Rattle.std.proofs.lemmas.Iterator.{YieldsList-from_slice}
 use Rattle.std.proofs.lemmas.Iterator.Consumers.{YieldsList-from_filter, count_from_yields_List}
 use Rattle.std.proofs.lemmas.List.Sums.{length-filter}
-use Rattle.live_round.specs.Steps.{is_request}
+use Rattle.desk_session.specs.Steps.{is_request}
 use Rattle.script_read.specs.Said.{seen}
 use Rattle.script_read.specs.declared.item.Item.{Item}
 use Rattle.live_rounds.proofs.requests.how_many.Goals as goal

@@ -3,7 +3,7 @@ use Rattle.decision.specs.Programs.{Suits}
 use Rattle.policy_desk.specs.Desks.{Work}
 use Rattle.policy_state.specs.States.{State}
 use Rattle.script_read.specs.Said.{seen}
-use Rattle.live_round.proofs.CallerLemmas.{on_err_of}
+use Rattle.desk_session.proofs.CallerLemmas.{on_err_of}
 use Rattle.live_rounds.proofs.AdminLemmas.{amid_first}
 use Rattle.live_rounds.proofs.EndLemmas.{round_printable}
 use Rattle.live_rounds.proofs.RoundsLemmas.{used_alike}

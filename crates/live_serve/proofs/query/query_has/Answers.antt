@@ -2,8 +2,8 @@ use Rattle.std.proofs.Common.{Err, Ok, Option, refl, sym, subst}
 use Rattle.std.proofs.lemmas.Result.{IfOk-weaker}
 use Rattle.answer_lines.specs.declared.answer.Answer.{Answer}
 use Rattle.answer_lines.specs.declared.answer.Answer.TheVariants as answer
-use Rattle.live_serve.specs.Helps.Asking.{IsQueried}
-use Rattle.live_round.proofs.CallerLemmas.{refused_is}
+use Rattle.live_serve.specs.Helps.Asked.{IsQueried}
+use Rattle.desk_session.proofs.CallerLemmas.{refused_is}
 use Rattle.live_serve.proofs.QueryLemmas.{has_reply, told_query}
 use Rattle.live_serve.proofs.query.query_has.Goals as goal
 

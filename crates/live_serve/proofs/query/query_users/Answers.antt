@@ -2,7 +2,7 @@ use Rattle.std.proofs.Common.{Err, Ok, List, Option, ℕ, refl, subst}
 use Rattle.std.proofs.lemmas.Result.{IfOk-weaker}
 use Rattle.std.specs.Option.{option_copied}
 use Rattle.answer_lines.specs.declared.answer.Answer.TheVariants as answer
-use Rattle.live_round.proofs.CallerLemmas.{refused_is}
+use Rattle.desk_session.proofs.CallerLemmas.{refused_is}
 use Rattle.live_serve.proofs.QueryLemmas.{users_reply, same_users, told_query}
 use Rattle.live_serve.proofs.query.query_users.Goals as goal
 

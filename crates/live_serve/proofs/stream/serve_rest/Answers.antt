@@ -4,7 +4,7 @@ use Rattle.std.proofs.lemmas.Result.{IfErr-weaker, err_from_is_err_and, on_ok_we
 use Rattle.item_stream.specs.Sections.{Section, left_at}
 use Rattle.outside.specs.Faults.{Rose}
 use Rattle.regex_gate.proofs.CallerLemmas.{used_none}
-use Rattle.live_serve.specs.Helps.Ending.{LeavesEnded, TakesEnded}
+use Rattle.live_serve.specs.Helps.Ended.{LeavesEnded, TakesEnded}
 use Rattle.live_serve.specs.Places.{is_followers}
 use Rattle.live_serve.specs.Standings.{standing}
 use Rattle.live_serve.proofs.PieceLemmas.{ended_stops}

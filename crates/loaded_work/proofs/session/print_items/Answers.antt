@@ -1,6 +1,6 @@
 use Rattle.std.proofs.Common.{◌∙◌, ◌+◌, ap, arith, drop, map, refl, take}
 use Rattle.std.proofs.lemmas.Result.{err_from_is_err_and}
-use Rattle.live_round.proofs.CallerLemmas.{stands_before}
+use Rattle.desk_session.proofs.CallerLemmas.{stands_before}
 use Rattle.policy_state.specs.States.{tables}
 use Rattle.script_read.specs.Said.{seen}
 use Rattle.loaded_work.proofs.ItemLemmas.{named_at, seen_left, seen_parts, seen_whole, served_all, served_memory, served_moved, served_next, served_none, served_used, served_write, unserved_used}

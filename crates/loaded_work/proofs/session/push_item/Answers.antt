@@ -1,5 +1,5 @@
 use Rattle.std.proofs.lemmas.Result.{on_ok_weaker}
-use Rattle.live_round.proofs.CallerLemmas.{none_asked, on_err_of, request_step}
+use Rattle.desk_session.proofs.CallerLemmas.{none_asked, on_err_of, request_step}
 use Rattle.script_read.specs.Said.{reading}
 use Rattle.loaded_work.proofs.session.push_item.Goals as goal
 

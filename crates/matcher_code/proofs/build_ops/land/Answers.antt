@@ -1,6 +1,6 @@
 use Rattle.std.proofs.Common.{rules, ◌≡◌, ◌<◌, length, get_or, set, sym, ap, ◌∙◌}
 use Rattle.std.proofs.lemmas.List.Edits.{map_over_more}
-use Rattle.matcher_code.specs.Helps.Landing.{landed}
+use Rattle.matcher_code.specs.Helps.Targets.{landed}
 use Rattle.matcher_code.specs.declared.op.Op.{Op}
 use Rattle.matcher_code.proofs.build_ops.land.Goals as goal
 

@@ -1,5 +1,5 @@
 use Rattle.std.proofs.Common.{◌≡◌, ◌++◌, map, take, drop}
-use Rattle.matcher_code.specs.Helps.Landing.{landed}
+use Rattle.matcher_code.specs.Helps.Targets.{landed}
 use Rattle.matcher_code.proofs.build_ops.land.Given as goal
 
 abbrev pub invariant-loop-op : goal.invariant-loop-op

@@ -2,7 +2,7 @@ use Rattle.std.proofs.Common.{rules, ◌≡◌, ◌<◌, ◌++◌, ◌∷◌, []
 use Rattle.std.specs.Prelude.{unwrap_or}
 use Rattle.matcher_read.specs.Expression.{expression, place}
 use Rattle.matcher_code.specs.Compiled.{attributes, joins, names_asked, op_at, op_or_none, skip}
-use Rattle.matcher_code.specs.Helps.Landing.{landed}
+use Rattle.matcher_code.specs.Helps.Targets.{landed}
 use Rattle.matcher_code.specs.declared.op.Op.{Op}
 use Rattle.matcher_code.specs.declared.op.Instruction.TheVariants as i
 use Rattle.matcher_code.proofs.BuildTrees.{among_pushed, arguments_more, binary_pushed, function_pushed, if_ok, members_more, negation_pushed, opposite_pushed, relation_pushed, request_pushed}

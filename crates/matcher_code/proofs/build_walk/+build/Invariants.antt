@@ -1,7 +1,7 @@
 use Rattle.std.proofs.Common.{◌≡◌, ◌^◌, ◌<◌, ◌++◌, drop, length, map}
 use Rattle.matcher_read.specs.Expression.{expression, expressions_of}
 use Rattle.matcher_code.specs.Compiled.{arguments, members}
-use Rattle.matcher_code.specs.Helps.Placing.{each_placed}
+use Rattle.matcher_code.specs.Helps.NodePlaces.{each_placed}
 use Rattle.matcher_code.proofs.build_walk.+build.Given as goal
 
 abbrev pub invariant-push_arguments-loop-tree : goal.invariant-push_arguments-loop-tree

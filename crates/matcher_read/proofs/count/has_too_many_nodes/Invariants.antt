@@ -1,5 +1,5 @@
 use Rattle.std.proofs.Common.{◌≡◌, ◌+◌, ◌≤◌, length}
-use Rattle.matcher_read.specs.Helps.Counting.{node_count}
+use Rattle.matcher_read.specs.Helps.Counts.{node_count}
 use Rattle.matcher_read.specs.Matcher.{most_nodes}
 use Rattle.matcher_read.proofs.count.has_too_many_nodes.Given as goal
 

@@ -1,6 +1,6 @@
 use Rattle.std.proofs.Common.{refl, ap, sym, ◌∙◌, rules}
 use Rattle.matcher_read.specs.Calls.{takes}
-use Rattle.matcher_read.specs.Helps.Taking.{callee}
+use Rattle.matcher_read.specs.Helps.TakenTokens.{callee}
 use Rattle.matcher_read.proofs.CallLemmas.{count_trees}
 use Rattle.matcher_read.proofs.nodes.call.Goals as goal
 

@@ -1,6 +1,6 @@
 use Rattle.std.proofs.Common.{ℕ, List, ap, ◌∙◌, subst, sym, ◌<◌}
 use Rattle.std.specs.Str.{IsCharBoundary}
-use Rattle.matcher_read.specs.Helps.Cutting.{name_size}
+use Rattle.matcher_read.specs.Helps.Cuts.{name_size}
 use Rattle.matcher_read.proofs.FrontLemmas.{boundary-name, name_some}
 use Rattle.matcher_read.proofs.token.first_name.Goals as goal
 

@@ -1,5 +1,5 @@
 use Rattle.std.proofs.Common.{ℕ, ◌-◌, ◌<◌, ◌≤◌, List, length, get_or, Some, IfSome, ap, ◌∙◌, subst, sym}
-use Rattle.matcher_read.specs.Helps.Cutting.{Found}
+use Rattle.matcher_read.specs.Helps.Cuts.{Found}
 use Rattle.matcher_read.proofs.FrontLemmas.{kind-none, kind-name, kind-number, kind-text, kind-sign, boundary-sign}
 use Rattle.matcher_read.proofs.token.first_token.Goals as goal
 

@@ -1,5 +1,5 @@
 use Rattle.std.proofs.Common.{◌≡◌, ◌+◌, ◌-◌, ◌≤◌, drop, length}
-use Rattle.matcher_read.specs.Helps.Cutting.{name_size}
+use Rattle.matcher_read.specs.Helps.Cuts.{name_size}
 use Rattle.matcher_read.proofs.token.name_size.Given as goal
 
 abbrev pub invariant-loop-size : goal.invariant-loop-size

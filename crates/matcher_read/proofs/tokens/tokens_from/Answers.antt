@@ -1,5 +1,5 @@
 use Rattle.std.proofs.Common.{◌∷◌, None, Some, ap, ◌∙◌, subst, sym, arith}
-use Rattle.matcher_read.specs.Helps.Cutting.{begins_opening, cut, listed, marked}
+use Rattle.matcher_read.specs.Helps.Cuts.{begins_opening, cut, listed, marked}
 use Rattle.matcher_read.specs.Tokens.{Token, placed, with_calls}
 use Rattle.matcher_read.specs.Helps.TokenLists.{HasDigits, token_of}
 use Rattle.matcher_read.proofs.ListLemmas.{IsListed, has_digits, listed-token, listed-end, at_end}

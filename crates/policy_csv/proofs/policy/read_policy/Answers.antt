@@ -1,6 +1,6 @@
 use Rattle.std.proofs.Common.{◌≡◌, ℕ, List, Ok, Err, length, refl, sym, ap, subst, ◌∙◌, arith, rules}
 use Rattle.std.specs.Str.{IsUtf8}
-use Rattle.policy_csv.specs.Helps.Filling.{IsFilled, ranked_if}
+use Rattle.policy_csv.specs.Helps.Filled.{IsFilled, ranked_if}
 use Rattle.text_parts.specs.Full.{full_lines}
 use Rattle.policy_table.specs.Tables.{Policy, without_rules}
 use Rattle.text_parts.specs.Numbered.{Line}

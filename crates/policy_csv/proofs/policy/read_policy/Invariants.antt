@@ -2,7 +2,7 @@ use Rattle.std.proofs.Common.{◌≡◌, ◌+◌, ◌≤◌, length}
 use Rattle.std.specs.Str.{IsUtf8}
 use Rattle.policy_csv.proofs.PolicyLemmas.{whole}
 use Rattle.policy_csv.proofs.ReadingLemmas.{reading}
-use Rattle.policy_csv.specs.Helps.Filling.{IsFilled, ranked_if}
+use Rattle.policy_csv.specs.Helps.Filled.{IsFilled, ranked_if}
 use Rattle.text_parts.specs.Full.{full_lines}
 use Rattle.policy_csv.proofs.policy.read_policy.Given as goal
 

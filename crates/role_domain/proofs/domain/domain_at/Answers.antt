@@ -1,7 +1,7 @@
 use Rattle.std.proofs.Common.{◌∙◌, Bool, List, ℕ, ap, arith, length, refl}
 use Rattle.policy_table.specs.Tables.{Fields, rows}
 use Rattle.role_domain.specs.Relations.{Tells}
-use Rattle.role_domain.proofs.Bringing.{tells_of, test_of}
+use Rattle.role_domain.proofs.BringLemmas.{tells_of, test_of}
 use Rattle.role_domain.proofs.Placed.{all_few, made_right, places_few}
 use Rattle.role_graph.specs.Groups.{times}
 use Rattle.role_domain.proofs.domain.domain_at.Goals as goal

@@ -2,7 +2,7 @@ use Rattle.std.proofs.Common.{◌≡◌, ◌∙◌, length, refl, ap, sym, subst
 use Rattle.std.proofs.lemmas.List.Elements.{All-push}
 use Rattle.policy_table.specs.Tables.{Fields}
 use Rattle.std.specs.Prelude.{All}
-use Rattle.role_domain.proofs.Fitting.{counted_all, fitting_more, fitting_past, told_as}
+use Rattle.role_domain.proofs.FitLemmas.{counted_all, fitting_more, fitting_past, told_as}
 use Rattle.role_domain.proofs.patterns.fitting.Goals as goal
 
 pub loop-row-preserved-then-not-fits : goal.loop-row-preserved-then-not-fits

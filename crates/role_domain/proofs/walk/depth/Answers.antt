@@ -1,7 +1,7 @@
 use Rattle.std.proofs.Common.{◌∙◌, sym, arith}
 use Rattle.std.proofs.lemmas.Bool.{false≢true}
 use Rattle.role_domain.specs.Helps.Walks.{Enters, walk_of}
-use Rattle.role_domain.proofs.Climbing.{climb_begins, climb_ends, climb_on, climb_past, climb_stops, top_itself}
+use Rattle.role_domain.proofs.ClimbLemmas.{climb_begins, climb_ends, climb_on, climb_past, climb_stops, top_itself}
 use Rattle.role_domain.proofs.Marks.{next_from, none_marked}
 use Rattle.role_domain.proofs.walk.depth.Goals as goal
 

@@ -1,5 +1,5 @@
 use Rattle.role_domain.specs.Helps.Walks.{walk_of}
-use Rattle.role_domain.proofs.Climbing.{IsClimbing}
+use Rattle.role_domain.proofs.ClimbLemmas.{IsClimbing}
 use Rattle.role_domain.proofs.walk.depth.Given as goal
 
 abbrev pub invariant-loop-level : goal.invariant-loop-level

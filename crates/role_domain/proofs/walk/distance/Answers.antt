@@ -2,7 +2,7 @@ use Rattle.std.proofs.Common.{◌∙◌, sym, arith}
 use Rattle.std.proofs.lemmas.Bool.{false≢true}
 use Rattle.role_domain.specs.Helps.Walks.{Enters, walk_of}
 use Rattle.role_domain.proofs.Marks.{next_from, none_marked}
-use Rattle.role_domain.proofs.Walking.{at_once, walk_begins, walk_ends, walk_on, walk_stops}
+use Rattle.role_domain.proofs.WalkLemmas.{at_once, walk_begins, walk_ends, walk_on, walk_stops}
 use Rattle.role_meaning.proofs.CallerLemmas.{they_agree, they_differ}
 use Rattle.role_domain.proofs.walk.distance.Goals as goal
 

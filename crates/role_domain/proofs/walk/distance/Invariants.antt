@@ -1,5 +1,5 @@
 use Rattle.role_domain.specs.Helps.Walks.{walk_of}
-use Rattle.role_domain.proofs.Walking.{IsWalking}
+use Rattle.role_domain.proofs.WalkLemmas.{IsWalking}
 use Rattle.role_domain.proofs.walk.distance.Given as goal
 
 abbrev pub invariant-loop-level : goal.invariant-loop-level

@@ -1,7 +1,7 @@
 use Rattle.std.proofs.Common.{arith}
 use Rattle.role_graph.specs.Helps.Kept.{linked_of}
 use Rattle.role_graph.specs.Helps.Roles.{nodes_of}
-use Rattle.role_graph.proofs.Linking.{begun_anew}
+use Rattle.role_graph.proofs.LinkedLemmas.{begun_anew}
 use Rattle.role_graph.proofs.closure.begin.Goals as goal
 
 pub drop_gone-requires-clause-before : goal.drop_gone-requires-clause-before

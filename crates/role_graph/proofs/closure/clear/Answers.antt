@@ -1,5 +1,5 @@
 use Rattle.std.proofs.Common.{length, arith}
-use Rattle.role_graph.proofs.Resizing.{cleared_closed}
+use Rattle.role_graph.proofs.ResizeLemmas.{cleared_closed}
 use Rattle.role_graph.proofs.closure.clear.Goals as goal
 
 pub returns-clause-closed : goal.returns-clause-closed

@@ -1,5 +1,5 @@
 use Rattle.std.proofs.Common.{◌≡◌, length}
-use Rattle.role_graph.proofs.Resizing.{AreCleared}
+use Rattle.role_graph.proofs.ResizeLemmas.{AreCleared}
 use Rattle.role_graph.proofs.closure.clear.Given as goal
 
 abbrev pub invariant-loop-node : goal.invariant-loop-node

@@ -1,5 +1,5 @@
 use Rattle.role_graph.specs.Helps.Roles.{nodes_of}
-use Rattle.role_graph.proofs.Linking.{named_near}
+use Rattle.role_graph.proofs.LinkedLemmas.{named_near}
 use Rattle.role_graph.proofs.closure.link_name.Goals as goal
 
 pub returns-clause-whole : goal.returns-clause-whole

@@ -4,7 +4,7 @@ use Rattle.std.proofs.lemmas.List.{take_more}
 use Rattle.std.proofs.lemmas.List.Elements.{Contains-get_or}
 use Rattle.role_graph.specs.Helps.Roles.{nodes_of}
 use Rattle.role_graph.specs.Helps.Squares.{Grows, IsNear, name_at}
-use Rattle.role_graph.proofs.Linking.{HasNamed, has_named_more}
+use Rattle.role_graph.proofs.LinkedLemmas.{HasNamed, has_named_more}
 use Rattle.role_graph.proofs.closure.link_names.Goals as goal
 
 pub loop-name-preserved : goal.loop-name-preserved

@@ -1,6 +1,6 @@
 use Rattle.std.proofs.Common.{take}
 use Rattle.role_graph.specs.Helps.Roles.{nodes_of}
-use Rattle.role_graph.proofs.Linking.{HasNamed}
+use Rattle.role_graph.proofs.LinkedLemmas.{HasNamed}
 use Rattle.role_graph.proofs.closure.link_names.Given as goal
 
 abbrev pub invariant-loop-name : goal.invariant-loop-name

@@ -1,7 +1,7 @@
 use Rattle.std.proofs.Common.{◌-◌}
 use Rattle.role_graph.specs.Helps.Kept.{linked_of}
 use Rattle.role_graph.specs.Helps.Roles.{nodes_of}
-use Rattle.role_graph.proofs.Linking.{HasLinked}
+use Rattle.role_graph.proofs.LinkedLemmas.{HasLinked}
 use Rattle.role_graph.proofs.closure.link_node.Given as goal
 
 abbrev pub decreases-loop-at : goal.decreases-loop-at

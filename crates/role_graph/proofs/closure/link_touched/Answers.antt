@@ -1,8 +1,8 @@
 use Rattle.std.proofs.Common.{arith}
 use Rattle.role_graph.specs.Helps.Kept.{linked_of}
 use Rattle.role_graph.specs.Helps.Roles.{nodes_of}
-use Rattle.role_graph.proofs.Bridging.{exact_from}
-use Rattle.role_graph.proofs.Linking.{linking_more}
+use Rattle.role_graph.proofs.BridgeLemmas.{exact_from}
+use Rattle.role_graph.proofs.LinkedLemmas.{linking_more}
 use Rattle.role_graph.proofs.closure.link_touched.Goals as goal
 
 pub loop-node-preserved : goal.loop-node-preserved

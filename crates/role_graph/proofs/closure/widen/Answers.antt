@@ -1,6 +1,6 @@
 use Rattle.std.proofs.Common.{◌≡◌, ◌+◌, List, ℕ, length, ap, ◌∙◌, arith}
 use Rattle.role_graph.proofs.Closed.{grows_both}
-use Rattle.role_graph.proofs.Resizing.{length_widened, widen_grows}
+use Rattle.role_graph.proofs.ResizeLemmas.{length_widened, widen_grows}
 use Rattle.role_graph.proofs.closure.widen.Goals as goal
 
 pub add-preserved : goal.add-preserved

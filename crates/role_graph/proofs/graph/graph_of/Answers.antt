@@ -1,5 +1,5 @@
 use Rattle.role_graph.specs.Helps.Kept.{linked_of}
-use Rattle.role_graph.proofs.Committing.{nodes_from}
+use Rattle.role_graph.proofs.CommitLemmas.{nodes_from}
 use Rattle.role_graph.proofs.graph.graph_of.Goals as goal
 
 pub square_of-requires : goal.square_of-requires

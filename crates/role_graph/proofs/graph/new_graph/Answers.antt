@@ -2,7 +2,7 @@ use Rattle.std.proofs.Common.{◌≡◌, ◌∙◌, ◌++◌, [], ap, arith, len
 use Rattle.dist_rows.specs.Squares.{Square}
 use Rattle.role_graph.specs.Groups.{rows_of, rows_with}
 use Rattle.role_graph.specs.Helps.Kept.{linked_of}
-use Rattle.role_graph.proofs.Answering.{no_rows, nodes_none}
+use Rattle.role_graph.proofs.AnswerLemmas.{no_rows, nodes_none}
 use Rattle.role_graph.proofs.graph.new_graph.Goals as goal
 
 pub returns-clause-rows : goal.returns-clause-rows

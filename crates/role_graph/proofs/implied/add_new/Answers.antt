@@ -3,7 +3,7 @@ use Rattle.std.proofs.lemmas.List.{take_more}
 use Rattle.std.specs.Str.{bytes_eq}
 use Rattle.indexmap.specs.IndexSet.{contains}
 use Rattle.role_graph.specs.Helps.Names.{Adds}
-use Rattle.role_graph.proofs.Gathering.{adds_none}
+use Rattle.role_graph.proofs.GatherLemmas.{adds_none}
 use Rattle.role_graph.proofs.implied.add_new.Goals as goal
 
 pub loop-role-init : goal.loop-role-init

@@ -2,7 +2,7 @@ use Rattle.std.proofs.Common.{◌∙◌, sym}
 use Rattle.std.specs.Str.{bytes_eq}
 use Rattle.indexmap.specs.IndexSet.{contains}
 use Rattle.role_meaning.proofs.CallerLemmas.{they_agree, they_differ}
-use Rattle.role_graph.proofs.Gathering.{adds_itself, adds_more}
+use Rattle.role_graph.proofs.GatherLemmas.{adds_itself, adds_more}
 use Rattle.role_graph.proofs.implied.add_one.Goals as goal
 
 pub returns-then-eq : goal.returns-then-eq

@@ -3,7 +3,7 @@ use Rattle.std.specs.Str.{bytes_eq}
 use Rattle.indexmap.specs.IndexSet.{contains}
 use Rattle.role_graph.specs.Helps.Kept.{linked_of}
 use Rattle.role_graph.specs.Helps.Names.{Adds}
-use Rattle.role_graph.proofs.Gathering.{gathered_all, gathered_more, gathered_none}
+use Rattle.role_graph.proofs.GatherLemmas.{gathered_all, gathered_more, gathered_none}
 use Rattle.role_graph.proofs.implied.gather.Goals as goal
 
 pub loop-at-init : goal.loop-at-init

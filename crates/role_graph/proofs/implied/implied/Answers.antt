@@ -3,8 +3,8 @@ use Rattle.std.specs.List.{list_any}
 use Rattle.std.specs.Str.{bytes_eq}
 use Rattle.indexmap.specs.IndexSet.{contains}
 use Rattle.role_graph.specs.Helps.Kept.{linked_of}
-use Rattle.role_graph.proofs.Gathering.{naming_begins, naming_ends, naming_on, naming_stops}
-use Rattle.role_graph.proofs.Walking.{new_within}
+use Rattle.role_graph.proofs.GatherLemmas.{naming_begins, naming_ends, naming_on, naming_stops}
+use Rattle.role_graph.proofs.WalkLemmas.{new_within}
 use Rattle.role_graph.proofs.implied.implied.Goals as goal
 
 pub loop-level-init : goal.loop-level-init

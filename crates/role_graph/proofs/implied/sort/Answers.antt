@@ -1,7 +1,7 @@
 use Rattle.std.proofs.Common.{rules}
 use Rattle.std.proofs.lemmas.List.Sorted.{answers_always}
 use Rattle.role_graph.specs.Helps.Names.{is_before}
-use Rattle.role_graph.proofs.Gathering.{bytes_order}
+use Rattle.role_graph.proofs.GatherLemmas.{bytes_order}
 use Rattle.role_graph.proofs.implied.sort.Goals as goal
 
 pub returns-clause-rising : goal.returns-clause-rising

@@ -3,7 +3,7 @@ use Rattle.std.proofs.lemmas.Bool.{false≢true}
 use Rattle.role_graph.specs.Helps.Kept.{linked_of}
 use Rattle.role_graph.specs.Helps.Lists.{HasSoughtFrom, Lists}
 use Rattle.role_graph.specs.Helps.Walks.{FitsAt}
-use Rattle.role_graph.proofs.Seeking.{sought_itself}
+use Rattle.role_graph.proofs.SeekLemmas.{sought_itself}
 use Rattle.role_graph.proofs.ShortLists.{IsListing, listing_begins, listing_ends, listing_on, listing_past, listing_stops, listing_within}
 use Rattle.role_graph.proofs.short.seek_near.Goals as goal
 

@@ -2,7 +2,7 @@ use Rattle.std.specs.Str.{bytes_eq}
 use Rattle.indexmap.specs.IndexSet.{contains}
 use Rattle.role_meaning.specs.Links.{user_of}
 use Rattle.role_graph.specs.Helps.Kept.{linked_of}
-use Rattle.role_graph.proofs.Leading.{chooses_pattern, chooses_unfit, chooses_user}
+use Rattle.role_graph.proofs.LeadLemmas.{chooses_pattern, chooses_unfit, chooses_user}
 use Rattle.role_graph.proofs.users.add_user.Goals as goal
 
 pub returns-then-is_pattern : goal.returns-then-is_pattern

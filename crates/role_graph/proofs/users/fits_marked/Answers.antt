@@ -1,7 +1,7 @@
 use Rattle.std.proofs.Common.{◌∙◌, refl, sym}
 use Rattle.std.proofs.lemmas.Bool.{false≢true}
 use Rattle.role_graph.specs.Helps.Kept.{linked_of}
-use Rattle.role_graph.proofs.Leading.{no_marked_first, no_marked_last, no_marked_on}
+use Rattle.role_graph.proofs.LeadLemmas.{no_marked_first, no_marked_last, no_marked_on}
 use Rattle.role_graph.proofs.users.fits_marked.Goals as goal
 
 pub loop-at-init : goal.loop-at-init

@@ -1,6 +1,6 @@
 use Rattle.std.proofs.Common.{◌-◌}
 use Rattle.role_graph.specs.Helps.Kept.{linked_of}
-use Rattle.role_graph.proofs.Leading.{FitsNoMarked}
+use Rattle.role_graph.proofs.LeadLemmas.{FitsNoMarked}
 use Rattle.role_graph.proofs.users.fits_marked.Given as goal
 
 abbrev pub decreases-loop-at : goal.decreases-loop-at

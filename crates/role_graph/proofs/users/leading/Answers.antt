@@ -1,5 +1,5 @@
 use Rattle.role_graph.specs.Helps.Kept.{linked_of}
-use Rattle.role_graph.proofs.Leading.{back_first, back_last, back_on, back_stops}
+use Rattle.role_graph.proofs.LeadLemmas.{back_first, back_last, back_on, back_stops}
 use Rattle.role_graph.proofs.users.leading.Goals as goal
 
 pub loop-level-init : goal.loop-level-init

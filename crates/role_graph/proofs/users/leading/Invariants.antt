@@ -1,5 +1,5 @@
 use Rattle.role_graph.specs.Helps.Kept.{linked_of}
-use Rattle.role_graph.proofs.Leading.{IsGoingBack}
+use Rattle.role_graph.proofs.LeadLemmas.{IsGoingBack}
 use Rattle.role_graph.proofs.users.leading.Given as goal
 
 abbrev pub invariant-loop-level : goal.invariant-loop-level

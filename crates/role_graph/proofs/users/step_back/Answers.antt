@@ -2,7 +2,7 @@ use Rattle.std.proofs.Common.{◌<◌, ◌∙◌, List, ℕ, length, sym, subst,
 use Rattle.std.specs.List.{Contains}
 use Rattle.std.proofs.lemmas.Bool.{false≢true}
 use Rattle.role_graph.specs.Helps.Kept.{linked_of}
-use Rattle.role_graph.proofs.Leading.{stepped_first, stepped_last, stepped_on, stepped_past}
+use Rattle.role_graph.proofs.LeadLemmas.{stepped_first, stepped_last, stepped_on, stepped_past}
 use Rattle.role_graph.proofs.users.step_back.Goals as goal
 
 pub loop-at-init : goal.loop-at-init

@@ -8,7 +8,7 @@ use Rattle.policy_table.proofs.CallerLemmas.{next_row, no_more_rows}
 use Rattle.role_meaning.specs.Links.{user_of}
 use Rattle.role_graph.specs.Helps.Kept.{linked_of}
 use Rattle.role_graph.specs.Helps.Users.{Chooses}
-use Rattle.role_graph.proofs.Leading.{chooses_none, users_few, users_on, users_told, users_whole}
+use Rattle.role_graph.proofs.LeadLemmas.{chooses_none, users_few, users_on, users_told, users_whole}
 use Rattle.role_graph.proofs.users.users_among.Goals as goal
 use Rattle.role_graph.proofs.users.users_among.Goals.{In-None}
 

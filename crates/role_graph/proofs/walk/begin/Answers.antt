@@ -1,6 +1,6 @@
 use Rattle.role_graph.specs.Helps.Kept.{linked_of}
 use Rattle.role_graph.specs.Helps.Walks.{FitsAt}
-use Rattle.role_graph.proofs.Marking.{next_from}
+use Rattle.role_graph.proofs.MarkLemmas.{next_from}
 use Rattle.role_graph.proofs.walk.begin.Goals as goal
 
 pub returns-clause-marks : goal.returns-clause-marks

@@ -1,4 +1,4 @@
-use Rattle.role_graph.proofs.Seeking.{depth_told}
+use Rattle.role_graph.proofs.SeekLemmas.{depth_told}
 use Rattle.role_graph.proofs.walk.depth.Goals as goal
 
 pub returns : goal.returns

@@ -1,5 +1,5 @@
 use Rattle.role_graph.specs.Helps.Kept.{linked_of}
-use Rattle.role_graph.proofs.Seeking.{distance_told}
+use Rattle.role_graph.proofs.SeekLemmas.{distance_told}
 use Rattle.role_graph.proofs.walk.distance.Goals as goal
 
 pub returns : goal.returns

@@ -1,7 +1,7 @@
 use Rattle.std.proofs.Common.{refl}
 use Rattle.std.proofs.lemmas.Bool.{false≢true}
 use Rattle.role_graph.specs.Helps.Kept.{linked_of}
-use Rattle.role_graph.proofs.Seeking.{has_here, has_none_begin, has_none_on, has_nowhere}
+use Rattle.role_graph.proofs.SeekLemmas.{has_here, has_none_begin, has_none_on, has_nowhere}
 use Rattle.role_graph.proofs.walk.has_sought.Goals as goal
 
 pub loop-at-init : goal.loop-at-init

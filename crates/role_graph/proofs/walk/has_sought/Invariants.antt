@@ -1,6 +1,6 @@
 use Rattle.std.proofs.Common.{◌-◌}
 use Rattle.role_graph.specs.Helps.Kept.{linked_of}
-use Rattle.role_graph.proofs.Seeking.{HasNone}
+use Rattle.role_graph.proofs.SeekLemmas.{HasNone}
 use Rattle.role_graph.proofs.walk.has_sought.Given as goal
 
 abbrev pub decreases-loop-at : goal.decreases-loop-at

@@ -3,7 +3,7 @@ use Rattle.std.proofs.lemmas.List.{take_more}
 use Rattle.role_graph.specs.Helps.Kept.{linked_of}
 use Rattle.role_graph.specs.Helps.Marks.{Extends, IsSet}
 use Rattle.role_graph.specs.Helps.Walks.{FitsAt}
-use Rattle.role_graph.proofs.Walking.{HaveMarked, have_marked_more, have_marked_none}
+use Rattle.role_graph.proofs.WalkLemmas.{HaveMarked, have_marked_more, have_marked_none}
 use Rattle.role_graph.proofs.walk.mark_all.Goals as goal
 
 pub loop-name-init : goal.loop-name-init

@@ -1,6 +1,6 @@
 use Rattle.std.proofs.Common.{take}
 use Rattle.role_graph.specs.Helps.Kept.{linked_of}
-use Rattle.role_graph.proofs.Walking.{HaveMarked}
+use Rattle.role_graph.proofs.WalkLemmas.{HaveMarked}
 use Rattle.role_graph.proofs.walk.mark_all.Given as goal
 
 abbrev pub invariant-loop-name : goal.invariant-loop-name

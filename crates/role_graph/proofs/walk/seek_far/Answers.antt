@@ -1,8 +1,8 @@
 use Rattle.std.proofs.Common.{◌∙◌, sym, arith}
 use Rattle.std.proofs.lemmas.Bool.{false≢true}
 use Rattle.role_graph.specs.Helps.Kept.{linked_of}
-use Rattle.role_graph.proofs.Seeking.{seek_begins, seek_ends, seek_on, seek_past, seek_stops, sought_itself}
-use Rattle.role_graph.proofs.Walking.{new_within}
+use Rattle.role_graph.proofs.SeekLemmas.{seek_begins, seek_ends, seek_on, seek_past, seek_stops, sought_itself}
+use Rattle.role_graph.proofs.WalkLemmas.{new_within}
 use Rattle.role_graph.proofs.walk.seek_far.Goals as goal
 
 pub returns-then-is_sought : goal.returns-then-is_sought

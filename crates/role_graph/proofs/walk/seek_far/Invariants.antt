@@ -1,5 +1,5 @@
 use Rattle.role_graph.specs.Helps.Kept.{linked_of}
-use Rattle.role_graph.proofs.Seeking.{IsSeeking}
+use Rattle.role_graph.proofs.SeekLemmas.{IsSeeking}
 use Rattle.role_graph.proofs.walk.seek_far.Given as goal
 
 abbrev pub invariant-loop-level : goal.invariant-loop-level

@@ -3,7 +3,7 @@ use Rattle.std.specs.List.{Contains}
 use Rattle.role_graph.specs.Helps.Kept.{linked_of}
 use Rattle.role_graph.specs.Helps.Marks.{Extends, IsSet}
 use Rattle.role_graph.specs.Helps.Walks.{FitsAt}
-use Rattle.role_graph.proofs.Walking.{has_gone_all, has_gone_none, has_gone_on}
+use Rattle.role_graph.proofs.WalkLemmas.{has_gone_all, has_gone_none, has_gone_on}
 use Rattle.role_graph.proofs.walk.step.Goals as goal
 
 pub loop-at-init : goal.loop-at-init

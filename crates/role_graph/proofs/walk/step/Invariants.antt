@@ -1,6 +1,6 @@
 use Rattle.std.proofs.Common.{◌-◌}
 use Rattle.role_graph.specs.Helps.Kept.{linked_of}
-use Rattle.role_graph.proofs.Walking.{HasGone}
+use Rattle.role_graph.proofs.WalkLemmas.{HasGone}
 use Rattle.role_graph.proofs.walk.step.Given as goal
 
 abbrev pub decreases-loop-at : goal.decreases-loop-at

@@ -2,7 +2,7 @@ use Rattle.std.proofs.Common.{◌≡◌, [], ◌∷◌, Err, false, rules}
 use Rattle.outside.specs.Faults.{Rose}
 use Rattle.outside.specs.Log.{Adds, call}
 use Rattle.run_files.specs.Files.{ModelSuits}
-use Rattle.run_files.specs.Helps.Reading.{PolicyStops}
+use Rattle.run_files.specs.Helps.ReadStops.{PolicyStops}
 use Rattle.run_files.proofs.LoadLemmas.{both_told, policy_load}
 use Rattle.run_files.proofs.files.load_files.Goals as goal
 

@@ -1,4 +1,4 @@
-use Rattle.serve_run.specs.Helps.Reading.{all_texts}
+use Rattle.serve_run.specs.Helps.WordTexts.{all_texts}
 use Rattle.serve_run.proofs.WordLemmas.{texts_all, texts_more}
 use Rattle.serve_run.proofs.words.words_behind.Goals as goal
 

@@ -1,6 +1,6 @@
 use Rattle.std.proofs.Common.{◌≡◌, ◌∷◌, take}
 use Rattle.command_words.specs.Items.{texts}
-use Rattle.serve_run.specs.Helps.Reading.{all_texts}
+use Rattle.serve_run.specs.Helps.WordTexts.{all_texts}
 use Rattle.serve_run.proofs.words.words_behind.Given as goal
 
 abbrev pub invariant-loop-word : goal.invariant-loop-word

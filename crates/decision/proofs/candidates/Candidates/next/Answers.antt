@@ -4,7 +4,7 @@ use Rattle.std.specs.Option.{option_copied}
 use Rattle.perm_base.specs.declared.shapes.TableId.TheVariants.{P}
 use Rattle.policy_table.specs.Tables.{Fields, rows}
 use Rattle.matcher_meaning.specs.Order.{in_order_of, numbered, numbered_from}
-use Rattle.decision.specs.Helps.Covering.{AreInTable, rows_left}
+use Rattle.decision.specs.Helps.Covers.{AreInTable, rows_left}
 use Rattle.decision.proofs.CoverLemmas.{places_behind, rows_at}
 use Rattle.decision.proofs.candidates.Candidates.next.Goals as goal
 use Rattle.decision.proofs.candidates.Candidates.next.Goals.{In_default}

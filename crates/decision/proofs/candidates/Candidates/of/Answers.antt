@@ -3,8 +3,8 @@ use Rattle.perm_base.specs.declared.shapes.TableId.TheVariants.{P}
 use Rattle.policy_table.specs.Tables.{Fields, Policy, rows}
 use Rattle.matcher_meaning.specs.Order.{in_order_of, numbered_from}
 use Rattle.decision.specs.Helps.Asked.{case_in, rows_of}
-use Rattle.decision.specs.Helps.Covering.{Covers}
-use Rattle.decision.specs.Helps.Leaving.{LeavesOut}
+use Rattle.decision.specs.Helps.Covers.{Covers}
+use Rattle.decision.specs.Helps.LeftOut.{LeavesOut}
 use Rattle.decision.proofs.CoverLemmas.{covers_all, covers_none, covers_places, places_within}
 use Rattle.decision.proofs.candidates.Candidates.of.Goals as goal
 use Rattle.decision.proofs.candidates.Candidates.of.Goals.{After-rows-rows}

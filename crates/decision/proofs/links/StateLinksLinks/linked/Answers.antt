@@ -3,7 +3,7 @@ use Rattle.std.specs.Prelude.{◌↔◌, IfSome, option_copied}
 use Rattle.std.specs.Borrow.{Bor}
 use Rattle.matcher_meaning.specs.Cases.{IsLinkedBy}
 use Rattle.policy_state.specs.States.{State, tables}
-use Rattle.decision.specs.Helps.Reaching.{KnowsLinks}
+use Rattle.decision.specs.Helps.ReachedNames.{KnowsLinks}
 use Rattle.decision.specs.declared.links.AskedName.{AskedName}
 use Rattle.decision.proofs.NamedLemmas.{known_told}
 use Rattle.decision.proofs.links.StateLinksLinks.linked.Goals as goal

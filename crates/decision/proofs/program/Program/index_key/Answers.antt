@@ -3,7 +3,7 @@ use Rattle.std.specs.Prelude.{option_map}
 use Rattle.policy_index.specs.Keys.{KeyParts, is_below}
 use Rattle.model_conf.specs.ModelText.{ModelParts}
 use Rattle.decision.specs.Plans.{index_key, key_of}
-use Rattle.decision.specs.Helps.Planning.{IsPlan, IsPlanOf, parts_of_plan}
+use Rattle.decision.specs.Helps.KeptPlans.{IsPlan, IsPlanOf, parts_of_plan}
 use Rattle.decision.proofs.KeyLemmas.{key_below}
 use Rattle.decision.proofs.program.Program.index_key.Goals as goal
 use Rattle.decision.proofs.program.Program.index_key.Goals.{In-Some}

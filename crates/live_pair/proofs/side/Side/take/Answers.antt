@@ -2,7 +2,7 @@ use Rattle.std.proofs.Common.{◌≡◌, ◌+◌, ◌≤◌, ◌++◌, ◌∷◌
 use Rattle.live_pair.proofs.SideLemmas.{CanMake, can_make, up_to_kept, up_to_staged}
 use Rattle.live_pair.proofs.StartLemmas.{is_staged}
 use Rattle.live_pair.proofs.StoryLemmas.{next_staged}
-use Rattle.live_pair.specs.declared.edits.Event.TheVariants.{Staged}
+use Rattle.live_pair.specs.declared.edits.HistoryEvent.TheVariants.{Staged}
 use Rattle.edit_calls.specs.Admitted.{AreAdmitted}
 use Rattle.policy_state.specs.States.{tables}
 use Rattle.policy_table.specs.declared.change.Change.{Change}

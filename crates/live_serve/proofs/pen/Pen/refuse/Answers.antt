@@ -2,7 +2,7 @@ use Rattle.std.proofs.Common.{◌≡◌, ◌++◌, [], List, ℕ, inl, inr, refl
 use Rattle.std.specs.Prelude.{string_bytes}
 use Rattle.std.proofs.lemmas.Result.{err_from_is_err_and}
 use Rattle.answer_lines.specs.LineText.{answer_text, numbered}
-use Rattle.loaded_work.specs.Following.{taken_text}
+use Rattle.loaded_work.specs.Followed.{taken_text}
 use Rattle.outside.specs.Told.{TookFront, with_back}
 use Rattle.live_serve.specs.Lines.{next_number}
 use Rattle.live_serve.proofs.pen.Pen.refuse.Goals as goal

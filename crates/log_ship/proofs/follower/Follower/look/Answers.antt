@@ -1,7 +1,7 @@
 use Rattle.std.proofs.Common.{◌≡◌, ◌+◌, ◌≤◌, false, List, ℕ, Err, ap, subst, sym, ◌∙◌, arith}
 use Rattle.log_ship.proofs.TakeLemmas.{look_malformed, look_misfit}
 use Rattle.log_ship.specs.Followers.{Following, version_of}
-use Rattle.log_ship.specs.Taking.{is_repeated, may_come, most_ahead}
+use Rattle.log_ship.specs.Taken.{is_repeated, may_come, most_ahead}
 use Rattle.log_ship.specs.declared.taken.TakeRefused.TheVariants.{Malformed}
 use Rattle.perm_base.specs.declared.shapes.Shapes.{Shapes}
 use Rattle.version_log.specs.EditText.{IsEditFault, IsEditText}

@@ -1,5 +1,5 @@
 use Rattle.std.proofs.Common.{ℕ, Option, ap, ◌∙◌, subst, sym}
-use Rattle.matcher_read.specs.Helps.Cutting.{Cut, cut}
+use Rattle.matcher_read.specs.Helps.Cuts.{Cut, cut}
 use Rattle.matcher_read.specs.Tokens.{IsCut, as_read, with_evals}
 use Rattle.matcher_read.proofs.CuttingLemmas.{cut-is, cut-one}
 use Rattle.matcher_read.proofs.FormLemmas.{evals_are}

@@ -1,7 +1,7 @@
 use Rattle.std.proofs.Common.{ap, ◌∙◌, subst, arith, Ok}
 use Rattle.std.proofs.lemmas.Grind.{common_steps}
 use Rattle.matcher_read.specs.Grammar.{cmp_rule, unary_rule, prim_rule, sum_cmp}
-use Rattle.matcher_read.specs.Helps.Taking.{head_is, is_opening, rule_of, TakesOpener, TakesSign}
+use Rattle.matcher_read.specs.Helps.TakenTokens.{head_is, is_opening, rule_of, TakesOpener, TakesSign}
 use Rattle.matcher_read.proofs.ReadLevels.{enclosed, read_members, opening_fails_list, list_fails_enclosed, closing_fails_enclosed, fails_members, fails_call}
 use Rattle.matcher_read.proofs.ReadLists.{list_fails, list_fails_behind, list_end}
 use Rattle.matcher_read.proofs.ReadOperands.{read_parentheses, fails_at_parenthesis, fails_in_parentheses, fails_behind_parentheses, read_signed, fails_signed, fails_at_sign, fails_at_call}

@@ -1,8 +1,8 @@
 use Rattle.std.proofs.Common.{ℕ, ◌+◌, ◌*◌, length, map}
 use Rattle.matcher_read.specs.Expression.{expression}
 use Rattle.matcher_read.specs.Grammar.{or_rule}
-use Rattle.matcher_read.specs.Helps.Parsing.{Read, ReadList}
-use Rattle.matcher_read.specs.Helps.Taking.{may_follow, part_of, rule_of}
+use Rattle.matcher_read.specs.Helps.Parsed.{Read, ReadList}
+use Rattle.matcher_read.specs.Helps.TakenTokens.{may_follow, part_of, rule_of}
 use Rattle.matcher_read.specs.declared.words.Chain.{Chain}
 use Rattle.matcher_read.specs.declared.words.Chain.TheVariants as chain
 use Rattle.matcher_read.proofs.parser.Parser.+parse.Given as goal

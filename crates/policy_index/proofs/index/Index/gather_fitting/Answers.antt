@@ -1,5 +1,5 @@
 use Rattle.std.proofs.Common.{ℕ, subst}
-use Rattle.policy_index.specs.Helps.Finding.{AddsMarks}
+use Rattle.policy_index.specs.Helps.FoundSlots.{AddsMarks}
 use Rattle.policy_index.specs.Helps.Kept.{has_hash}
 use Rattle.policy_index.proofs.FindLemmas.{ok_found}
 use Rattle.policy_index.proofs.index.Index.gather_fitting.Goals as goal

@@ -1,6 +1,6 @@
 use Rattle.std.proofs.Common.{◌≡◌, ◌+◌, ℕ, arith, subst, take}
 use Rattle.policy_index.specs.Hashes.{front_hash}
-use Rattle.policy_index.specs.Helps.Finding.{AddsMarks, has_front_below}
+use Rattle.policy_index.specs.Helps.FoundSlots.{AddsMarks, has_front_below}
 use Rattle.policy_index.proofs.FindLemmas.{adds_first, adds_next, adds_under}
 use Rattle.policy_index.proofs.HashLemmas.{front_next}
 use Rattle.policy_index.proofs.index.Index.gather_fronts.Goals as goal

@@ -1,6 +1,6 @@
 use Rattle.std.proofs.Common.{◌≡◌, ◌+◌, take}
 use Rattle.policy_index.specs.Hashes.{front_hash}
-use Rattle.policy_index.specs.Helps.Finding.{AddsMarks, has_front_below}
+use Rattle.policy_index.specs.Helps.FoundSlots.{AddsMarks, has_front_below}
 use Rattle.policy_index.proofs.index.Index.gather_fronts.Given as goal
 
 abbrev pub invariant-loop-at : goal.invariant-loop-at

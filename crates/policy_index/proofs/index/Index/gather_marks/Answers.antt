@@ -1,5 +1,5 @@
 use Rattle.std.proofs.Common.{◌∙◌, OnOk, ap, sym, subst}
-use Rattle.policy_index.specs.Helps.Finding.{AddsMarks, is_sought}
+use Rattle.policy_index.specs.Helps.FoundSlots.{AddsMarks, is_sought}
 use Rattle.policy_index.specs.Indexed.{Indexed}
 use Rattle.policy_index.proofs.index.Index.gather_marks.Goals as goal
 

@@ -1,5 +1,5 @@
 use Rattle.std.proofs.Common.{◌&&◌, ◌∙◌, subst, sym}
-use Rattle.policy_index.specs.Helps.Finding.{AddsMarks}
+use Rattle.policy_index.specs.Helps.FoundSlots.{AddsMarks}
 use Rattle.policy_index.specs.Helps.Kept.{has_front, has_hash}
 use Rattle.policy_index.specs.Indexed.{Indexed}
 use Rattle.policy_index.specs.declared.mark.Mark.{Mark}

@@ -1,5 +1,5 @@
 use Rattle.std.proofs.Common.{OnOk, subst}
-use Rattle.policy_index.specs.Helps.Finding.{AddsMarks}
+use Rattle.policy_index.specs.Helps.FoundSlots.{AddsMarks}
 use Rattle.policy_index.specs.Helps.Kept.{has_hash}
 use Rattle.policy_index.specs.Indexed.{Indexed}
 use Rattle.policy_index.proofs.FoundLemmas.{adds_listed}

@@ -2,7 +2,7 @@ use Rattle.std.proofs.Common.{◌≡◌, [], rules, ap, subst, refl, ◌∙◌}
 use Rattle.role_domain.specs.Domains.{by_text}
 use Rattle.role_domain.specs.Relations.{Relation}
 use Rattle.role_domain.specs.Steps.{AreReady}
-use Rattle.role_domain.proofs.Touching.{last_ready, left_ready, texts_push}
+use Rattle.role_domain.proofs.TouchLemmas.{last_ready, left_ready, texts_push}
 use Rattle.role_domain.proofs.domains.Domains.make.Goals as goal
 
 pub make_one-requires-clause-ready : goal.make_one-requires-clause-ready

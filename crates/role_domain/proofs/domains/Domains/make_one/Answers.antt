@@ -3,7 +3,7 @@ use Rattle.policy_table.specs.Tables.{Fields}
 use Rattle.role_domain.specs.Domains.{found}
 use Rattle.role_domain.specs.Steps.{IsReady}
 use Rattle.role_domain.specs.declared.domain.Domain.{Domain}
-use Rattle.role_domain.proofs.Touching.{made_right}
+use Rattle.role_domain.proofs.TouchLemmas.{made_right}
 use Rattle.role_graph.specs.Groups.{after, times}
 use Rattle.role_domain.proofs.domains.Domains.make_one.Goals as goal
 

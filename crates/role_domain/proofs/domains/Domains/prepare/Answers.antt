@@ -1,6 +1,6 @@
 use Rattle.std.proofs.Common.{refl, ◌∙◌}
 use Rattle.role_domain.specs.Helps.Turns.{Turn}
-use Rattle.role_domain.proofs.Turning.{all_right, can_steps, turn_ready}
+use Rattle.role_domain.proofs.TurnLemmas.{all_right, can_steps, turn_ready}
 use Rattle.role_domain.proofs.domains.Domains.prepare.Goals as goal
 
 pub steps-requires : goal.steps-requires

@@ -9,9 +9,9 @@ use Rattle.role_domain.specs.Domains.{by_text, found}
 use Rattle.role_domain.specs.Helps.Turns.{CanStep, Turn, after_of}
 use Rattle.role_domain.specs.Steps.{IsReady}
 use Rattle.role_domain.specs.declared.domain.Domain.{Domain}
-use Rattle.role_domain.specs.declared.prepared.Step.{Step}
-use Rattle.role_domain.proofs.Bringing.{first_there}
-use Rattle.role_domain.proofs.Touching.{all_ready, none_next, none_taken, not_key, ready_push, right_kept, texts_next}
+use Rattle.role_domain.specs.declared.prepared.DomainStep.{DomainStep}
+use Rattle.role_domain.proofs.BringLemmas.{first_there}
+use Rattle.role_domain.proofs.TouchLemmas.{all_ready, none_next, none_taken, not_key, ready_push, right_kept, texts_next}
 use Rattle.role_domain.proofs.domains.Domains.steps.Goals as goal
 
 pub step-requires : goal.step-requires
@@ -65,7 +65,7 @@ loop-at-preserved c =
           (let parts = none_next keys c.loop-at.at text name within (sym c.text_at-text.ensures) none in
           c.step.ensures.others name parts.1 ∙ c.loop-at.invariant.later name parts.0);
       ready = λ turn same can.
-          subst (λ l. All (λ (one : List ℕ × Step). IsReady (after_of turn) one.0 (found c.step.new.self.entries one.0) one.1) (by_text l)) (sym c.in_ok-push.ensures.items)
+          subst (λ l. All (λ (one : List ℕ × DomainStep). IsReady (after_of turn) one.0 (found c.step.new.self.entries one.0) one.1) (by_text l)) (sym c.in_ok-push.ensures.items)
           (ready_push (after_of turn) c.loop-at.touched.items c.in_ok-from_slice.field-0 text c.in_ok-step.step c.step.new.self.entries c.in_ok-from_slice.ensures.items
           (c.in_ok-step.ensures.ready turn same (subst (λ (o : Option Domain). CanStep turn text o c.args.coming.now c.args.going.now c.args.patterns.now) (sym (c.loop-at.invariant.later text before)) (can text)))
           (all_ready (after_of turn) text (by_text c.loop-at.touched.items) c.loop-at.self.entries c.step.new.self.entries (ap (list_any (bytes_eq text)) c.loop-at.invariant.texts ∙ before) c.step.ensures.others

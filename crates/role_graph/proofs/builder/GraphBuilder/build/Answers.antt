@@ -3,7 +3,7 @@ use Rattle.policy_table.specs.Tables.{Fields}
 use Rattle.role_graph.specs.Built.{Built, IsCounted}
 use Rattle.role_graph.specs.Groups.{rows_with, times}
 use Rattle.role_graph.specs.Helps.Roles.{number_in}
-use Rattle.role_graph.proofs.Copying.{rows_copied}
+use Rattle.role_graph.proofs.CopyLemmas.{rows_copied}
 use Rattle.role_graph.proofs.builder.GraphBuilder.build.Goals as goal
 
 pub graph_of-requires-clause-few : goal.graph_of-requires-clause-few

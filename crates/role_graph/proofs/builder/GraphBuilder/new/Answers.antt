@@ -1,6 +1,6 @@
 use Rattle.std.proofs.Common.{◌≡◌, ◌++◌, ◌∙◌, [], ap, arith, length, sym}
 use Rattle.role_graph.specs.Groups.{rows_of, rows_with}
-use Rattle.role_graph.proofs.Answering.{no_rows}
+use Rattle.role_graph.proofs.AnswerLemmas.{no_rows}
 use Rattle.role_graph.proofs.builder.GraphBuilder.new.Goals as goal
 
 pub returns-clause-rows : goal.returns-clause-rows

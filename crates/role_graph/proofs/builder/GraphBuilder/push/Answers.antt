@@ -6,8 +6,8 @@ use Rattle.role_graph.specs.Built.{Built, IsCounted}
 use Rattle.role_graph.specs.Groups.{row, rows_of, times}
 use Rattle.role_graph.specs.Helps.Kept.{linked_of}
 use Rattle.role_graph.specs.Helps.Roles.{count_of}
-use Rattle.role_graph.proofs.Building.{can_count_more, pushed_counted, pushed_long, pushed_pair}
-use Rattle.role_graph.proofs.Editing.{once}
+use Rattle.role_graph.proofs.BuildLemmas.{can_count_more, pushed_counted, pushed_long, pushed_pair}
+use Rattle.role_graph.proofs.EditLemmas.{once}
 use Rattle.role_meaning.specs.Links.{role_of, user_of}
 use Rattle.role_graph.proofs.builder.GraphBuilder.push.Goals as goal
 

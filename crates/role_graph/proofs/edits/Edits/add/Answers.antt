@@ -6,8 +6,8 @@ use Rattle.role_graph.specs.Helps.Edits.{overlay, standing}
 use Rattle.role_graph.specs.Helps.Kept.{roles_in}
 use Rattle.role_graph.specs.Groups.{row}
 use Rattle.role_meaning.specs.Links.{role_of, user_of}
-use Rattle.role_graph.proofs.Editing.{Gives, added_once, gives_from, once, pair_is, same_field}
-use Rattle.role_graph.proofs.Putting.{on_ok_then}
+use Rattle.role_graph.proofs.EditLemmas.{Gives, added_once, gives_from, once, pair_is, same_field}
+use Rattle.role_graph.proofs.PutLemmas.{on_ok_then}
 use Rattle.role_graph.proofs.edits.Edits.add.Goals as goal
 
 pub returns : goal.returns

@@ -1,5 +1,5 @@
 use Rattle.std.specs.Option.{option_to_list}
-use Rattle.role_graph.proofs.Putting.{apart_front}
+use Rattle.role_graph.proofs.PutLemmas.{apart_front}
 use Rattle.role_graph.proofs.edits.Edits.pop.Goals as goal
 
 pub invariant_of-self : goal.invariant_of-self

@@ -1,4 +1,4 @@
-use Rattle.role_graph.proofs.Putting.{apart_from, overlay_given}
+use Rattle.role_graph.proofs.PutLemmas.{apart_from, overlay_given}
 use Rattle.role_graph.proofs.edits.Edits.put.Goals as goal
 
 pub invariant_of-self-2 : goal.invariant_of-self-2

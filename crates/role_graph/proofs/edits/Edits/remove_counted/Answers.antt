@@ -3,8 +3,8 @@ use Rattle.std.specs.List.{count_by}
 use Rattle.std.specs.Str.{bytes_eq}
 use Rattle.role_graph.specs.Helps.Edits.{overlay}
 use Rattle.role_graph.specs.Helps.Roles.{count_of}
-use Rattle.role_graph.proofs.Editing.{gives_from}
-use Rattle.role_graph.proofs.Putting.{on_ok_then}
+use Rattle.role_graph.proofs.EditLemmas.{gives_from}
+use Rattle.role_graph.proofs.PutLemmas.{on_ok_then}
 use Rattle.role_graph.proofs.Removals.{removed_counted}
 use Rattle.role_graph.proofs.edits.Edits.remove_counted.Goals as goal
 

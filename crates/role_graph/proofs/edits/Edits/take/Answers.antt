@@ -3,7 +3,7 @@ use Rattle.std.specs.Prelude.{IfOk}
 use Rattle.role_graph.specs.Groups.{Group}
 use Rattle.role_graph.specs.Helps.Edits.{overlay}
 use Rattle.role_graph.specs.Helps.Kept.{roles_in}
-use Rattle.role_graph.proofs.Putting.{apart_from, if_any, others_kept, overlay_found, overlay_nowhere}
+use Rattle.role_graph.proofs.PutLemmas.{apart_from, if_any, others_kept, overlay_found, overlay_nowhere}
 use Rattle.role_graph.proofs.edits.Edits.take.Goals.{in-Some, in-None}
 use Rattle.role_graph.proofs.edits.Edits.take.Goals as goal
 

@@ -8,9 +8,9 @@ use Rattle.role_graph.specs.Groups.{Group, after, rows_of, times}
 use Rattle.role_graph.specs.Helps.Kept.{linked_of}
 use Rattle.role_graph.specs.Helps.Roles.{nodes_of}
 use Rattle.role_graph.specs.Helps.Squares.{name_at}
-use Rattle.role_graph.proofs.Committing.{committed_before, nodes_from}
-use Rattle.role_graph.proofs.Counting.{as_long}
-use Rattle.role_graph.proofs.Preparing.{are_counted, can_count, counted_after}
+use Rattle.role_graph.proofs.CommitLemmas.{committed_before, nodes_from}
+use Rattle.role_graph.proofs.CountLemmas.{as_long}
+use Rattle.role_graph.proofs.PrepareLemmas.{are_counted, can_count, counted_after}
 use Rattle.role_graph.proofs.graph.RoleGraph.commit.Goals as goal
 
 pub recount-whole-requires-clause-few : goal.recount-whole-requires-clause-few

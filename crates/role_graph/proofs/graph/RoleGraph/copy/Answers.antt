@@ -1,6 +1,6 @@
 use Rattle.std.proofs.Common.{ap, ◌∙◌}
 use Rattle.role_graph.specs.Graph.{Graph}
-use Rattle.role_graph.proofs.Copying.{rows_copied, sound_copied}
+use Rattle.role_graph.proofs.CopyLemmas.{rows_copied, sound_copied}
 use Rattle.role_graph.proofs.graph.RoleGraph.copy.Goals as goal
 
 pub invariant_of-result : goal.invariant_of-result

@@ -1,7 +1,7 @@
 use Rattle.std.proofs.Common.{arith, subst}
 use Rattle.role_graph.specs.Graph.{Graph, IsGraphFar}
 use Rattle.role_graph.specs.Helps.Kept.{linked_of}
-use Rattle.role_graph.proofs.Answering.{far_told}
+use Rattle.role_graph.proofs.AnswerLemmas.{far_told}
 use Rattle.role_graph.proofs.graph.RoleGraph.far.Goals as goal
 
 pub nearest-requires-clause-exact : goal.nearest-requires-clause-exact

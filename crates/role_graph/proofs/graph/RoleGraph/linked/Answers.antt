@@ -2,7 +2,7 @@ use Rattle.std.proofs.Common.{IsTrue, arith, subst}
 use Rattle.std.specs.Prelude.{◌↔◌, nat_le}
 use Rattle.role_graph.specs.Graph.{Graph, GraphReaches}
 use Rattle.role_graph.specs.Helps.Kept.{linked_of}
-use Rattle.role_graph.proofs.Answering.{kept_told, linked_told}
+use Rattle.role_graph.proofs.AnswerLemmas.{kept_told, linked_told}
 use Rattle.role_graph.proofs.graph.RoleGraph.linked.Goals as goal
 
 pub nearest-requires-clause-exact : goal.nearest-requires-clause-exact

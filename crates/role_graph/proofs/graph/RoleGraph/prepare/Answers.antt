@@ -3,7 +3,7 @@ use Rattle.policy_table.specs.Tables.{Fields}
 use Rattle.role_graph.specs.Graph.{Graph}
 use Rattle.role_graph.specs.Groups.{Group, after, rows_of, times}
 use Rattle.role_graph.specs.Helps.Kept.{linked_of}
-use Rattle.role_graph.proofs.Preparing.{prepared_for, prepared_times, stands_now}
+use Rattle.role_graph.proofs.PrepareLemmas.{prepared_for, prepared_times, stands_now}
 use Rattle.role_graph.proofs.graph.RoleGraph.prepare.Goals as goal
 
 pub remove_all-requires-clause-stand : goal.remove_all-requires-clause-stand

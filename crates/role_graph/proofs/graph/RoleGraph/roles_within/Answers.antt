@@ -4,7 +4,7 @@ use Rattle.role_meaning.specs.Links.{role_of}
 use Rattle.role_graph.specs.Graph.{Graph, shape_of}
 use Rattle.role_graph.specs.Groups.{rows_of}
 use Rattle.role_graph.specs.Helps.Kept.{linked_of}
-use Rattle.role_graph.proofs.Gathering.{counted_some, implied_few, implied_whole}
+use Rattle.role_graph.proofs.GatherLemmas.{counted_some, implied_few, implied_whole}
 use Rattle.role_graph.proofs.graph.RoleGraph.roles_within.Goals as goal
 
 pub from_vec-requires : goal.from_vec-requires

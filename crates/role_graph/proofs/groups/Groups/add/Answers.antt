@@ -7,7 +7,7 @@ use Rattle.role_graph.specs.Groups.{Group}
 use Rattle.role_graph.specs.Helps.Kept.{AreKept, Kept, group_of, roles_under}
 use Rattle.role_graph.proofs.Adding.{found_some, kept_written, one_more, pushed_some, roles_first, roles_more, roles_pushed, users_written}
 use Rattle.role_graph.proofs.Entries.{roles_nowhere}
-use Rattle.role_graph.proofs.Putting.{kept_inserted, on_ok_then, users_inserted}
+use Rattle.role_graph.proofs.PutLemmas.{kept_inserted, on_ok_then, users_inserted}
 use Rattle.role_graph.proofs.groups.Groups.add.Goals as goal
 
 -- the user is there

@@ -1,7 +1,7 @@
 use Rattle.std.proofs.Common.{length, ap, subst, sym, ◌∙◌, arith}
 use Rattle.std.proofs.lemmas.List.{length-map}
 use Rattle.role_graph.specs.Helps.Kept.{AreKept, Kept, group_of}
-use Rattle.role_graph.proofs.Copying.{group_copied, groups_copied}
+use Rattle.role_graph.proofs.CopyLemmas.{group_copied, groups_copied}
 use Rattle.role_graph.proofs.groups.Groups.copy.Goals as goal
 
 pub loop-at-preserved : goal.loop-at-preserved

@@ -5,7 +5,7 @@ use Rattle.indexmap.specs.IndexMap.{insert_entry}
 use Rattle.role_graph.specs.Groups.{Group}
 use Rattle.role_graph.specs.Helps.Kept.{AreKept, Kept, group_of, roles_under}
 use Rattle.role_graph.proofs.Entries.{is_user}
-use Rattle.role_graph.proofs.Putting.{given, kept_inserted, kept_removed, no_items, roles_given, roles_removed, same_key, some_length, users_inserted, users_removed}
+use Rattle.role_graph.proofs.PutLemmas.{given, kept_inserted, kept_removed, no_items, roles_given, roles_removed, same_key, some_length, users_inserted, users_removed}
 use Rattle.role_graph.proofs.groups.Groups.put.Goals.{in-Some-2, in-None-2}
 use Rattle.role_graph.proofs.groups.Groups.put.Goals as goal
 

@@ -1,5 +1,5 @@
 use Rattle.std.proofs.Common.{◌∙◌, length-set, arith}
-use Rattle.role_graph.proofs.Marking.{word_cleared}
+use Rattle.role_graph.proofs.MarkLemmas.{word_cleared}
 use Rattle.role_graph.proofs.marks.Marks.clear.Goals as goal
 
 pub loop-word-init : goal.loop-word-init

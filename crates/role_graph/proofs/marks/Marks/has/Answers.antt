@@ -1,6 +1,6 @@
 use Rattle.std.proofs.Common.{List, ℕ, refl, sym, subst}
 use Rattle.role_graph.specs.Helps.Marks.{IsSet}
-use Rattle.role_graph.proofs.Marking.{bit_told}
+use Rattle.role_graph.proofs.MarkLemmas.{bit_told}
 use Rattle.role_graph.proofs.marks.Marks.has.Goals as goal
 
 pub returns : goal.returns

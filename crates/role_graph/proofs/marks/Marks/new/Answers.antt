@@ -1,4 +1,4 @@
-use Rattle.role_graph.proofs.Marking.{none_marked}
+use Rattle.role_graph.proofs.MarkLemmas.{none_marked}
 use Rattle.role_graph.proofs.marks.Marks.new.Goals as goal
 
 pub returns : goal.returns

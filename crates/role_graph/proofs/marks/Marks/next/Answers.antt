@@ -1,7 +1,7 @@
 use Rattle.std.proofs.Common.{◌<◌, ◌+◌, ◌/◌, ◌%◌, ◌^◌, List, ℕ, get_or, refl, rules, sym, subst, arith, w64}
 use Rattle.std.specs.Int.{trailing_zeros}
 use Rattle.role_graph.specs.Helps.Marks.{IsSet}
-use Rattle.role_graph.proofs.Marking.{behind_all, behind_word, first_left, if_none_then, if_some_then}
+use Rattle.role_graph.proofs.MarkLemmas.{behind_all, behind_word, first_left, if_none_then, if_some_then}
 use Rattle.role_graph.proofs.marks.Marks.next.Goals as goal
 
 pub returns-then-word-ge-WORDS-clause-none : goal.returns-then-word-ge-WORDS-clause-none

@@ -1,7 +1,7 @@
 use Rattle.std.proofs.Common.{◌≡◌, ◌<◌, ◌+◌, ◌*◌, ◌^◌, List, ℕ, length, get_or, refl, rules, sym, subst, arith, w64}
 use Rattle.std.specs.Int.{trailing_zeros}
 use Rattle.role_graph.specs.Helps.Marks.{IsSet}
-use Rattle.role_graph.proofs.Marking.{first_behind, first_of_word, next_word_none, past_words}
+use Rattle.role_graph.proofs.MarkLemmas.{first_behind, first_of_word, next_word_none, past_words}
 use Rattle.role_graph.proofs.marks.Marks.next_word.Goals as goal
 
 pub returns-then-marks-ne0-clause-found : goal.returns-then-marks-ne0-clause-found

@@ -1,6 +1,6 @@
 use Rattle.std.proofs.Common.{◌≡◌, ◌⊎◌, List, ℕ, length, refl, rules, sym, subst, arith}
 use Rattle.role_graph.specs.Helps.Marks.{IsSet}
-use Rattle.role_graph.proofs.Marking.{set_here, set_keeps, set_only}
+use Rattle.role_graph.proofs.MarkLemmas.{set_here, set_keeps, set_only}
 use Rattle.role_graph.proofs.marks.Marks.set.Goals as goal
 
 pub returns-clause-marked : goal.returns-clause-marked

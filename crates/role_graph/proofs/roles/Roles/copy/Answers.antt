@@ -2,7 +2,7 @@ use Rattle.std.proofs.Common.{◌≡◌, ℕ, List, refl, sym, subst, arith}
 use Rattle.std.proofs.lemmas.List.{length-map}
 use Rattle.role_graph.specs.Helps.Roles.{HasNames, HasNoZero}
 use Rattle.role_graph.specs.Keyed.{by_text}
-use Rattle.role_graph.proofs.Copying.{copied_all, copied_next, key_text}
+use Rattle.role_graph.proofs.CopyLemmas.{copied_all, copied_next, key_text}
 use Rattle.role_graph.proofs.roles.Roles.copy.Goals as goal
 
 pub loop-at-preserved : goal.loop-at-preserved

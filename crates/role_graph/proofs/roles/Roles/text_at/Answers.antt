@@ -2,7 +2,7 @@ use Rattle.std.proofs.Common.{[], get_or, subst, sym}
 use Rattle.std.specs.Prelude.{IsUtf8}
 use Rattle.std.proofs.lemmas.List.Elements.{Contains-get_or}
 use Rattle.role_graph.specs.Helps.Roles.{nodes_of}
-use Rattle.role_graph.proofs.Committing.{key_counted}
+use Rattle.role_graph.proofs.CommitLemmas.{key_counted}
 use Rattle.role_graph.proofs.roles.Roles.text_at.Goals as goal
 
 pub unreachable-requires : goal.unreachable-requires

@@ -1,8 +1,0 @@
-use Rattle.std.proofs.Common.{map, take}
-use Rattle.perm_value.specs.Seen.{datum}
-use Rattle.decision.specs.Helps.Planning.{pair_seen}
-use Rattle.decision.proofs.GatherLemmas.{SoFar}
-use Rattle.decision.proofs.gathering.hash_of.Given as goal
-
-abbrev pub invariant-loop-pair : goal.invariant-loop-pair
-invariant-loop-pair l = SoFar (map datum l.request) (map pair_seen (take l.pair-index l.pairs)) l.hash

@@ -1,0 +1,21 @@
+//! Sessions: scripts that are answered at a desk, each item in its turn.
+#![tactic(auto)]
+
+mod asked;
+mod calls;
+mod item;
+mod judged_line;
+mod named;
+mod other;
+mod plain;
+mod queries;
+mod request;
+
+pub use answer_lines::{Answer, Line, Lines};
+pub use asked::asked_in;
+pub use item::answer_item;
+pub use judged_line::push_request;
+pub use named::named_rule;
+pub use other::answer_other;
+pub use plain::run_plain;
+pub use request::answer_request;

@@ -1,9 +1,0 @@
-use Rattle.std.proofs.Common.{ℕ, List, ◌++◌, codes, ap, ◌∙◌}
-use Rattle.file_lint.specs.Mended.{with_line}
-use Rattle.file_lint.specs.declared.mending.Extent.TheVariants.{Alone}
-use Rattle.file_lint.proofs.mending.with_other_key.Goals as goal
-
-pub returns : goal.returns
-returns c =
-    c.in_ok-made.ensures
-    ∙ ap (λ (by : List ℕ). with_line Alone c.args.number by c.args.text.now) (c.as_str.ensures.value ∙ c.in_ok-by.ensures ∙ ap (λ (l : List ℕ). c.args.key.now ++ codes " =" ++ l) c.cut_at_equals.ensures.back)

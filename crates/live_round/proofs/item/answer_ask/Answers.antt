@@ -1,8 +1,0 @@
-use Rattle.std.proofs.lemmas.Result.{IfOk-weaker}
-use Rattle.script_read.specs.Said.{reading}
-use Rattle.live_round.proofs.StepLemmas.{request_step}
-use Rattle.live_round.proofs.item.answer_ask.Goals as goal
-
-pub returns-clause-step : goal.returns-clause-step
-returns-clause-step g c =
-    IfOk-weaker c.answer_request.result _ _ (λ reply is. request_step c.args.program.now _ _ c.args.desk.now c.state.result.now c.state.ensures.state (reading c.args.asked.now) reply is) c.answer_request.ensures.answer

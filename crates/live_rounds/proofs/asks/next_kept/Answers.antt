@@ -1,0 +1,23 @@
+use Rattle.std.proofs.Common.{◌≡◌, [], arith}
+use Rattle.std.proofs.lemmas.Grind.{common_steps}
+use Rattle.live_rounds.proofs.SharingLemmas.{none_first, none_others, some_first, some_others}
+use Rattle.live_rounds.proofs.asks.next_kept.Goals as goal
+
+-- nothing is kept any more
+pub returns-in_default-clause-first : goal.returns-in_default-clause-first
+returns-in_default-clause-first c =
+    let none : c.args.kept.now.rest.items ≡ [] = grind (arith, common_steps) in
+    none_first (λ v. v.items) c.args.kept.now.rest.items none c.new.result.items c.new.ensures.items
+
+pub returns-in_default-clause-others : goal.returns-in_default-clause-others
+returns-in_default-clause-others c =
+    let none : c.args.kept.now.rest.items ≡ [] = grind (arith, common_steps) in
+    let left : c.next.new.self.rest.items ≡ [] = grind (arith, common_steps) in
+    none_others (λ v. v.items) c.args.kept.now.rest.items none c.next.new.self.rest.items left
+
+-- the next one
+pub returns-clause-first : goal.returns-clause-first
+returns-clause-first c = some_first (λ v. v.items) c.args.kept.now.rest.items c.in-Some.replies c.next.new.self.rest.items c.in-Some.ensures.cases.0
+
+pub returns-clause-others : goal.returns-clause-others
+returns-clause-others c = some_others (λ v. v.items) c.args.kept.now.rest.items c.in-Some.replies c.next.new.self.rest.items c.in-Some.ensures.cases.0

@@ -1,0 +1,108 @@
+ghost use Rattle.std.specs.Prelude.{◌≡◌, IfErr, IfOk, Ok, map};
+ghost use Rattle.decision.specs.Programs.{Suits};
+ghost use Rattle.live_rounds.specs.Served.{IsPartServed, IsServedBy};
+ghost use Rattle.live_seat.specs.Decided.{IsStoppedAt};
+ghost use Rattle.perm_value.specs.Seen.{datum};
+ghost use Rattle.regex_gate.specs.Refusals.{IsUsed};
+ghost use Rattle.script_read.specs.Said.{reading, seen};
+
+use crate::gate::Gate;
+use decision::{Program, Scratch};
+use desk_session::{Answer, asked_in};
+use live_pair::{Naming, Seat};
+use live_seat::{SeatStop, explain_seat};
+use outside::NoMemory;
+use perm_value::Request;
+use regex_gate::Finder;
+use script_read::{Item, RequestLine};
+use std::alloc::Global;
+
+/// Answers the requests among a worker's items at a seat, each in its turn, until an entry is refused. The items stand behind so
+/// many others of the script.
+pub(crate) fn answer_part<J: Naming, P: Finder, G: Gate>(
+    alloc: Global,
+    seat: &mut Seat<J>,
+    program: &Program,
+    items: &[Item],
+    finder: &mut P,
+    worker: u32,
+    others: u32,
+    gate: &G,
+) -> Result<Vec<Answer>, NoMemory>
+    requires suits { Suits program.now J.shapes }
+    ensures served { IfOk result (λ replies. IsPartServed program.now J.shapes J.opening
+        (map seen items.now) (P.refusals finder.old) (P.refusals finder.new)
+        seat.old seat.new replies.items) }
+    ensures used { IsUsed (P.refusals finder.old) (P.refusals finder.new) }
+{
+    let mut scratch = Scratch::for_program(alloc, program);
+    let mut replies = Vec::new(alloc);
+    let mut number = others;
+    for item in items {
+        number = number.saturating_add(1);
+        let Some(asked) = asked_in(item) else {
+            continue;
+        };
+        gate.pass(worker, number);
+        match answer_asked(alloc, seat, program, asked, finder, &mut scratch) {
+            Ok(reply) => replies.push(reply)?,
+            Err(SeatStop::Shut) => return Ok(replies),
+            Err(SeatStop::NoMemory) => return Err(NoMemory),
+        }
+    }
+    Ok(replies)
+}
+
+// Answers a line of requests at a seat, by one entry where it is decided.
+fn answer_asked<J: Naming, P: Finder>(
+    alloc: Global,
+    seat: &mut Seat<J>,
+    program: &Program,
+    asked: &RequestLine,
+    finder: &mut P,
+    scratch: &mut Scratch,
+) -> Result<Answer, SeatStop>
+    requires suits { Suits program.now J.shapes }
+    ensures served { IfOk result (IsServedBy program.now J.shapes J.opening
+        (reading asked.now) (P.refusals finder.old) (P.refusals finder.new)
+        seat.old seat.new) }
+    ensures stopped { IfErr result (IsStoppedAt
+        (P.refusals finder.old) (P.refusals finder.new) seat.old seat.new) }
+    ensures used { IsUsed (P.refusals finder.old) (P.refusals finder.new) }
+{
+    match asked {
+        RequestLine::Request(request) => judge(alloc, seat, program, request, finder, scratch),
+        RequestLine::Refused(fault) => Ok(Answer::Request(*fault)),
+    }
+}
+
+// What a request is answered at a seat.
+fn judge<J: Naming, P: Finder>(
+    alloc: Global,
+    seat: &mut Seat<J>,
+    program: &Program,
+    request: &Request,
+    finder: &mut P,
+    scratch: &mut Scratch,
+) -> Result<Answer, SeatStop>
+    requires suits { Suits program.now J.shapes }
+    ensures served { IfOk result (IsServedBy program.now J.shapes J.opening
+        (Ok (map datum request.now)) (P.refusals finder.old) (P.refusals finder.new)
+        seat.old seat.new) }
+    ensures stopped { IfErr result (IsStoppedAt
+        (P.refusals finder.old) (P.refusals finder.new) seat.old seat.new) }
+    ensures used { IsUsed (P.refusals finder.old) (P.refusals finder.new) }
+{
+    if let Err(arity) = program.takes(request) {
+        let (got, want) = (arity.got, arity.want);
+        return Ok(Answer::Arity { got, want });
+    }
+    let told = explain_seat(alloc, seat, program, request, finder, scratch)?;
+    let (answered, rule) = told;
+    let (version, verdict) = (answered.version, answered.verdict);
+    Ok(Answer::Decided {
+        version,
+        verdict,
+        rule,
+    })
+}

@@ -1,0 +1,32 @@
+use Rattle.std.proofs.Common.{◌≡◌, true, ◌++◌, ◌∷◌, [], List, ℕ, Err, inl, inr, refl, sym, ap, ◌∙◌, arith, rules, subst}
+use Rattle.std.proofs.lemmas.Result.{IfErr-weaker, err_from_is_err_and, on_ok_weaker}
+use Rattle.std.specs.Prelude.{codes}
+use Rattle.outside.specs.Faults.{Rose}
+use Rattle.regex_gate.proofs.CallerLemmas.{used_none}
+use Rattle.live_serve.specs.Lines.{next_number, refused_text}
+use Rattle.live_serve.specs.Places.{follows}
+use Rattle.live_serve.specs.Sayings.{too_long}
+use Rattle.live_serve.specs.Standings.{follower_standing}
+use Rattle.live_serve.proofs.PieceLemmas.{section_pushed, section_stops}
+use Rattle.live_serve.proofs.ServeLemmas.{step_halts, step_pushed}
+use Rattle.live_serve.proofs.FollowLemmas.{long_step}
+use Rattle.live_serve.proofs.follower_clerk.FollowerClerk.serve_followed.Goals as goal
+
+pub returns-in-TooLong-clause-served : goal.returns-in-TooLong-clause-served
+returns-in-TooLong-clause-served g c =
+    rw c.in-TooLong.is (on_ok_weaker c.refuse.result (λ took. (too_long ∷ [], refl, step_pushed c.args.program.now (follower_standing c.args.self.now) (follows c.args.self.now.follower) too_long [] (refused_text (next_number c.args.self.now.pen.number) (codes "too long")) (long_step c.args.program.now c.args.self.now.follower (next_number c.args.self.now.pen.number) (refused_text (next_number c.args.self.now.pen.number) (codes "too long")) refl) (g.P.Finder.refusals c.args.finder.now) (g.P.Finder.refusals c.args.finder.now) c.refuse.new.self.number (g.K.Sink.taken c.args.out.now) (g.K.Sink.taken c.refuse.new.out) refl c.refuse.ensures.next took)) c.refuse.ensures.told)
+
+pub returns-in-TooLong-clause-stopped : goal.returns-in-TooLong-clause-stopped
+returns-in-TooLong-clause-stopped g c =
+    rw c.in-TooLong.is (IfErr-weaker c.refuse.result _ _ (λ stop stops. inl (too_long ∷ [], refl, step_halts c.args.program.now (follower_standing c.args.self.now) (follows c.args.self.now.follower) too_long [] (refused_text (next_number c.args.self.now.pen.number) (codes "too long")) (long_step c.args.program.now c.args.self.now.follower (next_number c.args.self.now.pen.number) (refused_text (next_number c.args.self.now.pen.number) (codes "too long")) refl) (g.K.Sink.taken c.args.out.now) (g.K.Sink.taken c.refuse.new.out) (Rose (g.K.Sink.faults c.args.out.now) (g.K.Sink.faults c.refuse.new.out)) stop stops)) c.refuse.ensures.stopped)
+
+pub returns-in-TooLong-clause-used : goal.returns-in-TooLong-clause-used
+returns-in-TooLong-clause-used g c = used_none (g.P.Finder.refusals c.args.finder.now)
+
+pub returns-in-Lines-clause-served : goal.returns-in-Lines-clause-served
+returns-in-Lines-clause-served g c =
+    rw c.in-Lines.is (on_ok_weaker c.serve_text.result (section_pushed c.args.json true c.deref.result.now c.in-Lines.lines.items c.deref.ensures.value c.args.program.now (g.P.Finder.refusals c.args.finder.now) (g.P.Finder.refusals c.serve_text.new.finder) (follower_standing c.args.self.now) (follower_standing c.serve_text.new.self) (g.K.Sink.taken c.args.out.now) (g.K.Sink.taken c.serve_text.new.out)) c.serve_text.ensures.served)
+
+pub returns-in-Lines-clause-stopped : goal.returns-in-Lines-clause-stopped
+returns-in-Lines-clause-stopped g c =
+    rw c.in-Lines.is (IfErr-weaker c.serve_text.result _ _ (section_stops c.args.json true c.deref.result.now c.in-Lines.lines.items c.deref.ensures.value c.args.program.now (follower_standing c.args.self.now) (g.K.Sink.taken c.args.out.now) (g.K.Sink.taken c.serve_text.new.out) (Rose (g.K.Sink.faults c.args.out.now) (g.K.Sink.faults c.serve_text.new.out))) c.serve_text.ensures.stopped)

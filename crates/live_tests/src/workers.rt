@@ -1,0 +1,128 @@
+//! Two workers beside an administrator.
+ghost use Rattle.std.specs.Prelude.{◌<◌, length};
+ghost use Rattle.decision.specs.Programs.{Suits};
+ghost use Rattle.perm_base.specs.Shapes.{AreValid};
+
+use crate::desks::{desk, program};
+use crate::meeting::Meeting;
+use decision::Program;
+use desk_session::{Answer, Lines};
+use effect_fold::Verdict;
+use live_pair::{PairPlaces, Places};
+use live_rounds::{Gate, run_shared};
+use outside::NoMemory;
+use perm_base::Shapes;
+use regex_gate::RegexFinder;
+use script_read::{Script, read_script};
+use std::alloc::Global;
+use std::sync::Wait;
+use std::sync::atomic::Ordering;
+use std::test::Fail;
+use std::thread::Threads;
+
+// Two requests of each worker beside two publishes.
+const TURNS: &str = "add p, alice, data1, read
+publish
+ask alice, data1, read
+ask alice, data1, read
+ask alice, data1, read
+ask alice, data1, read
+remove p, alice, data1, read
+publish
+";
+
+#[test]
+fn workers_and_the_administrator_wait_for_each_other(rt: HostRuntime) -> Result<(), Fail> {
+    let alloc = rt.alloc();
+    let gate = Meeting::new();
+    let mut places = PairPlaces::new();
+    let lines = lines_of(&rt, alloc, &gate, &mut places)?;
+    assert_eq!(rt; gate.late.load(Ordering::SeqCst), false);
+    assert_eq!(rt; places.refusals(), 0);
+    assert!(rt; is_beside(&lines, 2));
+    assert!(rt; is_beside(&lines, 4));
+    Ok(())
+}
+
+// The lines of the script, whose requests two workers answer.
+fn lines_of<R: Threads + Wait + Sync, G: Gate, H: Places>(
+    rt: &R,
+    alloc: Global,
+    gate: &G,
+    places: &mut H,
+) -> Result<Lines, NoMemory> {
+    let Ok(script) = read_script(alloc, TURNS.as_bytes(), false) else {
+        return Err(NoMemory);
+    };
+    lines_by(rt, alloc, &script, gate, places)
+}
+
+// With a finder for each worker and one more.
+fn lines_by<R: Threads + Wait + Sync, G: Gate, H: Places>(
+    rt: &R,
+    alloc: Global,
+    script: &Script,
+    gate: &G,
+    places: &mut H,
+) -> Result<Lines, NoMemory> {
+    let mut finders = Vec::with_capacity(alloc, 3)?;
+    for _ in 0..3 {
+        finders.push(RegexFinder::new(alloc))?;
+    }
+    if finders.len() <= 2 {
+        return Err(NoMemory);
+    }
+    lines_with(rt, alloc, script, &mut finders, gate, places)
+}
+
+// By the program.
+fn lines_with<R: Threads + Wait + Sync, G: Gate, H: Places>(
+    rt: &R,
+    alloc: Global,
+    script: &Script,
+    finders: &mut Vec<RegexFinder>,
+    gate: &G,
+    places: &mut H,
+) -> Result<Lines, NoMemory>
+    requires finders { 2 < length finders.old.items }
+{
+    let (program, shapes) = program(alloc)?;
+    lines_over(rt, alloc, &program, shapes, script, finders, gate, places)
+}
+
+// Over the policy without rules that has these shapes.
+fn lines_over<R: Threads + Wait + Sync, G: Gate, H: Places>(
+    rt: &R,
+    alloc: Global,
+    program: &Program,
+    shapes: Shapes,
+    script: &Script,
+    finders: &mut Vec<RegexFinder>,
+    gate: &G,
+    places: &mut H,
+) -> Result<Lines, NoMemory>
+    requires suits { Suits program.now shapes }
+    requires valid { AreValid shapes }
+    requires finders { 2 < length finders.old.items }
+{
+    let desk = desk(alloc, shapes)?;
+    run_shared(rt, alloc, desk, program, script, 2, finders, gate, places)
+}
+
+// Whether the line at a place shows the verdict before the first publish, or the one behind it.
+fn is_beside(lines: &Lines, place: usize) -> bool {
+    let Some(line) = lines.as_slice().get(place) else {
+        return false;
+    };
+    match &line.answer {
+        Answer::Decided {
+            version,
+            verdict,
+            ..
+        } => {
+            (*version == 0 && *verdict == Verdict::Deny(None))
+                || (*version == 1 && *verdict == Verdict::Allow(Some(1)))
+        }
+        _ => false,
+    }
+}

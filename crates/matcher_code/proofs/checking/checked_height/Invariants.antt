@@ -1,5 +1,0 @@
-use Rattle.matcher_code.specs.Helps.Checking.{IsWalked}
-use Rattle.matcher_code.proofs.checking.checked_height.Given as goal
-
-abbrev pub invariant-loop-at : goal.invariant-loop-at
-invariant-loop-at l = IsWalked l.ops l.columns l.policy_columns l.at l.walk

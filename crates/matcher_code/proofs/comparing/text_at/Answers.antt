@@ -1,4 +1,0 @@
-use Rattle.matcher_code.proofs.comparing.text_at.Goals as goal
-
-pub returns-in-Text : goal.returns-in-Text
-returns-in-Text c = c.in-Text.ensures

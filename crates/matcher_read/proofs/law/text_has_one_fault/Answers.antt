@@ -1,5 +1,0 @@
-use Rattle.matcher_read.proofs.LawLemmas.{one_fault}
-use Rattle.matcher_read.proofs.law.text_has_one_fault.Goals as goal
-
-pub returns : goal.returns
-returns c = one_fault

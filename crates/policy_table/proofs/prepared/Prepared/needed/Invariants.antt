@@ -1,9 +1,0 @@
-use Rattle.std.proofs.Common.{◌≡◌, ◌≤◌, take}
-use Rattle.policy_table.specs.Held.{needed}
-use Rattle.policy_table.proofs.prepared.Prepared.needed.Given as goal
-
-abbrev pub invariant-loop-step : goal.invariant-loop-step
-invariant-loop-step l = record {
-  counted : l.count ≡ needed l.at (take l.step-index l.step-items);
-  few : l.count ≤ l.step-index;
-}

@@ -1,5 +1,0 @@
-use Rattle.rbac_query.proofs.CountLemmas.{permissions_one}
-use Rattle.rbac_query.proofs.law.permissions_are_one.Goals as goal
-
-pub returns : goal.returns
-returns c = permissions_one

@@ -1,4 +1,0 @@
-use Rattle.role_graph.proofs.inserting.distance.Given as goal
-
-abbrev pub ghosts-counted_distance : goal.ghosts-counted_distance
-ghosts-counted_distance a = record { name = a.blank.name; parts = a.blank.parts }

@@ -1,7 +1,0 @@
-use Rattle.std.proofs.Common.{◌≤◌, ◌<◌, ℕ}
-use Rattle.role_graph.specs.Helps.Kept.{linked_of}
-use Rattle.role_graph.specs.Helps.Walks.{FitsAt}
-use Rattle.role_graph.proofs.links.Links.next_pattern.Given as goal
-
-abbrev pub invariant-loop-at : goal.invariant-loop-at
-invariant-loop-at l = (other : ℕ) → l.from ≤ other → other < l.at → FitsAt (linked_of l.fn.self) l.name other → ⊥

@@ -1,0 +1,14 @@
+use Rattle.std.proofs.Common.{◌≡◌, ◌<◌, ◌≤◌, ℕ, List, length}
+use Rattle.dist_rows.specs.Squares.{cell_of}
+use Rattle.role_graph.specs.Helps.Mended.{IsMending}
+use Rattle.role_graph.specs.Helps.Walks.{Linked}
+use Rattle.role_graph.proofs.Mended.{IsByAll}
+use Rattle.role_graph.proofs.repair.mend_all.Given as goal
+
+abbrev pub invariant-loop-node : goal.invariant-loop-node
+invariant-loop-node l = record {
+  long : length l.square.cells ≡ length l.fn.square.cells;
+  spare : l.square.spare ≡ l.fn.square.spare;
+  lower : (a b : ℕ) → a < length l.fn.square.cells → b < length l.fn.square.cells → cell_of l.square.cells a b ≤ cell_of l.fn.square.cells a b;
+  mends : (linked : Linked) (names old : List (List ℕ)) → IsMending linked names old l.hits l.fn.square.cells → IsByAll linked names old l.hits l.node l.fn.square.cells l.square.cells;
+}

@@ -1,5 +1,0 @@
-use Rattle.role_meaning.proofs.Reach.{far_tells}
-use Rattle.role_meaning.proofs.law.distance_tells_links.Goals as goal
-
-pub returns : goal.returns
-returns c = far_tells

@@ -1,5 +1,0 @@
-use Rattle.role_meaning.proofs.PlainNames.{plain_fits}
-use Rattle.role_meaning.proofs.law.plain_names_fit_themselves_alone.Goals as goal
-
-pub returns : goal.returns
-returns c = plain_fits

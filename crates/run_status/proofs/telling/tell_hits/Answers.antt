@@ -1,5 +1,0 @@
-use Rattle.run_status.proofs.CallerLemmas.{told_by_push}
-use Rattle.run_status.proofs.telling.tell_hits.Goals as goal
-
-pub returns : goal.returns
-returns g c = told_by_push _ _ _ _ _ _ c.push_hits.ensures

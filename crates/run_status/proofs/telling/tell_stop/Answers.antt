@@ -1,5 +1,0 @@
-use Rattle.run_status.proofs.CallerLemmas.{told_by_push}
-use Rattle.run_status.proofs.telling.tell_stop.Goals as goal
-
-pub returns-clause-told : goal.returns-clause-told
-returns-clause-told g c = told_by_push _ _ _ _ _ _ c.push_stop.ensures
