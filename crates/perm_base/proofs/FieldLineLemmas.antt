@@ -9,7 +9,7 @@ use Rattle.perm_base.specs.declared.quoted.FieldFault.TheVariants.{Quote, TooMan
 use Rattle.perm_base.specs.FieldLine.{IsFields, IsSpelled, IsWritten, most_fields}
 use Rattle.perm_base.specs.FieldLine.IsWritten.{bare, quoted}
 use Rattle.perm_base.specs.FieldFaults.{AreEnded, HasTooMany, IsBad, IsBadAt, IsFault, IsQuoteFault, column_at}
-use Rattle.perm_base.specs.Helps.FieldSteps.{Fails, Gives, Read, column_of, fields_of, fields_within, first_field, more_fields, with_next}
+use Rattle.perm_base.specs.FieldSteps.{Fails, Gives, Read, column_of, fields_of, fields_within, first_field, more_fields, with_next}
 use Rattle.perm_base.proofs.QuotedLemmas.{more_fields-none}
 use Rattle.perm_base.proofs.ReadLemmas.{IsRead, Meets, first_meets}
 use Rattle.perm_base.proofs.WrittenLemmas.{bad_met, first_read}

@@ -11,7 +11,7 @@ use Rattle.std.proofs.lemmas.Str.{IsCharBoundary-before_ascii}
 use Rattle.text_parts.specs.Lines.{has_byte}
 use Rattle.text_parts.proofs.CallerLemmas.{position-None, position-none_before}
 use Rattle.perm_base.specs.LineEnds.{has_line_end, is_line_end}
-use Rattle.perm_base.specs.Helps.FieldSteps.{before_comma, behind_comma, ends_plain, is_mark}
+use Rattle.perm_base.specs.FieldSteps.{before_comma, behind_comma, ends_plain, is_mark}
 use Rattle.perm_base.proofs.QuotedLemmas.{before_comma-cut, before_comma-none}
 
 -- such bytes are ASCII

@@ -9,7 +9,7 @@ use Rattle.perm_base.specs.declared.quoted.FieldFault.{FieldFault}
 use Rattle.perm_base.specs.declared.quoted.FieldFault.TheVariants.{Quote, TooMany, NoMemory}
 use Rattle.perm_base.specs.LineEnds.{is_line_end, has_line_end}
 use Rattle.perm_base.specs.FieldLine.{doubled, in_quotes, needs_quotes, printed_field}
-use Rattle.perm_base.specs.Helps.FieldSteps.{IsCutAt, Read, Fails, before_comma, behind_comma, quoted_text, more_quoted, more_fields, with_next, fields_within, first_field, full_field, plain_field, quoted_field, closed_field, column_of, line_end_column, place_column, quoted_part, fields_of}
+use Rattle.perm_base.specs.FieldSteps.{IsCutAt, Read, Fails, before_comma, behind_comma, quoted_text, more_quoted, more_fields, with_next, fields_within, first_field, full_field, plain_field, quoted_field, closed_field, column_of, line_end_column, place_column, quoted_part, fields_of}
 
 -- commas
 pub at_comma : (before behind : List ℕ) → has_byte 44 before ≡ false → (before_comma (before ++ 44 ∷ behind) ≡ before) × (behind_comma (before ++ 44 ∷ behind) ≡ Some behind)

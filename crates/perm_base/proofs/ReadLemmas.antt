@@ -11,7 +11,7 @@ use Rattle.perm_base.specs.FieldLine.{IsSpelled, begins_with, doubled, in_quotes
 use Rattle.perm_base.specs.FieldLine.IsWritten.{bare, quoted}
 use Rattle.perm_base.specs.FieldFaults.{IsBad}
 use Rattle.perm_base.specs.FieldFaults.IsBad.{never_closed, not_ended, bare_line_end, quoted_line_end}
-use Rattle.perm_base.specs.Helps.FieldSteps.{Read, before_comma, behind_comma, closed_field, column_of, first_field, full_field, line_end_column, more_quoted, plain_field, quoted_field, quoted_part, quoted_text}
+use Rattle.perm_base.specs.FieldSteps.{Read, before_comma, behind_comma, closed_field, column_of, first_field, full_field, line_end_column, more_quoted, plain_field, quoted_field, quoted_part, quoted_text}
 use Rattle.perm_base.proofs.SpellingLemmas.{HasBack, HasComma, HasFront, HasLineEnd, back_split, begins_front, column_first, comma_is, comma_split, front_split, lacks_front, line_end_no_quote, line_end_split, quote_is, tail_of}
 
 -- the text begins with a spelling of the field, and with what stands behind it

@@ -12,7 +12,7 @@ use Rattle.text_parts.specs.Blanks.{AreBlanks, before_blanks, behind_blanks, is_
 use Rattle.perm_base.specs.LineEnds.{has_line_end, is_line_end}
 use Rattle.text_parts.specs.Lines.{has_byte}
 use Rattle.perm_base.specs.FieldLine.{begins_with, ends_with, is_comma, is_quote}
-use Rattle.perm_base.specs.Helps.FieldSteps.{before_comma, behind_comma, column_of, line_end_column}
+use Rattle.perm_base.specs.FieldSteps.{before_comma, behind_comma, column_of, line_end_column}
 use Rattle.perm_base.proofs.QuotedLemmas.{line_end_column-at}
 
 -- what a text begins with

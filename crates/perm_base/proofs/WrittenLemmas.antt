@@ -15,7 +15,7 @@ use Rattle.perm_base.specs.FieldLine.{IsBare, IsSpelled, IsWritten, begins_with,
 use Rattle.perm_base.specs.FieldLine.IsWritten.{bare, quoted}
 use Rattle.perm_base.specs.FieldFaults.{IsBad, IsBareLineEnd, IsNeverClosed, IsNotEnded, IsQuotedLineEnd}
 use Rattle.perm_base.specs.FieldFaults.IsBad.{never_closed, not_ended, bare_line_end, quoted_line_end}
-use Rattle.perm_base.specs.Helps.FieldSteps.{Read, before_comma, behind_comma, closed_field, column_of, first_field, full_field, line_end_column, more_quoted, plain_field, quoted_field, quoted_text}
+use Rattle.perm_base.specs.FieldSteps.{Read, before_comma, behind_comma, closed_field, column_of, first_field, full_field, line_end_column, more_quoted, plain_field, quoted_field, quoted_text}
 use Rattle.perm_base.proofs.QuotedLemmas.{at_comma, before_comma-none, closed_other, closing, first_plain, first_quoted, more_byte, plain_fault, plain_read, quoted_closed, quoted_fault, quoted_open, twice}
 use Rattle.perm_base.proofs.SpellingLemmas.{begins_both, blanks_no_quote, column_first, line_end_no_blank, line_end_no_comma, line_end_no_quote, quote_is, tail_of}
 use Rattle.perm_base.proofs.ReadLemmas.{doubled_append, doubled_other, doubled_whole}

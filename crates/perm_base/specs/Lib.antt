@@ -2,7 +2,7 @@ pub mod Fields
 pub mod LineEnds
 pub mod FieldLine
 pub mod FieldFaults
-pub mod Helps
+pub mod FieldSteps
 pub mod Rule
 pub mod RoleShapes
 pub mod Shapes

@@ -1,6 +1,6 @@
 ghost use Rattle.std.specs.Prelude.{◌≡◌, position};
 ghost use Rattle.perm_base.specs.LineEnds.{has_line_end, is_line_end};
-ghost use Rattle.perm_base.specs.Helps.FieldSteps.{ends_plain};
+ghost use Rattle.perm_base.specs.FieldSteps.{ends_plain};
 
 /// The text holds CR or LF.
 pub(crate) fn has_line_end(text: &str) -> bool

@@ -2,7 +2,7 @@ ghost use Rattle.std.specs.Prelude.{◌≡◌, ◌<◌, ◌≤◌, ◌⊎◌, �
 ghost use Rattle.perm_base.specs.FieldFaults.{HasTooMany, IsBadAt, IsFault, IsQuoteFault};
 ghost use Rattle.perm_base.specs.FieldLine.{IsFields};
 ghost use Rattle.perm_base.specs.LineEnds.{AreFields, has_line_end};
-ghost use Rattle.perm_base.specs.Helps.FieldSteps.{Gives, before_comma, behind_comma, column_of, closed_field, fields_of, first_field, line_end_column, plain_field, quoted_field, quoted_text, seen};
+ghost use Rattle.perm_base.specs.FieldSteps.{Gives, before_comma, behind_comma, column_of, closed_field, fields_of, first_field, line_end_column, plain_field, quoted_field, quoted_text, seen};
 
 use crate::line_ends::{first_line_end, has_line_end, plain_end};
 use outside::{NoMemory, Text};

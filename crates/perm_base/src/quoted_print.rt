@@ -3,7 +3,7 @@ ghost use Rattle.text_parts.specs.Blanks.{is_blank};
 ghost use Rattle.text_parts.specs.Lines.{has_byte};
 ghost use Rattle.perm_base.specs.LineEnds.{AreFields};
 ghost use Rattle.perm_base.specs.FieldLine.{IsFields, doubled, has_odd_ends, needs_quotes, printed, printed_field};
-ghost use Rattle.perm_base.specs.Helps.FieldSteps.{is_mark};
+ghost use Rattle.perm_base.specs.FieldSteps.{is_mark};
 
 use crate::rule::Rule;
 use outside::{NoMemory, Text};

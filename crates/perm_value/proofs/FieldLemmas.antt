@@ -3,7 +3,7 @@ use Rattle.std.proofs.Common.{◌≡◌, ℕ, ◌+◌, ◌-◌, ◌<◌, ◌≤�
 use Rattle.std.proofs.lemmas.List.{length-map, map_push}
 use Rattle.perm_base.specs.declared.quoted.FieldFault.{FieldFault}
 use Rattle.perm_base.specs.declared.quoted.FieldFault.TheVariants.{Quote, TooMany, NoMemory}
-use Rattle.perm_base.specs.Helps.FieldSteps.{Fails, fields_of, fields_within, first_field, more_fields}
+use Rattle.perm_base.specs.FieldSteps.{Fails, fields_of, fields_within, first_field, more_fields}
 use Rattle.perm_base.proofs.CallerLemmas.{LineIs, begin_fields, field_fault, field_last, field_more, fields_of-is, line_is, no_room}
 use Rattle.perm_value.specs.Datum.{Datum, text}
 use Rattle.perm_value.specs.Fields.{AreTexts, IsLineFault, fault_of}

@@ -1,5 +1,5 @@
 ghost use Rattle.std.specs.Prelude.{◌≡◌, ◌≤◌, IfOk, IfErr, List, MatchResult, length, map};
-ghost use Rattle.perm_base.specs.Helps.FieldSteps.{Gives, fields_of};
+ghost use Rattle.perm_base.specs.FieldSteps.{Gives, fields_of};
 ghost use Rattle.perm_value.specs.Datum.{Datum, text};
 ghost use Rattle.perm_value.specs.Fields.{AreTexts, IsLineFault};
 ghost use Rattle.perm_value.specs.Helps.Texts.{as_texts};

@@ -5,7 +5,7 @@ use Rattle.std.specs.Option.{option_map_or}
 use Rattle.std.proofs.lemmas.Bool.{eqb-false, eqb-true, ne_eqb}
 use Rattle.perm_base.proofs.CallerLemmas.{LineIs, fields_of-fault, fields_of-is, first_read, line_is}
 use Rattle.perm_base.specs.FieldLine.{IsFields}
-use Rattle.perm_base.specs.Helps.FieldSteps.{Read, fields_of, first_field}
+use Rattle.perm_base.specs.FieldSteps.{Read, fields_of, first_field}
 use Rattle.perm_base.specs.TableNames.{table_named}
 use Rattle.perm_base.specs.declared.quoted.FieldFault.{FieldFault}
 use Rattle.perm_base.specs.declared.quoted.FieldFault.TheVariants as field

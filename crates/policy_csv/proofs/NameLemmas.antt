@@ -8,7 +8,7 @@ use Rattle.std.proofs.lemmas.Option.{get_or_from_slice_get, slice_get_within}
 use Rattle.perm_base.proofs.CallerLemmas.{first_read, name_from_named}
 use Rattle.perm_base.specs.FieldFaults.{HasTooMany}
 use Rattle.perm_base.specs.FieldLine.{IsFields, IsSpelled}
-use Rattle.perm_base.specs.Helps.FieldSteps.{Read, first_field}
+use Rattle.perm_base.specs.FieldSteps.{Read, first_field}
 use Rattle.perm_base.specs.TableNames.{name_of, table_named, table_names}
 use Rattle.perm_base.specs.declared.quoted.FieldFault.{FieldFault}
 use Rattle.perm_base.specs.declared.shapes.Shapes.{Shapes}

@@ -2,7 +2,7 @@
 use Rattle.std.proofs.Common.{◌≡◌, ℕ, Bool, true, false, List, Result, Ok, Err, refl, sym, ap, ◌∙◌}
 use Rattle.std.proofs.Math.Path.{fun_ext}
 use Rattle.perm_base.proofs.CallerLemmas.{LineIs, fields_of-fault, fields_of-is, line_is}
-use Rattle.perm_base.specs.Helps.FieldSteps.{fields_of}
+use Rattle.perm_base.specs.FieldSteps.{fields_of}
 use Rattle.perm_base.specs.declared.quoted.FieldFault.{FieldFault}
 use Rattle.perm_base.specs.declared.quoted.FieldFault.TheVariants as field
 use Rattle.perm_value.specs.Datum.{Datum}

@@ -1,7 +1,7 @@
 -- What texts read as, as functions, and what readers give back.
 use Rattle.std.specs.Prelude.{◌≡◌, ℕ, Bool, true, false, List, map, Result, Ok, Err}
 use Rattle.serde_json.specs.Read.{read}
-use Rattle.perm_base.specs.Helps.FieldSteps.{fields_of}
+use Rattle.perm_base.specs.FieldSteps.{fields_of}
 use Rattle.perm_base.specs.declared.quoted.FieldFault.{FieldFault}
 use Rattle.perm_base.specs.declared.quoted.FieldFault.TheVariants as field
 use Rattle.perm_value.specs.Datum.{text}

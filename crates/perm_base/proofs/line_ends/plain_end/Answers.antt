@@ -2,7 +2,7 @@ use Rattle.std.proofs.Common.{rules, tests, ap, ◌∙◌}
 use Rattle.std.specs.Prelude.{position}
 use Rattle.std.proofs.lemmas.Iterator.{YieldsList-from_slice}
 use Rattle.std.proofs.lemmas.Iterator.Search.{position_from_yields_List}
-use Rattle.perm_base.specs.Helps.FieldSteps.{ends_plain}
+use Rattle.perm_base.specs.FieldSteps.{ends_plain}
 use Rattle.perm_base.proofs.line_ends.plain_end.Goals as goal
 
 pub returns : goal.returns

@@ -1,7 +1,7 @@
 use Rattle.std.proofs.Common.{◌≡◌, ◌<◌, length, Err, arith}
 use Rattle.std.proofs.lemmas.Bool.Decides.{nat_tests}
 use Rattle.perm_base.specs.declared.quoted.FieldFault.TheVariants.{Quote}
-use Rattle.perm_base.specs.Helps.FieldSteps.{closed_field, column_of}
+use Rattle.perm_base.specs.FieldSteps.{closed_field, column_of}
 use Rattle.perm_base.proofs.QuotedLemmas.{closed_end, closed_comma, closed_other}
 use Rattle.perm_base.proofs.quoted.closed_field.Goals as goal
 

@@ -1,7 +1,7 @@
 use Rattle.std.proofs.Common.{◌≡◌, [], ◌∷◌, ◌++◌, length, arith, rules}
 use Rattle.std.proofs.lemmas.Grind.{common_steps}
 use Rattle.std.proofs.lemmas.Result.{err_from_is_err_and}
-use Rattle.perm_base.specs.Helps.FieldSteps.{fields_of, first_field}
+use Rattle.perm_base.specs.FieldSteps.{fields_of, first_field}
 use Rattle.perm_base.proofs.QuotedLemmas.{begin_fields, field_fault, field_last, field_more, fault_passes, no_room}
 use Rattle.perm_base.proofs.quoted.fields_of.Goals as goal
 

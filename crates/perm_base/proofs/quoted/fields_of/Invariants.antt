@@ -1,6 +1,6 @@
 use Rattle.std.proofs.Common.{◌≡◌, ◌-◌, length}
 use Rattle.std.specs.Str.{IsUtf8}
-use Rattle.perm_base.specs.Helps.FieldSteps.{more_fields, fields_within, fields_of}
+use Rattle.perm_base.specs.FieldSteps.{more_fields, fields_within, fields_of}
 use Rattle.perm_base.proofs.quoted.fields_of.Given as goal
 
 abbrev pub invariant-loop-at : goal.invariant-loop-at

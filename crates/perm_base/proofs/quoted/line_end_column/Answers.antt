@@ -1,5 +1,5 @@
 use Rattle.std.proofs.Common.{◌-◌, ◌≡◌, length, ap, sym, ◌∙◌, arith}
-use Rattle.perm_base.specs.Helps.FieldSteps.{column_of}
+use Rattle.perm_base.specs.FieldSteps.{column_of}
 use Rattle.perm_base.proofs.QuotedLemmas.{line_end_column-at, line_end_column-none}
 use Rattle.perm_base.proofs.quoted.line_end_column.Goals as goal
 

@@ -1,5 +1,5 @@
 use Rattle.std.proofs.Common.{refl, ◌∙◌}
-use Rattle.perm_base.specs.Helps.FieldSteps.{before_comma}
+use Rattle.perm_base.specs.FieldSteps.{before_comma}
 use Rattle.perm_base.proofs.QuotedLemmas.{plain_fault, plain_read}
 use Rattle.perm_base.proofs.quoted.plain_field.Goals as goal
 

@@ -1,7 +1,7 @@
 use Rattle.std.proofs.Common.{◌≡◌, ◌+◌, Some, None, Err, true, false, length, ap, sym, ◌∙◌}
 use Rattle.perm_base.specs.LineEnds.{has_line_end}
 use Rattle.perm_base.specs.declared.quoted.FieldFault.TheVariants.{Quote}
-use Rattle.perm_base.specs.Helps.FieldSteps.{closed_field, column_of, quoted_field, quoted_text}
+use Rattle.perm_base.specs.FieldSteps.{closed_field, column_of, quoted_field, quoted_text}
 use Rattle.perm_base.proofs.QuotedLemmas.{quoted_open, quoted_fault, quoted_closed}
 use Rattle.perm_base.proofs.quoted.quoted_field.Goals as goal
 

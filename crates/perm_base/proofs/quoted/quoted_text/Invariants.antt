@@ -1,7 +1,7 @@
 use Rattle.std.proofs.Common.{◌≡◌, length}
 use Rattle.std.specs.String.{string_bytes}
 use Rattle.std.specs.Str.{IsUtf8}
-use Rattle.perm_base.specs.Helps.FieldSteps.{more_quoted, quoted_text}
+use Rattle.perm_base.specs.FieldSteps.{more_quoted, quoted_text}
 use Rattle.perm_base.proofs.quoted.quoted_text.Given as goal
 
 abbrev pub invariant-loop-before : goal.invariant-loop-before

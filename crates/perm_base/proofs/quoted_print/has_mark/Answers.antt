@@ -2,7 +2,7 @@ use Rattle.std.proofs.Common.{rules, tests, ap, ◌∙◌}
 use Rattle.std.specs.List.{list_any}
 use Rattle.std.proofs.lemmas.Iterator.{YieldsList-from_slice}
 use Rattle.std.proofs.lemmas.Iterator.Search.{any_from_yields_List}
-use Rattle.perm_base.specs.Helps.FieldSteps.{is_mark}
+use Rattle.perm_base.specs.FieldSteps.{is_mark}
 use Rattle.perm_base.proofs.PlainLemmas.{either_mark}
 use Rattle.perm_base.proofs.quoted_print.has_mark.Goals as goal
 

@@ -2,7 +2,7 @@ use Rattle.std.proofs.Common.{◌≡◌, [], ◌∷◌, ◌++◌, length, map, a
 use Rattle.std.proofs.lemmas.Grind.{common_steps}
 use Rattle.std.proofs.lemmas.List.{length-map}
 use Rattle.std.proofs.lemmas.Result.{err_from_is_err_and}
-use Rattle.perm_base.specs.Helps.FieldSteps.{fields_of, first_field}
+use Rattle.perm_base.specs.FieldSteps.{fields_of, first_field}
 use Rattle.perm_base.proofs.CallerLemmas.{fault_passes}
 use Rattle.perm_value.specs.Helps.Texts.{as_texts}
 use Rattle.perm_value.specs.Seen.{datum}

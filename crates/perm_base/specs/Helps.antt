@@ -1,2 +1,0 @@
--- Helps for proofs, which no public clause cites.
-pub mod FieldSteps
