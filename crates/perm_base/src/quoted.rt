@@ -208,7 +208,7 @@ fn line_end_column(size: usize, bytes: &str) -> u32
     }
 }
 
-#[tactic(auto, unfolding(crate::specs::Helps::FieldSteps::column_of))]
+#[tactic(auto, unfolding(crate::specs::FieldSteps::column_of))]
 // The column, from 1, of the byte with which the last so many bytes of a line of this size begin.
 fn column_of(size: usize, left: usize) -> u32
     ensures { result ≡ column_of size left }
