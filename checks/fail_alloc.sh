@@ -15,8 +15,7 @@ trap 'rm -rf "$object" "$work"' EXIT
 export PYTHONDONTWRITEBYTECODE=1
 gcc -O2 -shared -fPIC -o "$object/refuse.so" "$root/checks/refuse.c" || exit 1
 
-# A command that reads no input builds the program where it is not built yet.
-[ -n "${PROGRAM:-}" ] || "$root/casbin_cli" check "$root/examples/basic/model.conf" "$root/examples/basic/policy.csv" >/dev/null
+[ -n "${PROGRAM:-}" ] || "$root/casbin_cli" prove || exit 1
 [ -x "$program" ] || { echo "the program is not built" >&2; exit 1; }
 
 failed=0

@@ -11,7 +11,6 @@ elsewhere, and JOBS how many runs are made at once.
 
 import os
 import re
-import subprocess
 import sys
 import tempfile
 
@@ -20,9 +19,6 @@ sys.dont_write_bytecode = True
 
 import running
 from running import read, write
-
-ROOT = os.path.dirname(os.path.dirname(os.path.abspath(__file__)))
-PROGRAM = f"{ROOT}/crates/casbin_cli/out/casbin_cli"
 
 HEAD = "[request_definition]\nr = {r}\n\n[policy_definition]\np = {p}\n\n{g}[policy_effect]\ne = some(where (p.eft == allow))\n\n[matchers]\nm = {m}\n"
 
@@ -504,20 +500,8 @@ def jobs_of(program, work):
             yield try_some, program, work, name, range(first, min(first + 100, len(text) + 1))
 
 
-def built():
-    """The program, which is built where it is not told."""
-    if "PROGRAM" in os.environ:
-        return os.path.realpath(os.environ["PROGRAM"])
-    # A command that reads no input builds the program where it is not built yet.
-    words = [f"{ROOT}/casbin_cli", "check", f"{ROOT}/examples/basic/model.conf", f"{ROOT}/examples/basic/policy.csv"]
-    subprocess.run(words, stdin=subprocess.DEVNULL, stdout=subprocess.DEVNULL, check=False)
-    return PROGRAM
-
-
 def main():
-    program = built()
-    if not os.access(program, os.X_OK):
-        sys.exit("the program is not built")
+    program = running.built()
     # In memory where there is such a folder: on a disk, rewriting a file may wait for it.
     place = "/dev/shm" if os.path.isdir("/dev/shm") else None
     with tempfile.TemporaryDirectory(dir=place) as work:

@@ -12,7 +12,6 @@ Usage: [PROGRAM=PATH] python3 checks/limits.py
 """
 
 import os
-import subprocess
 import sys
 import tempfile
 
@@ -21,9 +20,6 @@ sys.dont_write_bytecode = True
 
 import running
 from running import read, write
-
-ROOT = os.path.dirname(os.path.dirname(os.path.abspath(__file__)))
-PROGRAM = f"{ROOT}/crates/casbin_cli/out/casbin_cli"
 
 MODEL = """\
 [request_definition]
@@ -130,20 +126,8 @@ RUNS = [
 ]
 
 
-def built():
-    """The program, which is built where it is not told."""
-    if "PROGRAM" in os.environ:
-        return os.path.realpath(os.environ["PROGRAM"])
-    # A command that reads no input builds the program where it is not built yet.
-    words = [f"{ROOT}/casbin_cli", "check", f"{ROOT}/examples/basic/model.conf", f"{ROOT}/examples/basic/policy.csv"]
-    subprocess.run(words, stdin=subprocess.DEVNULL, stdout=subprocess.DEVNULL, check=False)
-    return PROGRAM
-
-
 def main():
-    program = built()
-    if not os.access(program, os.X_OK):
-        sys.exit("the program is not built")
+    program = running.built()
     with tempfile.TemporaryDirectory() as work:
         os.chdir(work)
         wrong = [found for run in RUNS if (found := run.differs(program))]

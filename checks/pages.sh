@@ -49,7 +49,7 @@ def check_path(page, word):
 
 
 # The commands with their options, as the first table of docs/SCRIPTS.md has them.
-commands = {"help": set()}
+commands = {"help": set(), "prove": set()}
 for row in re.findall(r"^\| `(\w+) .*?` \| ", re.search(r"^\| Command \|.*\n(?:\|.*\n)+", text_of("docs/SCRIPTS.md"), re.M)[0], re.M):
     commands[row] = set(re.findall(r"--[\w-]+", re.search(rf"^\| `{row} (.*?)` \|", text_of("docs/SCRIPTS.md"), re.M)[1]))
 

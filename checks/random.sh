@@ -11,8 +11,7 @@ program="$(realpath -m "${PROGRAM:-$root/crates/casbin_cli/out/casbin_cli}")"
 [ -d /dev/shm ] && work="$(mktemp -d -p /dev/shm)" || work="$(mktemp -d)"
 export PYTHONDONTWRITEBYTECODE=1
 
-# A command that reads no input builds the program where it is not built yet.
-[ -n "${PROGRAM:-}" ] || "$root/casbin_cli" check "$root/examples/basic/model.conf" "$root/examples/basic/policy.csv" >/dev/null
+[ -n "${PROGRAM:-}" ] || "$root/casbin_cli" prove || exit 1
 [ -x "$program" ] || { echo "the program is not built" >&2; exit 1; }
 
 if python3 "$root/checks/random_texts.py" "$program" "$work" "${1:-1}" "${2:-0}" "${3:-100000}"; then

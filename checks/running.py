@@ -3,9 +3,23 @@
 import concurrent.futures
 import os
 import signal
+import subprocess
+import sys
 
 # A run that takes so many seconds of a processor, or so many on the clock, does not end. A machine that is busy may make it wait.
 PATIENCE, PATIENCE_ON_THE_CLOCK = 10, 100
+
+ROOT = os.path.dirname(os.path.dirname(os.path.abspath(__file__)))
+
+
+def built():
+    """The program that PROGRAM names, or else the repository's, which is proved and built where it is not yet."""
+    program = os.path.realpath(os.environ.get("PROGRAM", f"{ROOT}/crates/casbin_cli/out/casbin_cli"))
+    if "PROGRAM" not in os.environ:
+        subprocess.run([f"{ROOT}/casbin_cli", "prove"], stdin=subprocess.DEVNULL, check=True)
+    if not os.access(program, os.X_OK):
+        sys.exit("the program is not built")
+    return program
 
 
 def run(program, words, environment, input_name, out_name, err_name):

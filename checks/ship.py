@@ -5,7 +5,7 @@ A script of calls, batches and publishes made at random is done by `session`, wh
 their way come in any order, one of eight is lost, and others come again; the same packets go to `serve --follow`, which tells its rules now
 and then, and to `follow`. It fails where the rules of a version are not the leader's, in their order, where a packet is answered otherwise
 than docs/FOLLOWERS.md says, and where `follow` writes another policy than `format` of the leader's. Outside the gate. The program must be
-built: it runs ./casbin_cli once; PROGRAM is a program that is built elsewhere.
+built: it runs ./casbin_cli prove; PROGRAM is a program that is built elsewhere.
 
 Usage: [PROGRAM=PATH] python3 checks/ship.py [CALLS [SEED]]
 """
@@ -194,7 +194,7 @@ def main():
     program = os.path.abspath(os.environ.get("PROGRAM", f"{ROOT}/crates/casbin_cli/out/casbin_cli"))
     os.chdir(ROOT)
     if "PROGRAM" not in os.environ:
-        run("./casbin_cli", ["check", MODEL, POLICY])
+        run("./casbin_cli", ["prove"])
     chance = random.Random(seed)
     packets, versions = lead(program, chance, calls)
     sent, answers, stream, lines = send(chance, packets, versions)

@@ -9,8 +9,7 @@ set -euo pipefail
 cd "$(dirname "${BASH_SOURCE[0]}")/.."
 work="$(mktemp -d)"
 trap 'rm -rf "$work"' EXIT
-# A command that reads no input builds the program where it is not built yet.
-[ -n "${CASBIN_CLI:-}" ] || ./casbin_cli check examples/basic/model.conf examples/basic/policy.csv >/dev/null
+[ -n "${CASBIN_CLI:-}" ] || ./casbin_cli prove
 python3 - "${CASBIN_CLI:-crates/casbin_cli/out/casbin_cli}" "$work" "${1:-10}" "${2:-8}" <<'PYTHON'
 import random, subprocess, sys, time
 
