@@ -18,8 +18,10 @@ use Rattle.matcher_meaning.specs.Perm.{Refusal, refused_at}
 use Rattle.matcher_meaning.specs.Verdicts.{RowHasOutcome}
 use Rattle.decision.proofs.RowLemmas.{each_middle, each_weaker, numbered_at}
 use Rattle.decision.specs.Helps.Covers.{Covers}
-use Rattle.decision.specs.Helps.LeftOut.{AreAllThatMatter, IsLeftOut}
+use Rattle.decision.specs.Helps.LeftOut.{AreAllThatMatter, IsLeftOut, LeavesOut, LooksAtNone}
 use Rattle.decision.specs.Helps.Outcomes.{IsJudgedOn}
+use Rattle.decision.specs.declared.looked.Looked.{Looked}
+use Rattle.decision.specs.declared.looked.Looked.TheVariants as ways
 
 -- all rows are looked at
 pub covers_all : (case : Case) (all : List Numbered) → Covers case all all
@@ -132,6 +134,13 @@ covers_places case table places matter =
     all_low : (l : List ℕ) → AllByRecursion (λ (place : ℕ). 0 ≤ place) l
     all_low [] = tt
     all_low (x ∷ xs) = (omega arith, all_low xs)
+
+-- where no row is looked at, all are left out
+pub covers_where_none : (case : Case) (table : List Fields) (looked : Looked) → LeavesOut case table looked → LooksAtNone looked → Covers case (numbered_from 1 table) []
+covers_where_none case table ways.All leaves none = absurd none
+covers_where_none case table ways.Nothing leaves none = covers_none case table leaves
+covers_where_none case table (ways.At places) leaves none =
+    subst (λ (some : List ℕ). Covers case (numbered_from 1 table) (in_order_of some (numbered_from 1 table))) none (covers_places case table places.now leaves)
 
 pub places_within : (case : Case) (table : List Fields) (places : List ℕ) → AreAllThatMatter case table places → All (λ (place : ℕ). place < length table) places
 places_within case table places matter = matter.within

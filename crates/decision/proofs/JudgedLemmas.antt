@@ -24,7 +24,7 @@ use Rattle.matcher_meaning.specs.Order.{AreInOrder, numbered_from}
 use Rattle.matcher_meaning.specs.Perm.{Refusal}
 use Rattle.matcher_meaning.specs.Verdicts.{IsJudged, RowHasOutcome}
 use Rattle.decision.specs.Decisions.{IsJudgedWith, RefusedIn}
-use Rattle.decision.specs.Helps.Outcomes.{HasOutcomesInOrder, IsJudgedOn, is_by_subjects}
+use Rattle.decision.specs.Helps.Outcomes.{HasOutcomesInOrder, IsJudgedOn, IsVerdictOn, is_by_subjects}
 
 -- what is judged on outcomes of which less is said
 judged_weaker : (case : Case) (Has HasToo : Option Refusal → List Taken → Type 0) (Refused : Option (List ℕ) → Type 0) → ((refused : Option Refusal) (outcomes : List Taken) → Has refused outcomes → HasToo refused outcomes) → (v : Verdict) → IsJudgedOn case Has Refused v → IsJudgedOn case HasToo Refused v
@@ -48,6 +48,16 @@ pub judged_in_table_order : (case : Case) (Refused : Option (List ℕ) → Type 
 judged_in_table_order case Refused table v e is =
     judged_weaker case (λ refused outcomes. AllZip (RowHasOutcome case refused) (numbered_from 1 table) outcomes) (HasOutcomesInOrder case table) Refused
     (λ refused outcomes are. (numbered_from 1 table, in_table_order case case.model.effect table e, are)) v is
+
+-- nothing was refused
+abbrev pub Unrefused : Option (List ℕ) → Type 0
+Unrefused None = Unit {0}
+Unrefused (Some pattern) = ⊥
+
+-- then the verdict is the one where nothing is refused
+pub judged_unrefused : (case : Case) (Has : Option Refusal → List Taken → Type 0) (v : Verdict) → IsJudgedOn case Has Unrefused v → IsVerdictOn case (Has None) v
+judged_unrefused case Has v (inl (none, is)) = is
+judged_unrefused case Has v (inr (refusal, bad, fault, is)) = absurd bad
 
 -- what was refused in a part was so in the whole
 pub judged_for_more : (case : Case) (Has : Option Refusal → List Taken → Type 0) (Refused RefusedToo : Option (List ℕ) → Type 0) (v : Verdict) → ((refused : Option (List ℕ)) → Refused refused → RefusedToo refused) → IsJudgedOn case Has Refused v → IsJudgedOn case Has RefusedToo v

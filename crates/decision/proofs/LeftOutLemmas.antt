@@ -55,19 +55,19 @@ HoldsText case column = (t : List ℕ) × (asked_value case column ≡ Some (dat
 abbrev pub Differs : Case → List ℕ → List ℕ → Type 0
 Differs case asked column = (d : Datum) × (asked_value case asked ≡ Some d) × (d ≡ datum.text (row_text case column) → ⊥)
 
-declared_parts : (model : ModelParts) (us vs : List Use) → are_declared model (us ++ vs) ≡ true → (are_declared model us ≡ true) × (are_declared model vs ≡ true)
+pub declared_parts : (model : ModelParts) (us vs : List Use) → are_declared model (us ++ vs) ≡ true → (are_declared model us ≡ true) × (are_declared model vs ≡ true)
 declared_parts model us vs are = and_parts (are_declared model us) (are_declared model vs) (sym (list_all-append (is_declared model.request model.policy model.relations) us vs) ∙ are)
 
-declared_column : (model : ModelParts) (at : ℕ) (column : List ℕ) → are_declared model (of_request at column ∷ []) ≡ true → list_any (bytes_eq column) model.request ≡ true
+pub declared_column : (model : ModelParts) (at : ℕ) (column : List ℕ) → are_declared model (of_request at column ∷ []) ≡ true → list_any (bytes_eq column) model.request ≡ true
 declared_column model at column are = (and_parts (is_declared model.request model.policy model.relations (of_request at column)) true are).0
 
-each_parts : {X : Type 0} (P : X → Type 0) (xs ys : List X) → AllByRecursion P (xs ++ ys) → AllByRecursion P xs × AllByRecursion P ys
+pub each_parts : {X : Type 0} (P : X → Type 0) (xs ys : List X) → AllByRecursion P (xs ++ ys) → AllByRecursion P xs × AllByRecursion P ys
 each_parts P [] ys each = (tt, each)
 each_parts P (x ∷ xs) ys each = let rest = each_parts P xs ys each.1 in ((each.0, rest.0), rest.1)
 
 -- ---- columns and operands
 
-column_comes : (case : Case) (e : Expression) (column : List ℕ) (d : Datum) → asked_column e ≡ Some column → asked_value case column ≡ Some d → (r : Evaluation) → ComesTo case e r → r ≡ Ok d
+pub column_comes : (case : Case) (e : Expression) (column : List ℕ) (d : Datum) → asked_column e ≡ Some column → asked_value case column ≡ Some d → (r : Evaluation) → ComesTo case e r → r ≡ Ok d
 column_comes case (request at own []) column d is value r comes =
     let same : own ≡ column = cc in
     comes ∙ ap (λ (c : List ℕ). along at (asked_value case c) []) same ∙ ap (λ (v : Option Datum). along at v []) value
@@ -83,7 +83,7 @@ column_comes case (binary at o e f) column d is value r comes = absurd cc
 column_comes case (among at e es) column d is value r comes = absurd cc
 column_comes case (call at callee es) column d is value r comes = absurd cc
 
-field_comes : (case : Case) (e : Expression) (column : List ℕ) → policy_column e ≡ Some column → (r : Evaluation) → ComesTo case e r → r ≡ Ok (datum.text (row_text case column))
+pub field_comes : (case : Case) (e : Expression) (column : List ℕ) → policy_column e ≡ Some column → (r : Evaluation) → ComesTo case e r → r ≡ Ok (datum.text (row_text case column))
 field_comes case (policy at own) column is r comes =
     let same : own ≡ column = cc in
     comes ∙ ap (λ (c : List ℕ). Ok (datum.text (row_text case c))) same
@@ -137,10 +137,10 @@ name_comes case (call at callee es) rest is texts r comes = never is
 -- ---- an equality
 
 -- what is said of an answer whose one side is known
-side_is : {Y : Type 0} (x : Evaluation) (d : Datum) (next : Datum → Result Y Fault → Type 0) (r : Result Y Fault) → x ≡ Ok d → After x (λ v. next v r) r → next d r
+pub side_is : {Y : Type 0} (x : Evaluation) (d : Datum) (next : Datum → Result Y Fault → Type 0) (r : Result Y Fault) → x ≡ Ok d → After x (λ v. next v r) r → next d r
 side_is {Y} x d next r is after = subst (λ (a : Evaluation). After a (λ v. next v r) r) is after
 
-equality_comes : (case : Case) (at : ℕ) (e f : Expression) (d c : Datum) → ((x : Evaluation) → ComesTo case e x → x ≡ Ok d) → ((y : Evaluation) → ComesTo case f y → y ≡ Ok c) → (r : Evaluation) → ComesTo case (binary at op.Equal e f) r → r ≡ Ok (datum.truth (datum_eq d c))
+pub equality_comes : (case : Case) (at : ℕ) (e f : Expression) (d c : Datum) → ((x : Evaluation) → ComesTo case e x → x ≡ Ok d) → ((y : Evaluation) → ComesTo case f y → y ≡ Ok c) → (r : Evaluation) → ComesTo case (binary at op.Equal e f) r → r ≡ Ok (datum.truth (datum_eq d c))
 equality_comes case at e f d c left right r (x, p, after) =
     let second : (y : Evaluation) × ComesTo case f y × (r ≡ answers.then y (joined at op.Equal d)) =
     side_is x d (λ v s. Unless (settled at op.Equal v) ((y : Evaluation) × ComesTo case f y × (s ≡ answers.then y (joined at op.Equal v))) s) r (left x p) after in
@@ -175,14 +175,14 @@ differing_back case at e f asked column (d, value, differs) is field r comes =
     ∙ ap (λ (b : Bool). Ok (datum.truth b)) (other_datum (datum.text (row_text case column)) d (λ same. differs (sym same)))
 
 -- the columns of which a pair was made
-both_are : (asked column : Option (List ℕ)) (x y : List ℕ) → option_and_then {U = List ℕ × List ℕ} (λ a. option_map (λ c. (a, c)) column) asked ≡ Some (x, y) → (asked ≡ Some x) × (column ≡ Some y)
+pub both_are : (asked column : Option (List ℕ)) (x y : List ℕ) → option_and_then {U = List ℕ × List ℕ} (λ a. option_map (λ c. (a, c)) column) asked ≡ Some (x, y) → (asked ≡ Some x) × (column ≡ Some y)
 both_are (Some a) (Some c) x y is =
     let same = some_pair_parts a x c y is in
     (ap (λ (l : List ℕ). Some l) same.0, ap (λ (l : List ℕ). Some l) same.1)
 both_are (Some a) None x y is = absurd cc
 both_are None column x y is = absurd cc
 
-either : {X : Type 0} (first second : Option X) (x : X) → option_or first second ≡ Some x → (first ≡ Some x) ⊎ (second ≡ Some x)
+pub either : {X : Type 0} (first second : Option X) (x : X) → option_or first second ≡ Some x → (first ≡ Some x) ⊎ (second ≡ Some x)
 either (Some a) second x is = inl is
 either None second x is = inr is
 
@@ -314,6 +314,11 @@ whether_not : (Fact : Type 0) (r : Evaluation) → IsWhether Fact r → (Fact �
 whether_not Fact r (true, holds, is) differs = absurd (differs (holds.0 refl))
 whether_not Fact r (false, holds, is) differs = is
 
+-- or that does
+whether_so : (Fact : Type 0) (r : Evaluation) → IsWhether Fact r → Fact → r ≡ Ok (datum.truth true)
+whether_so Fact r (true, holds, is) fact = is
+whether_so Fact r (false, holds, is) fact = absurd (true≢false (sym (holds.1 fact)))
+
 -- a text of the request that does not fit the pattern of the row
 abbrev pub NotFitting : Case → Fitted → Type 0
 NotFitting case is = (t : List ℕ) × (asked_value case is.asked ≡ Some (datum.text t)) × (Fits is.called t (row_text case is.column) → ⊥)
@@ -352,6 +357,12 @@ NotLinked case is =
     (t : List ℕ) × (asked_value case is.asked ≡ Some (datum.text t)) × (domain : Option (List ℕ)) × IsDomainIn case is.domain domain
     × (IsLinkedBy case.shapes case.policy is.number t (row_text case is.column) domain → ⊥)
 
+-- or that has it
+abbrev pub Linked : Case → Questioned → Type 0
+Linked case is =
+    (t : List ℕ) × (asked_value case is.asked ≡ Some (datum.text t)) × (domain : Option (List ℕ)) × IsDomainIn case is.domain domain
+    × IsLinkedBy case.shapes case.policy is.number t (row_text case is.column) domain
+
 -- the third argument of a question, which is a column of the request
 three_come : (case : Case) (e g d : Expression) (columns : List ℕ × List ℕ) (column t u : List ℕ) → both_columns e g ≡ Some columns → asked_column d ≡ Some column → asked_value case columns.0 ≡ Some (datum.text t) → asked_value case column ≡ Some (datum.text u)
     → (r : Result (List Datum) Fault) → ComeToBy case (Evaluates case) (one_more e (one_more g (one_more d no_more))) r → r ≡ Ok (datum.text t ∷ datum.text (row_text case columns.1) ∷ datum.text u ∷ [])
@@ -373,10 +384,12 @@ three_come case e g d columns column t u is third value domain r (x, first, afte
         side_is {Y = List Datum} z (datum.text (row_text case columns.1)) (λ v s. (w : Result (List Datum) Fault) × ComeToBy case (Evaluates case) (one_more d no_more) w × (s ≡ answers.with_first v w)) y (field_comes case g columns.1 field z second) rest in
         next.2 ∙ ap (answers.with_first (datum.text (row_text case columns.1))) (one_left next.0 next.1)
 
-questioned_comes : (case : Case) (e : Expression) (is : Questioned) → questioned e ≡ Some is → NotLinked case is → (r : Evaluation) → ComesTo case e r → r ≡ Ok (datum.truth false)
-questioned_comes case (call at (relation number) (one_more e (one_more g no_more))) is found (t, value, domain, named, differs) r (x, come, after) = columns (both_columns e g) refl found
+-- a question comes to whether the name has the role
+questioned_gives : (case : Case) (e : Expression) (is : Questioned) → questioned e ≡ Some is → (t : List ℕ) → asked_value case is.asked ≡ Some (datum.text t) → (domain : Option (List ℕ)) → IsDomainIn case is.domain domain
+    → (r : Evaluation) → ComesTo case e r → IsWhether (IsLinkedBy case.shapes case.policy is.number t (row_text case is.column) domain) r
+questioned_gives case (call at (relation number) (one_more e (one_more g no_more))) is found t value domain named r (x, come, after) = columns (both_columns e g) refl found
   where
-    columns : (o : Option (List ℕ × List ℕ)) → both_columns e g ≡ o → option_map (question number None) o ≡ Some is → r ≡ Ok (datum.truth false)
+    columns : (o : Option (List ℕ × List ℕ)) → both_columns e g ≡ o → option_map (question number None) o ≡ Some is → IsWhether (IsLinkedBy case.shapes case.policy is.number t (row_text case is.column) domain) r
     columns None o-is found = absurd cc
     columns (Some pair) o-is found =
         let mine : question number None pair ≡ is = same_Some (question number None pair) is found in
@@ -384,15 +397,15 @@ questioned_comes case (call at (relation number) (one_more e (one_more g no_more
         let none : domain ≡ None = subst (λ (one : Questioned). IsDomainIn case one.domain domain) (sym mine) named in
         let args : x ≡ Ok (datum.text t ∷ datum.text (row_text case pair.1) ∷ []) = two_come case e g pair t o-is asked x come in
         let gives : IsWhether (IsLinkedBy case.shapes case.policy number t (row_text case pair.1) None) r = subst (λ (a : Result (List Datum) Fault). After a (λ ds. GivesForTexts case at (relation number) (texts_of ds) r) r) args after in
-        whether_not (IsLinkedBy case.shapes case.policy number t (row_text case pair.1) None) r gives
-        (λ linked. differs (subst (λ (one : Questioned). IsLinkedBy case.shapes case.policy one.number t (row_text case one.column) domain) mine (subst (IsLinkedBy case.shapes case.policy number t (row_text case pair.1)) (sym none) linked)))
-questioned_comes case (call at (relation number) (one_more e (one_more g (one_more d no_more)))) is found (t, value, domain, named, differs) r (x, come, after) = third (asked_column d) refl found
+        subst (λ (one : Questioned). IsWhether (IsLinkedBy case.shapes case.policy one.number t (row_text case one.column) domain) r) mine
+        (subst (λ (d : Option (List ℕ)). IsWhether (IsLinkedBy case.shapes case.policy number t (row_text case pair.1) d) r) (sym none) gives)
+questioned_gives case (call at (relation number) (one_more e (one_more g (one_more d no_more)))) is found t value domain named r (x, come, after) = third (asked_column d) refl found
   where
-    third : (o : Option (List ℕ)) → asked_column d ≡ o → option_and_then (λ (column : List ℕ). option_map (question number (Some column)) (both_columns e g)) o ≡ Some is → r ≡ Ok (datum.truth false)
+    third : (o : Option (List ℕ)) → asked_column d ≡ o → option_and_then (λ (column : List ℕ). option_map (question number (Some column)) (both_columns e g)) o ≡ Some is → IsWhether (IsLinkedBy case.shapes case.policy is.number t (row_text case is.column) domain) r
     third None d-is found = absurd cc
     third (Some column) d-is found = columns (both_columns e g) refl found
       where
-        columns : (o : Option (List ℕ × List ℕ)) → both_columns e g ≡ o → option_map (question number (Some column)) o ≡ Some is → r ≡ Ok (datum.truth false)
+        columns : (o : Option (List ℕ × List ℕ)) → both_columns e g ≡ o → option_map (question number (Some column)) o ≡ Some is → IsWhether (IsLinkedBy case.shapes case.policy is.number t (row_text case is.column) domain) r
         columns None o-is found = absurd cc
         columns (Some pair) o-is found =
             let mine : question number (Some column) pair ≡ is = same_Some (question number (Some column) pair) is found in
@@ -400,9 +413,17 @@ questioned_comes case (call at (relation number) (one_more e (one_more g (one_mo
             let there : (u : List ℕ) × (asked_value case column ≡ Some (datum.text u)) × (domain ≡ Some u) = subst (λ (one : Questioned). IsDomainIn case one.domain domain) (sym mine) named in
             let args : x ≡ Ok (datum.text t ∷ datum.text (row_text case pair.1) ∷ datum.text there.0 ∷ []) = three_come case e g d pair column t there.0 o-is d-is asked there.1 x come in
             let gives : IsWhether (IsLinkedBy case.shapes case.policy number t (row_text case pair.1) (Some there.0)) r = subst (λ (a : Result (List Datum) Fault). After a (λ ds. GivesForTexts case at (relation number) (texts_of ds) r) r) args after in
-            whether_not (IsLinkedBy case.shapes case.policy number t (row_text case pair.1) (Some there.0)) r gives
-            (λ linked. differs (subst (λ (one : Questioned). IsLinkedBy case.shapes case.policy one.number t (row_text case one.column) domain) mine (subst (IsLinkedBy case.shapes case.policy number t (row_text case pair.1)) (sym there.2) linked)))
-questioned_comes case _ is found differs r comes = absurd cc
+            subst (λ (one : Questioned). IsWhether (IsLinkedBy case.shapes case.policy one.number t (row_text case one.column) domain) r) mine
+            (subst (λ (d : Option (List ℕ)). IsWhether (IsLinkedBy case.shapes case.policy number t (row_text case pair.1) d) r) (sym there.2) gives)
+questioned_gives case _ is found t value domain named r comes = absurd cc
+
+questioned_comes : (case : Case) (e : Expression) (is : Questioned) → questioned e ≡ Some is → NotLinked case is → (r : Evaluation) → ComesTo case e r → r ≡ Ok (datum.truth false)
+questioned_comes case e is found (t, value, domain, named, differs) r comes =
+    whether_not (IsLinkedBy case.shapes case.policy is.number t (row_text case is.column) domain) r (questioned_gives case e is found t value domain named r comes) differs
+
+pub linked_comes : (case : Case) (e : Expression) (is : Questioned) → questioned e ≡ Some is → Linked case is → (r : Evaluation) → ComesTo case e r → r ≡ Ok (datum.truth true)
+linked_comes case e is found (t, value, domain, named, linked) r comes =
+    whether_so (IsLinkedBy case.shapes case.policy is.number t (row_text case is.column) domain) r (questioned_gives case e is found t value domain named r comes) linked
 
 -- ---- a conjunct
 
@@ -478,7 +499,7 @@ abbrev HaveNames : Case → List Expression → Type 0
 HaveNames case es = AllByRecursion (HoldsText case) (asked_in (quiet_front es))
 
 -- what is said of `&&` behind its left side
-abbrev Behind : Case → ℕ → Expression → Datum → Evaluation → Type 0
+abbrev pub Behind : Case → ℕ → Expression → Datum → Evaluation → Type 0
 Behind case at g d r = Unless (settled at op.And d) ((y : Evaluation) × ComesTo case g y × (r ≡ answers.then y (joined at op.And d))) r
 
 one_says : (case : Case) (e : Expression) → HasValues case → are_declared case.model (uses e) ≡ true → HaveNames case (e ∷ []) → (r : Evaluation) → ComesTo case e r → Says case (e ∷ []) r
@@ -501,7 +522,7 @@ one_says case e has declared texts r comes = by (is_quiet e) refl
     }
 
 -- the answer of `&&` where the left side is true
-right_is : (at : ℕ) (y r : Evaluation) (b : Bool) → r ≡ answers.then y (joined at op.And (datum.truth true)) → y ≡ Ok (datum.truth b) → r ≡ Ok (datum.truth b)
+pub right_is : (at : ℕ) (y r : Evaluation) (b : Bool) → r ≡ answers.then y (joined at op.And (datum.truth true)) → y ≡ Ok (datum.truth b) → r ≡ Ok (datum.truth b)
 right_is at y r b e is = e ∙ ap (λ (a : Evaluation). answers.then a (joined at op.And (datum.truth true))) is
 
 both_say : (case : Case) (at : ℕ) (g : Expression) (es gs : List Expression) (x r : Evaluation) → Says case es x → After x (λ d. Behind case at g d r) r → (all_quiet es ≡ true → (y : Evaluation) → ComesTo case g y → Says case gs y) → Says case (es ++ gs) r

@@ -15,4 +15,5 @@ mod KeyLemmas
 mod GatherLemmas
 mod LookLemmas
 mod LookedLemmas
+mod PlainLemmas
 pub mod CallerLemmas

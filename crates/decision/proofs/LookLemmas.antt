@@ -52,7 +52,7 @@ all_pass : (test : Use → Bool) (us : List Use) → first_by_place (filter (λ 
 all_pass test [] none = refl
 all_pass test (u ∷ us) none = none_left u (filter (λ (u : Use). not (test u)) us) (test u) (list_all test us) none (all_pass test us)
 
-all_declared : (model : ModelParts) (us : List Use) → first_undeclared model.request model.policy model.relations us ≡ None → are_declared model us ≡ true
+pub all_declared : (model : ModelParts) (us : List Use) → first_undeclared model.request model.policy model.relations us ≡ None → are_declared model us ≡ true
 unfolding first_undeclared
 all_declared model us none = all_pass (is_declared model.request model.policy model.relations) us none
 
@@ -146,10 +146,10 @@ module _ (model : ModelParts) (shapes : Shapes) (state : State) (values : List V
       let inner = and_parts (length values == length model.request) (nat_le (length model.policy) shapes.columns) outer.0 in
       (eqb-true (length values) (length model.request) inner.0, leb-true (length model.policy) shapes.columns inner.1, outer.1)
 
-  has_values : HasValues asked
+  pub has_values : HasValues asked
   has_values = value_there model.request (map datum values) (length-map values datum ∙ parts.0)
 
-  has_texts : AllByRecursion (HoldsText asked) (names_of model)
+  pub has_texts : AllByRecursion (HoldsText asked) (names_of model)
   has_texts = texts_there asked (names_of model) (ap (list_all (has_text_at (map datum values))) (sym is.names) ∙ parts.2)
 
   -- a row that some part which counts excludes

@@ -54,7 +54,7 @@ plan_read model es pairs fitting asked plan parts pairs_are fitting_is asked_is 
 
 module _ (case : Case) (fields : Fields) (row : case.row ≡ Some fields) where
   -- the row's field in a column that has this place
-  field_at : (column : List ℕ) (at : ℕ) → place_of case.model.policy column ≡ Some at → row_text case column ≡ unwrap_or (slice_get fields at) []
+  pub field_at : (column : List ℕ) (at : ℕ) → place_of case.model.policy column ≡ Some at → row_text case column ≡ unwrap_or (slice_get fields at) []
   field_at column at is = ap (λ (r : Option Fields). field_of case.model.policy r column) row ∙ ap (λ (place : Option ℕ). unwrap_or (option_and_then (λ n. slice_get fields n) place) []) is
 
   -- another text than the one that is asked

@@ -8,3 +8,4 @@ pub mod KeptPlans
 pub mod LeftOut
 pub mod FoundRows
 pub mod Covers
+pub mod PlainParts

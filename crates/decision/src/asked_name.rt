@@ -1,12 +1,13 @@
 ghost use Rattle.std.specs.Prelude.{◌≡◌, IfSome, option_copied};
 ghost use Rattle.policy_state.specs.Asked.{IsAskedOf};
-ghost use Rattle.decision.specs.Helps.Asked.{IsAsked, KnowsName};
+ghost use Rattle.decision.specs.Helps.Asked.{DecideAlone, IsAsked, KnowsName, KnowsParts};
 ghost use Rattle.decision.specs.Helps.ReachedNames.{KnowsLinks};
 
 use crate::asking::Asking;
 use crate::found_rows::domain_at;
 use crate::links::AskedName;
 use crate::looked::{Looked, text_at};
+use crate::plain_parts::PlainParts;
 use perm_base::TableId;
 use policy_state::PolicyState;
 use role_domain::Room;
@@ -78,12 +79,18 @@ fn name_in<'a>(
     })
 }
 
-/// The same with a name that its rows ask about, or none.
-pub(crate) fn with_name<'a>(asking: &Asking<'a>, name: Option<&'a AskedName<'a>>) -> Asking<'a>
+/// The same with a name that its rows ask about, or none, and with the parts that decide alone, or none.
+pub(crate) fn with_known<'a>(
+    asking: &Asking<'a>,
+    name: Option<&'a AskedName<'a>>,
+    parts: Option<PlainParts<'a>>,
+) -> Asking<'a>
     requires asked { IsAsked asking.now }
     requires knows { IfSome (option_copied name) (KnowsLinks asking.now.state.now) }
+    requires parts { IfSome parts (DecideAlone asking.now) }
     ensures asked { IsAsked result }
     ensures knows { KnowsName result }
+    ensures parts { KnowsParts result }
     ensures model { result.model.now ≡ asking.now.model.now }
     ensures state { result.state.now ≡ asking.now.state.now }
     ensures request { result.request.now ≡ asking.now.request.now }
@@ -98,6 +105,7 @@ pub(crate) fn with_name<'a>(asking: &Asking<'a>, name: Option<&'a AskedName<'a>>
         plan: asking.plan,
         question: asking.question,
         asked_name: name,
+        parts,
         state: asking.state,
         request: asking.request,
     }

@@ -1,4 +1,5 @@
 use crate::links::AskedName;
+use crate::plain_parts::PlainParts;
 use crate::plan::{AskedColumns, KeptPlan};
 use matcher_code::Code;
 use model_conf::Model;
@@ -20,9 +21,11 @@ pub(crate) struct Asking<'a> {
     // By what rows are found.
     pub(crate) plan: Option<&'a KeptPlan>,
     // What a role question of the matcher asks of each row.
-    pub(crate) question: Option<AskedColumns>,
+    pub(crate) question: Option<&'a AskedColumns>,
     // The name that it asks about, and what this reaches, where that is found.
     pub(crate) asked_name: Option<&'a AskedName<'a>>,
+    // The parts of the matcher that decide alone whether it holds for a row, where there are such.
+    pub(crate) parts: Option<PlainParts<'a>>,
     pub(crate) state: &'a PolicyState,
     pub(crate) request: &'a Request,
 }

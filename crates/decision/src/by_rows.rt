@@ -1,9 +1,9 @@
-ghost use Rattle.std.specs.Prelude.{◌≡◌, IfErr, IfOk, false, true};
+ghost use Rattle.std.specs.Prelude.{◌≡◌, IfErr, IfOk, None, false, true};
 ghost use Rattle.regex_gate.specs.Refusals.{IsUsed, RefusedOnly};
 ghost use Rattle.matcher_meaning.specs.Comes.{takes_memory};
 ghost use Rattle.decision.specs.Helps.Asked.{CanRun, case_in, rows_of};
-ghost use Rattle.decision.specs.Helps.LeftOut.{LeavesOut};
-ghost use Rattle.decision.specs.Helps.Outcomes.{HasOutcomesInOrder, IsJudgedOn, is_by_subjects};
+ghost use Rattle.decision.specs.Helps.LeftOut.{LeavesOut, LooksAtNone};
+ghost use Rattle.decision.specs.Helps.Outcomes.{HasOutcomesInOrder, IsJudgedOn, IsVerdictOn, is_by_subjects};
 
 use crate::asking::Asking;
 use crate::candidates::Candidates;
@@ -14,6 +14,18 @@ use matcher_code::Stack;
 use matcher_meaning::case_answer_is_there;
 use outside::NoMemory;
 use regex_gate::Finder;
+
+/// The verdict where no row is looked at.
+pub(crate) fn verdict_of_none(asking: &Asking<'_>, looked: Looked<'_>) -> Verdict
+    requires leaves { LeavesOut (case_in asking.now) (rows_of asking.now) looked }
+    requires none { LooksAtNone looked }
+    requires effect { is_by_subjects asking.now.model.now.effect ≡ false }
+    ensures { IsVerdictOn (case_in asking.now)
+        (HasOutcomesInOrder (case_in asking.now) (rows_of asking.now) None) result }
+{
+    let fold = Fold::new(asking.model.effect());
+    fold.end()
+}
 
 /// The verdict of the rows, in the order of the table.
 pub(crate) fn verdict_by_rows<'a, P: Finder, const N: usize>(

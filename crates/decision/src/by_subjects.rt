@@ -29,7 +29,8 @@ pub(crate) struct First {
 }
 
 /// The verdict of the rows under the priority of subjects: that of the row with the deepest subject among those that match
-/// or fail, and of one depth that of the earliest.
+/// or fail, and of one depth that of the earliest. No other call is to pay for the room of the depths.
+#[inline(never)]
 pub(crate) fn verdict_by_subjects<'a, P: Finder, const N: usize>(
     asking: &Asking<'a>,
     looked: Looked<'a>,

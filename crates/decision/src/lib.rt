@@ -13,6 +13,7 @@ mod looked;
 mod names;
 mod outcome;
 mod parts;
+mod plain_parts;
 mod plan;
 mod program;
 mod scratch;

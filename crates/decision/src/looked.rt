@@ -52,9 +52,9 @@ pub(crate) fn looked_at<'a>(asking: &Asking<'_>, found: &'a mut Vec<u32>) -> Loo
     }
 }
 
-// Whether the plan serves: the request has as many values as the model wants, the rows have the model's columns, and the parts of the
-// matcher that count are asked with texts.
-fn serves(asking: &Asking, plan: &KeptPlan) -> bool
+/// Whether the plan serves: the request has as many values as the model wants, the rows have the model's columns, and the parts of the
+/// matcher that count are asked with texts.
+pub(crate) fn serves(asking: &Asking, plan: &KeptPlan) -> bool
     ensures { result ≡ serves asking.now.model.now asking.now.state.now.shapes
         asking.now.request.now plan.now }
 {

@@ -1,15 +1,16 @@
-ghost use Rattle.std.specs.Prelude.{◌≡◌, IfErr, IfOk, Ok, option_copied, true};
+ghost use Rattle.std.specs.Prelude.{◌≡◌, ℕ, IfErr, IfOk, IfSome, List, Ok, Option, option_copied, true};
 ghost use Rattle.perm_value.specs.Datum as datums;
 ghost use Rattle.regex_gate.specs.Refusals.{IsUsed, RefusedOnly};
-ghost use Rattle.matcher_meaning.specs.Cases.{at_row};
-ghost use Rattle.matcher_meaning.specs.Comes.{takes_memory};
+ghost use Rattle.matcher_meaning.specs.Cases.{at_row, where_refused};
+ghost use Rattle.matcher_meaning.specs.Comes.{TruthIs, takes_memory};
 ghost use Rattle.matcher_meaning.specs.Perm.{outcome_of, word_of};
 ghost use Rattle.matcher_code.specs.RunEnds.{IsAnswer, IsWantOfMemory};
-ghost use Rattle.decision.specs.Helps.Asked.{CanRun, IsAsked, case_in};
+ghost use Rattle.decision.specs.Helps.Asked.{CanRun, IsAsked, KnowsName, KnowsParts, case_in};
 ghost use Rattle.decision.specs.Helps.Outcomes.{ComesTo, SaysTruth, truth_in, word_of_row};
 
 use crate::asking::Asking;
 use crate::links::StateLinks;
+use crate::plain_parts::told_by;
 use effect_fold::Outcome;
 use matcher_code::{NoTruth, Stack, run};
 use outside::NoMemory;
@@ -52,6 +53,27 @@ fn truth<'a, P: Finder, const N: usize>(
         → takes_memory asking.now.model.now.matcher ≡ true) }
     ensures used { IsUsed (P.refusals finder.old) (P.refusals finder.new) }
 {
+    if let Some(truth) = told(asking, row) {
+        return Ok(truth);
+    }
+    truth_by_code(asking, row, finder, stack)
+}
+
+// The same by the code of the matcher, whose locals no other call is to pay for.
+#[inline(never)]
+fn truth_by_code<'a, P: Finder, const N: usize>(
+    asking: &Asking<'a>,
+    row: Option<&'a Rule>,
+    finder: &mut P,
+    stack: &mut Stack<'a, N>,
+) -> Result<bool, NoTruth>
+    requires { CanRun asking.now N }
+    ensures truth { IsAnswer (SaysTruth (at_row (case_in asking.now) (option_copied row.entry)))
+        datums.truth (RefusedOnly (P.refusals finder.old) (P.refusals finder.new)) result }
+    ensures no_memory { IfErr result (λ stop. IsWantOfMemory stop
+        → takes_memory asking.now.model.now.matcher ≡ true) }
+    ensures used { IsUsed (P.refusals finder.old) (P.refusals finder.new) }
+{
     let links = StateLinks {
         state: asking.state,
         asked_name: asking.asked_name,
@@ -69,6 +91,23 @@ fn truth<'a, P: Finder, const N: usize>(
         Ok(value) => Ok(truth_in(value)),
         Err(stop) => Err(stop),
     }
+}
+
+// Whether the matcher holds for a row, where some of its parts tell it alone.
+fn told(asking: &Asking, row: Option<&Rule>) -> Option<bool>
+    requires knows { KnowsName asking.now }
+    requires parts { KnowsParts asking.now }
+    ensures { IfSome result (λ truth. (refused : Option (ℕ × List ℕ))
+        → TruthIs (where_refused (at_row (case_in asking.now) (option_copied row.entry)) refused)
+        asking.now.model.now.matcher (Ok truth)) }
+{
+    let Some(parts) = asking.parts else {
+        return None;
+    };
+    let Some(row) = row else {
+        return None;
+    };
+    told_by(asking, row, parts)
 }
 
 // The truth that a value is; other values are none.

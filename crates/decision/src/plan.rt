@@ -1,10 +1,10 @@
-ghost use Rattle.std.specs.Prelude.{◌≡◌, ◌++◌, ◌∷◌, [], IfOk, OnOk, map, option_and_then, option_map};
+ghost use Rattle.std.specs.Prelude.{◌≡◌, ◌++◌, ◌∷◌, [], IfOk, OnOk, length, map, option_and_then, option_map};
 ghost use Rattle.matcher_read.specs.Expression.{expression, expressions_of};
 ghost use Rattle.model_conf.specs.Shapes.{place_of};
 ghost use Rattle.decision.specs.Plans.{asked_of_question, compared, conjuncts, first_fitting};
 ghost use Rattle.decision.specs.Plans.{first_question, fitted, fitting_of, key_of, pair_of};
 ghost use Rattle.decision.specs.Plans.{pairs_in, plan_by, policy_places, questioned, quiet_front};
-ghost use Rattle.decision.specs.Helps.KeptPlans.{IsPlanOf, asked_among, asked_in, asked_of, asked_seen};
+ghost use Rattle.decision.specs.Helps.KeptPlans.{IsPlanOf, are_plain, asked_among, asked_in, asked_of, asked_seen};
 ghost use Rattle.decision.specs.Helps.KeptPlans.{fitting_seen, pair_seen, plan_seen, seen};
 
 use crate::parts::{asked_column, compared, fitted, is_quiet, questioned};
@@ -24,6 +24,10 @@ pub(crate) struct KeptPlan {
     pub(crate) key: RowKey,
     // The request's columns that have to be texts, so that no part of the matcher which counts fails.
     pub(crate) names: Vec<Option<u32>>,
+    // The first role question.
+    pub(crate) question: Option<AskedColumns>,
+    // Whether the matcher compares the pairs, asks this question, and does nothing else.
+    pub(crate) plain: bool,
 }
 
 // Written out, so that a caller's proof sees one call and not the drop of each field.
@@ -34,6 +38,8 @@ impl Drop for KeptPlan {
             by: _by,
             key: _key,
             names: _names,
+            question: _question,
+            plain: _plain,
         } = self;
     }
 }
@@ -90,12 +96,26 @@ pub(crate) fn plan_of(alloc: Global, model: &Model) -> Result<Option<KeptPlan>, 
     let key = key_of(alloc, pairs.as_slice(), by)?;
     let mut names = Vec::new(alloc);
     push_asked(front.as_slice(), model.request_columns(), &mut names)?;
+    let plain = are_plain(pairs.as_slice(), question, parts.as_slice());
     Ok(Some(KeptPlan {
         pairs,
         by,
         key,
         names,
+        question,
+        plain,
     }))
+}
+
+// Whether there are as many pairs as parts, or one less where there is a question: then each part is one of these.
+fn are_plain(pairs: &[EqualColumns], question: Option<AskedColumns>, parts: &[&Tree]) -> bool
+    ensures { result ≡ are_plain (length (map pair_seen pairs.now)) (option_map asked_seen question)
+        (length (seen parts.now)) }
+{
+    match question {
+        None => pairs.len() == parts.len(),
+        Some(_) => pairs.len() < parts.len() && parts.len() - pairs.len() == 1,
+    }
 }
 
 // What a plan has beside its pairs, where there is one.

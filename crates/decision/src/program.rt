@@ -147,8 +147,9 @@ impl Program {
             effect_place: self.effect_place,
             domain_place: self.domain_place,
             plan: self.plan.as_ref(),
-            question: self.question,
+            question: self.question.as_ref(),
             asked_name: None,
+            parts: None,
             state,
             request,
         }

@@ -1,22 +1,23 @@
-ghost use Rattle.std.specs.Prelude.{◌≡◌, ◌≤◌, IfErr, IfOk, length, map, true};
+ghost use Rattle.std.specs.Prelude.{◌≡◌, ◌≤◌, IfErr, IfOk, IfSome, IsTrue, None, length, map, true};
 ghost use Rattle.perm_value.specs.Seen.{datum};
 ghost use Rattle.policy_state.specs.States.{tables};
 ghost use Rattle.regex_gate.specs.Refusals.{IsRefused, IsUsed};
 ghost use Rattle.matcher_meaning.specs.Comes.{takes_memory};
 ghost use Rattle.matcher_meaning.specs.Perm.{names_policy};
 ghost use Rattle.matcher_meaning.specs.Verdicts.{HasOneOutcome, HasOutcomesOver, IsJudged};
-ghost use Rattle.decision.specs.Helps.Asked.{CanRun, IsAsked, KnowsName, case_in, rows_of};
-ghost use Rattle.decision.specs.Helps.LeftOut.{LeavesOut};
-ghost use Rattle.decision.specs.Helps.Outcomes.{IsJudgedOn, is_by_subjects};
+ghost use Rattle.decision.specs.Helps.Asked.{CanRun, IsAsked, KnowsName, KnowsParts, case_in, rows_of};
+ghost use Rattle.decision.specs.Helps.LeftOut.{LeavesOut, LooksAtNone};
+ghost use Rattle.decision.specs.Helps.Outcomes.{IsJudgedOn, IsVerdictOn, is_by_subjects};
 ghost use Rattle.decision.specs.Decisions.{IsJudgedWith, RefusedIn};
 ghost use Rattle.decision.specs.Programs.{Suits};
 
-use crate::asked_name::{name_asked, with_name};
+use crate::asked_name::{name_asked, with_known};
 use crate::asking::Asking;
-use crate::by_rows::verdict_by_rows;
+use crate::by_rows::{verdict_by_rows, verdict_of_none};
 use crate::by_subjects::verdict_by_subjects;
 use crate::looked::{Looked, looked_at};
 use crate::outcome::outcome;
+use crate::plain_parts::plain_parts_of;
 use crate::program::Program;
 use crate::scratch::Scratch;
 use effect_fold::{Effect, Fold, Verdict};
@@ -58,12 +59,49 @@ pub fn decide<P: Finder>(
 {
     let asking = program.asking(scratch.alloc(), state, request);
     let looked = looked_at(&asking, &mut scratch.found);
-    let name = name_asked(&asking, looked, &mut scratch.room);
-    let named = with_name(&asking, name.as_ref());
-    if named.code.height() <= NARROW {
-        return on_narrow_stack(&named, looked, finder);
+    if let Some(verdict) = verdict_at_once(&asking, looked) {
+        return Ok(verdict);
     }
-    on_wide_stack(&named, looked, finder)
+    let name = name_asked(&asking, looked, &mut scratch.room);
+    let known = with_known(&asking, name.as_ref(), plain_parts_of(&asking));
+    if known.code.height() <= NARROW {
+        return on_narrow_stack(&known, looked, finder);
+    }
+    on_wide_stack(&known, looked, finder)
+}
+
+// The verdict where no row is left to judge, and no evaluation goes without one.
+fn verdict_at_once(asking: &Asking<'_>, looked: Looked<'_>) -> Option<Verdict>
+    requires asked { IsAsked asking.now }
+    requires leaves { LeavesOut (case_in asking.now) (rows_of asking.now) looked }
+    ensures { IfSome result (IsVerdictOn (case_in asking.now)
+        (HasOutcomesOver (case_in asking.now) None
+        (names_policy asking.now.model.now.matcher) (rows_of asking.now))) }
+{
+    if !leaves_none(looked) {
+        return None;
+    }
+    if !asking.by_row {
+        return None;
+    }
+    if asking.state.tables().len(TableId::P) == 0 {
+        return None;
+    }
+    if is_by_subjects(asking.model.effect()) {
+        return None;
+    }
+    Some(verdict_of_none(asking, looked))
+}
+
+// Whether no row is looked at.
+fn leaves_none(looked: Looked<'_>) -> bool
+    ensures { IsTrue result → LooksAtNone looked.entry }
+{
+    match looked {
+        Looked::All => false,
+        Looked::Nothing => true,
+        Looked::At(places) => places.is_empty(),
+    }
 }
 
 // The verdict, on a stack of 8 places.
@@ -74,6 +112,7 @@ fn on_narrow_stack<P: Finder>(
 ) -> Result<Verdict, NoMemory>
     requires asked { IsAsked asking.now }
     requires knows { KnowsName asking.now }
+    requires parts { KnowsParts asking.now }
     requires leaves { LeavesOut (case_in asking.now) (rows_of asking.now) looked }
     requires room { asking.now.code.now.height ≤ 8 }
     ensures judged { IfOk result (IsJudgedOn (case_in asking.now)
@@ -97,6 +136,7 @@ fn on_wide_stack<P: Finder>(
 ) -> Result<Verdict, NoMemory>
     requires asked { IsAsked asking.now }
     requires knows { KnowsName asking.now }
+    requires parts { KnowsParts asking.now }
     requires leaves { LeavesOut (case_in asking.now) (rows_of asking.now) looked }
     ensures judged { IfOk result (IsJudgedOn (case_in asking.now)
         (λ refused. HasOutcomesOver (case_in asking.now) refused

@@ -1,14 +1,17 @@
 -- What a decision is asked for, as a case over the tables of its policy.
-use Rattle.std.specs.Prelude.{◌≤◌, ℕ, IfSome, List, map, option_copied}
+use Rattle.std.specs.Prelude.{◌≤◌, ℕ, Bool, IfSome, List, Ok, Option, Some, map, option_copied}
 use Rattle.perm_base.specs.declared.shapes.TableId.TheVariants.{P}
 use Rattle.perm_value.specs.Seen.{datum}
 use Rattle.policy_state.specs.States.{tables}
 use Rattle.policy_table.specs.Tables.{Fields, rows}
-use Rattle.matcher_meaning.specs.Cases.{Case}
+use Rattle.matcher_meaning.specs.Cases.{Case, at_row, where_refused}
+use Rattle.matcher_meaning.specs.Comes.{TruthIs}
 use Rattle.matcher_meaning.specs.Verdicts.{case_of}
 use Rattle.decision.specs.Helps.Parts.{IsProgram}
+use Rattle.decision.specs.Helps.PlainParts.{IsToldBy}
 use Rattle.decision.specs.Helps.ReachedNames.{KnowsLinks}
 use Rattle.decision.specs.declared.asking.Asking.{Asking}
+use Rattle.decision.specs.declared.plain_parts.PlainParts.{PlainParts}
 
 -- the request over the tables of the policy, without a row, and with nothing refused
 abbrev pub case_in : Asking → Case
@@ -26,8 +29,19 @@ IsAsked asking = IsProgram asking.model.now asking.code.now asking.by_row asking
 abbrev pub KnowsName : Asking → Type 0
 KnowsName asking = IfSome (option_copied asking.asked_name) (KnowsLinks asking.state.now)
 
--- both, and a stack of so many places has room for the code
+-- what a row says to these parts is whether the matcher holds for it, whatever search is refused
+abbrev pub DecideAlone : Asking → PlainParts → Type 0
+DecideAlone asking parts =
+    (fields : Fields) (refused : Option (ℕ × List ℕ)) (truth : Bool) → IsToldBy (case_in asking) fields parts truth
+    → TruthIs (where_refused (at_row (case_in asking) (Some fields)) refused) asking.model.now.matcher (Ok truth)
+
+-- the parts that are known to decide alone do
+abbrev pub KnowsParts : Asking → Type 0
+KnowsParts asking = IfSome asking.parts (DecideAlone asking)
+
+-- all of this, and a stack of so many places has room for the code
 pub record CanRun (asking : Asking) (places : ℕ) : Type 0 where
   pub program : IsAsked asking
   pub knows : KnowsName asking
+  pub parts : KnowsParts asking
   pub room : asking.code.now.height ≤ places

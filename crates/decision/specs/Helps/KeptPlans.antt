@@ -1,5 +1,5 @@
 -- What a program keeps of its plan, and what must hold of a request so that it serves.
-use Rattle.std.specs.Prelude.{◌≡◌, ℕ, ◌==◌, ◌&&◌, Bool, List, [], ◌∷◌, ◌++◌, length, map, Option, Some, None, is_some, option_and_then, option_map, slice_get, nat_le}
+use Rattle.std.specs.Prelude.{◌≡◌, ℕ, ◌-◌, ◌==◌, ◌&&◌, Bool, List, [], ◌∷◌, ◌++◌, length, map, Option, Some, None, is_some, option_and_then, option_map, slice_get, nat_le, nat_lt}
 use Rattle.std.specs.Borrow.{Bor}
 use Rattle.std.specs.List.{list_all}
 use Rattle.perm_base.specs.declared.shapes.Shapes.{Shapes}
@@ -12,7 +12,7 @@ use Rattle.model_conf.specs.ModelText.{ModelParts}
 use Rattle.model_conf.specs.Shapes.{place_of}
 use Rattle.model_conf.specs.Uses.{first_undeclared, uses}
 use Rattle.matcher_meaning.specs.Calls.{text_of}
-use Rattle.decision.specs.Plans.{Asked, Fitted, Fitting, Pair, Plan, Questioned, asked_column, by_pattern, by_roles, by_texts, conjuncts, key_of, plan_of, quiet_front}
+use Rattle.decision.specs.Plans.{Asked, Fitted, Fitting, Pair, Plan, Questioned, asked_column, by_pattern, by_roles, by_texts, conjuncts, first_question, key_of, pairs_in, plan_of, quiet_front}
 use Rattle.decision.specs.declared.plan.AskedColumns.{AskedColumns}
 use Rattle.decision.specs.declared.plan.By.{By}
 use Rattle.decision.specs.declared.plan.By.TheVariants as by
@@ -78,12 +78,20 @@ plan_seen pairs (by.Roles is) = by_roles (asked_seen is)
 abbrev pub seen : List (Bor Tree) → List Expression
 seen trees = map (λ (tree : Bor Tree). expression tree.now) trees
 
+-- so many pairs are all of so many parts, or all but a question
+abbrev pub are_plain : ℕ → Option Asked → ℕ → Bool
+are_plain pairs None parts = pairs == parts
+are_plain pairs (Some question) parts = nat_lt pairs parts && (parts - pairs) == 1
+
 -- the plan of the model, its key, and the places of the request's columns that have to be texts
 pub record IsPlan (model : ModelParts) (kept : KeptPlan) : Type 0 where
   pub plan : plan_of model ≡ Some (plan_seen kept.pairs.items kept.by)
   pub key : kept.key ≡ key_of (plan_seen kept.pairs.items kept.by)
   pub declared : first_undeclared model.request model.policy model.relations (uses model.matcher) ≡ None
   pub names : kept.names.items ≡ map (place_of model.request) (names_of model)
+  pub pairs : map pair_seen kept.pairs.items ≡ pairs_in model (parts_of_plan model)
+  pub question : option_map asked_seen kept.question ≡ first_question model (parts_of_plan model)
+  pub plain : kept.plain ≡ are_plain (length (map pair_seen kept.pairs.items)) (option_map asked_seen kept.question) (length (conjuncts model.matcher))
 
 -- these, or that the model has no plan
 abbrev pub IsPlanOf : ModelParts → Option KeptPlan → Type 0

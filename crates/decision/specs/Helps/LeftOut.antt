@@ -1,5 +1,5 @@
 -- Rows of p that need not be looked at.
-use Rattle.std.specs.Prelude.{◌≡◌, ◌<◌, ℕ, List, Option, Some, All, AllPairs, Ok, false, length, nat_eq, slice_get}
+use Rattle.std.specs.Prelude.{◌≡◌, ◌<◌, ℕ, List, [], Option, Some, All, AllPairs, Ok, false, length, nat_eq, slice_get}
 use Rattle.std.specs.List.{list_any}
 use Rattle.policy_table.specs.Tables.{Fields}
 use Rattle.matcher_meaning.specs.Cases.{Case, at_row, where_refused}
@@ -16,6 +16,12 @@ pub record AreAllThatMatter (case : Case) (rows : List Fields) (places : List �
   pub rising : AllPairs (λ (first second : ℕ). first < second) places
   pub within : All (λ (place : ℕ). place < length rows) places
   pub others : (place : ℕ) (fields : Fields) → slice_get rows place ≡ Some fields → list_any (nat_eq place) places ≡ false → IsLeftOut case fields
+
+-- no row is looked at
+abbrev pub LooksAtNone : Looked → Type 0
+LooksAtNone looked.All = ⊥
+LooksAtNone looked.Nothing = Unit {0}
+LooksAtNone (looked.At places) = places.now ≡ []
 
 -- each row of p that is not to be looked at is left out
 abbrev pub LeavesOut : Case → List Fields → Looked → Type 0
