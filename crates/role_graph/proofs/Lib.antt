@@ -20,6 +20,7 @@ mod Leasts
 mod LinkLemmas
 mod LinkedLemmas
 mod Marked
+mod MarkedLinks
 mod MarkLemmas
 mod Mended
 mod NameLemmas

@@ -5,7 +5,7 @@ use Rattle.dist_rows.specs.Squares.{IsSquare, cell_of, lowered, relaxed, row_of,
 use Rattle.dist_rows.proofs.CallerLemmas.{relaxed_other, relaxed_own, with_cell_column, with_cell_own, with_cell_row}
 use Rattle.role_meaning.specs.Distances.{farthest}
 use Rattle.role_meaning.specs.Least.{IsLeast}
-use Rattle.role_graph.specs.Helps.Mended.{AreHit, AreTold, IsKept, IsMending, IsReset, IsStable}
+use Rattle.role_graph.specs.Helps.Mended.{AreHit, AreTold, IsKept, IsMending, IsReset, IsStable, IsStableAt}
 use Rattle.role_graph.specs.Helps.Squares.{Chain, IsBefore, IsBegun, IsClosed, IsMarked, IsNear, IsNodeLink}
 use Rattle.role_graph.specs.Helps.Walks.{Linked}
 use Rattle.role_graph.proofs.Chains.{chain_itself, chain_joined, chain_link, chain_none, chain_weaker}
@@ -42,20 +42,6 @@ sum_rises x y less = by (cases_sum 1 x) (cases_sum 1 y)
     by (inr (large, is)) (inl (low, other)) = absurd (omega (arith, large, low, less))
     by (inr (large, is)) (inr (high, other)) = omega (arith, is, other)
 
-pub sum_small : (x : ℕ) → x < 254 → x + 1 ≡ sum_of 1 x
-sum_small x less = by (cases_sum 1 x)
-  where
-    by : ((1 + x ≤ 254) × (sum_of 1 x ≡ 1 + x)) ⊎ ((254 < 1 + x) × (sum_of 1 x ≡ 255)) → x + 1 ≡ sum_of 1 x
-    by (inl (small, is)) = omega (arith, is)
-    by (inr (large, is)) = absurd (omega (arith, large, less))
-
-pub sum_large : (x : ℕ) → 254 ≤ x → 255 ≡ sum_of 1 x
-sum_large x more = by (cases_sum 1 x)
-  where
-    by : ((1 + x ≤ 254) × (sum_of 1 x ≡ 1 + x)) ⊎ ((254 < 1 + x) × (sum_of 1 x ≡ 255)) → 255 ≡ sum_of 1 x
-    by (inl (small, is)) = absurd (omega (arith, small, more))
-    by (inr (large, is)) = sym is
-
 -- of each place below the next one
 pub next_place : (P : ℕ → Type 0) (at : ℕ) → ((k : ℕ) → k < at → P k) → P at → (k : ℕ) → k < at + 1 → P k
 next_place P at before here k low = by (cases_eq k at)
@@ -87,10 +73,10 @@ kept_itself : (linked : Linked) (names cells : List (List ℕ)) (a : ℕ) → Is
 kept_itself linked names cells a closed within = record { near = record { first = within; second = within; near = omega (arith, own_cell cells a closed within) }; still = inl refl }
 
 -- a node at no distance is the same
-pub kept_zero : (linked : Linked) (names : List (List ℕ)) (touched : List Bool) (old : List (List ℕ)) (a b far : ℕ) → IsBefore linked names touched old → a < length old → b < length old → far ≡ cell_of old a b → far ≡ 0 → IsKept linked names old a b
-kept_zero linked names touched old a b far before first second is none = record {
+pub kept_zero : (linked : Linked) (names old : List (List ℕ)) (a b far : ℕ) → IsClosed old → a < length old → b < length old → far ≡ cell_of old a b → far ≡ 0 → IsKept linked names old a b
+kept_zero linked names old a b far closed first second is none = record {
   near = record { first = first; second = second; near = omega (arith, is, none) };
-  still = inl (zero_cell old a b before.closed first second (sym is ∙ none));
+  still = inl (zero_cell old a b closed first second (sym is ∙ none));
 }
 
 -- what is near one that is not touched stays
@@ -106,12 +92,13 @@ kept_linked linked names old a b far first second is one link = record { near = 
 pub far_gone : (linked : Linked) (names old : List (List ℕ)) (a b far : ℕ) → far ≡ cell_of old a b → (far ≡ 1 → ⊥) → (far ≡ 0 → ⊥) → ¬ IsKept linked names old a b
 far_gone linked names old a b far is not_one not_none = λ kept. let near = kept.near.near in absurd (omega (arith, is, not_one, not_none, near))
 
-pub link_gone : (linked : Linked) (names : List (List ℕ)) (touched : List Bool) (old : List (List ℕ)) (a b far : ℕ) → IsBefore linked names touched old → a < length old → far ≡ cell_of old a b → far ≡ 1 → (¬ IsNodeLink linked names a b) → ¬ IsKept linked names old a b
-link_gone linked names touched old a b far before first is one none = λ kept. by kept.still
+-- what is kept a link away is linked
+pub kept_link : (linked : Linked) (names old : List (List ℕ)) (a b : ℕ) → IsClosed old → a < length old → cell_of old a b ≡ 1 → IsKept linked names old a b → IsNodeLink linked names a b
+kept_link linked names old a b closed first one kept = by kept.still
   where
-    by : (a ≡ b) ⊎ IsNodeLink linked names a b → ⊥
-    by (inl same) = let own = own_cell old a before.closed first in let here : cell_of old a a ≡ cell_of old a b = ap (cell_of old a) same in absurd (omega (arith, own, here, is, one))
-    by (inr link) = none link
+    by : (a ≡ b) ⊎ IsNodeLink linked names a b → IsNodeLink linked names a b
+    by (inl same) = let own = own_cell old a closed first in let here : cell_of old a a ≡ cell_of old a b = ap (cell_of old a) same in absurd (omega (arith, own, here, one))
+    by (inr link) = link
 
 -- ---- nodes that are hit
 
@@ -394,6 +381,51 @@ pub by_row_ends : (linked : Linked) (names old : List (List ℕ)) (hits : List B
     → (next b : ℕ) → IsKept linked names old node next → node ≢ next → b < length first → cell_of cells node b ≤ sum_of 1 (cell_of first next b)
 by_row_ends linked names old hits node upto first cells past long row next b kept differ inside = row.by next b (let last = kept.near.second in omega (arith, last, past, long)) kept differ inside
 
+-- ---- a row that does not become lower
+
+-- the row of a node is not lower by way of any before a place, where it is as it was first
+abbrev pub IsLowBefore : ℕ → ℕ → List (List ℕ) → List (List ℕ) → Type 0
+IsLowBefore node upto first cells = ((b : ℕ) → b < length first → cell_of cells node b ≡ cell_of first node b) → (next b : ℕ) → next < upto → cell_of first node next ≡ 1 → b < length first → cell_of first node b ≤ sum_of 1 (cell_of first next b)
+
+pub low_skips : (node at far : ℕ) (first cells : List (List ℕ)) → at < length first → far ≡ cell_of cells node at → (far ≡ 1 → ⊥) → IsLowBefore node at first cells → IsLowBefore node (at + 1) first cells
+low_skips node at far first cells within is differ low = λ same next b less one inside.
+    next_place (λ n. cell_of first node n ≡ 1 → cell_of first node b ≤ sum_of 1 (cell_of first n b)) at (λ n before here. low same n b before here inside) (λ here. absurd (differ (is ∙ same at within ∙ here))) next less one
+
+pub low_more : (node at : ℕ) (first cells new : List (List ℕ)) → length cells ≡ length first → ((b : ℕ) → b < length cells → cell_of new node b ≡ min (cell_of cells node b) (sum_of 1 (cell_of cells at b))) → ((a b : ℕ) → a ≢ node → cell_of cells a b ≡ cell_of first a b)
+    → ((b : ℕ) → b < length first → cell_of cells node b ≤ cell_of first node b) → IsLowBefore node at first cells → IsLowBefore node (at + 1) first new
+low_more node at first cells new long lowers others lower low = λ same next b less one inside.
+    next_place (λ n. cell_of first node n ≡ 1 → cell_of first node b ≤ sum_of 1 (cell_of first n b)) at (λ n before here. low (λ k within. as_before k within (same k within)) n b before here inside) (λ here. by b inside (same b inside)) next less one
+  where
+    as_before : (b : ℕ) → b < length first → cell_of new node b ≡ cell_of first node b → cell_of cells node b ≡ cell_of first node b
+    as_before b inside same = let is = lowers b (omega (arith, inside, long)) in let most = lower b inside in omega (arith, is, same, most)
+
+    there : (b : ℕ) → cell_of cells node b ≡ cell_of first node b → (at ≡ node) ⊎ (at ≡ node → ⊥) → cell_of cells at b ≡ cell_of first at b
+    there b here (inl alike) = subst (λ (n : ℕ). cell_of cells n b ≡ cell_of first n b) (sym alike) here
+    there b here (inr differ) = others at b differ
+
+    by : (b : ℕ) → b < length first → cell_of new node b ≡ cell_of first node b → cell_of first node b ≤ sum_of 1 (cell_of first at b)
+    by b inside same =
+        let is = lowers b (omega (arith, inside, long)) in
+        let sum : sum_of 1 (cell_of cells at b) ≡ sum_of 1 (cell_of first at b) = ap (sum_of 1) (there b (as_before b inside same) (cases_eq at node)) in
+        omega (arith, is, same, sum)
+
+-- the row of the node is as it was, and so are the others
+pub all_same : (node a b : ℕ) (old new : List (List ℕ)) → ((i j : ℕ) → i ≢ node → cell_of new i j ≡ cell_of old i j) → cell_of new node b ≡ cell_of old node b → cell_of new a b ≡ cell_of old a b
+all_same node a b old new others same = by (cases_eq a node)
+  where
+    by : (a ≡ node) ⊎ (a ≡ node → ⊥) → cell_of new a b ≡ cell_of old a b
+    by (inl alike) = subst (λ (n : ℕ). cell_of new n b ≡ cell_of old n b) (sym alike) same
+    by (inr differ) = others a b differ
+
+-- a row is as low where the cells are the same
+pub stable_moved : (old new : List (List ℕ)) (a : ℕ) → length new ≡ length old → a < length old → ((i j : ℕ) → i < length old → j < length old → cell_of new i j ≡ cell_of old i j) → IsStableAt old a → IsStableAt new a
+stable_moved old new a long within same stable = λ next b less one inside.
+    let first : next < length old = omega (arith, less, long) in
+    let second : b < length old = omega (arith, inside, long) in
+    let before = stable next b first (sym (same a next within first) ∙ one) second in
+    let sum : sum_of 1 (cell_of new next b) ≡ sum_of 1 (cell_of old next b) = ap (sum_of 1) (same next b first second) in
+    omega (arith, before, sum, same a b within second)
+
 -- the rows of marked nodes before a place, lowered by way of what is near
 pub record IsByAll (linked : Linked) (names old : List (List ℕ)) (hits : List Bool) (upto : ℕ) (first cells : List (List ℕ)) : Type 0 where
   pub mending : IsMending linked names old hits cells
@@ -441,6 +473,11 @@ told_begins linked names old hits cells mending = λ a b k first second low few 
     by a b first (suc zero) low (inl same) = omega (arith, own a b first same)
     by a b first (suc zero) low (inr (next, kept, same)) = let near = mending.near a next kept in let here : cell_of cells a next ≡ cell_of cells a b = ap (cell_of cells a) same in omega (arith, near, here)
     by a b first (suc (suc k)) low chain = absurd (omega (arith, low))
+
+-- what is lower tells as much
+pub told_lower : (linked : Linked) (names old : List (List ℕ)) (most : ℕ) (cells new : List (List ℕ)) → length cells ≡ length old → ((a b : ℕ) → a < length cells → b < length cells → cell_of new a b ≤ cell_of cells a b) → AreTold linked names old most cells → AreTold linked names old most new
+told_lower linked names old most cells new long lower told = λ a b k first second low few chain.
+    let less = lower a b (omega (arith, first, long)) (omega (arith, second, long)) in let before = told a b k first second low few chain in omega (arith, less, before)
 
 -- one level more
 pub told_more : (linked : Linked) (names old : List (List ℕ)) (hits : List Bool) (most upto : ℕ) (first cells : List (List ℕ)) → length first ≤ upto → IsMending linked names old hits first → ((a b : ℕ) → a < length first → b < length first → cell_of cells a b ≤ cell_of first a b)

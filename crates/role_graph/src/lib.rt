@@ -11,6 +11,7 @@ mod implied;
 mod insertion;
 mod laws;
 mod link_groups;
+mod linked_nodes;
 mod marks;
 mod names;
 mod prepared;

@@ -239,21 +239,6 @@ impl LinkGroups {
         }
     }
 
-    /// Whether a row links the one name to the other.
-    pub(crate) fn has_link(&self, x: &[u8], y: &[u8]) -> bool
-        ensures { IsTrue result ↔ IsLink (linked_of self.now) x.now y.now }
-    {
-        let _few = self.len();
-        let mut place = 0;
-        while let Some(at) = self.next_fitting(x, place) {
-            if holds(self.roles_at(at), y) {
-                return true;
-            }
-            place = at + 1;
-        }
-        false
-    }
-
     /// Marks the groups whose users a name fits, and notes as new those that were not marked.
     pub(crate) fn mark(&self, name: &[u8], reached: &mut Marks, fresh: &mut Marks)
         ensures marked { (at : ℕ) → FitsAt (linked_of self.now) name.now at

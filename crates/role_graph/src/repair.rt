@@ -1,22 +1,26 @@
 //! Links that are taken out of a square: the distances that went by them are found anew.
 
-ghost use Rattle.std.specs.Prelude.{◌≡◌, ◌≢◌, ◌⊎◌, ◌+◌, ◌<◌, ◌≤◌, ℕ, Bool, List, false, length, min, true};
+ghost use Rattle.std.specs.Prelude.{◌≡◌, ◌≢◌, ◌⊎◌, ◌+◌, ◌<◌, ◌≤◌, ℕ, Bool, List, false, get_or, length, min, true};
 ghost use Rattle.dist_rows.specs.Squares.{IsSquare, cell_of, most_nodes, sum_of, with_cell};
 ghost use Rattle.role_graph.specs.Helps.Kept.{linked_of};
-ghost use Rattle.role_graph.specs.Helps.Mended.{AreHit, AreTold, IsKept, IsMending, IsReset, IsStable, IsStableAt};
+ghost use Rattle.role_graph.specs.Helps.Mended.{AreHit, AreLeft, AreTold, IsKept, IsMending, IsReset, IsStable, IsStableAt};
 ghost use Rattle.role_graph.specs.Helps.Roles.{nodes_of};
 ghost use Rattle.role_graph.specs.Helps.Squares.{IsBefore, IsBegun, IsClosed, IsMarked, IsNear, IsNodeLink};
 ghost use Rattle.role_graph.specs.Helps.Walks.{Linked};
 
-use crate::asked::{FARTHEST, TOO_FAR};
+use crate::asked::TOO_FAR;
 use crate::insertion::{distance, relax};
 use crate::link_groups::LinkGroups;
+use crate::linked_nodes::linked_nodes;
 use crate::roles::Roles;
-use crate::touched::{NodeMarks, no_nodes};
+use crate::touched::{MOST_NODES, NodeMarks, no_nodes, nodes_from};
 use dist_rows::DistRows;
 
 /// The number of levels that tell the greatest distance.
 const LEVELS: u32 = 254;
+
+/// The distances from one node, by the places of the others.
+type Distances = [u8; MOST_NODES];
 
 /// Takes the links of touched nodes out of the square that are none of the graph any more. Its time
 /// grows with the links of these nodes, and with the rows of the nodes from which a shortest way went
@@ -66,6 +70,7 @@ fn hit_by_node(
     hits: &mut NodeMarks,
 )
     requires closed { IsClosed square.now.cells }
+    requires few { length (nodes_of roles.now) ≤ most_nodes }
     requires long { length square.now.cells ≤ length (nodes_of roles.now) }
     requires node { node < length square.now.cells }
     ensures keeps { (a : ℕ) → IsMarked hits.old a → IsMarked hits.new a }
@@ -74,12 +79,12 @@ fn hit_by_node(
         → IsKept (linked_of links.now) (nodes_of roles.now) square.now.cells node to
         ⊎ IsMarked hits.new a }
 {
-    let name = roles.name_at(node as usize);
+    let linked = linked_nodes(links, roles, node);
     for other in 0..square.size() {
         if distance(square, node, other) != 1 {
             continue;
         }
-        if links.has_link(name, roles.name_at(other as usize)) {
+        if linked[other as usize] {
             continue;
         }
         hit_through(square, node, other, hits);
@@ -142,7 +147,7 @@ fn reset_row(
     touched: &NodeMarks,
     node: u32,
 )
-    requires few { length square.old.cells ≤ most_nodes }
+    requires few { length (nodes_of roles.now) ≤ most_nodes }
     requires long { length square.old.cells ≤ length (nodes_of roles.now) }
     requires node { node < length square.old.cells }
     ensures long { length square.new.cells ≡ length square.old.cells }
@@ -157,8 +162,9 @@ fn reset_row(
         → IsReset (linked_of links.now) (nodes_of roles.now) old node (length old)
         square.new.cells }
 {
+    let left = left_nodes(links, roles, touched, node);
     for other in 0..square.size() {
-        if stays(square, links, roles, touched, node, other) {
+        if stays(square, &left, node, other) {
             continue;
         }
         write(square, node, other, TOO_FAR);
@@ -166,38 +172,40 @@ fn reset_row(
     let _size = square.size();
 }
 
-// Whether two nodes are the same, or near and linked still.
-fn stays(
-    square: &DistRows,
-    links: &LinkGroups,
-    roles: &Roles,
-    touched: &NodeMarks,
-    node: u32,
-    other: u32,
-) -> bool
+// Which of the nodes that are a link away from a node it keeps: all where it is not touched, else those
+// to which a row links it still.
+fn left_nodes(links: &LinkGroups, roles: &Roles, touched: &NodeMarks, node: u32) -> NodeMarks
+    requires few { length (nodes_of roles.now) ≤ most_nodes }
+    requires node { node < length (nodes_of roles.now) }
+    ensures { (old : List (List ℕ)) → node < length old
+        → IsBefore (linked_of links.now) (nodes_of roles.now) touched.now old
+        → AreLeft (linked_of links.now) (nodes_of roles.now) old node result }
+{
+    if !touched[node as usize] {
+        return nodes_from(0);
+    }
+    linked_nodes(links, roles, node)
+}
+
+// Whether two nodes are the same, or a link away from each other that is left.
+fn stays(square: &DistRows, left: &NodeMarks, node: u32, other: u32) -> bool
     requires few { length square.now.cells ≤ most_nodes }
-    requires long { length square.now.cells ≤ length (nodes_of roles.now) }
     requires node { node < length square.now.cells }
     requires other { other < length square.now.cells }
-    ensures kept { (old : List (List ℕ)) → result ≡ true
+    ensures kept { (linked : Linked) (names old : List (List ℕ)) → result ≡ true
         → cell_of square.now.cells node other ≡ cell_of old node other
-        → length square.now.cells ≡ length old
-        → IsBefore (linked_of links.now) (nodes_of roles.now) touched.now old
-        → IsKept (linked_of links.now) (nodes_of roles.now) old node other }
-    ensures gone { (old : List (List ℕ)) → result ≡ false
+        → length square.now.cells ≡ length old → IsClosed old
+        → AreLeft linked names old node left.now → IsKept linked names old node other }
+    ensures gone { (linked : Linked) (names old : List (List ℕ)) → result ≡ false
         → cell_of square.now.cells node other ≡ cell_of old node other
-        → length square.now.cells ≡ length old
-        → IsBefore (linked_of links.now) (nodes_of roles.now) touched.now old
-        → ¬ IsKept (linked_of links.now) (nodes_of roles.now) old node other }
+        → length square.now.cells ≡ length old → IsClosed old
+        → AreLeft linked names old node left.now → ¬ IsKept linked names old node other }
 {
     let far = distance(square, node, other);
     if far != 1 {
         return far == 0;
     }
-    if !touched[node as usize] {
-        return true;
-    }
-    links.has_link(roles.name_at(node as usize), roles.name_at(other as usize))
+    left[other as usize]
 }
 
 // Puts a distance in the place of another.
@@ -212,8 +220,8 @@ fn write(square: &mut DistRows, a: u32, b: u32, far: u8)
     let _size = square.size();
 }
 
-// Lowers the rows of marked nodes by way of what is near, until no distance is lower. A look at all of
-// them comes before twice as many levels each time.
+// Lowers the rows of marked nodes by way of what is near, until no distance becomes lower. Whether one
+// does is told before twice as many levels each time.
 fn mend(square: &mut DistRows, hits: &NodeMarks)
     ensures mending { (linked : Linked) (names old : List (List ℕ))
         → IsMending linked names old hits.now square.old.cells
@@ -225,7 +233,7 @@ fn mend(square: &mut DistRows, hits: &NodeMarks)
 {
     let mut level = 1;
     'more: while level < LEVELS {
-        if is_mended(square, hits) {
+        if mends_none(square, hits) {
             return;
         }
         mend_levels(square, hits, level);
@@ -233,59 +241,73 @@ fn mend(square: &mut DistRows, hits: &NodeMarks)
     }
 }
 
-// Whether no row of a marked node becomes lower by way of what is near.
-fn is_mended(square: &DistRows, hits: &NodeMarks) -> bool
-    ensures { result ≡ true → IsStable hits.now square.now.cells }
+// Lowers the rows of marked nodes up to the first that becomes lower, and tells whether none does.
+fn mends_none(square: &mut DistRows, hits: &NodeMarks) -> bool
+    ensures mending { (linked : Linked) (names old : List (List ℕ))
+        → IsMending linked names old hits.now square.old.cells
+        → IsMending linked names old hits.now square.new.cells }
+    ensures lower { (a b : ℕ) → a < length square.old.cells → b < length square.old.cells
+        → cell_of square.new.cells a b ≤ cell_of square.old.cells a b }
+    ensures stable { result ≡ true → IsStable hits.now square.new.cells }
+    ensures spare { square.new.spare ≡ square.old.spare }
 {
     for node in 0..square.size() {
         if !hits[node as usize] {
             continue;
         }
-        if !is_low(square, node) {
+        if mends_row(square, node) {
             return false;
         }
     }
     true
 }
 
-// The same for the row of one node.
-fn is_low(square: &DistRows, node: u32) -> bool
-    requires { node < length square.now.cells }
-    ensures { result ≡ true → IsStableAt square.now.cells node }
+// Lowers the row of a node by way of those that are a link away, and tells whether it becomes lower.
+fn mends_row(square: &mut DistRows, node: u32) -> bool
+    requires { node < length square.old.cells }
+    ensures mending { (linked : Linked) (names old : List (List ℕ)) (hits : List Bool)
+        → IsMarked hits node → IsMending linked names old hits square.old.cells
+        → IsMending linked names old hits square.new.cells }
+    ensures lower { (a b : ℕ) → a < length square.old.cells → b < length square.old.cells
+        → cell_of square.new.cells a b ≤ cell_of square.old.cells a b }
+    ensures same { result ≡ false → (a b : ℕ) → b < length square.old.cells
+        → cell_of square.new.cells a b ≡ cell_of square.old.cells a b }
+    ensures stable { result ≡ false → IsStableAt square.old.cells node }
+    ensures long { length square.new.cells ≡ length square.old.cells }
+    ensures spare { square.new.spare ≡ square.old.spare }
 {
-    for next in 0..square.size() {
-        if distance(square, node, next) != 1 {
-            continue;
-        }
-        if !is_low_by(square, node, next) {
-            return false;
-        }
-    }
-    true
+    let before = distances_from(square, node);
+    mend_row(square, node);
+    differs(square, node, &before)
 }
 
-// The same by way of one that is a link away.
-fn is_low_by(square: &DistRows, node: u32, next: u32) -> bool
-    requires node { node < length square.now.cells }
-    requires next { next < length square.now.cells }
-    ensures { result ≡ true → (b : ℕ) → b < length square.now.cells
-        → cell_of square.now.cells node b ≤ sum_of 1 (cell_of square.now.cells next b) }
+// The distances from a node.
+fn distances_from(square: &DistRows, node: u32) -> Distances
+    requires { node < length square.now.cells }
+    ensures { (b : ℕ) → b < length square.now.cells
+        → get_or result b 0 ≡ cell_of square.now.cells node b }
+{
+    let mut row = [TOO_FAR; MOST_NODES];
+    for other in 0..square.size() {
+        row[other as usize] = distance(square, node, other);
+    }
+    row
+}
+
+// Whether some distance from a node is another than before.
+fn differs(square: &DistRows, node: u32, before: &Distances) -> bool
+    requires { node < length square.now.cells }
+    ensures { result ≡ false → (b : ℕ) → b < length square.now.cells
+        → cell_of square.now.cells node b ≡ get_or before.now b 0 }
 {
     for other in 0..square.size() {
         let far = distance(square, node, other);
-        let sum = one_more(distance(square, next, other));
-        if far > sum {
-            return false;
+        let was = before[other as usize];
+        if far != was {
+            return true;
         }
     }
-    true
-}
-
-// A distance of one link more.
-fn one_more(far: u8) -> u8
-    ensures { result ≡ sum_of 1 far }
-{
-    if far < FARTHEST { far + 1 } else { TOO_FAR }
+    false
 }
 
 // Lowers the rows of marked nodes so many times.
@@ -331,6 +353,11 @@ fn mend_row(square: &mut DistRows, node: u32)
         → IsMending linked names old hits square.new.cells }
     ensures lower { (a b : ℕ) → a < length square.old.cells → b < length square.old.cells
         → cell_of square.new.cells a b ≤ cell_of square.old.cells a b }
+    ensures others { (a b : ℕ) → a ≢ node
+        → cell_of square.new.cells a b ≡ cell_of square.old.cells a b }
+    ensures stable { ((b : ℕ) → b < length square.old.cells
+        → cell_of square.new.cells node b ≡ cell_of square.old.cells node b)
+        → IsStableAt square.old.cells node }
     ensures by { (linked : Linked) (names old : List (List ℕ)) (hits : List Bool)
         → IsMarked hits node → IsMending linked names old hits square.old.cells
         → (next b : ℕ) → IsKept linked names old node next → node ≢ next

@@ -17,7 +17,10 @@ ghost use Rattle.std.specs.Prelude.{
 };
 ghost use Rattle.row_order.specs.Helps.Cells.{live, IsCounted, IsPlaced};
 
-use crate::counts::{BLOCK, ROUND_UP, lower, number_at, open_cell, raise};
+use crate::counts::{BLOCK, GAP, LOADED, ROUND_UP, lower, number_at, open_cell, raise};
+
+// How far from the cell that is guessed an id is looked for, before the cells are halved.
+const NEAR: usize = 128;
 
 // The cell where an id stands.
 pub(crate) fn cell_holding(cells: &[Option<u32>], cell_of: &[u32], id: u32) -> Option<usize>
@@ -57,11 +60,12 @@ pub(crate) fn cell_at(
     ensures high { place < length (live (take (result + 1) cells.now)) }
 {
     // At most so many ids stand before this cell.
-    let first = place as usize;
-    let mut low = first;
+    let mut low = place as usize;
     let mut high = tail;
+    // Where no id was taken out or put between others since the cells were packed, it stands here.
+    let guess = low + GAP * (low / LOADED);
     while high - low > 1 {
-        let middle = tested_next(low, high, first);
+        let middle = tested_next(low, high, guess);
         if number_at(rank, before, middle) <= place {
             low = middle;
         } else {
@@ -71,16 +75,58 @@ pub(crate) fn cell_at(
     low
 }
 
-// The cell that is tested next between two: at first the one behind the lower, which tells the place where no cell before
-// it is empty, and then the one halfway.
-fn tested_next(low: usize, high: usize, first: usize) -> usize
+// The cell that is tested next between two, where an id is looked for that is guessed to stand in a third.
+fn tested_next(low: usize, high: usize, guess: usize) -> usize
     requires { low + 1 < high }
     ensures behind { low < result }
     ensures before { result < high }
 {
-    if low == first {
-        return low + 1;
+    if guess < low {
+        tested_behind(low, high, guess)
+    } else {
+        tested_ahead(low, high, guess)
     }
+}
+
+// The same where the id stands behind the guess: at first the end of what is near, and then the cell halfway.
+fn tested_behind(low: usize, high: usize, guess: usize) -> usize
+    requires some { low + 1 < high }
+    requires guess { guess < low }
+    ensures behind { low < result }
+    ensures before { result < high }
+{
+    if low - guess > 1 || high - low <= NEAR {
+        return halfway(low, high);
+    }
+    low + NEAR
+}
+
+// The same where it may stand at the guess, or before it: at first the cell behind the guess, then the guess, then the end of what
+// is near, and then the cell halfway.
+fn tested_ahead(low: usize, high: usize, guess: usize) -> usize
+    requires some { low + 1 < high }
+    requires guess { low ≤ guess }
+    ensures behind { low < result }
+    ensures before { result < high }
+{
+    if guess < high - 1 {
+        return guess + 1;
+    }
+    if guess < high {
+        return guess;
+    }
+    if guess > high || high - low <= NEAR {
+        return halfway(low, high);
+    }
+    high - NEAR
+}
+
+// The cell halfway between two.
+fn halfway(low: usize, high: usize) -> usize
+    requires { low + 1 < high }
+    ensures behind { low < result }
+    ensures before { result < high }
+{
     low + (high - low) / 2
 }
 

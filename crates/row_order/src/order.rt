@@ -97,7 +97,8 @@ impl RowOrder {
         Some(number_at(&self.rank, &self.before, cell))
     }
 
-    /// The id at a place: at once where no cell before it is empty, else by halving the cells.
+    /// The id at a place: at once where the ids came one behind the other, or were packed, and none went; else it is looked for near
+    /// where it would stand then, and where it is not near, by halving the cells.
     pub fn at(&self, place: u32) -> Option<u32>
         ensures { result ≡ slice_get self.now.ids place }
     {

@@ -1,5 +1,5 @@
 -- A square from which links are taken out: the distances that went by them are found anew.
-use Rattle.std.specs.Prelude.{◌≡◌, ◌⊎◌, ◌<◌, ◌≤◌, ◌+◌, ℕ, Bool, List, length}
+use Rattle.std.specs.Prelude.{◌≡◌, ◌⊎◌, ◌<◌, ◌≤◌, ◌+◌, ◌↔◌, ℕ, Bool, List, length}
 use Rattle.dist_rows.specs.Squares.{IsSquare, cell_of, sum_of}
 use Rattle.role_graph.specs.Helps.Squares.{Chain, IsMarked, IsNear, IsNodeLink}
 use Rattle.role_graph.specs.Helps.Walks.{Linked}
@@ -8,6 +8,10 @@ use Rattle.role_graph.specs.Helps.Walks.{Linked}
 pub record IsKept (linked : Linked) (names cells : List (List ℕ)) (a b : ℕ) : Type 0 where
   pub near : IsNear cells a b
   pub still : (a ≡ b) ⊎ IsNodeLink linked names a b
+
+-- of the nodes that are a link away from one just those are marked that are kept
+abbrev pub AreLeft : Linked → List (List ℕ) → List (List ℕ) → ℕ → List Bool → Type 0
+AreLeft linked names old a left = (b : ℕ) → b < length old → cell_of old a b ≡ 1 → IsMarked left b ↔ IsKept linked names old a b
 
 -- each node is marked from which a shortest way goes by something near that is not kept
 abbrev pub AreHit : Linked → List (List ℕ) → List (List ℕ) → List Bool → Type 0

@@ -1,10 +1,9 @@
-use Rattle.std.proofs.Common.{◌≡◌, ◌⊎◌, inr, ◌+◌, ◌<◌, ℕ, List, arith, length, subst}
+use Rattle.std.proofs.Common.{◌≡◌, ◌⊎◌, inr, ◌+◌, ◌<◌, ℕ, arith, length}
 use Rattle.dist_rows.specs.Squares.{cell_of}
 use Rattle.role_graph.specs.Helps.Kept.{linked_of}
 use Rattle.role_graph.specs.Helps.Mended.{IsKept}
 use Rattle.role_graph.specs.Helps.Roles.{nodes_of}
-use Rattle.role_graph.specs.Helps.Squares.{IsMarked, IsNear, name_at}
-use Rattle.role_graph.specs.Helps.Walks.{IsLink}
+use Rattle.role_graph.specs.Helps.Squares.{IsMarked, IsNear}
 use Rattle.role_graph.proofs.Mended.{hit_linked, hit_same, hit_still, next_place}
 use Rattle.role_graph.proofs.repair.hit_by_node.Goals as goal
 
@@ -20,11 +19,11 @@ loop-other-preserved-then-distance-ne1 c =
           (λ a first near far. hit_same (linked_of c.args.links.now) (nodes_of c.args.roles.now) cells c.loop-other.hits c.args.node c.loop-other.other c.distance.result a c.requires.closed c.distance.ensures.cell c.if-distance-ne1.true near);
     }
 
-pub loop-other-preserved-then-has_link : goal.loop-other-preserved-then-has_link
-loop-other-preserved-then-has_link c =
+pub loop-other-preserved-then-linked-other : goal.loop-other-preserved-then-linked-other
+loop-other-preserved-then-linked-other c =
     let cells = c.args.square.now.cells in
-    let link = subst (λ (x : List ℕ). IsLink (linked_of c.args.links.now) x (name_at (nodes_of c.args.roles.now) c.loop-other.other)) c.name_at-name.ensures
-    (subst (λ (y : List ℕ). IsLink (linked_of c.args.links.now) c.name_at-name.result.now y) c.name_at.ensures (c.has_link.ensures.0 c.if-has_link.true)) in
+    let within : c.loop-other.other < length (nodes_of c.args.roles.now) = omega (arith, c.loop-other-test.true, c.size-other-end.ensures.value, c.requires.long) in
+    let link = (c.linked_nodes-linked.ensures c.loop-other.other (omega (arith, within, c.requires.few)) within).0 c.if-linked-other.true in
     record {
       keeps = c.loop-other.invariant.keeps;
       hits = next_place (λ to. (a : ℕ) → a < length cells → IsNear cells c.args.node to → cell_of cells a to ≡ 1 + cell_of cells a c.args.node → IsKept (linked_of c.args.links.now) (nodes_of c.args.roles.now) cells c.args.node to ⊎ IsMarked c.loop-other.hits a) c.loop-other.other c.loop-other.invariant.hits

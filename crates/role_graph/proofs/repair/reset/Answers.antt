@@ -14,9 +14,6 @@ loop-node-preserved-then-not-hits-node c = record {
       resetting_skips (linked_of c.args.links.now) (nodes_of c.args.roles.now) c.args.square.now.cells c.args.hits.now c.loop-node.node c.loop-node.square.cells (unmarked c.args.hits.now c.loop-node.node c.if-not-hits-node.true) c.loop-node.invariant.rows;
 }
 
-pub reset_row-requires-clause-few : goal.reset_row-requires-clause-few
-reset_row-requires-clause-few c = omega (arith, c.loop-node.invariant.rows.long, c.size-node-end.ensures.few, c.size-node-end.ensures.value)
-
 pub reset_row-requires-clause-long : goal.reset_row-requires-clause-long
 reset_row-requires-clause-long c = omega (arith, c.loop-node.invariant.rows.long, c.requires.before.long)
 

@@ -15,10 +15,7 @@ loop-other-init c = record {
 }
 
 pub stays-requires-clause-few : goal.stays-requires-clause-few
-stays-requires-clause-few c = omega (arith, c.loop-other.invariant.long, c.requires.few)
-
-pub stays-requires-clause-long : goal.stays-requires-clause-long
-stays-requires-clause-long c = omega (arith, c.loop-other.invariant.long, c.requires.long)
+stays-requires-clause-few c = omega (arith, c.loop-other.invariant.long, c.requires.few, c.requires.long)
 
 pub stays-requires-clause-node : goal.stays-requires-clause-node
 stays-requires-clause-node c = omega (arith, c.loop-other.invariant.long, c.requires.node)
@@ -35,7 +32,8 @@ loop-other-preserved-then-stays c = record {
   later = λ b past. c.loop-other.invariant.later b (omega (arith, past));
   reset = λ old same long before.
       let here = c.loop-other.invariant.later c.loop-other.other (omega arith) ∙ same c.loop-other.other in
-      reset_kept (linked_of c.args.links.now) (nodes_of c.args.roles.now) old c.args.node c.loop-other.other c.loop-other.square.cells (c.stays.ensures.kept old c.if-stays.true here (c.loop-other.invariant.long ∙ long) before) here
+      reset_kept (linked_of c.args.links.now) (nodes_of c.args.roles.now) old c.args.node c.loop-other.other c.loop-other.square.cells (c.stays.ensures.kept (linked_of c.args.links.now) (nodes_of c.args.roles.now) old c.if-stays.true here (c.loop-other.invariant.long ∙ long) before.closed
+      (c.left_nodes-left.ensures old (omega (arith, c.requires.node, long)) before)) here
       (c.loop-other.invariant.reset old same long before);
 }
 
@@ -60,7 +58,8 @@ loop-other-preserved c =
           written_column cells new node other 255 b (omega (arith, c.loop-other.invariant.long, c.requires.node)) (λ same. absurd (omega (arith, past, same))) c.write.ensures.cells ∙ c.loop-other.invariant.later b (omega (arith, past));
       reset = λ old same long before.
           let here = c.loop-other.invariant.later other (omega arith) ∙ same other in
-          reset_gone (linked_of c.args.links.now) (nodes_of c.args.roles.now) old node other cells new (c.stays.ensures.gone old c.if-stays.false here (c.loop-other.invariant.long ∙ long) before) c.loop-other.invariant.square
+          reset_gone (linked_of c.args.links.now) (nodes_of c.args.roles.now) old node other cells new (c.stays.ensures.gone (linked_of c.args.links.now) (nodes_of c.args.roles.now) old c.if-stays.false here (c.loop-other.invariant.long ∙ long) before.closed
+          (c.left_nodes-left.ensures old (omega (arith, c.requires.node, long)) before)) c.loop-other.invariant.square
           (omega (arith, c.loop-other.invariant.long, c.requires.node)) (omega (arith, c.loop-other.invariant.long, c.loop-other-test.true, c.size-other-end.ensures.value)) c.write.ensures.cells (c.loop-other.invariant.reset old same long before);
     }
 
