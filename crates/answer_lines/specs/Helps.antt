@@ -1,2 +1,3 @@
 -- What only private functions and proofs say.
 pub mod Signs
+pub mod Heads

@@ -2,6 +2,7 @@
 #![tactic(auto)]
 
 mod answer;
+mod front;
 mod laws;
 mod line;
 mod line_text;

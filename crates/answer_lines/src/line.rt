@@ -1,8 +1,9 @@
-ghost use Rattle.std.specs.Prelude.{◌≡◌, ◌++◌, IfOk, OnOk, codes, decimal, option_copied, true};
+ghost use Rattle.std.specs.Prelude.{◌≡◌, ◌≤◌, ◌++◌, IfOk, OnOk, codes, decimal, length, option_copied, true};
 ghost use Rattle.answer_lines.specs.LineText.{Appends, decided_text, line_text};
 ghost use Rattle.answer_lines.specs.Told.{comes_with_rule, is_printable};
 
 use crate::answer::Line;
+use crate::front::Front;
 use crate::line_text::push_answer;
 use crate::pieces::push_number;
 use crate::verdicts::push_verdict;
@@ -48,10 +49,20 @@ pub fn push_decided(
     ensures appended { OnOk result (Appends text.old text.new
         (decided_text number version verdict (option_copied rule.entry))) }
 {
-    push_front(text, number)?;
-    push_verdict(text, version, verdict, rule)?;
+    push_verdict(text, numbered(number), version, verdict, rule)?;
     text.push_str("\n")?;
     Ok(())
+}
+
+// The number by which a line begins.
+fn numbered(number: u32) -> Front
+    ensures text { result ≡ decimal number ++ codes " " }
+    ensures few { length result ≤ 11 }
+{
+    let mut front = Front::new();
+    front.push_number(number);
+    front.push(" ");
+    front
 }
 
 // Appends the number by which a line begins.

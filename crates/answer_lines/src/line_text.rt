@@ -3,6 +3,7 @@ ghost use Rattle.answer_lines.specs.LineText.{Appends, answer_text, truth_text};
 ghost use Rattle.answer_lines.specs.Told.{is_printable};
 
 use crate::answer::Answer;
+use crate::front::Front;
 use crate::pieces::{push_at, push_text};
 use crate::refusals::{push_arity, push_call, push_fault, push_query};
 use crate::rows::{push_names, push_recorded, push_rules};
@@ -19,7 +20,7 @@ pub(crate) fn push_answer(text: &mut String, answer: &Answer) -> Result<(), NoMe
             version,
             verdict,
             rule,
-        } => push_verdict(text, *version, *verdict, rule.as_ref()),
+        } => push_verdict(text, Front::new(), *version, *verdict, rule.as_ref()),
         Answer::Arity { got, want } => push_arity(text, *got, *want),
         Answer::Request(fault) => push_fault(text, *fault),
         Answer::Call(refused) => push_call(text, *refused),

@@ -1,70 +1,111 @@
-ghost use Rattle.std.specs.Prelude.{◌≡◌, ◌++◌, OnOk, codes, option_copied, true};
+ghost use Rattle.std.specs.Prelude.{◌≡◌, ◌+◌, ◌≤◌, ◌++◌, OnOk, codes, length, option_copied, true};
 ghost use Rattle.answer_lines.specs.LineText.{Appends, cause_text, fault_text, place_text, rule_text, verdict_text};
+ghost use Rattle.answer_lines.specs.Helps.Heads.{failed_text, head_text, judged_text};
 ghost use Rattle.answer_lines.specs.Told.{comes_with_rule, row_has_rule};
 
+use crate::front::Front;
 use crate::pieces::{push_at, push_text};
 use effect_fold::{Cause, Fault, Verdict};
 use outside::NoMemory;
 use perm_base::{Rule, push_fields};
 
-/// Appends a verdict.
+/// Appends a front and a verdict.
 pub(crate) fn push_verdict(
     text: &mut String,
+    front: Front,
     version: u32,
     verdict: Verdict,
     rule: Option<&Rule>,
 ) -> Result<(), NoMemory>
-    requires { comes_with_rule verdict (option_copied rule) ≡ true }
+    requires front { length front ≤ 11 }
+    requires rule { comes_with_rule verdict (option_copied rule) ≡ true }
     ensures { OnOk result (Appends text.old text.new
-        (verdict_text version verdict (option_copied rule.entry))) }
+        (front ++ verdict_text version verdict (option_copied rule.entry))) }
 {
     match verdict {
-        Verdict::Allow(row) => {
-            push_at(text, "allow @", version)?;
-            push_rule(text, row, rule)
-        }
-        Verdict::Deny(row) => {
-            push_at(text, "deny @", version)?;
-            push_rule(text, row, rule)
-        }
-        Verdict::Fault { row, fault } => {
-            push_at(text, "fault @", version)?;
-            push_place(text, row)?;
-            push_fault(text, fault)
-        }
+        Verdict::Allow(row) => push_judged(text, front, "allow @", version, row, rule),
+        Verdict::Deny(row) => push_judged(text, front, "deny @", version, row, rule),
+        Verdict::Fault { row, fault } => push_failed(text, front, version, row, fault),
     }
 }
 
-// Appends the place of a row and its rule, or that there is none.
-fn push_rule(text: &mut String, row: Option<u32>, rule: Option<&Rule>) -> Result<(), NoMemory>
-    requires { row_has_rule row (option_copied rule) ≡ true }
+// Appends a front, a word, a version, and the place of a row with its rule, or that there is none.
+fn push_judged(
+    text: &mut String,
+    front: Front,
+    word: &str,
+    version: u32,
+    row: Option<u32>,
+    rule: Option<&Rule>,
+) -> Result<(), NoMemory>
+    requires front { length front ≤ 11 }
+    requires word { length word.now ≤ 8 }
+    requires rule { row_has_rule row (option_copied rule) ≡ true }
     ensures { OnOk result (Appends text.old text.new
-        (codes " " ++ rule_text row (option_copied rule.entry))) }
+        (front ++ judged_text word.now version row (option_copied rule.entry))) }
 {
-    push_place(text, row)?;
+    let mut head = headed(front, word, version, row);
     if row.is_none() {
-        return Ok(());
+        return push_text(text, head.as_str());
     }
     let Some(rule) = rule else { unreachable!() };
-    text.push_str(" ")?;
+    head.push(" ");
+    text.push_str(head.as_str())?;
     push_fields(text, rule)
 }
 
+// Appends a front and a failed evaluation.
+fn push_failed(
+    text: &mut String,
+    front: Front,
+    version: u32,
+    row: Option<u32>,
+    fault: Fault,
+) -> Result<(), NoMemory>
+    requires { length front ≤ 11 }
+    ensures { OnOk result (Appends text.old text.new
+        (front ++ failed_text version row fault)) }
+{
+    let mut head = headed(front, "fault @", version, row);
+    head.push(" ");
+    text.push_str(head.as_str())?;
+    push_fault(text, fault)
+}
+
+// A front, a word, a version, and the place of a row or that there is none.
+fn headed(front: Front, word: &str, version: u32, row: Option<u32>) -> Front
+    requires front { length front ≤ 11 }
+    requires word { length word.now ≤ 8 }
+    ensures text { result ≡ front ++ head_text word.now version row }
+    ensures few { length result ≤ 43 }
+{
+    let mut head = front;
+    head.push(word);
+    head.push_number(version);
+    head.push(" ");
+    push_place(&mut head, row);
+    head
+}
+
 // Appends the place of a row, or that there is none.
-fn push_place(text: &mut String, row: Option<u32>) -> Result<(), NoMemory>
-    ensures { OnOk result (Appends text.old text.new (codes " " ++ place_text row)) }
+fn push_place(head: &mut Front, row: Option<u32>)
+    requires { length head.old ≤ 30 }
+    ensures text { head.new ≡ head.old ++ place_text row }
+    ensures few { length head.new ≤ length head.old + 12 }
 {
     match row {
-        None => push_text(text, " -"),
-        Some(row) => push_at(text, " p#", row),
+        None => head.push("-"),
+        Some(row) => {
+            head.push("p#");
+            head.push_number(row);
+        }
     }
 }
 
 // Appends a fault and where it stands.
 fn push_fault(text: &mut String, fault: Fault) -> Result<(), NoMemory>
-    ensures { OnOk result (Appends text.old text.new (codes " " ++ fault_text fault)) }
+    ensures { OnOk result (Appends text.old text.new (fault_text fault)) }
 {
-    text.push_str(" ")?;
     text.push_str(cause_text(fault.cause))?;
     push_at(text, " at ", fault.at)
 }
