@@ -1,6 +1,5 @@
 -- One step of a desk.
-use Rattle.std.proofs.Common.{◌≡◌, ℕ, List, [], refl}
-use Rattle.std.specs.Prelude.{codes}
+use Rattle.std.proofs.Common.{◌≡◌, ℕ, List}
 use Rattle.answer_lines.specs.LineText.{answer_text, numbered}
 use Rattle.answer_lines.specs.declared.answer.Answer.{Answer}
 use Rattle.desk_session.specs.Steps as round
@@ -8,10 +7,8 @@ use Rattle.model_conf.specs.ModelText.{ModelParts}
 use Rattle.policy_desk.specs.Desks.{Work}
 use Rattle.regex_gate.specs.Refusals.{Refusals}
 use Rattle.script_read.specs.Said.{Said}
-use Rattle.script_read.specs.declared.fault.ScriptFault.{ScriptFault}
-use Rattle.live_serve.specs.Lines.{cause_text, refused_text}
 use Rattle.live_serve.specs.Places.{IsStep, at_desk}
-use Rattle.live_serve.specs.Sayings.{item, fault, too_long}
+use Rattle.live_serve.specs.Sayings.{item}
 
 pub item_step : (model : ModelParts) (before now : Refusals) (old new : Work) (number : ℕ) (it : Said) (reply : Answer) (text : List ℕ) (step : round.IsStep model before now it old new reply) → new.state.shapes ≡ old.state.shapes → text ≡ numbered number (answer_text reply) → IsStep model (at_desk old) (at_desk new) number (item it) step.asked.refused text
 item_step model before now old new number it reply text step same text-is = record {
@@ -19,9 +16,3 @@ item_step model before now old new number it reply text step same text-is = reco
   stands = λ opening items stands. step.behind opening items stands;
   shapes_are = same;
 }
-
-pub fault_step : (model : ModelParts) (desk : Work) (number : ℕ) (first : ScriptFault) (text : List ℕ) → text ≡ refused_text number (cause_text first) → IsStep model (at_desk desk) (at_desk desk) number (fault first) [] text
-fault_step model desk number first text text-is = record { text_is = λ opening items stands. (refl, text-is); stands = λ opening items stands. stands; shapes_are = refl }
-
-pub long_step : (model : ModelParts) (desk : Work) (number : ℕ) (text : List ℕ) → text ≡ refused_text number (codes "too long") → IsStep model (at_desk desk) (at_desk desk) number too_long [] text
-long_step model desk number text text-is = record { text_is = λ opening items stands. (refl, text-is); stands = λ opening items stands. stands; shapes_are = refl }

@@ -13,12 +13,10 @@ use Rattle.log_ship.specs.declared.taken.Taken.TheVariants.{Repeated, Waiting, A
 use Rattle.model_conf.specs.ModelText.{ModelParts}
 use Rattle.regex_gate.specs.Refusals.{Refusals}
 use Rattle.script_read.specs.Said.{Said}
-use Rattle.script_read.specs.declared.fault.ScriptFault.{ScriptFault}
 use Rattle.live_serve.specs.Followed.{IsFollowed, IsReplied, is_leaders}
 use Rattle.live_serve.specs.Helps.Asked.{IsAsked}
-use Rattle.live_serve.specs.Lines.{cause_text, refused_text}
 use Rattle.live_serve.specs.Places.{IsStep, follows}
-use Rattle.live_serve.specs.Sayings.{AreAtFault, AreItems, AreNotSent, AreSent, Saying, Says, item, fault, packet, no_packet, too_long}
+use Rattle.live_serve.specs.Sayings.{AreAtFault, AreItems, AreNotSent, AreSent, Saying, Says, item, packet, no_packet}
 
 -- by whether only a leader does it
 by_kind : (model : ModelParts) (before : Following) (number : ℕ) (it : Said) (refused : List (List ℕ)) (text : List ℕ) (leads : Bool) → is_leaders it ≡ leads → MatchBool leads ((refused ≡ []) × (text ≡ numbered number (codes "refused: follower"))) (IsReplied model before.state number it refused text)
@@ -52,20 +50,11 @@ taken_step model before now number sent result text takes known (reading, reads)
   },
 )
 
--- what is no script, no packet, or too long
-pub fault_step : (model : ModelParts) (before : Following) (number : ℕ) (first : ScriptFault) (text : List ℕ) → text ≡ refused_text number (cause_text first) → IsStep model (follows before) (follows before) number (fault first) [] text
-fault_step model before number first text text-is = (refl, refl, text-is)
-
+-- what is no packet
 pub no_packet_step : (model : ModelParts) (before : Following) (number : ℕ) (text : List ℕ) → text ≡ numbered number (codes "refused: packet") → IsStep model (follows before) (follows before) number no_packet [] text
 no_packet_step model before number text text-is = (refl, refl, text-is)
 
-pub long_step : (model : ModelParts) (before : Following) (number : ℕ) (text : List ℕ) → text ≡ refused_text number (codes "too long") → IsStep model (follows before) (follows before) number too_long [] text
-long_step model before number text text-is = (refl, refl, text-is)
-
 -- ---- what lines say
-
-pub says_script : (json : Bool) (text : List ℕ) (sayings : List Saying) → begins_packet text ≡ false → AreItems json text sayings ⊎ AreAtFault json text sayings → Says json true (Some text) sayings
-says_script json text sayings other is = subst (λ (b : Bool). MatchBool b (AreSent text sayings ⊎ AreNotSent text sayings) (AreItems json text sayings ⊎ AreAtFault json text sayings)) (sym other) is
 
 pub says_packets : (json : Bool) (text : List ℕ) (sayings : List Saying) → begins_packet text ≡ true → AreSent text sayings ⊎ AreNotSent text sayings → Says json true (Some text) sayings
 says_packets json text sayings begins is = subst (λ (b : Bool). MatchBool b (AreSent text sayings ⊎ AreNotSent text sayings) (AreItems json text sayings ⊎ AreAtFault json text sayings)) (sym begins) is

@@ -1,5 +1,6 @@
 -- Steps from one place to another.
 use Rattle.std.proofs.Common.{◌≡◌, ℕ, Bool, true, false, List, [], ◌∷◌, ◌++◌, refl, sym, ap, subst, ◌∙◌}
+use Rattle.std.specs.Prelude.{codes}
 use Rattle.desk_session.specs.Desks.{StandsBehind}
 use Rattle.log_ship.specs.Followers.{Following}
 use Rattle.model_conf.specs.ModelText.{ModelParts}
@@ -8,8 +9,9 @@ use Rattle.policy_desk.specs.Desks.{Work}
 use Rattle.policy_state.specs.States.{State, tables}
 use Rattle.policy_table.specs.Tables.{Policy}
 use Rattle.script_read.specs.Said.{Said}
+use Rattle.script_read.specs.declared.fault.ScriptFault.{ScriptFault}
 use Rattle.live_serve.specs.Followed.{IsFollowed}
-use Rattle.live_serve.specs.Lines.{AreTexts, behind, next_number, number_behind}
+use Rattle.live_serve.specs.Lines.{AreTexts, behind, cause_text, next_number, number_behind, refused_text}
 use Rattle.live_serve.specs.Places.{AreSteps, IsStep, Place, StandsSomewhere, at_desk, follows, is_followers, state_at}
 use Rattle.live_serve.specs.Sayings.{Saying, item, fault, packet, no_packet, too_long}
 use Rattle.live_serve.specs.Streams.{AreTold, IsFirst, service}
@@ -40,6 +42,16 @@ step_somewhere model (at_desk old) (at_desk new) number saying refused text step
 step_somewhere model (follows old) (follows new) number saying refused text step some = tt
 step_somewhere model (at_desk old) (follows new) number saying refused text step some = absurd step
 step_somewhere model (follows old) (at_desk new) number saying refused text step some = absurd step
+
+-- what is no script, wherever a clerk stands
+pub fault_step : (model : ModelParts) (place : Place) (number : ℕ) (first : ScriptFault) (text : List ℕ) → text ≡ refused_text number (cause_text first) → IsStep model place place number (fault first) [] text
+fault_step model (at_desk desk) number first text text-is = record { text_is = λ opening items stands. (refl, text-is); stands = λ opening items stands. stands; shapes_are = refl }
+fault_step model (follows follower) number first text text-is = (refl, refl, text-is)
+
+-- what is too long
+pub long_step : (model : ModelParts) (place : Place) (number : ℕ) (text : List ℕ) → text ≡ refused_text number (codes "too long") → IsStep model place place number too_long [] text
+long_step model (at_desk desk) number text text-is = record { text_is = λ opening items stands. (refl, text-is); stands = λ opening items stands. stands; shapes_are = refl }
+long_step model (follows follower) number text text-is = (refl, refl, text-is)
 
 -- ---- steps one after the other
 

@@ -1,12 +1,13 @@
 -- What sections say, one after the other.
-use Rattle.std.proofs.Common.{◌≡◌, ℕ, ◌+◌, ◌<◌, Bool, List, [], ◌∷◌, ◌++◌, length, take, drop, refl, sym, ap, subst, ◌∙◌, append-nil, append_assoc}
-use Rattle.std.specs.Prelude.{Option, Some, None, get_or, map}
+use Rattle.std.proofs.Common.{◌≡◌, ◌⊎◌, ℕ, ◌+◌, ◌<◌, Bool, true, false, List, [], ◌∷◌, ◌++◌, length, take, drop, refl, sym, ap, subst, ◌∙◌, append-nil, append_assoc}
+use Rattle.std.specs.Prelude.{MatchBool, Option, Some, None, get_or, map}
 use Rattle.std.proofs.lemmas.List.{map-append, map_push, take-append-drop, take_more}
+use Rattle.item_stream.specs.Lines.{begins_packet}
 use Rattle.item_stream.specs.Sections.{Section, listed}
 use Rattle.script_read.specs.Said.{Said, seen}
 use Rattle.script_read.specs.declared.item.Item.{Item}
 use Rattle.log_ship.specs.declared.packet.Packet.{Packet}
-use Rattle.live_serve.specs.Sayings.{AllSay, Saying, Says, item, packet, said, sent}
+use Rattle.live_serve.specs.Sayings.{AllSay, AreAtFault, AreItems, AreNotSent, AreSent, Saying, Says, is_sent, item, packet, said, sent}
 
 pub say_then : (json follow : Bool) (sections more : List Section) (sayings others : List Saying) → AllSay json follow sections sayings → AllSay json follow more others → AllSay json follow (sections ++ more) (sayings ++ others)
 say_then json follow [] more sayings others none rest = subst (λ (s : List Saying). AllSay json follow more (s ++ others)) (sym none) rest
@@ -15,6 +16,16 @@ say_then json follow (section ∷ sections) more sayings others (first, left, pa
 
 pub say_one : (json follow : Bool) (section : Section) (sayings : List Saying) → Says json follow section sayings → AllSay json follow (section ∷ []) sayings
 say_one json follow section sayings says = (sayings, [], sym (append-nil sayings), says, refl)
+
+-- ---- lines that are read as a script
+
+pub says_script : (json follow : Bool) (text : List ℕ) (sayings : List Saying) → is_sent follow text ≡ false → AreItems json text sayings ⊎ AreAtFault json text sayings → Says json follow (Some text) sayings
+says_script json follow text sayings other is = subst (λ (b : Bool). MatchBool b (AreSent text sayings ⊎ AreNotSent text sayings) (AreItems json text sayings ⊎ AreAtFault json text sayings)) (sym other) is
+
+-- lines without the word of packets, whoever reads them
+pub not_sent : (follow : Bool) (text : List ℕ) → begins_packet text ≡ false → is_sent follow text ≡ false
+not_sent true text other = other
+not_sent false text other = refl
 
 -- ---- the items of a script, up to a place
 

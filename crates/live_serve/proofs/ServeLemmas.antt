@@ -136,17 +136,20 @@ module _ (model : ModelParts) (old : Standing) (place : Place) (saying : Saying)
   step_one : AreSteps model old.place old.number (saying ∷ []) (refused ∷ []) (text ∷ []) place
   step_one = (place, step, refl)
 
-  pub step_pushed : (before now : Refusals) (number : ℕ) (out out_now : Option (List ℕ)) → now ≡ after_refusals before refused → number ≡ next_number old.number → out_now ≡ with_back out text → Pushed model before now old (record { place = place; number = number }) out out_now (saying ∷ [])
-  step_pushed before now number out out_now logged number-is took = record {
+  pub step_told : (before now : Refusals) (new : Standing) (out out_now : Option (List ℕ)) → now ≡ after_refusals before refused → new.place ≡ place → new.number ≡ next_number old.number → out_now ≡ with_back out text → Pushed model before now old new out out_now (saying ∷ [])
+  step_told before now new out out_now logged place-is number-is took = record {
     texts = text ∷ [];
     serves = record {
       refused = refused ∷ [];
       logged = logged ∙ ap (after_refusals before) (sym (append-nil refused));
-      steps = step_one;
+      steps = (place, step, place-is);
       number_is = number-is;
     };
     took = took ∙ ap (with_back out) (joined_one text);
   }
+
+  pub step_pushed : (before now : Refusals) (number : ℕ) (out out_now : Option (List ℕ)) → now ≡ after_refusals before refused → number ≡ next_number old.number → out_now ≡ with_back out text → Pushed model before now old (record { place = place; number = number }) out out_now (saying ∷ [])
+  step_pushed before now number out out_now logged number-is took = step_told before now (record { place = place; number = number }) out out_now logged refl number-is took
 
   pub step_halts : (out out_now : Option (List ℕ)) (out_rose : Type 0) (stop : Stop) → TellStops out out_now text out_rose stop → Halts model old out out_now out_rose stop (saying ∷ [])
   step_halts out out_now out_rose CannotWrite (front, rose) = (

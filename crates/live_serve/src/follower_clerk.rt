@@ -1,7 +1,6 @@
-ghost use Rattle.std.specs.Prelude.{◌≡◌, ◌≤◌, ◌∷◌, [], All, Bool, IfErr, OnOk, Some, false, map, true};
+ghost use Rattle.std.specs.Prelude.{◌≡◌, ◌≤◌, ◌∷◌, [], Bool, IfErr, OnOk, Some, true};
 ghost use Rattle.decision.specs.Programs.{Suits};
 ghost use Rattle.item_stream.specs.Lines.{begins_packet};
-ghost use Rattle.item_stream.specs.Seen as cut;
 ghost use Rattle.model_conf.specs.ModelText.{ModelParts};
 ghost use Rattle.outside.specs.Faults.{Rose};
 ghost use Rattle.regex_gate.specs.Refusals.{IsUsed, Refusals};
@@ -12,17 +11,15 @@ ghost use Rattle.live_serve.specs.Sayings.{packet, said, sent};
 ghost use Rattle.live_serve.specs.Served.{Halts, OfSection, Pushed, SectionStops};
 ghost use Rattle.live_serve.specs.Standings.{follower_standing};
 
-use crate::cause::cause_text;
 use crate::pen::Pen;
 use crate::query::answer_query;
-use crate::script::{packets_of, script_of};
+use crate::script::packets_of;
 use decision::{Program, Scratch};
-use item_stream::{Section, is_packet};
 use log_ship::{Follower, Packet, Packets, texts_read_in_one_way};
 use outside::Sink;
 use regex_gate::Finder;
 use run_status::Stop;
-use script_read::{Item, Script};
+use script_read::Item;
 use std::alloc::Global;
 
 /// A clerk with a follower.
@@ -30,7 +27,7 @@ use std::alloc::Global;
 pub struct FollowerClerk {
     follower: Follower,
     scratch: Scratch,
-    pen: Pen,
+    pub(crate) pen: Pen,
 }
 
 impl FollowerClerk {
@@ -45,123 +42,8 @@ impl FollowerClerk {
         }
     }
 
-    /// Does what a section says, and pushes its answer. Behind that the sink took the answer and nothing else.
-    pub(crate) fn serve_followed<K: Sink, P: Finder>(
-        &mut self,
-        alloc: Global,
-        program: &Program,
-        json: bool,
-        section: Section,
-        out: &mut K,
-        finder: &mut P,
-    ) -> Result<(), Stop>
-        requires suits { Suits program.now (state_at (follower_standing self.old).place).shapes }
-        requires stands { StandsSomewhere (follower_standing self.old).place }
-        ensures served { OnOk result (OfSection json true (cut.seen section)
-            (Pushed program.now (P.refusals finder.old) (P.refusals finder.new)
-            (follower_standing self.old) (follower_standing self.new) (K.taken out.old)
-            (K.taken out.new))) }
-        ensures stopped { IfErr result (SectionStops json true program.now
-            (follower_standing self.old) (cut.seen section) (K.taken out.old) (K.taken out.new)
-            (Rose (K.faults out.old) (K.faults out.new))) }
-        ensures counted { K.faults out.old ≤ K.faults out.new }
-        ensures used { IsUsed (P.refusals finder.old) (P.refusals finder.new) }
-    {
-        match section {
-            Section::TooLong => self.pen.refuse("refused: script ", "too long", out),
-            Section::Lines(lines) => self.serve_text(alloc, program, json, &lines, out, finder),
-        }
-    }
-
-    // Does what lines say, and pushes their answer.
-    fn serve_text<K: Sink, P: Finder>(
-        &mut self,
-        alloc: Global,
-        program: &Program,
-        json: bool,
-        lines: &[u8],
-        out: &mut K,
-        finder: &mut P,
-    ) -> Result<(), Stop>
-        requires suits { Suits program.now (state_at (follower_standing self.old).place).shapes }
-        requires stands { StandsSomewhere (follower_standing self.old).place }
-        ensures served { OnOk result (OfSection json true (Some lines.now)
-            (Pushed program.now (P.refusals finder.old) (P.refusals finder.new)
-            (follower_standing self.old) (follower_standing self.new) (K.taken out.old)
-            (K.taken out.new))) }
-        ensures stopped { IfErr result (SectionStops json true program.now (follower_standing self.old)
-            (Some lines.now) (K.taken out.old) (K.taken out.new)
-            (Rose (K.faults out.old) (K.faults out.new))) }
-        ensures counted { K.faults out.old ≤ K.faults out.new }
-        ensures used { IsUsed (P.refusals finder.old) (P.refusals finder.new) }
-    {
-        if is_packet(lines) {
-            return self.serve_packets(alloc, lines, out);
-        }
-        self.serve_lines(alloc, program, json, lines, out, finder)
-    }
-
-    // Does what a script says, and pushes its answer.
-    fn serve_lines<K: Sink, P: Finder>(
-        &mut self,
-        alloc: Global,
-        program: &Program,
-        json: bool,
-        lines: &[u8],
-        out: &mut K,
-        finder: &mut P,
-    ) -> Result<(), Stop>
-        requires suits { Suits program.now (state_at (follower_standing self.old).place).shapes }
-        requires stands { StandsSomewhere (follower_standing self.old).place }
-        requires script { begins_packet lines.now ≡ false }
-        ensures served { OnOk result (OfSection json true (Some lines.now)
-            (Pushed program.now (P.refusals finder.old) (P.refusals finder.new)
-            (follower_standing self.old) (follower_standing self.new) (K.taken out.old)
-            (K.taken out.new))) }
-        ensures stopped { IfErr result (SectionStops json true program.now (follower_standing self.old)
-            (Some lines.now) (K.taken out.old) (K.taken out.new)
-            (Rose (K.faults out.old) (K.faults out.new))) }
-        ensures counted { K.faults out.old ≤ K.faults out.new }
-        ensures used { IsUsed (P.refusals finder.old) (P.refusals finder.new) }
-    {
-        let read = script_of(alloc, lines, json)?;
-        match read {
-            Ok(script) => self.serve_items(alloc, program, &script, out, finder),
-            Err(fault) => self.pen.refuse("refused: script ", cause_text(fault), out),
-        }
-    }
-
-    // Does items one after the other, and pushes the answer of each.
-    fn serve_items<K: Sink, P: Finder>(
-        &mut self,
-        alloc: Global,
-        program: &Program,
-        script: &Script,
-        out: &mut K,
-        finder: &mut P,
-    ) -> Result<(), Stop>
-        requires suits { Suits program.now (state_at (follower_standing self.old).place).shapes }
-        requires stands { StandsSomewhere (follower_standing self.old).place }
-        requires have_names { All (λ item. is_named item ≡ true) (map seen script.now) }
-        ensures served { OnOk result
-            (Pushed program.now (P.refusals finder.old) (P.refusals finder.new)
-            (follower_standing self.old) (follower_standing self.new) (K.taken out.old)
-            (K.taken out.new) (said (map seen script.now))) }
-        ensures stopped { IfErr result (λ stop.
-            Halts program.now (follower_standing self.old) (K.taken out.old) (K.taken out.new)
-            (Rose (K.faults out.old) (K.faults out.new)) stop (said (map seen script.now))) }
-        ensures counted { K.faults out.old ≤ K.faults out.new }
-        ensures used { IsUsed (P.refusals finder.old) (P.refusals finder.new) }
-    {
-        let items = script.as_slice();
-        for item in items {
-            self.serve_item(alloc, program, item, out, finder)?;
-        }
-        Ok(())
-    }
-
-    // Answers an item, and pushes its answer; what only a leader does is refused.
-    fn serve_item<K: Sink, P: Finder>(
+    /// Answers an item, and pushes its answer; what only a leader does is refused.
+    pub(crate) fn serve_item<K: Sink, P: Finder>(
         &mut self,
         alloc: Global,
         program: &Program,
@@ -190,8 +72,8 @@ impl FollowerClerk {
         }
     }
 
-    // Takes the packets of lines, and pushes what became of each.
-    fn serve_packets<K: Sink>(
+    /// Takes the packets of lines, and pushes what became of each.
+    pub(crate) fn serve_packets<K: Sink>(
         &mut self,
         alloc: Global,
         lines: &[u8],

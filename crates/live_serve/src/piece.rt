@@ -28,10 +28,12 @@ pub fn serve_piece<K: Sink, P: Finder>(
 ) -> Result<(), Stop>
     requires suits { Suits program.now (state_at (standing clerk.old).place).shapes }
     requires stands { StandsSomewhere (standing clerk.old).place }
-    ensures served { OnOk result (TakesPiece json (is_followers (standing clerk.old).place) program.now
+    ensures served { OnOk result (TakesPiece json (is_followers (standing clerk.old).place)
+        program.now
         (P.refusals finder.old) (P.refusals finder.new) (standing clerk.old) (standing clerk.new)
         sections.old sections.new piece.now [] (K.taken out.old) (K.taken out.new)) }
-    ensures stopped { IfErr result (LeavesPiece json (is_followers (standing clerk.old).place) program.now
+    ensures stopped { IfErr result (LeavesPiece json (is_followers (standing clerk.old).place)
+        program.now
         (standing clerk.old) sections.old piece.now
         (K.taken out.old) (K.taken out.new) (Rose (K.faults out.old) (K.faults out.new))) }
     ensures counted { K.faults out.old ≤ K.faults out.new }

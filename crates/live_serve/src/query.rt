@@ -33,7 +33,8 @@ pub(crate) fn answer_query<P: Finder>(
     requires suits { Suits program.now state.now.shapes }
     requires has_name { is_named (seen item.now) ≡ true }
     ensures asked { IfOk result (λ reply. MatchOption reply (is_leaders (seen item.now) ≡ true)
-        (IsAsked program.now state.now (P.refusals finder.old) (P.refusals finder.new) (seen item.now))) }
+        (IsAsked program.now state.now (P.refusals finder.old) (P.refusals finder.new)
+        (seen item.now))) }
     ensures unasked { IfOk result (λ reply. MatchOption reply
         (P.refusals finder.new ≡ P.refusals finder.old) (λ _. is_leaders (seen item.now) ≡ false)) }
     ensures refused { OnErr result (Refuses program.now

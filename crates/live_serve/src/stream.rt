@@ -44,7 +44,8 @@ pub fn serve_stream<S: Source, K: Sink, P: Finder>(
     ensures served { OnOk result (OfRead (S.left input.old) (S.left input.new) (λ read.
         TookTexts (service json program.now (standing clerk.old).place)
         (P.refusals finder.old) (P.refusals finder.new)
-        (sections_of (is_followers (standing clerk.old).place) read) (K.taken out.old) (K.taken out.new))) }
+        (sections_of (is_followers (standing clerk.old).place) read)
+        (K.taken out.old) (K.taken out.new))) }
     ensures read_to_end { OnOk result (IfSome (S.left input.new) (λ rest. rest ≡ [])) }
 
     // It was not, for this cause, and `out` took the texts of the first sections.
@@ -89,7 +90,8 @@ fn serve_pieces<S: Source, K: Sink, P: Finder>(
     ensures served { OnOk result (OfRead (S.left input.old) (S.left input.new) (λ read.
         TookTexts (service json program.now (standing clerk.old).place)
         (P.refusals finder.old) (P.refusals finder.new)
-        (sections_of (is_followers (standing clerk.old).place) read) (K.taken out.old) (K.taken out.new))) }
+        (sections_of (is_followers (standing clerk.old).place) read)
+        (K.taken out.old) (K.taken out.new))) }
     ensures read_to_end { OnOk result (IfSome (S.left input.new) (λ rest. rest ≡ [])) }
     ensures stopped { IfErr result (λ stop. OfRead (S.left input.old) (S.left input.new)
         (ServeStops (service json program.now (standing clerk.old).place)
@@ -129,10 +131,12 @@ fn serve_rest<K: Sink, P: Finder>(
 ) -> Result<(), Stop>
     requires suits { Suits program.now (state_at (standing clerk.old).place).shapes }
     requires stands { StandsSomewhere (standing clerk.old).place }
-    ensures served { OnOk result (TakesEnded json (is_followers (standing clerk.old).place) program.now
+    ensures served { OnOk result (TakesEnded json (is_followers (standing clerk.old).place)
+        program.now
         (P.refusals finder.old) (P.refusals finder.new) (standing clerk.old) (standing clerk.new)
         (left_at sections.old) (K.taken out.old) (K.taken out.new)) }
-    ensures stopped { IfErr result (LeavesEnded json (is_followers (standing clerk.old).place) program.now
+    ensures stopped { IfErr result (LeavesEnded json (is_followers (standing clerk.old).place)
+        program.now
         (standing clerk.old) (left_at sections.old)
         (K.taken out.old) (K.taken out.new) (Rose (K.faults out.old) (K.faults out.new))) }
     ensures counted { K.faults out.old ≤ K.faults out.new }

@@ -45,7 +45,8 @@ pub fn serve_casbin<F: Shelf, S: Source, K: Sink, E: Sink, P: Finder>(
     // fails, exactly those of the items whose last lines were read; and else those of the first so many, or a front of these.
     ensures ends { EndsServing (texts words.now) (F.files shelf.old)
         (moment (F.calls shelf.old) (F.faults shelf.old) (S.left input.old) (S.faults input.old)
-        (K.taken out.old) (K.faults out.old) (E.taken err.old) (E.faults err.old) (P.refusals finder.old))
+        (K.taken out.old) (K.faults out.old) (E.taken err.old) (E.faults err.old)
+        (P.refusals finder.old))
         (moment (F.calls shelf.new) (F.faults shelf.new) (S.left input.new) (S.faults input.new)
         (K.taken out.new) (K.faults out.new) (E.taken err.new) (E.faults err.new)
         (P.refusals finder.new)) result }
@@ -79,13 +80,15 @@ fn serve_words<F: Shelf, S: Source, K: Sink, E: Sink, P: Finder>(
 ) -> Result<(), Stop>
     ensures done { OnOk result (HasServed (texts words.now) (F.files shelf.old)
         (moment (F.calls shelf.old) (F.faults shelf.old) (S.left input.old) (S.faults input.old)
-        (K.taken out.old) (K.faults out.old) (E.taken err.old) (E.faults err.old) (P.refusals finder.old))
+        (K.taken out.old) (K.faults out.old) (E.taken err.old) (E.faults err.old)
+        (P.refusals finder.old))
         (moment (F.calls shelf.new) (F.faults shelf.new) (S.left input.new) (S.faults input.new)
         (K.taken out.new) (K.faults out.new) (E.taken err.new) (E.faults err.new)
         (P.refusals finder.new))) }
     ensures stopped { IfErr result (StopsServing (texts words.now) (F.files shelf.old)
         (moment (F.calls shelf.old) (F.faults shelf.old) (S.left input.old) (S.faults input.old)
-        (K.taken out.old) (K.faults out.old) (E.taken err.old) (E.faults err.old) (P.refusals finder.old))
+        (K.taken out.old) (K.faults out.old) (E.taken err.old) (E.faults err.old)
+        (P.refusals finder.old))
         (moment (F.calls shelf.new) (F.faults shelf.new) (S.left input.new) (S.faults input.new)
         (K.taken out.new) (K.faults out.new) (E.taken err.new) (E.faults err.new)
         (P.refusals finder.new))) }
@@ -121,13 +124,15 @@ fn serve_job<F: Shelf, S: Source, K: Sink, E: Sink, P: Finder>(
     requires { (0 < limit_in job.now.options) × (limit_in job.now.options ≤ 250) }
     ensures served { OnOk result (ServedJob (F.files shelf.old) job.now
         (moment (F.calls shelf.old) (F.faults shelf.old) (S.left input.old) (S.faults input.old)
-        (K.taken out.old) (K.faults out.old) (E.taken err.old) (E.faults err.old) (P.refusals finder.old))
+        (K.taken out.old) (K.faults out.old) (E.taken err.old) (E.faults err.old)
+        (P.refusals finder.old))
         (moment (F.calls shelf.new) (F.faults shelf.new) (S.left input.new) (S.faults input.new)
         (K.taken out.new) (K.faults out.new) (E.taken err.new) (E.faults err.new)
         (P.refusals finder.new))) }
     ensures stopped { IfErr result (StopsJob (F.files shelf.old) job.now
         (moment (F.calls shelf.old) (F.faults shelf.old) (S.left input.old) (S.faults input.old)
-        (K.taken out.old) (K.faults out.old) (E.taken err.old) (E.faults err.old) (P.refusals finder.old))
+        (K.taken out.old) (K.faults out.old) (E.taken err.old) (E.faults err.old)
+        (P.refusals finder.old))
         (moment (F.calls shelf.new) (F.faults shelf.new) (S.left input.new) (S.faults input.new)
         (K.taken out.new) (K.faults out.new) (E.taken err.new) (E.faults err.new)
         (P.refusals finder.new))) }
@@ -157,13 +162,15 @@ fn serve_opened<S: Source, K: Sink, E: Sink, P: Finder>(
     requires opening { versions opened.state.log ≡ 0 }
     ensures served { OnOk result (ServedOpened job.now opened
         (moment None 0 (S.left input.old) (S.faults input.old)
-        (K.taken out.old) (K.faults out.old) (E.taken err.old) (E.faults err.old) (P.refusals finder.old))
+        (K.taken out.old) (K.faults out.old) (E.taken err.old) (E.faults err.old)
+        (P.refusals finder.old))
         (moment None 0 (S.left input.new) (S.faults input.new)
         (K.taken out.new) (K.faults out.new) (E.taken err.new) (E.faults err.new)
         (P.refusals finder.new))) }
     ensures stopped { IfErr result (StopsOpened job.now opened
         (moment None 0 (S.left input.old) (S.faults input.old)
-        (K.taken out.old) (K.faults out.old) (E.taken err.old) (E.faults err.old) (P.refusals finder.old))
+        (K.taken out.old) (K.faults out.old) (E.taken err.old) (E.faults err.old)
+        (P.refusals finder.old))
         (moment None 0 (S.left input.new) (S.faults input.new)
         (K.taken out.new) (K.faults out.new) (E.taken err.new) (E.faults err.new)
         (P.refusals finder.new))) }
