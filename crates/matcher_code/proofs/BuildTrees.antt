@@ -60,7 +60,7 @@ root_at from at own tree seen is root at_is = sym (at_is ∙ ap (λ (e : Express
 
 -- ---- what was pushed in parts
 
-grown : (old a b middle new : List Op) → middle ≡ old ++ a → new ≡ middle ++ b → new ≡ old ++ (a ++ b)
+pub grown : (old a b middle new : List Op) → middle ≡ old ++ a → new ≡ middle ++ b → new ≡ old ++ (a ++ b)
 grown old a b middle new first second = second ∙ ap (λ (l : List Op). l ++ b) first ∙ append_assoc old a b
 
 -- the code of the tree, where that of what is seen was pushed
@@ -80,50 +80,62 @@ count_of : (from : Option ℕ) (items : List Tree) → count (each_placed from (
 count_of None items = count_expressions (map expression items) ∙ length-map items expression
 count_of (Some at) items = count_each at (expressions_of (map expression items)) ∙ count_expressions (map expression items) ∙ length-map items expression
 
--- both sides of an operator, the instruction between them going on behind what was pushed last
-sides_pushed : (model : ModelParts) (at : ℕ) (op : Operator) (e f : Expression) (old one two three new : List Op) → one ≡ old ++ compiled model (length old) e → two ≡ one ++ op_or_none at (skip op 0)
-    → three ≡ two ++ compiled model (length two) f
-    → ((front rest : List Op) → length front ≡ length one → three ≡ front ++ (op_or_none at (skip op 0) ++ rest) → new ≡ front ++ (op_or_none at (skip op (length new)) ++ (rest ++ op_at at (joins op) ∷ [])))
+-- the right side of an operator, and what stands in front of it, which goes on behind what was pushed last
+pub right_pushed : (model : ModelParts) (at : ℕ) (op : Operator) (f : Expression) (old two three new : List Op) → two ≡ old ++ op_or_none at (skip op 0) → three ≡ two ++ compiled model (length two) f
+    → ((front rest : List Op) → length front ≡ length old → three ≡ front ++ (op_or_none at (skip op 0) ++ rest) → new ≡ front ++ (op_or_none at (skip op (length new)) ++ (rest ++ op_at at (joins op) ∷ [])))
+    → new ≡ old ++ (op_or_none at (skip op (length new)) ++ (compiled model (right_begins op (length old)) f ++ op_at at (joins op) ∷ []))
+right_pushed model at op f old two three new first second last =
+    let right = compiled model (length two) f in
+    let none = op_or_none at (skip op 0) in
+    let two_begins : length two ≡ right_begins op (length old) = ap length first ∙ length-append old none ∙ skips_length at op 0 (length old) in
+    last old right refl (second ∙ ap (λ (l : List Op). l ++ right) first ∙ append_assoc old none right)
+    ∙ ap (λ (n : ℕ). old ++ (op_or_none at (skip op (length new)) ++ (compiled model n f ++ op_at at (joins op) ∷ []))) two_begins
+
+-- both sides
+sides_pushed : (model : ModelParts) (at : ℕ) (op : Operator) (e f : Expression) (old one new : List Op) → one ≡ old ++ compiled model (length old) e
+    → new ≡ one ++ (op_or_none at (skip op (length new)) ++ (compiled model (right_begins op (length one)) f ++ op_at at (joins op) ∷ []))
     → new ≡ old ++ compiled model (length old) (binary at op e f)
-sides_pushed model at op e f old one two three new first second third last =
+sides_pushed model at op e f old one new first second =
     let start = length old in
     let begins = right_begins op (behind start e) in
     let to = behind start (binary at op e f) in
     let left = compiled model start e in
-    let right = compiled model (length two) f in
+    let middle = right_begins op (length one) in
+    let right = compiled model middle f in
     let join = op_at at (joins op) ∷ [] in
-    let none = op_or_none at (skip op 0) in
     let skips = op_or_none at (skip op (length new)) in
     let one_long : length one ≡ behind start e = ap length first ∙ length-append old left ∙ ends_at model start e in
-    let two_begins : length two ≡ right_begins op (length one) = ap length second ∙ length-append one none ∙ skips_length at op 0 (length one) in
-    let two_long : length two ≡ begins = two_begins ∙ ap (right_begins op) one_long in
-    let new_is : new ≡ one ++ (skips ++ (right ++ join)) = last one right refl (third ∙ ap (λ (l : List Op). l ++ right) second ∙ append_assoc one none right) in
+    let middle_is : middle ≡ begins = ap (right_begins op) one_long in
     let new_long : length new ≡ to =
-    ap length new_is ∙ length-append one (skips ++ (right ++ join))
-    ∙ joined_length skips (right ++ join) (length one) (length two) (behind (length two) f + 1) (skips_length at op (length new) (length one) ∙ sym two_begins)
-    (joined_length right join (length two) (behind (length two) f) (behind (length two) f + 1) (ends_at model (length two) f) refl)
-    ∙ ap (λ (n : ℕ). behind n f + 1) two_long in
+    ap length second ∙ length-append one (skips ++ (right ++ join))
+    ∙ joined_length skips (right ++ join) (length one) middle (behind middle f + 1) (skips_length at op (length new) (length one))
+    (joined_length right join middle (behind middle f) (behind middle f + 1) (ends_at model middle f) refl)
+    ∙ ap (λ (n : ℕ). behind n f + 1) middle_is in
     grown old left (op_or_none at (skip op to) ++ (compiled model begins f ++ join)) one new first
-    (new_is ∙ ap (λ (n : ℕ). one ++ (op_or_none at (skip op n) ++ (right ++ join))) new_long ∙ ap (λ (n : ℕ). one ++ (op_or_none at (skip op to) ++ (compiled model n f ++ join))) two_long)
+    (second ∙ ap (λ (n : ℕ). one ++ (op_or_none at (skip op n) ++ (right ++ join))) new_long ∙ ap (λ (n : ℕ). one ++ (op_or_none at (skip op to) ++ (compiled model n f ++ join))) middle_is)
 
 -- the members of an `in`, which go on behind what was pushed last
-members_pushed : (model : ModelParts) (at : ℕ) (e : Expression) (es : Expressions) (old one two new : List Op) → one ≡ old ++ compiled model (length old) e → two ≡ one ++ members model at 0 (length one) es
-    → ((front found : List Op) → length front ≡ length one → two ≡ front ++ found → new ≡ front ++ (map (landed (length new)) found ++ op_at at i.Miss ∷ []))
+pub found_pushed : (model : ModelParts) (at : ℕ) (es : Expressions) (old two new : List Op) → two ≡ old ++ members model at 0 (length old) es
+    → ((front found : List Op) → length front ≡ length old → two ≡ front ++ found → new ≡ front ++ (map (landed (length new)) found ++ op_at at i.Miss ∷ []))
+    → new ≡ old ++ (members model at (length new) (length old) es ++ op_at at i.Miss ∷ [])
+found_pushed model at es old two new first last =
+    last old (members model at 0 (length old) es) refl first ∙ ap (λ (l : List Op). old ++ (l ++ op_at at i.Miss ∷ [])) (members_land model at (length new) (length old) es)
+
+-- and the value in front of them
+members_pushed : (model : ModelParts) (at : ℕ) (e : Expression) (es : Expressions) (old one new : List Op) → one ≡ old ++ compiled model (length old) e → new ≡ one ++ (members model at (length new) (length one) es ++ op_at at i.Miss ∷ [])
     → new ≡ old ++ compiled model (length old) (among at e es)
-members_pushed model at e es old one two new first second last =
+members_pushed model at e es old one new first second =
     let start = length old in
     let to = behind start (among at e es) in
     let left = compiled model start e in
     let miss = op_at at i.Miss ∷ [] in
     let one_long : length one ≡ behind start e = ap length first ∙ length-append old left ∙ ends_at model start e in
-    let new_is : new ≡ one ++ (members model at (length new) (length one) es ++ miss) =
-    last one (members model at 0 (length one) es) refl second ∙ ap (λ (l : List Op). one ++ (l ++ miss)) (members_land model at (length new) (length one) es) in
     let new_long : length new ≡ to =
-    ap length new_is ∙ length-append one (members model at (length new) (length one) es ++ miss)
+    ap length second ∙ length-append one (members model at (length new) (length one) es ++ miss)
     ∙ joined_length (members model at (length new) (length one) es) miss (length one) (behind_members (length one) es) (behind_members (length one) es + 1) (members_end_at model at (length new) (length one) es) refl
     ∙ ap (λ (n : ℕ). behind_members n es + 1) one_long in
     grown old left (members model at to (behind start e) es ++ miss) one new first
-    (new_is ∙ ap (λ (n : ℕ). one ++ (members model at n (length one) es ++ miss)) new_long ∙ ap (λ (n : ℕ). one ++ (members model at to n es ++ miss)) one_long)
+    (second ∙ ap (λ (n : ℕ). one ++ (members model at n (length one) es ++ miss)) new_long ∙ ap (λ (n : ℕ). one ++ (members model at to n es ++ miss)) one_long)
 
 -- ---- one node
 
@@ -135,62 +147,60 @@ module _ (model : ModelParts) (from : Option ℕ) (tree : Tree) (at own : ℕ) (
   abbrev pub IsPushed : List Op → Type 0
   IsPushed new = new ≡ old ++ compiled model (length old) (placed from (expression tree))
 
-  pub request_pushed : (column : List ℕ) (path : Vec (List ℕ) Global) (number : ℕ) (middle new : List Op) → tree ≡ t.Request own column path → number ≡ column_number model.request column
-      → middle ≡ old ++ op_at at (i.Request number) ∷ [] → new ≡ middle ++ attributes at path.items → IsPushed new
-  request_pushed column path number middle new is number_is first second =
+  pub request_pushed : (column : List ℕ) (path : Vec (List ℕ) Global) (new : List Op) → tree ≡ t.Request own column path → new ≡ old ++ (op_at at (i.Request (column_number model.request column)) ∷ attributes at path.items) → IsPushed new
+  request_pushed column path new is pushed =
       let seen = ap expression is ∙ ap expression (sym (t.rolls-Request own column path)) ∙ fold-roll-Tree Expression expression_step (Tree-F.Request own column path) in
       let here : unwrap_or from own ≡ at = root_at from at own tree (request own column path.items) seen refl at_is in
       seen_code model from tree (request at column path.items) old new
       (ap (placed from) seen ∙ placed_request from own column path.items ∙ ap (λ (n : ℕ). request n column path.items) here)
-      (grown old (op_at at (i.Request number) ∷ []) (attributes at path.items) middle new first second ∙ ap (λ (n : ℕ). old ++ (op_at at (i.Request n) ∷ attributes at path.items)) number_is)
+      pushed
 
-  pub negation_pushed : (child : Tree) (operand : Box Tree Global) (middle new : List Op) → tree ≡ t.Not own operand → child ≡ operand.value
-      → middle ≡ old ++ compiled model (length old) (placed from (expression child)) → new ≡ middle ++ op_at at i.Not ∷ [] → IsPushed new
-  negation_pushed child operand middle new is child_is first second =
+  pub negation_pushed : (child : Tree) (operand : Box Tree Global) (new : List Op) → tree ≡ t.Not own operand → child ≡ operand.value
+      → new ≡ old ++ (compiled model (length old) (placed from (expression child)) ++ op_at at i.Not ∷ []) → IsPushed new
+  negation_pushed child operand new is child_is pushed =
       let seen = ap expression is ∙ ap expression (sym (t.rolls-Not own operand)) ∙ fold-roll-Tree Expression expression_step (Tree-F.Not own operand) ∙ ap (λ (x : Tree). negation own (expression x)) (sym child_is) in
       let here : unwrap_or from own ≡ at = root_at from at own tree (negation own (expression child)) seen refl at_is in
       seen_code model from tree (negation at (placed from (expression child))) old new
       (ap (placed from) seen ∙ placed_negation from own (expression child) ∙ ap (λ (n : ℕ). negation n (placed from (expression child))) here)
-      (grown old (compiled model (length old) (placed from (expression child))) (op_at at i.Not ∷ []) middle new first second)
+      pushed
 
-  pub opposite_pushed : (child : Tree) (operand : Box Tree Global) (middle new : List Op) → tree ≡ t.Negate own operand → child ≡ operand.value
-      → middle ≡ old ++ compiled model (length old) (placed from (expression child)) → new ≡ middle ++ op_at at i.Negate ∷ [] → IsPushed new
-  opposite_pushed child operand middle new is child_is first second =
+  pub opposite_pushed : (child : Tree) (operand : Box Tree Global) (new : List Op) → tree ≡ t.Negate own operand → child ≡ operand.value
+      → new ≡ old ++ (compiled model (length old) (placed from (expression child)) ++ op_at at i.Negate ∷ []) → IsPushed new
+  opposite_pushed child operand new is child_is pushed =
       let seen = ap expression is ∙ ap expression (sym (t.rolls-Negate own operand)) ∙ fold-roll-Tree Expression expression_step (Tree-F.Negate own operand) ∙ ap (λ (x : Tree). opposite own (expression x)) (sym child_is) in
       let here : unwrap_or from own ≡ at = root_at from at own tree (opposite own (expression child)) seen refl at_is in
       seen_code model from tree (opposite at (placed from (expression child))) old new
       (ap (placed from) seen ∙ placed_opposite from own (expression child) ∙ ap (λ (n : ℕ). opposite n (placed from (expression child))) here)
-      (grown old (compiled model (length old) (placed from (expression child))) (op_at at i.Negate ∷ []) middle new first second)
+      pushed
 
-  pub function_pushed : (f : Function) (items : List Tree) (trees : Vec Tree Global) (middle new : List Op) → tree ≡ t.Call own f trees → items ≡ trees.items
-      → middle ≡ old ++ arguments model (length old) (each_placed from (expressions_of (map expression items))) → new ≡ middle ++ op_at at (i.Function f) ∷ [] → IsPushed new
-  function_pushed f items trees middle new is items_are first second =
+  pub function_pushed : (f : Function) (items : List Tree) (trees : Vec Tree Global) (new : List Op) → tree ≡ t.Call own f trees → items ≡ trees.items
+      → new ≡ old ++ (arguments model (length old) (each_placed from (expressions_of (map expression items))) ++ op_at at (i.Function f) ∷ []) → IsPushed new
+  function_pushed f items trees new is items_are pushed =
       let es = each_placed from (expressions_of (map expression items)) in
       let seen = ap expression is ∙ ap expression (sym (t.rolls-Call own f trees)) ∙ fold-roll-Tree Expression expression_step (Tree-F.Call own f trees) ∙ ap (λ (xs : List Tree). call own (function f) (expressions_of (map expression xs))) (sym items_are) in
       let node = call own (function f) (expressions_of (map expression items)) in
       let here : unwrap_or from own ≡ at = root_at from at own tree node seen refl at_is in
       seen_code model from tree (call at (function f) es) old new
       (ap (placed from) seen ∙ placed_function from own f (expressions_of (map expression items)) ∙ ap (λ (n : ℕ). call n (function f) es) here)
-      (grown old (arguments model (length old) es) (op_at at (i.Function f) ∷ []) middle new first second)
+      pushed
 
-  pub relation_pushed : (number names : ℕ) (items : List Tree) (trees : Vec Tree Global) (middle new : List Op) → tree ≡ t.Role own number trees → items ≡ trees.items → names ≡ names_asked (length items)
-      → middle ≡ old ++ arguments model (length old) (each_placed from (expressions_of (map expression items))) → new ≡ middle ++ op_at at (i.Role number names) ∷ [] → IsPushed new
-  relation_pushed number names items trees middle new is items_are names_are first second =
+  pub relation_pushed : (number : ℕ) (items : List Tree) (trees : Vec Tree Global) (new : List Op) → tree ≡ t.Role own number trees → items ≡ trees.items
+      → new ≡ old ++ (arguments model (length old) (each_placed from (expressions_of (map expression items))) ++ op_at at (i.Role number (names_asked (length items))) ∷ []) → IsPushed new
+  relation_pushed number items trees new is items_are pushed =
       let es = each_placed from (expressions_of (map expression items)) in
       let seen = ap expression is ∙ ap expression (sym (t.rolls-Role own number trees)) ∙ fold-roll-Tree Expression expression_step (Tree-F.Role own number trees) ∙ ap (λ (xs : List Tree). call own (relation number) (expressions_of (map expression xs))) (sym items_are) in
       let node = call own (relation number) (expressions_of (map expression items)) in
       let here : unwrap_or from own ≡ at = root_at from at own tree node seen refl at_is in
-      let many : names ≡ names_asked (count es) = names_are ∙ ap names_asked (sym (count_of from items)) in
+      let many : names_asked (length items) ≡ names_asked (count es) = ap names_asked (sym (count_of from items)) in
       seen_code model from tree (call at (relation number) es) old new
       (ap (placed from) seen ∙ placed_relation from own number (expressions_of (map expression items)) ∙ ap (λ (n : ℕ). call n (relation number) es) here)
-      (grown old (arguments model (length old) es) (op_at at (i.Role number names) ∷ []) middle new first second ∙ ap (λ (n : ℕ). old ++ (arguments model (length old) es ++ op_at at (i.Role number n) ∷ [])) many)
+      (pushed ∙ ap (λ (n : ℕ). old ++ (arguments model (length old) es ++ op_at at (i.Role number n) ∷ [])) many)
 
-  pub binary_pushed : (op : Operator) (left right : Tree) (left_box right_box : Box Tree Global) (skipping : ℕ) (one two three new : List Op) → tree ≡ t.Binary own op left_box right_box
-      → left ≡ left_box.value → right ≡ right_box.value → one ≡ old ++ compiled model (length old) (placed from (expression left)) → skipping ≡ length one → two ≡ one ++ op_or_none at (skip op 0)
-      → three ≡ two ++ compiled model (length two) (placed from (expression right))
-      → ((front rest : List Op) → length front ≡ skipping → three ≡ front ++ (op_or_none at (skip op 0) ++ rest) → new ≡ front ++ (op_or_none at (skip op (length new)) ++ (rest ++ op_at at (joins op) ∷ [])))
+  pub binary_pushed : (op : Operator) (left right : Tree) (left_box right_box : Box Tree Global) (one new : List Op) → tree ≡ t.Binary own op left_box right_box
+      → left ≡ left_box.value → right ≡ right_box.value → one ≡ old ++ compiled model (length old) (placed from (expression left))
+      → new ≡ one ++ (op_or_none at (skip op (length new)) ++ (compiled model (right_begins op (length one)) (placed from (expression right)) ++ op_at at (joins op) ∷ []))
       → IsPushed new
-  binary_pushed op left right left_box right_box skipping one two three new is left_is right_is first skipping_is second third last =
+  binary_pushed op left right left_box right_box one new is left_is right_is first second =
       let e = placed from (expression left) in
       let f = placed from (expression right) in
       let seen = ap expression is ∙ ap expression (sym (t.rolls-Binary own op left_box right_box)) ∙ fold-roll-Tree Expression expression_step (Tree-F.Binary own op left_box right_box)
@@ -199,12 +209,12 @@ module _ (model : ModelParts) (from : Option ℕ) (tree : Tree) (at own : ℕ) (
       let here : unwrap_or from own ≡ at = root_at from at own tree node seen refl at_is in
       seen_code model from tree (binary at op e f) old new
       (ap (placed from) seen ∙ placed_binary from own op (expression left) (expression right) ∙ ap (λ (n : ℕ). binary n op e f) here)
-      (sides_pushed model at op e f old one two three new first second third (λ front rest long. last front rest (long ∙ sym skipping_is)))
+      (sides_pushed model at op e f old one new first second)
 
-  pub among_pushed : (value : Tree) (items : List Tree) (value_box : Box Tree Global) (trees : Vec Tree Global) (start : ℕ) (one two new : List Op) → tree ≡ t.Among own value_box trees → value ≡ value_box.value → items ≡ trees.items
-      → one ≡ old ++ compiled model (length old) (placed from (expression value)) → start ≡ length one → two ≡ one ++ members model at 0 (length one) (each_placed from (expressions_of (map expression items)))
-      → ((front found : List Op) → length front ≡ start → two ≡ front ++ found → new ≡ front ++ (map (landed (length new)) found ++ op_at at i.Miss ∷ [])) → IsPushed new
-  among_pushed value items value_box trees start one two new is value_is items_are first start_is second last =
+  pub among_pushed : (value : Tree) (items : List Tree) (value_box : Box Tree Global) (trees : Vec Tree Global) (one new : List Op) → tree ≡ t.Among own value_box trees → value ≡ value_box.value → items ≡ trees.items
+      → one ≡ old ++ compiled model (length old) (placed from (expression value)) → new ≡ one ++ (members model at (length new) (length one) (each_placed from (expressions_of (map expression items))) ++ op_at at i.Miss ∷ [])
+      → IsPushed new
+  among_pushed value items value_box trees one new is value_is items_are first second =
       let e = placed from (expression value) in
       let es = each_placed from (expressions_of (map expression items)) in
       let seen = ap expression is ∙ ap expression (sym (t.rolls-Among own value_box trees)) ∙ fold-roll-Tree Expression expression_step (Tree-F.Among own value_box trees)
@@ -213,7 +223,7 @@ module _ (model : ModelParts) (from : Option ℕ) (tree : Tree) (at own : ℕ) (
       let here : unwrap_or from own ≡ at = root_at from at own tree node seen refl at_is in
       seen_code model from tree (among at e es) old new
       (ap (placed from) seen ∙ placed_among from own (expression value) (expressions_of (map expression items)) ∙ ap (λ (n : ℕ). among n e es) here)
-      (members_pushed model at e es old one two new first second (λ front found long. last front found (long ∙ sym start_is)))
+      (members_pushed model at e es old one new first second)
 
 -- ---- members and arguments, one after the other
 
