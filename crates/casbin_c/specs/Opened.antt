@@ -1,6 +1,6 @@
 -- What opening a handle and taking a snapshot come to, by their codes.
 use Rattle.std.specs.Prelude.{◌≡◌, ◌⊎◌, ℕ, List, Option}
-use Rattle.enforce_core.specs.Opening.{Given, IsOpenedFrom, OpeningStops}
+use Rattle.enforce_core.specs.Opened.{Given, IsOpenedFrom, OpeningStops}
 use Rattle.enforce_core.specs.Seen.{Enforcing, IsSnapshotOf}
 use Rattle.run_status.specs.Statuses.{code_of, status_of}
 use Rattle.run_status.specs.declared.stop.Stop.{Stop}

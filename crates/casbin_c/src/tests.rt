@@ -1,11 +1,11 @@
 //! Each export with memory, as C calls it.
-use crate::asking::{casbin_enforce, casbin_enforce_json};
-use crate::calling::{casbin_call, casbin_publish, casbin_version};
+use crate::calls::{casbin_call, casbin_publish, casbin_version};
 use crate::codes::{CLOSED, NO_ROOM, NO_RULE, OK, SNAPSHOT};
 use crate::decisions::Decision;
+use crate::enforcers::{casbin_close, casbin_open, casbin_snapshot};
 use crate::handle::Handle;
-use crate::opening::{casbin_close, casbin_open, casbin_snapshot};
-use crate::showing::{casbin_policy, casbin_rule};
+use crate::requests::{casbin_enforce, casbin_enforce_json};
+use crate::shown::{casbin_policy, casbin_rule};
 use std::alloc::Global;
 
 const MODEL: &[u8] =

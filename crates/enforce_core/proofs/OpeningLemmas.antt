@@ -22,9 +22,9 @@ use Rattle.run_status.specs.declared.stop.Stop.{Stop}
 use Rattle.run_status.specs.declared.stop.Stop.TheVariants.{Words, NoModel, NoRelation, NoPolicy, NoScript, NoPackets, CannotRead, CannotWrite, TooLong, NoMemory}
 use Rattle.run_status.specs.Stops.{model_stop_of, policy_stop_of}
 use Rattle.version_log.specs.Log.{versions}
-use Rattle.enforce_core.specs.Helps.Making.{AreMade, PolicyStops}
+use Rattle.enforce_core.specs.Helps.Made.{AreMade, PolicyStops}
 use Rattle.enforce_core.specs.Helps.Words.{OptionStops}
-use Rattle.enforce_core.specs.Opening.{AreOpenedFrom, Fits, Given, IsOpenedFrom, OpeningStops, SaysOptions}
+use Rattle.enforce_core.specs.Opened.{AreOpenedFrom, Fits, Given, IsOpenedFrom, OpeningStops, SaysOptions}
 use Rattle.enforce_core.specs.Places.{at_desk}
 use Rattle.enforce_core.specs.Seen.{Enforcing, none_refused}
 

@@ -12,7 +12,7 @@ use Rattle.command_words.specs.declared.command.Command.{Command}
 use Rattle.command_words.specs.declared.command.Command.TheVariants as command
 use Rattle.command_words.specs.declared.command.Options.{Options}
 use Rattle.text_parts.specs.Numbered.{text_lines}
-use Rattle.enforce_core.specs.Opening.{SaysOptions, option_words, options_asked, report_options}
+use Rattle.enforce_core.specs.Opened.{SaysOptions, option_words, options_asked, report_options}
 
 -- ---- words
 

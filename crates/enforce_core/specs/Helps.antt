@@ -3,4 +3,4 @@ pub mod Held
 pub mod Cut
 pub mod Items
 pub mod Words
-pub mod Making
+pub mod Made

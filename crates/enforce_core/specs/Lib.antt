@@ -3,6 +3,6 @@ pub mod Seen
 pub mod Pieces
 pub mod Asked
 pub mod Called
-pub mod Opening
+pub mod Opened
 pub mod Shown
 pub mod Helps

@@ -2,17 +2,17 @@
 //! published, which other threads may ask.
 #![tactic(auto)]
 
-mod asking;
-mod calling;
+mod calls;
 mod enforcer;
 mod lines;
-mod opening;
 mod options;
+mod parts;
 mod pieces;
 mod place;
+mod requests;
 mod stops;
 
 pub use enforcer::Enforcer;
 pub use lines::line_of_stop;
-pub use opening::{open_enforcer, open_parts};
+pub use parts::{open_enforcer, open_parts};
 pub use stops::{AskStop, CallStop, Called, Decided};

@@ -1,8 +1,8 @@
 ghost use Rattle.std.specs.Prelude.{◌≡◌, ◌<◌, ◌≤◌, ◌++◌, ◌∷◌, [], IfErr, IfOk, IfSome, OnOk};
 ghost use Rattle.command_words.specs.Items.{texts};
 ghost use Rattle.enforce_core.specs.Helps.Words.{OptionStops, all_texts};
-ghost use Rattle.enforce_core.specs.Opening.{SaysOptions, option_words, options_asked};
-ghost use Rattle.enforce_core.specs.Opening.{report_options, words_before};
+ghost use Rattle.enforce_core.specs.Opened.{SaysOptions, option_words, options_asked};
+ghost use Rattle.enforce_core.specs.Opened.{report_options, words_before};
 
 use command_words::{Command, Options, read_words};
 use outside::NoMemory;

@@ -5,7 +5,7 @@ ghost use Rattle.enforce_core.specs.Called.{CallsTo, PublishesTo};
 ghost use Rattle.enforce_core.specs.Helps.Held.{place_of};
 ghost use Rattle.enforce_core.specs.Places.{state_at};
 
-use crate::calling::{call_at, publish_at};
+use crate::calls::{call_at, publish_at};
 use crate::stops::{CallStop, Called};
 use outside::NoMemory;
 use policy_desk::Desk;

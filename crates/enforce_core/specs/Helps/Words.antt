@@ -6,7 +6,7 @@ use Rattle.command_words.specs.Items.{texts}
 use Rattle.command_words.specs.declared.command.Options.{Options}
 use Rattle.run_status.specs.declared.stop.Stop.{Stop}
 use Rattle.run_status.specs.declared.stop.Stop.TheVariants.{Words, NoMemory}
-use Rattle.enforce_core.specs.Opening.{SaysOptions}
+use Rattle.enforce_core.specs.Opened.{SaysOptions}
 
 -- the texts of words that were made
 abbrev pub all_texts : Vec (String Global) → List (List ℕ)

@@ -3,7 +3,7 @@ use Rattle.std.specs.Prelude.{String}
 use Rattle.std.specs.declared.alloc.Global.{Global}
 use Rattle.std.proofs.lemmas.Result.{err_from_is_err_and}
 use Rattle.command_words.specs.Items.{texts}
-use Rattle.enforce_core.specs.Opening.{option_words}
+use Rattle.enforce_core.specs.Opened.{option_words}
 use Rattle.enforce_core.proofs.OptionLemmas.{says_none, says_options}
 use Rattle.enforce_core.proofs.options.read_options.Goals as goal
 

@@ -1,4 +1,0 @@
-use Rattle.casbin_c.proofs.calling.tell_done.Goals as goal
-
-pub returns-clause-written : goal.returns-clause-written
-returns-clause-written c = (c.write_text-code.result, c.write_text-code.ensures)
