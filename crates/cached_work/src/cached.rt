@@ -24,7 +24,7 @@ use outside::{NoMemory, Sink, push_all};
 use perm_value::Request;
 use regex_gate::Finder;
 use run_status::{Stop, tell_hits};
-use script_read::{RequestLine, next_request, texts_are_read_in_one_way};
+use script_read::{RequestLine, next_request};
 use std::alloc::Global;
 
 /// Answers each request of a text by a line, by way of a cache of this capacity, and tells on `err` how many came from it.
@@ -107,7 +107,6 @@ fn print_cached<K: Sink, P: Finder>(
     ensures counted { K.faults out.old ≤ K.faults out.new }
     ensures used { IsUsed (P.refusals finder.old) (P.refusals finder.new) }
 {
-    texts_are_read_in_one_way();
     case_verdict_is_there();
     let mut scratch = Scratch::for_program(alloc, court.program);
     let mut text = String::new(alloc);
@@ -163,7 +162,6 @@ fn push_cached<P: Finder>(
     ensures stopped { OnErr result (StopsLine court.now.program.now
         court.now.json (P.refusals finder.old) (P.refusals finder.new) line.now) }
 {
-    texts_are_read_in_one_way();
     let asked = ask(alloc, court.json, line)?;
     push_asked(text, number, court, &asked, cache, finder, scratch)
 }

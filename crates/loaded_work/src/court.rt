@@ -22,7 +22,7 @@ use perm_value::{RequestFault, Value};
 use policy_state::PolicyState;
 use regex_gate::Finder;
 use run_status::Stop;
-use script_read::{RequestLine, next_request, read_request_over, texts_are_read_in_one_way};
+use script_read::{RequestLine, next_request, read_request_over};
 use std::alloc::Global;
 use std::mem;
 
@@ -78,7 +78,6 @@ fn print_answers<K: Sink, P: Finder>(
     ensures counted { K.faults out.old ≤ K.faults out.new }
     ensures used { IsUsed (P.refusals finder.old) (P.refusals finder.new) }
 {
-    texts_are_read_in_one_way();
     case_verdict_is_there();
     let mut scratch = Scratch::for_program(alloc, court.program);
     let mut values = Vec::new(alloc);
@@ -129,7 +128,6 @@ fn push_answer<P: Finder>(
     ensures stopped { OnErr result (StopsLine court.now.program.now
         court.now.json (P.refusals finder.old) (P.refusals finder.new) line.now) }
 {
-    texts_are_read_in_one_way();
     let others = mem::replace(values, Vec::new(alloc));
     let asked = ask_over(alloc, others, court.json, line)?;
     let told = push_request(

@@ -27,7 +27,7 @@ use perm_value::Request;
 use policy_state::PolicyState;
 use regex_gate::Finder;
 use run_status::Stop;
-use script_read::{RequestLine, next_request, texts_are_read_in_one_way};
+use script_read::{RequestLine, next_request};
 use std::alloc::Global;
 
 /// What requests are explained by: a program, a policy that suits it, the parts of its matcher, whether requests are JSON, and how
@@ -144,7 +144,6 @@ fn print_explained<K: Sink, P: Finder>(
     ensures counted { K.faults out.old ≤ K.faults out.new }
     ensures used { IsUsed (P.refusals finder.old) (P.refusals finder.new) }
 {
-    texts_are_read_in_one_way();
     case_verdict_is_there();
     near_misses_are_there();
     let mut scratch = Scratch::for_program(alloc, guide.program);
@@ -178,7 +177,6 @@ fn push_explained<P: Finder>(
     ensures stopped { OnErr result (StopsLine guide.now.program.now
         guide.now.json (P.refusals finder.old) (P.refusals finder.new) line.now) }
 {
-    texts_are_read_in_one_way();
     let asked = ask(alloc, guide.json, line)?;
     push_asked(alloc, text, number, guide, &asked, finder, scratch)
 }

@@ -9,3 +9,4 @@ pub mod ScriptLemmas
 pub mod WalkLemmas
 pub mod PairLemmas
 mod NamedLemmas
+pub mod CallerLemmas

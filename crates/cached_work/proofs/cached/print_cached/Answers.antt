@@ -2,6 +2,7 @@ use Rattle.std.proofs.Common.{arith, refl, rules}
 use Rattle.std.proofs.lemmas.Result.{err_from_is_err_and}
 use Rattle.cached_work.proofs.CachedLemmas.{cached_all, cached_more, cached_moved, cached_none, fresh_good, hits_few}
 use Rattle.loaded_work.proofs.CallerLemmas.{printed_memory, printed_used, printed_write, stopped_used}
+use Rattle.script_read.proofs.CallerLemmas.{same_request, the_reader}
 use Rattle.cached_work.proofs.cached.print_cached.Goals as goal
 
 pub loop-line-init : goal.loop-line-init
@@ -15,38 +16,38 @@ loop-line-init g c = record {
 pub returns-in_err-hit-clause-stopped : goal.returns-in_err-hit-clause-stopped
 returns-in_err-hit-clause-stopped g c =
     let p = err_from_is_err_and c.from_residual.result c.from_residual.ensures.1 in
-    let reader = c.texts_are_read_in_one_way.ensures.always c.args.court.now.json in
+    let reader = the_reader c.args.court.now.json in
     rw (p.1, p.2) (printed_memory c.case_verdict_is_there.ensures _ c.args.input.now _ _ _ _ c.utf8.input refl (c.loop-line.invariant.printed reader).printed
-    (c.texts_are_read_in_one_way.ensures.request c.args.court.now.json) _ _ _ _ c.in-Some.ensures.first c.in_err-hit.ensures.stopped)
+    (same_request c.args.court.now.json) _ _ _ _ c.in-Some.ensures.first c.in_err-hit.ensures.stopped)
 
 pub returns-in_err-hit-clause-counted : goal.returns-in_err-hit-clause-counted
-returns-in_err-hit-clause-counted g c = (c.loop-line.invariant.printed (c.texts_are_read_in_one_way.ensures.always c.args.court.now.json)).printed.told.counted
+returns-in_err-hit-clause-counted g c = (c.loop-line.invariant.printed (the_reader c.args.court.now.json)).printed.told.counted
 
 pub returns-in_err-hit-clause-used : goal.returns-in_err-hit-clause-used
 returns-in_err-hit-clause-used g c =
-    stopped_used _ _ _ _ _ _ _ (c.loop-line.invariant.printed (c.texts_are_read_in_one_way.ensures.always c.args.court.now.json)).printed c.in_err-hit.ensures.stopped
+    stopped_used _ _ _ _ _ _ _ (c.loop-line.invariant.printed (the_reader c.args.court.now.json)).printed c.in_err-hit.ensures.stopped
 
 pub returns-in_err-push_full-clause-stopped : goal.returns-in_err-push_full-clause-stopped
 returns-in_err-push_full-clause-stopped g c =
     let p = err_from_is_err_and c.from_residual-in_err-push_full.result c.from_residual-in_err-push_full.ensures.1 in
-    let reader = c.texts_are_read_in_one_way.ensures.always c.args.court.now.json in
-    let next = cached_more _ _ (c.texts_are_read_in_one_way.ensures.request c.args.court.now.json) _ _ _ _ _ _ _ _ _ _ _ _ _ c.in_ok-hit.hit (c.loop-line.invariant.printed reader) c.in-Some.ensures.first c.next_number-number.ensures c.in_ok-hit.ensures.answered c.counted-hits.ensures in
+    let reader = the_reader c.args.court.now.json in
+    let next = cached_more _ _ (same_request c.args.court.now.json) _ _ _ _ _ _ _ _ _ _ _ _ _ c.in_ok-hit.hit (c.loop-line.invariant.printed reader) c.in-Some.ensures.first c.next_number-number.ensures c.in_ok-hit.ensures.answered c.counted-hits.ensures in
     rw (p.1, p.2) (printed_write c.case_verdict_is_there.ensures _ c.args.input.now _ _ _ _ c.utf8.input refl next.printed _ _ c.in_err-push_full.ensures.stopped c.in_err-push_full.ensures.failed)
 
 pub returns-in_err-push_full-clause-counted : goal.returns-in_err-push_full-clause-counted
 returns-in_err-push_full-clause-counted g c =
-    omega (arith, (c.loop-line.invariant.printed (c.texts_are_read_in_one_way.ensures.always c.args.court.now.json)).printed.told.counted, c.push_full.ensures.counted)
+    omega (arith, (c.loop-line.invariant.printed (the_reader c.args.court.now.json)).printed.told.counted, c.push_full.ensures.counted)
 
 pub returns-in_err-push_full-clause-used : goal.returns-in_err-push_full-clause-used
 returns-in_err-push_full-clause-used g c =
-    let reader = c.texts_are_read_in_one_way.ensures.always c.args.court.now.json in
-    let next = cached_more _ _ (c.texts_are_read_in_one_way.ensures.request c.args.court.now.json) _ _ _ _ _ _ _ _ _ _ _ _ _ c.in_ok-hit.hit (c.loop-line.invariant.printed reader) c.in-Some.ensures.first c.next_number-number.ensures c.in_ok-hit.ensures.answered c.counted-hits.ensures in
+    let reader = the_reader c.args.court.now.json in
+    let next = cached_more _ _ (same_request c.args.court.now.json) _ _ _ _ _ _ _ _ _ _ _ _ _ c.in_ok-hit.hit (c.loop-line.invariant.printed reader) c.in-Some.ensures.first c.next_number-number.ensures c.in_ok-hit.ensures.answered c.counted-hits.ensures in
     printed_used _ _ _ _ _ next.printed
 
 pub loop-line-preserved : goal.loop-line-preserved
 loop-line-preserved g c = record {
   printed = λ reader.
-      let next = cached_more _ _ (c.texts_are_read_in_one_way.ensures.request c.args.court.now.json) _ _ _ _ _ _ _ _ _ _ _ _ _ c.in_ok-hit.hit (c.loop-line.invariant.printed reader) c.in-Some.ensures.first c.next_number-number.ensures c.in_ok-hit.ensures.answered c.counted-hits.ensures in
+      let next = cached_more _ _ (same_request c.args.court.now.json) _ _ _ _ _ _ _ _ _ _ _ _ _ c.in_ok-hit.hit (c.loop-line.invariant.printed reader) c.in-Some.ensures.first c.next_number-number.ensures c.in_ok-hit.ensures.answered c.counted-hits.ensures in
       cached_moved _ _ _ _ _ _ _ _ _ _ _ next c.in_ok-push_full.ensures.moved c.push_full.ensures.counted;
   good = c.in_ok-hit.ensures.good;
   few = hits_few _ _ _ _ _ c.in_ok-hit.hit c.loop-line.invariant.few c.in-Some.ensures.shorter c.counted-hits.ensures;
@@ -56,24 +57,24 @@ loop-line-preserved g c = record {
 pub returns-in_err-push_all-clause-stopped : goal.returns-in_err-push_all-clause-stopped
 returns-in_err-push_all-clause-stopped g c =
     let p = err_from_is_err_and c.from_residual-in_err-push_all.result c.from_residual-in_err-push_all.ensures.1 in
-    let reader = c.texts_are_read_in_one_way.ensures.always c.args.court.now.json in
+    let reader = the_reader c.args.court.now.json in
     rw (p.1, p.2) (printed_write c.case_verdict_is_there.ensures _ c.args.input.now _ _ _ _ c.utf8.input refl (c.loop-line.invariant.printed reader).printed _ _ (rw c.as_bytes.ensures.value at c.in_err-push_all.ensures.stopped) c.in_err-push_all.ensures.failed)
 
 pub returns-in_err-push_all-clause-counted : goal.returns-in_err-push_all-clause-counted
 returns-in_err-push_all-clause-counted g c =
-    omega (arith, (c.loop-line.invariant.printed (c.texts_are_read_in_one_way.ensures.always c.args.court.now.json)).printed.told.counted, c.push_all.ensures.counted)
+    omega (arith, (c.loop-line.invariant.printed (the_reader c.args.court.now.json)).printed.told.counted, c.push_all.ensures.counted)
 
 pub returns-in_err-push_all-clause-used : goal.returns-in_err-push_all-clause-used
-returns-in_err-push_all-clause-used g c = printed_used _ _ _ _ _ (c.loop-line.invariant.printed (c.texts_are_read_in_one_way.ensures.always c.args.court.now.json)).printed
+returns-in_err-push_all-clause-used g c = printed_used _ _ _ _ _ (c.loop-line.invariant.printed (the_reader c.args.court.now.json)).printed
 
 pub returns-clause-printed : goal.returns-clause-printed
 returns-clause-printed g c =
-    let reader = c.texts_are_read_in_one_way.ensures.always c.args.court.now.json in
+    let reader = the_reader c.args.court.now.json in
     cached_all _ _ c.args.input.now _ _ _ _ _ _ _ c.utf8.input refl (c.loop-line.invariant.printed reader) c.in_default.ensures.none (rw c.as_bytes.ensures.value at c.in_ok-push_all.ensures.took)
 
 pub returns-clause-counted : goal.returns-clause-counted
 returns-clause-counted g c =
-    omega (arith, (c.loop-line.invariant.printed (c.texts_are_read_in_one_way.ensures.always c.args.court.now.json)).printed.told.counted, c.push_all.ensures.counted)
+    omega (arith, (c.loop-line.invariant.printed (the_reader c.args.court.now.json)).printed.told.counted, c.push_all.ensures.counted)
 
 pub returns-clause-used : goal.returns-clause-used
-returns-clause-used g c = printed_used _ _ _ _ _ (c.loop-line.invariant.printed (c.texts_are_read_in_one_way.ensures.always c.args.court.now.json)).printed
+returns-clause-used g c = printed_used _ _ _ _ _ (c.loop-line.invariant.printed (the_reader c.args.court.now.json)).printed

@@ -1,11 +1,12 @@
 use Rattle.std.proofs.lemmas.Result.{on_err_weaker, on_ok_weaker}
 use Rattle.desk_session.proofs.CallerLemmas.{none_asked, on_err_of}
 use Rattle.script_read.specs.Said.{reading}
+use Rattle.script_read.proofs.CallerLemmas.{the_reader}
 use Rattle.loaded_work.proofs.court.push_answer.Goals as goal
 
 pub returns-in_err-asked-clause-stopped : goal.returns-in_err-asked-clause-stopped
 returns-in_err-asked-clause-stopped g c =
-    let reader = c.texts_are_read_in_one_way.ensures.always c.args.court.now.json in
+    let reader = the_reader c.args.court.now.json in
     on_err_of c.from_residual.result (record { reading = reader.request c.args.line.now; says = reader.says c.args.line.now; asked = none_asked _ _ _ })
 
 pub returns-clause-answered : goal.returns-clause-answered
