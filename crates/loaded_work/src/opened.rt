@@ -7,7 +7,7 @@ use crate::loaded::Loaded;
 use decision::{Program, make_program};
 use outside::NoMemory;
 use perm_base::Shapes;
-use policy_state::{PolicyState, make_state, states_stand_for_their_history};
+use policy_state::{PolicyState, make_state};
 use policy_table::Tables;
 use std::alloc::Global;
 
@@ -19,11 +19,11 @@ pub struct Opened {
 }
 
 /// Makes the program of a model, and the state of a policy as its file has it.
+#[tactic(auto, using(policy_state::proofs::CallerLemmas::version_stands))]
 pub fn open_loaded(alloc: Global, loaded: Loaded) -> Result<Opened, NoMemory>
     requires { IsReady loaded }
     ensures { IfOk result (λ opened. IsOpened loaded opened.program opened.state) }
 {
-    states_stand_for_their_history();
     let program = make_program(alloc, loaded.model)?;
     let key = program.index_key(alloc)?;
     let state = make_state(alloc, loaded.shapes, key, loaded.tables)?;
@@ -31,6 +31,7 @@ pub fn open_loaded(alloc: Global, loaded: Loaded) -> Result<Opened, NoMemory>
 }
 
 /// The state of a policy as its file has it, without an index.
+#[tactic(auto, using(policy_state::proofs::CallerLemmas::version_stands))]
 pub(crate) fn open_state(
     alloc: Global,
     shapes: Shapes,
@@ -40,6 +41,5 @@ pub(crate) fn open_state(
     requires sound { AreSound shapes tables.policy }
     ensures { IfOk result (λ state. IsFirst shapes tables.policy state) }
 {
-    states_stand_for_their_history();
     make_state(alloc, shapes, None, tables)
 }
