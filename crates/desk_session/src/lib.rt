@@ -18,4 +18,5 @@ pub use judged_line::push_request;
 pub use named::named_rule;
 pub use other::answer_other;
 pub use plain::run_plain;
+pub use queries::{bytes_of, refusal_answer};
 pub use request::answer_request;

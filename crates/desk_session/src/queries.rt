@@ -28,7 +28,7 @@ pub(crate) fn answer_has(desk: &Desk, table: TableId, rule: &Rule) -> Result<Ans
     let version = state.version();
     match state.has_rule(table, rule) {
         Ok(stands) => Ok(Answer::Has { version, stands }),
-        Err(refused) => told(refused),
+        Err(refused) => refusal_answer(refused),
     }
 }
 
@@ -50,7 +50,7 @@ pub(crate) fn answer_rows(
             table,
             rules,
         }),
-        Err(refused) => told(refused),
+        Err(refused) => refusal_answer(refused),
     }
 }
 
@@ -68,7 +68,7 @@ pub(crate) fn answer_roles(
     let version = state.version();
     match state.roles_of(alloc, relation, name.bytes(), bytes_of(domain)) {
         Ok(names) => Ok(Answer::Roles { version, names }),
-        Err(refused) => told(refused),
+        Err(refused) => refusal_answer(refused),
     }
 }
 
@@ -89,7 +89,7 @@ pub(crate) fn answer_users<R, E: Editor<R>>(
     let version = editor.desk().state().version();
     match editor.users_of(alloc, relation, name, domain) {
         Ok(names) => Ok(Answer::Users { version, names }),
-        Err(refused) => told(refused),
+        Err(refused) => refusal_answer(refused),
     }
 }
 
@@ -108,12 +108,12 @@ pub(crate) fn answer_history(alloc: Global, desk: &Desk, number: u32) -> Result<
                 edit,
             })
         }
-        Err(refused) => told(refused),
+        Err(refused) => refusal_answer(refused),
     }
 }
 
-// Why a query is refused, as its answer; want of memory is handed on.
-fn told(refused: QueryRefused) -> Result<Answer, NoMemory>
+/// Why a query is refused, as its answer; want of memory is handed on.
+pub fn refusal_answer(refused: QueryRefused) -> Result<Answer, NoMemory>
     ensures { IfOk result (λ reply. (reply ≡ answer.Query refused)
         × (refused ≢ query.NoMemory)) }
 {
@@ -127,8 +127,8 @@ fn told(refused: QueryRefused) -> Result<Answer, NoMemory>
     }
 }
 
-// The bytes of a text that may be there.
-fn bytes_of(text: &Option<Text>) -> Option<&[u8]>
+/// The bytes of a text that may be there.
+pub fn bytes_of(text: &Option<Text>) -> Option<&[u8]>
     ensures { option_copied result ≡ text.now }
 {
     match text {

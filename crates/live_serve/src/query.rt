@@ -1,5 +1,4 @@
 ghost use Rattle.std.specs.Prelude.{◌≡◌, ◌≢◌, IfOk, MatchOption, OnErr, Some, false, true};
-ghost use Rattle.std.specs.Option.{option_copied};
 ghost use Rattle.answer_lines.specs.declared.answer.Answer.TheVariants as answer;
 ghost use Rattle.decision.specs.Programs.{Suits};
 ghost use Rattle.desk_session.specs.Requests.{Refuses};
@@ -11,7 +10,7 @@ ghost use Rattle.live_serve.specs.Helps.Asked.{IsAsked, IsQueried};
 
 use answer_lines::Answer;
 use decision::{Program, Scratch};
-use desk_session::answer_request;
+use desk_session::{answer_request, bytes_of, refusal_answer};
 use outside::{NoMemory, Text};
 use perm_base::{Rule, TableId};
 use policy_query::QueryRefused;
@@ -160,22 +159,6 @@ fn told(refused: QueryRefused) -> Result<Option<Answer>, NoMemory>
     ensures { IfOk result (λ reply. (reply ≡ Some (answer.Query refused))
         × (refused ≢ query.NoMemory)) }
 {
-    match refused {
-        QueryRefused::NoMemory => Err(NoMemory),
-        QueryRefused::NoTable { .. }
-        | QueryRefused::Columns { .. }
-        | QueryRefused::FilterPlace
-        | QueryRefused::NoEdit { .. }
-        | QueryRefused::Dropped { .. } => Ok(Some(Answer::Query(refused))),
-    }
-}
-
-// The bytes of a text that may be there.
-fn bytes_of(text: &Option<Text>) -> Option<&[u8]>
-    ensures { option_copied result ≡ text.now }
-{
-    match text {
-        Some(text) => Some(text.bytes()),
-        None => None,
-    }
+    let answer = refusal_answer(refused)?;
+    Ok(Some(answer))
 }

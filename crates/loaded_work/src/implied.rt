@@ -1,4 +1,4 @@
-ghost use Rattle.std.specs.Prelude.{◌≡◌, ◌≢◌, ◌≤◌, IfErr, IfOk, OnOk, option_map, string_bytes, true};
+ghost use Rattle.std.specs.Prelude.{◌≡◌, ◌≤◌, IfErr, IfOk, OnOk, option_map, string_bytes, true};
 ghost use Rattle.std.specs.Option.{option_copied};
 ghost use Rattle.answer_lines.specs.LineText.{Appends, line_text};
 ghost use Rattle.answer_lines.specs.Told.{is_printable};
@@ -6,7 +6,6 @@ ghost use Rattle.answer_lines.specs.declared.answer.Answer.TheVariants as answer
 ghost use Rattle.outside.specs.Faults.{Rose};
 ghost use Rattle.perm_base.specs.declared.shapes.TableId.TheVariants.{P};
 ghost use Rattle.policy_query.specs.Names.{names_refusal};
-ghost use Rattle.policy_query.specs.declared.refused.QueryRefused.TheVariants as query;
 ghost use Rattle.policy_state.specs.States.{tables};
 ghost use Rattle.rbac_query.specs.Asked.{AreImplicitRoles, AreImplicitUsers, hierarchy};
 ghost use Rattle.rbac_query.specs.Permissions.{AreImplicitPermissions};
@@ -17,11 +16,12 @@ use crate::loaded::Loaded;
 use crate::opened::open_state;
 use answer_lines::{Answer, Line, push_line};
 use command_words::Subject;
+use desk_session::refusal_answer;
 use model_conf::Model;
 use outside::{NoMemory, Sink, push_all};
 use perm_base::TableId;
 use policy_state::PolicyState;
-use rbac_query::{QueryRefused, implicit_permissions, implicit_roles, implicit_users};
+use rbac_query::{implicit_permissions, implicit_roles, implicit_users};
 use run_status::Stop;
 use std::alloc::Global;
 
@@ -104,7 +104,7 @@ fn roles(
 {
     match implicit_roles(alloc, state, HIERARCHY, name, domain) {
         Ok(names) => Ok(Answer::Roles { version: 0, names }),
-        Err(refused) => told(refused),
+        Err(refused) => refusal_answer(refused),
     }
 }
 
@@ -123,7 +123,7 @@ fn users(
 {
     match implicit_users(alloc, state, HIERARCHY, name, domain) {
         Ok(names) => Ok(Answer::Users { version: 0, names }),
-        Err(refused) => told(refused),
+        Err(refused) => refusal_answer(refused),
     }
 }
 
@@ -147,22 +147,7 @@ fn rules(
             table: TableId::P,
             rules,
         }),
-        Err(refused) => told(refused),
-    }
-}
-
-// Why a query is refused, as its answer; want of memory is handed on.
-fn told(refused: QueryRefused) -> Result<Answer, NoMemory>
-    ensures { IfOk result (λ reply. (reply ≡ answer.Query refused)
-        × (refused ≢ query.NoMemory)) }
-{
-    match refused {
-        QueryRefused::NoMemory => Err(NoMemory),
-        QueryRefused::NoTable { .. }
-        | QueryRefused::Columns { .. }
-        | QueryRefused::FilterPlace
-        | QueryRefused::NoEdit { .. }
-        | QueryRefused::Dropped { .. } => Ok(Answer::Query(refused)),
+        Err(refused) => refusal_answer(refused),
     }
 }
 

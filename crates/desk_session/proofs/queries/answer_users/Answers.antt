@@ -27,13 +27,13 @@ returns-in-Err-clause-step g c =
     let work = g.E.Editor.work in
     let a = c.args in
     let state_is : c.state.result.now ≡ (work a.editor.now).state = c.state.ensures.state ∙ ap (λ (d : Work). d.state) c.desk.ensures.desk in
-    IfOk-weaker c.told.result _ _ (λ reply told.
+    IfOk-weaker c.refusal_answer.result _ _ (λ reply told.
     subst (λ (d : Work). IsPlainStep (users a.relation a.name.now a.domain.now) (work a.editor.now) d reply) (sym c.in-Err.ensures.same)
     (users_step (work a.editor.now) c.state.result.now state_is c.version-version.result c.version-version.ensures.value a.relation a.name.now a.name.now a.domain.now a.domain.now refl refl (Err c.in-Err.refused)
-    ((λ j. users_answer (state_is j).shapes (tables (state_is j)) a.relation a.name.now a.domain.now) ∙ refused_is _ c.in-Err.refused c.in-Err.ensures.answer told.1) reply told.0)) c.told.ensures
+    ((λ j. users_answer (state_is j).shapes (tables (state_is j)) a.relation a.name.now a.domain.now) ∙ refused_is _ c.in-Err.refused c.in-Err.ensures.answer told.1) reply told.0)) c.refusal_answer.ensures
 
 pub returns-in-Err-clause-stopped : goal.returns-in-Err-clause-stopped
 returns-in-Err-clause-stopped g c =
     let work = g.E.Editor.work in
     let same = c.in-Err.ensures.same in
-    on_err_of c.told.result (call_stopped (work c.args.editor.now) (work c.users_of.new.self) (ap (λ (d : Work). d.state) same) (ap (λ (d : Work). d.pending) same) (ap (λ (d : Work). d.kept) same))
+    on_err_of c.refusal_answer.result (call_stopped (work c.args.editor.now) (work c.users_of.new.self) (ap (λ (d : Work). d.state) same) (ap (λ (d : Work). d.pending) same) (ap (λ (d : Work). d.kept) same))

@@ -10,9 +10,9 @@ pub returns-in-Ok-clause-reply : goal.returns-in-Ok-clause-reply
 returns-in-Ok-clause-reply c = replied _ _ (answer.Roles 0) c.in-Ok.names c.in-Ok.ensures.answer
 
 pub returns-in-Err-clause-reply : goal.returns-in-Err-clause-reply
-returns-in-Err-clause-reply c = IfOk-weaker c.told.result _ _ (λ reply both. replied_not _ _ (answer.Roles 0) c.in-Err.refused reply c.in-Err.ensures.answer both.0 both.1) c.told.ensures
+returns-in-Err-clause-reply c = IfOk-weaker c.refusal_answer.result _ _ (λ reply both. replied_not _ _ (answer.Roles 0) c.in-Err.refused reply c.in-Err.ensures.answer both.0 both.1) c.refusal_answer.ensures
 
 pub returns-in-Err-clause-printable : goal.returns-in-Err-clause-printable
 returns-in-Err-clause-printable c =
     let domain = option_copied c.args.domain in
-    IfOk-weaker c.told.result _ _ (λ reply both. refused_printable c.args.state.now.shapes domain (AreImplicitRoles c.args.state.now.shapes (tables c.args.state.now) hierarchy domain c.args.name.now) c.in-Err.refused reply c.in-Err.ensures.answer both.0 both.1) c.told.ensures
+    IfOk-weaker c.refusal_answer.result _ _ (λ reply both. refused_printable c.args.state.now.shapes domain (AreImplicitRoles c.args.state.now.shapes (tables c.args.state.now) hierarchy domain c.args.name.now) c.in-Err.refused reply c.in-Err.ensures.answer both.0 both.1) c.refusal_answer.ensures
