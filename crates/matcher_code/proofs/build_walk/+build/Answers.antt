@@ -90,14 +90,14 @@ push_tree-returns-in-Role-clause-code t c =
     (new ≡ c.args.ops.now.items ++ (arguments c.args.source.model.now (length c.args.ops.now.items) given ++ op_at c.unwrap_or-at.result (i.Role c.in-Role.relation (names_asked (length c.deref-in-Role.result.now))) ∷ [])) _ c.push_role.ensures.code
     (λ done. relation_pushed c.args.source.model.now c.args.source.place c.args.tree.now c.unwrap_or-at.result c.in-Role.at c.args.ops.now.items at c.in-Role.relation c.deref-in-Role.result.now c.in-Role.arguments new c.in-Role.is c.deref-in-Role.ensures.value done)
 
-pub push_signed-returns-in_ok-push_tree-clause-code : goal.push_signed-returns-in_ok-push_tree-clause-code
-push_signed-returns-in_ok-push_tree-clause-code t c =
+pub push_signed-returns-clause-code : goal.push_signed-returns-clause-code
+push_signed-returns-clause-code t c =
     let pushed = c.push_tree.new.ops.items in
     if_ok c.push.result (c.push.new.ops.items ≡ pushed ++ op_at c.args.at c.args.sign ∷ []) _ c.push.ensures.code
     (λ done. grown c.args.ops.now.items (compiled c.args.source.model.now (length c.args.ops.now.items) (placed c.args.source.place (expression c.args.operand.now))) (op_at c.args.at c.args.sign ∷ []) pushed c.push.new.ops.items c.in_ok-push_tree.ensures.code done)
 
-pub push_right-returns-in_ok-push_tree-clause-code : goal.push_right-returns-in_ok-push_tree-clause-code
-push_right-returns-in_ok-push_tree-clause-code t c =
+pub push_right-returns-clause-code : goal.push_right-returns-clause-code
+push_right-returns-clause-code t c =
     let skipping : c.len-skipping.result ≡ length c.args.ops.now.items = search rules in
     let two = c.push_skip.new.ops.items in
     let three = c.push_tree.new.ops.items in
@@ -108,8 +108,8 @@ push_right-returns-in_ok-push_tree-clause-code t c =
     (λ done. right_pushed c.args.source.model.now c.args.at c.args.operator (placed c.args.source.place (expression c.args.right.now)) c.args.ops.now.items two three new c.in_ok-push_skip.ensures.code c.in_ok-push_tree.ensures.code
     (λ front rest long. done front rest (long ∙ sym skipping)))
 
-pub push_found-returns-in_ok-push_members-clause-code : goal.push_found-returns-in_ok-push_members-clause-code
-push_found-returns-in_ok-push_members-clause-code t c =
+pub push_found-returns-clause-code : goal.push_found-returns-clause-code
+push_found-returns-clause-code t c =
     let first : c.len-first.result ≡ length c.args.ops.now.items = search rules in
     let two = c.push_members.new.ops.items in
     let new = c.push_miss.new.ops.items in
@@ -117,15 +117,15 @@ push_found-returns-in_ok-push_members-clause-code t c =
     ((front found : List Op) → length front ≡ c.len-first.result → two ≡ front ++ found → new ≡ front ++ (map (landed (length new)) found ++ op_at c.args.at i.Miss ∷ [])) _ c.push_miss.ensures.code
     (λ done. found_pushed c.args.source.model.now c.args.at (each_placed c.args.source.place (expressions_of (map expression c.args.trees.now))) c.args.ops.now.items two new c.in_ok-push_members.ensures.code (λ front found long. done front found (long ∙ sym first)))
 
-pub push_call-returns-in_ok-push_arguments-clause-code : goal.push_call-returns-in_ok-push_arguments-clause-code
-push_call-returns-in_ok-push_arguments-clause-code t c =
+pub push_call-returns-clause-code : goal.push_call-returns-clause-code
+push_call-returns-clause-code t c =
     let pushed = c.push_arguments.new.ops.items in
     let given = each_placed c.args.source.place (expressions_of (map expression c.args.trees.now)) in
     if_ok c.push.result (c.push.new.ops.items ≡ pushed ++ op_at c.args.at (i.Function c.args.function) ∷ []) _ c.push.ensures.code
     (λ done. grown c.args.ops.now.items (arguments c.args.source.model.now (length c.args.ops.now.items) given) (op_at c.args.at (i.Function c.args.function) ∷ []) pushed c.push.new.ops.items c.in_ok-push_arguments.ensures.code done)
 
-pub push_role-returns-in_ok-push_arguments-clause-code : goal.push_role-returns-in_ok-push_arguments-clause-code
-push_role-returns-in_ok-push_arguments-clause-code t c =
+pub push_role-returns-clause-code : goal.push_role-returns-clause-code
+push_role-returns-clause-code t c =
     let pushed = c.push_arguments.new.ops.items in
     let given = each_placed c.args.source.place (expressions_of (map expression c.args.trees.now)) in
     let names : c.names_of-names.result ≡ names_asked (length c.args.trees.now) = search rules in
