@@ -9,8 +9,8 @@ ghost use Rattle.policy_table.specs.Tables.{rows};
 ghost use Rattle.policy_index.specs.Finders.{AreFindersIn, IsFinderIn};
 ghost use Rattle.policy_index.specs.Found.{FindRows};
 
+use crate::filter_index::FilterIndex;
 use crate::filters::{sought_columns, values_hash};
-use crate::finder::Finder;
 use outside::{Share, Text};
 use perm_base::TableId;
 use policy_table::{Change, Tables};
@@ -24,7 +24,7 @@ const MOST_FINDERS: usize = 8;
 /// follow each change. Where memory runs out they find nothing, and are made anew when they are asked again. Contracts see a
 /// table and an index for each.
 pub struct Finders {
-    finders: Vec<Finder>,
+    finders: Vec<FilterIndex>,
 }
 
 // Written out, so that a caller's proof sees one call and not the drop of each field.
@@ -70,7 +70,7 @@ impl Finders {
         let Ok(()) = self.finders.reserve(1) else {
             return;
         };
-        let Some(finder) = Finder::make(alloc, tables, table, columns) else {
+        let Some(finder) = FilterIndex::make(alloc, tables, table, columns) else {
             return;
         };
         self.finders.push_reserved(finder);
@@ -103,7 +103,7 @@ impl Finders {
     }
 
     // The finder of a table by these columns, where there is one.
-    fn finder_by(&self, table: TableId, columns: &[u32]) -> Option<&Finder>
+    fn finder_by(&self, table: TableId, columns: &[u32]) -> Option<&FilterIndex>
         ensures own { IfSome result (λ finder. (held : Held) → AreFindersIn held self.now
             → IsFinderIn held finder.now) }
         ensures table { IfSome result (λ finder. finder.now.table ≡ table) }
@@ -136,7 +136,12 @@ impl Finders {
 impl Share for Finders {}
 
 // Follows a change of tables in each finder; whether all could.
-fn follow_each(finders: &mut Vec<Finder>, alloc: Global, change: &Change, tables: &Tables) -> bool
+fn follow_each(
+    finders: &mut Vec<FilterIndex>,
+    alloc: Global,
+    change: &Change,
+    tables: &Tables,
+) -> bool
     requires finders { AreFindersIn tables.now finders.old.items }
     requires possible { is_possible change.now tables.now.policy ≡ true }
     ensures { result ≡ true → (after : Held)

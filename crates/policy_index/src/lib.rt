@@ -3,11 +3,11 @@
 #![tactic(auto)]
 
 mod changes;
+mod filter_index;
 mod filters;
-mod finder;
 mod finders;
 mod fronts;
-mod growing;
+mod growth;
 mod hashes;
 mod index;
 mod key;

@@ -13,7 +13,7 @@ use Rattle.perm_base.specs.Patterns.{is_pattern}
 use Rattle.perm_base.specs.declared.shapes.Fit.{Fit}
 use Rattle.policy_table.specs.Tables.{Fields, same}
 use Rattle.role_domain.specs.Domains.{ArePatterns, Domains, IsDomain, IsRight, found}
-use Rattle.role_domain.specs.Helps.Placing.{CanMake, HasPlaces, HasPlacesAt, HavePlaces, Places, is_plain_text, named_rows, placed}
+use Rattle.role_domain.specs.Helps.RowPlaces.{CanMake, HasPlaces, HasPlacesAt, HavePlaces, Places, is_plain_text, named_rows, placed}
 use Rattle.role_domain.specs.Helps.Turns.{CanTurn, first_turn}
 use Rattle.role_domain.specs.Relations.{Relation, Tells, counted, has_pattern, named, pair_of}
 use Rattle.role_domain.specs.declared.domain.Domain.{Domain}

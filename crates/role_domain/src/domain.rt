@@ -4,7 +4,7 @@ ghost use Rattle.std.specs.Prelude.{◌≡◌, ◌+◌, ◌<◌, ◌≤◌, All,
 ghost use Rattle.policy_table.specs.Tables.{Fields, rows};
 ghost use Rattle.role_domain.specs.Domains.{IsDomain};
 ghost use Rattle.role_domain.specs.Helps.Copies.{content_of};
-ghost use Rattle.role_domain.specs.Helps.Placing.{CanMake, HasPlaces, is_plain_text, placed};
+ghost use Rattle.role_domain.specs.Helps.RowPlaces.{CanMake, HasPlaces, is_plain_text, placed};
 ghost use Rattle.role_domain.specs.Relations.{counted, pair_of};
 ghost use Rattle.role_graph.specs.Built.{IsCounted};
 ghost use Rattle.role_graph.specs.Graph.{most_rows};

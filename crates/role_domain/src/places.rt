@@ -4,7 +4,7 @@ ghost use Rattle.std.specs.Prelude.{◌≡◌, ◌+◌, ◌<◌, ◌≤◌, ◌+
 ghost use Rattle.std.specs.Str.{bytes_eq};
 ghost use Rattle.policy_table.specs.Tables.{Fields};
 ghost use Rattle.role_domain.specs.Domains.{found};
-ghost use Rattle.role_domain.specs.Helps.Placing.{HavePlaces};
+ghost use Rattle.role_domain.specs.Helps.RowPlaces.{HavePlaces};
 
 use crate::rows::domain_of;
 use indexmap::IndexMap;
@@ -28,7 +28,7 @@ impl Drop for DomainPlaces {
 
 impl Model for DomainPlaces {
     ghost use Rattle.role_domain.specs.Domains.{by_text};
-    ghost use Rattle.role_domain.specs.Helps.Placing.{Places};
+    ghost use Rattle.role_domain.specs.Helps.RowPlaces.{Places};
 
     ghost Value = { Places };
 

@@ -2,7 +2,7 @@ use Rattle.std.proofs.Common.{◌≡◌, ◌+◌, ◌≤◌, ◌∙◌, ◌++◌
 use Rattle.std.proofs.lemmas.List.{take_all}
 use Rattle.std.proofs.lemmas.Option.{get_or_from_slice_get}
 use Rattle.policy_table.specs.Tables.{Fields, rows}
-use Rattle.role_domain.specs.Helps.Placing.{placed}
+use Rattle.role_domain.specs.Helps.RowPlaces.{placed}
 use Rattle.role_domain.specs.Relations.{pair_of}
 use Rattle.role_domain.proofs.Placed.{placed_next}
 use Rattle.role_graph.specs.Groups.{times}

@@ -1,6 +1,6 @@
 use Rattle.std.proofs.Common.{◌≡◌, ◌+◌, length, map, take}
 use Rattle.policy_table.specs.Tables.{Fields, rows}
-use Rattle.role_domain.specs.Helps.Placing.{placed}
+use Rattle.role_domain.specs.Helps.RowPlaces.{placed}
 use Rattle.role_domain.specs.Relations.{pair_of}
 use Rattle.role_graph.specs.Built.{IsCounted}
 use Rattle.role_graph.specs.Groups.{times}

@@ -2,7 +2,7 @@ use Rattle.std.proofs.Common.{[], List, arith, rules, subst, sym, take, ◌∙�
 use Rattle.std.proofs.lemmas.List.{get_or_default, take_all}
 use Rattle.policy_table.proofs.CallerLemmas.{next_row, no_more_rows}
 use Rattle.policy_table.specs.Tables.{Fields}
-use Rattle.role_domain.specs.Helps.Placing.{HavePlaces}
+use Rattle.role_domain.specs.Helps.RowPlaces.{HavePlaces}
 use Rattle.role_domain.proofs.Placed.{places_next, places_none}
 use Rattle.role_domain.proofs.places.places_of.Goals as goal
 

@@ -1,5 +1,5 @@
 use Rattle.std.proofs.Common.{◌≡◌, drop, take}
-use Rattle.role_domain.specs.Helps.Placing.{HavePlaces}
+use Rattle.role_domain.specs.Helps.RowPlaces.{HavePlaces}
 use Rattle.role_domain.proofs.places.places_of.Given as goal
 
 abbrev pub invariant-loop-row : goal.invariant-loop-row

@@ -1,7 +1,7 @@
 use Rattle.std.proofs.Common.{◌≤◌, ◌∙◌, List, ℕ, [], Some, ap, arith, length, subst, sym}
 use Rattle.policy_table.specs.Tables.{Fields, rows}
 use Rattle.role_domain.specs.Domains.{IsDomain, IsRight, found}
-use Rattle.role_domain.specs.Helps.Placing.{CanMake, HasPlacesAt, HavePlaces, Places}
+use Rattle.role_domain.specs.Helps.RowPlaces.{CanMake, HasPlacesAt, HavePlaces, Places}
 use Rattle.role_domain.specs.Relations.{Relation}
 use Rattle.role_domain.proofs.Keyed.{same_text}
 use Rattle.role_domain.proofs.Placed.{IsFilling, can_make, filling_first, filling_next}

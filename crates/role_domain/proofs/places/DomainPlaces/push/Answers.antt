@@ -2,7 +2,7 @@ use Rattle.std.proofs.Common.{◌≡◌, ◌∙◌, ◌++◌, ◌∷◌, [], ℕ
 use Rattle.std.specs.Prelude.{IsSome}
 use Rattle.std.specs.Global.{Vec}
 use Rattle.role_domain.specs.Domains.{by_text}
-use Rattle.role_domain.specs.Helps.Placing.{HasPlaces, HasPlacesAt}
+use Rattle.role_domain.specs.Helps.RowPlaces.{HasPlaces, HasPlacesAt}
 use Rattle.role_domain.proofs.Keyed.{seen_after, seen_at}
 use Rattle.role_domain.proofs.Placed.{places_all, places_first, places_grow, places_nowhere, places_there}
 use Rattle.role_meaning.specs.Links.{domain_of}

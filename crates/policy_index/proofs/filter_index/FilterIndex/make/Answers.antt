@@ -4,7 +4,7 @@ use Rattle.policy_table.specs.Tables.{Fields}
 use Rattle.policy_index.specs.Indexed.{IsIndexOf}
 use Rattle.policy_index.specs.Keys.{KeyParts}
 use Rattle.policy_index.proofs.FinderLemmas.{none_indexed}
-use Rattle.policy_index.proofs.finder.Finder.make.Goals as goal
+use Rattle.policy_index.proofs.filter_index.FilterIndex.make.Goals as goal
 
 pub loop-rule-init : goal.loop-rule-init
 loop-rule-init c = record {

@@ -1,7 +1,7 @@
 use Rattle.std.proofs.Common.{List, ℕ, ap, sym, ◌∙◌}
 use Rattle.policy_table.proofs.CallerLemmas.{same_table}
 use Rattle.policy_index.specs.Finders.{Sought}
-use Rattle.policy_index.proofs.finder.Finder.is_by.Goals as goal
+use Rattle.policy_index.proofs.filter_index.FilterIndex.is_by.Goals as goal
 
 pub returns-clause-table : goal.returns-clause-table
 returns-clause-table c = λ same. ap (λ (f : Sought). f.table) (sym c.self.view_is) ∙ same_table c.self.inside.table c.args.table (sym c.is_table.ensures ∙ c.if-not-is_table.false)

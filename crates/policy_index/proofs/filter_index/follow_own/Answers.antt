@@ -2,7 +2,7 @@ use Rattle.std.proofs.Common.{subst, sym}
 use Rattle.policy_table.specs.Slots.{slots, slots_after}
 use Rattle.policy_table.specs.declared.change.Change.{Change}
 use Rattle.policy_index.specs.Indexed.{IsIndexOf}
-use Rattle.policy_index.proofs.finder.follow_own.Goals as goal
+use Rattle.policy_index.proofs.filter_index.follow_own.Goals as goal
 
 pub returns-in-Insert-clause-rows : goal.returns-in-Insert-clause-rows
 returns-in-Insert-clause-rows c = λ ok.

@@ -23,22 +23,22 @@ use std::marker::Model;
 
 /// Finds the rows of one table by the texts of some columns, and follows its changes. Contracts see the table, and the index of
 /// its rows.
-pub(crate) struct Finder {
+pub(crate) struct FilterIndex {
     table: TableId,
     index: Index,
 }
 
 // Written out, so that a caller's proof sees one call and not the drop of each field.
-impl Drop for Finder {
+impl Drop for FilterIndex {
     fn drop(self) {
-        let Finder {
+        let FilterIndex {
             table: _table,
             index: _index,
         } = self;
     }
 }
 
-impl Model for Finder {
+impl Model for FilterIndex {
     ghost use Rattle.policy_index.specs.Finders.{Sought};
 
     ghost Value = { Sought };
@@ -46,7 +46,7 @@ impl Model for Finder {
     ghost view = { λ f. record { table = f.table; index = f.index } };
 }
 
-impl Finder {
+impl FilterIndex {
     /// That of a table by these columns; none where memory runs out, or where a row lacks one of them. Its time is linear in the
     /// rows.
     pub(crate) fn make(
@@ -54,7 +54,7 @@ impl Finder {
         tables: &Tables,
         table: TableId,
         columns: Vec<u32>,
-    ) -> Option<Finder>
+    ) -> Option<FilterIndex>
         ensures { IfSome result (IsFinderIn tables.now) }
     {
         let mut index = Index::empty(alloc, RowKey::new(columns, None));
@@ -63,7 +63,7 @@ impl Finder {
                 return None;
             }
         }
-        Some(Finder { table, index })
+        Some(FilterIndex { table, index })
     }
 
     /// Whether it is that of a table by these columns.
@@ -114,7 +114,7 @@ impl Finder {
     }
 }
 
-impl Share for Finder {}
+impl Share for FilterIndex {}
 
 // Follows a change of its table in an index; whether it could.
 fn follow_own(

@@ -7,8 +7,8 @@ use Rattle.policy_index.specs.Hashes.{IsKeyOf}
 use Rattle.policy_index.specs.Keys.{agrees, has_texts}
 use Rattle.policy_index.proofs.FinderLemmas.{finds_texts, seen}
 use Rattle.policy_index.proofs.FoundRowsLemmas.{all_added}
-use Rattle.policy_index.proofs.finder.Finder.find.Goals as goal
-use Rattle.policy_index.proofs.finder.Finder.find.Goals.{In_ok-gather}
+use Rattle.policy_index.proofs.filter_index.FilterIndex.find.Goals as goal
+use Rattle.policy_index.proofs.filter_index.FilterIndex.find.Goals.{In_ok-gather}
 
 -- what is added for the texts of the hash
 added : (c : In_ok-gather) (texts : List (List ℕ)) → IsKeyOf c.args.hash texts → AddsSlots (agrees c.self.inside.index.key texts []) (slots c.args.tables.now c.self.inside.table) [] c.gather.new.slots.items

@@ -5,7 +5,7 @@ use Rattle.policy_table.specs.Tables.{same}
 use Rattle.policy_table.proofs.CallerLemmas.{found_slot, found_swap}
 use Rattle.policy_index.specs.Hashes.{mark_of}
 use Rattle.policy_index.specs.Indexed.{IsIndexOf}
-use Rattle.policy_index.proofs.finder.follow_removed.Goals as goal
+use Rattle.policy_index.proofs.filter_index.follow_removed.Goals as goal
 
 pub take_row-requires : goal.take_row-requires
 take_row-requires c =

@@ -1,6 +1,6 @@
 use Rattle.std.proofs.Common.{sym, ◌∙◌}
 use Rattle.std.proofs.lemmas.Slice.Eq.{bytes_eq-Decides}
-use Rattle.policy_index.proofs.finder.are_same.Goals as goal
+use Rattle.policy_index.proofs.filter_index.are_same.Goals as goal
 
 pub returns : goal.returns
 returns c = λ same. (bytes_eq-Decides c.args.one.now c.args.other.now).0 (sym c.eq.ensures ∙ same)

@@ -5,7 +5,7 @@ use Rattle.policy_table.specs.Slots.{slots}
 use Rattle.policy_table.specs.Tables.{Fields, same}
 use Rattle.policy_table.proofs.CallerLemmas.{found_slot}
 use Rattle.policy_index.specs.Hashes.{mark_of}
-use Rattle.policy_index.proofs.finder.follow_replaced.Goals as goal
+use Rattle.policy_index.proofs.filter_index.follow_replaced.Goals as goal
 
 pub put_row-requires : goal.put_row-requires
 put_row-requires c =

@@ -2,7 +2,7 @@ use Rattle.std.proofs.Common.{◌∙◌, ap, subst, sym}
 use Rattle.policy_index.specs.Finders.{IsFinderIn}
 use Rattle.policy_index.proofs.FinderLemmas.{followed_other, followed_own, seen}
 use Rattle.policy_table.specs.Changes.{is_table}
-use Rattle.policy_index.proofs.finder.Finder.follow.Goals as goal
+use Rattle.policy_index.proofs.filter_index.FilterIndex.follow.Goals as goal
 
 pub returns-then-not-is_table : goal.returns-then-not-is_table
 returns-then-not-is_table c = λ ok after made.
