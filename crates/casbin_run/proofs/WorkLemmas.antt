@@ -16,7 +16,7 @@ use Rattle.run_status.specs.declared.part.Part.TheVariants.{Input, Report}
 use Rattle.run_status.specs.declared.stop.Stop.{Stop}
 use Rattle.run_status.specs.declared.stop.Stop.TheVariants.{NoScript, NoPackets, CannotRead, CannotWrite, TooLong, NoMemory}
 use Rattle.script_read.specs.Said.{Said}
-use Rattle.script_read.specs.Script.{IsRequests}
+use Rattle.script_read.specs.Script.{IsRequests, IsScript}
 use Rattle.session_meaning.specs.Plain.{all_refused}
 use Rattle.loaded_work.specs.Finders.{HasRefused}
 use Rattle.loaded_work.specs.Followed.{IsFollowed}
@@ -69,12 +69,12 @@ input_is input text fact (bytes, told, within, same) is = (bytes, told, within, 
 
 -- ---- tasks that read the input
 
--- requests that a text says, or items that a script says, are what its task reads
+-- requests that a text says, or the items of a script, are what its task reads
 pub asked_says : (json : Bool) (input : Option (List ℕ)) (text : List ℕ) → InputIs input (λ bytes. bytes ≡ text) → (items : List Said) → IsRequests json text items → SaysItems (Enforce json) input items
 asked_says json input text told items says = input_is input text (λ bytes. IsRequests json bytes items) told says
 
-pub served_says : (json : Bool) (input : Option (List ℕ)) (script : List Said) → SaysItems (Serve json) input script → (items : List Said) → items ≡ script → SaysItems (Serve json) input items
-served_says json input script says items same = subst (λ (s : List Said). SaysItems (Serve json) input s) (sym same) says
+pub served_says : (json : Bool) (input : Option (List ℕ)) (script : List ℕ) → InputIs input (λ bytes. bytes ≡ script) → (items : List Said) → IsScript json script items → SaysItems (Serve json) input items
+served_says json input script told items says = input_is input script (λ bytes. IsScript json bytes items) told says
 
 -- the text of the task is that of the lines of its items
 abbrev pub WritesLines : Ground → Type 0

@@ -1,8 +1,9 @@
-ghost use Rattle.std.specs.Prelude.{◌≡◌, ◌≤◌, [], All, IfOk, IfErr, IfSome, OnOk, is_ok, map, string_bytes, true};
+ghost use Rattle.std.specs.Prelude.{◌≡◌, ◌≤◌, [], All, IfOk, IfErr, IfSome, List, OnOk, is_ok, map, string_bytes, true};
 ghost use Rattle.outside.specs.Ends.{IsEndedOnce, ends_after};
 ghost use Rattle.outside.specs.Faults.{Rose};
 ghost use Rattle.script_read.specs.Named.{is_named};
-ghost use Rattle.script_read.specs.Said.{seen};
+ghost use Rattle.script_read.specs.Said.{Said, seen};
+ghost use Rattle.script_read.specs.Script.{IsScript};
 ghost use Rattle.casbin_run.specs.Causes.{HasFault};
 ghost use Rattle.casbin_run.specs.Given.{InputIs, SaysItems, SaysPackets};
 ghost use Rattle.casbin_run.specs.Helps.Loads.{BytesStop, InputStops};
@@ -12,7 +13,7 @@ ghost use Rattle.casbin_run.specs.declared.job.Task.TheVariants.{Enforce, Serve,
 use log_ship::{Packets, read_packets};
 use outside::{ReadStop, Source, read_all};
 use run_status::{Part, Stop};
-use script_read::{Script, ScriptFault, items_are_named, read_script};
+use script_read::{Script, ScriptFault, check_script, items_are_named, read_script};
 use std::alloc::Global;
 
 /// Reads an input of requests to its end. With `json` they are JSON.
@@ -53,6 +54,31 @@ pub(crate) fn read_items<S: Source>(
     items_are_named();
     let bytes = read_bytes(alloc, input)?;
     Ok(read_script(alloc, &bytes, json)?)
+}
+
+/// Reads an input to its end as the text of a script.
+pub(crate) fn read_checked<S: Source>(
+    alloc: Global,
+    input: &mut S,
+    json: bool,
+) -> Result<String, Stop>
+    ensures read { IfOk result (λ script. InputIs (S.left input.old)
+        (λ bytes. bytes ≡ string_bytes script)) }
+    ensures checked { IfOk result (λ script. (items : List Said)
+        × IsScript json (string_bytes script) items) }
+    ensures read_to_end { is_past result ≡ true → IfSome (S.left input.new) (λ rest. rest ≡ []) }
+    ensures ended { is_past result ≡ true → S.ends input.new ≡ ends_after (S.ends input.old) true }
+    ensures no_further { IsEndedOnce (S.ends input.old) (S.ends input.new) }
+    ensures stopped { IfErr result (InputStops (Serve json) (S.left input.old)
+        (Rose (S.faults input.old) (S.faults input.new))) }
+    ensures counted { S.faults input.old ≤ S.faults input.new }
+{
+    let bytes = read_bytes(alloc, input)?;
+    check_script(alloc, &bytes, json)?;
+    match String::from_utf8(bytes) {
+        Ok(script) => Ok(script),
+        Err(_) => Err(Stop::NoScript(ScriptFault::NotUtf8)),
+    }
 }
 
 /// Reads an input to its end as packets.

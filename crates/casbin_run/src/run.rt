@@ -17,7 +17,7 @@ ghost use Rattle.casbin_run.specs.Worlds.{fetched, pulled, world};
 ghost use Rattle.loaded_work.specs.Sinks.{taken};
 
 use crate::demo::{read_demo, run_demo};
-use crate::input::{read_items, read_shipped, read_text};
+use crate::input::{read_checked, read_items, read_shipped, read_text};
 use crate::job::{Task, read_job, sharing};
 use crate::shared::share_items;
 use crate::shown_files::{check, format};
@@ -333,8 +333,8 @@ fn do_task<S: Source, K: Sink, E: Sink, P: Finder>(
             explain(alloc, loaded, json, most, text.as_str(), out, finder)
         }
         Task::Serve { json } => {
-            let script = read_items(alloc, input, json)?;
-            serve(alloc, loaded, &script, out, finder)
+            let script = read_checked(alloc, input, json)?;
+            serve(alloc, loaded, json, script.as_str(), out, finder)
         }
         Task::Share { .. } => unreachable!(),
         Task::Check => check(alloc, &loaded, out),

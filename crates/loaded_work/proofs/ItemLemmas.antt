@@ -1,8 +1,8 @@
 -- How far the items of a script are done and their lines printed.
-use Rattle.std.proofs.Common.{◌≡◌, ℕ, zero, suc, true, ◌+◌, ◌<◌, ◌≤◌, List, [], ◌∷◌, ◌++◌, append-nil, drop, length, map, take, take_all, refl, sym, ap, subst, ◌∙◌, arith}
-use Rattle.std.specs.Prelude.{All, Option, String, get_or, min, string_bytes}
+use Rattle.std.proofs.Common.{◌≡◌, ℕ, Bool, true, ◌+◌, ◌≤◌, List, [], ◌∷◌, ◌++◌, append-nil, append_assoc, refl, sym, ap, subst, ◌∙◌, arith}
+use Rattle.std.specs.Prelude.{All, Option, String, min, string_bytes}
 use Rattle.std.specs.declared.alloc.Global.{Global}
-use Rattle.std.proofs.lemmas.List.{drop_more, length-map, map-append, map_push, take-append-drop, take_more}
+use Rattle.std.proofs.lemmas.List.Elements.{All-head, All-tail}
 use Rattle.answer_lines.specs.declared.answer.Line.{Line}
 use Rattle.effect_fold.specs.declared.effect.Effect.TheVariants.{AllowOverride}
 use Rattle.desk_session.proofs.CallerLemmas.{IsUnderWay, logged_more, under_way_more, under_way_none, way_used}
@@ -18,8 +18,8 @@ use Rattle.policy_table.specs.Tables.{Policy}
 use Rattle.regex_gate.specs.Refusals.{IsUsed, Refusals, after_refusals}
 use Rattle.run_status.specs.declared.stop.Stop.TheVariants.{CannotWrite, NoMemory}
 use Rattle.script_read.specs.Named.{is_named}
-use Rattle.script_read.specs.Said.{Said, seen}
-use Rattle.script_read.specs.declared.item.Item.{Item}
+use Rattle.script_read.specs.Said.{Said}
+use Rattle.script_read.specs.Script.{BeginsWith, IsScript, SaysFrom}
 use Rattle.session_meaning.specs.Plain.{IsPlain, all_refused, most_number}
 use Rattle.loaded_work.specs.Finders.{HasRefused}
 use Rattle.loaded_work.specs.Helps.GatheredLines.{AreGathered, Moves}
@@ -73,14 +73,14 @@ module _ (model : ModelParts) (shapes : Shapes) (opening : Policy) where
   }
 
   -- all items are done, and their lines are pushed
-  pub served_all : (done items : List Said) (desk : Work) (number : ℕ) (gathered : List ℕ) (between : Seen) (now : Option (List ℕ)) → done ≡ items → AreServed done desk number gathered between → now ≡ with_back between.out_now gathered
-      → PrintedAll (λ (said : List Said). said ≡ items) model shapes opening between.before between.now between.out now
-  served_all done items desk number gathered between now all so took = record {
+  pub served_all : (IsSaid : List Said → Type 0) (done items : List Said) → IsSaid items → (desk : Work) (number : ℕ) (gathered : List ℕ) (between : Seen) (now : Option (List ℕ)) → done ≡ items → AreServed done desk number gathered between → now ≡ with_back between.out_now gathered
+      → PrintedAll IsSaid model shapes opening between.before between.now between.out now
+  served_all IsSaid done items says desk number gathered between now all so took = record {
     printed = record {
       items = items;
       lines = so.lines;
       refused = so.under.refused;
-      says = refl;
+      says = says;
       plain = subst (λ (l : List Said). IsPlain model shapes opening l so.under.refused so.lines) all so.under.plain;
       logged = so.under.logged;
     };
@@ -88,21 +88,20 @@ module _ (model : ModelParts) (shapes : Shapes) (opening : Policy) where
   }
 
   -- the lines of all items, of which the first are these
-  module _ (law : HasVerdicts) (done left items : List Said) (desk : Work) (number : ℕ) (gathered : List ℕ) (between : Seen) (parts : done ++ left ≡ items) (so : AreServed done desk number gathered between) where
+  module _ (law : HasVerdicts) (IsSaid : List Said → Type 0) (done left items : List Said) (says : IsSaid items) (desk : Work) (number : ℕ) (gathered : List ℕ) (between : Seen) (parts : done ++ left ≡ items) (so : AreServed done desk number gathered between) where
     lines_with : (refused : List (List (List ℕ))) (later : Refusals) → later ≡ after_refusals between.before (all_refused refused) → (rest : MoreLines law model shapes opening (done ++ left) refused so.lines)
-        → LinesOf (λ (said : List Said). said ≡ items) model shapes opening (HasRefused between.before later)
+        → LinesOf IsSaid model shapes opening (HasRefused between.before later)
     lines_with refused later logged rest = record {
       items = items;
       lines = so.lines ++ rest.more;
       refused = rest.all;
-      says = refl;
+      says = says;
       plain = subst (λ (l : List Said). IsPlain model shapes opening l rest.all (so.lines ++ rest.more)) parts rest.plain;
       logged = logged ∙ ap (after_refusals between.before) (sym rest.same);
     }
 
     -- the sink failed
-    pub served_write : (now : Option (List ℕ)) (faults : ℕ) → TookFront between.out_now now gathered → Rose between.faults_now faults
-        → PrintedSome (λ (said : List Said). said ≡ items) model shapes opening between.before between.now between.out now (Rose between.faults faults) CannotWrite
+    pub served_write : (now : Option (List ℕ)) (faults : ℕ) → TookFront between.out_now now gathered → Rose between.faults_now faults → PrintedSome IsSaid model shapes opening between.before between.now between.out now (Rose between.faults faults) CannotWrite
     unfolding lines_with
     served_write now faults front rose =
         let rest = more_lines law model shapes opening left done so.under.refused so.lines so.under.plain in
@@ -111,9 +110,15 @@ module _ (model : ModelParts) (shapes : Shapes) (opening : Policy) where
           stops = (stopped_front between.out between.out_now now gathered so.lines rest.more between.faults between.faults_now so.told front, omega (arith, so.told.counted, rose));
         }
 
+    -- memory ran out before the next item was read
+    pub served_early : (rose : Type 0) → PrintedSome IsSaid model shapes opening between.before between.now between.out between.out_now rose NoMemory
+    unfolding lines_with
+    served_early rose =
+        let rest = more_lines law model shapes opening left done so.under.refused so.lines so.under.plain in
+        record { printed = lines_with so.under.refused between.now so.under.logged rest; stops = stopped_first between.out between.out_now gathered so.lines rest.more between.faults between.faults_now so.told }
+
     -- memory ran out at an item
-    pub served_memory : (item : Said) (others : List Said) (later : Refusals) (rose : Type 0) → left ≡ item ∷ others → Refuses model between.now later item
-        → PrintedSome (λ (said : List Said). said ≡ items) model shapes opening between.before later between.out between.out_now rose NoMemory
+    pub served_memory : (item : Said) (others : List Said) (later : Refusals) (rose : Type 0) → left ≡ item ∷ others → Refuses model between.now later item → PrintedSome IsSaid model shapes opening between.before later between.out between.out_now rose NoMemory
     unfolding lines_with
     served_memory item others later rose begins asked =
         let more = stopped_lines law model shapes opening item others done so.under.refused asked.refused so.lines asked.unasked so.under.plain in
@@ -123,27 +128,52 @@ module _ (model : ModelParts) (shapes : Shapes) (opening : Policy) where
           stops = stopped_first between.out between.out_now gathered so.lines rest.more between.faults between.faults_now so.told;
         }
 
--- ---- items up to a place
+  -- ---- the items of a text
 
-pub seen_next : (items : List Item) (at : ℕ) (item : Item) → at < length items → item ≡ get_or items at item → map seen (take (at + 1) items) ≡ map seen (take at items) ++ seen item ∷ []
-seen_next items at item within is = ap (map seen) (take_more items at item within ∙ ap (λ (i : Item). take at items ++ i ∷ []) (sym is)) ∙ map_push seen (take at items) item
+  -- the first items of a script are done, and what is left of its text says the others
+  pub record AreServedOf (json : Bool) (items : List Said) (at : ℕ) (rest : List ℕ) (desk : Work) (number : ℕ) (gathered : List ℕ) (between : Seen) : Type 0 where
+    pub done : List Said
+    pub left : List Said
+    pub parts : done ++ left ≡ items
+    pub says : SaysFrom json at rest left
+    pub served : AreServed done desk number gathered between
 
-pub seen_parts : (items : List Item) (at : ℕ) → map seen (take at items) ++ map seen (drop at items) ≡ map seen items
-seen_parts items at = sym (map-append seen (take at items) (drop at items)) ∙ ap (map seen) (take-append-drop at items)
+  pub served_first : (json : Bool) (script : List ℕ) (items : List Said) (desk : Work) (number : ℕ) (gathered : List ℕ) (between : Seen) → IsScript json script items → AreServed [] desk number gathered between → AreServedOf json items 1 script desk number gathered between
+  served_first json script items desk number gathered between is so = record { done = []; left = items; parts = refl; says = record { reader = is.reader; says = is.says }; served = so }
 
-pub seen_left : (items : List Item) (at : ℕ) (item : Item) → at < length items → item ≡ get_or items at item → map seen (drop at items) ≡ seen item ∷ map seen (drop (at + 1) items)
-seen_left items at item within is = ap (map seen) (drop_more items at item within ∙ ap (λ (i : Item). i ∷ drop (at + 1) items) (sym is))
+  -- one item more
+  pub served_next : (json : Bool) (items : List Said) (at : ℕ) (rest : List ℕ) (item : Said) (later_at : ℕ) (behind : List ℕ) (desk new : Work) (number next : ℕ) (old text : String Global) (between : Seen) (later : Refusals)
+      → AreServedOf json items at rest desk number (string_bytes old) between → BeginsWith json at rest item later_at behind → next ≡ min (number + 1) most_number → PushesItem model between.now later item next desk new old text → new.state.shapes ≡ desk.state.shapes
+      → AreServedOf json items later_at behind new next (string_bytes text) (seen_later between later)
+  served_next json items at rest item later_at behind desk new number next old text between later so begins next-is pushed same =
+      let first = begins so.left so.says in
+      record {
+        done = so.done ++ item ∷ [];
+        left = first.0;
+        parts = append_assoc so.done (item ∷ []) first.0 ∙ ap (λ (l : List Said). so.done ++ l) (sym first.1) ∙ so.parts;
+        says = first.2;
+        served = served_more so.done item desk new number next old text between later so.served next-is pushed same;
+      }
 
-pub seen_whole : (items : List Item) (at : ℕ) → length items ≤ at → map seen (take at items) ≡ map seen items
-seen_whole items at past = ap (map seen) (take_all at items past)
+  pub served_on : (json : Bool) (items : List Said) (at : ℕ) (rest : List ℕ) (desk : Work) (number : ℕ) (gathered still : List ℕ) (between : Seen) (now : Option (List ℕ)) (faults : ℕ) → AreServedOf json items at rest desk number gathered between → Moves between.out_now now gathered still → between.faults_now ≤ faults
+      → AreServedOf json items at rest desk number still (seen_pushed between now faults)
+  served_on json items at rest desk number gathered still between now faults so moved counted = record {
+    done = so.done;
+    left = so.left;
+    parts = so.parts;
+    says = so.says;
+    served = served_moved so.done desk number gathered still between now faults so.served moved counted;
+  }
 
--- one item more of a script is done, and its line is gathered
-pub served_next : (model : ModelParts) (shapes : Shapes) (opening : Policy) (items : List Item) (at : ℕ) (item : Item) (desk new : Work) (number next : ℕ) (old text : String Global) (between : Seen) (later : Refusals) → at < length items → item ≡ get_or items at item
-    → AreServed model shapes opening (map seen (take at items)) desk number (string_bytes old) between → next ≡ min (number + 1) most_number → PushesItem model between.now later (seen item) next desk new old text → new.state.shapes ≡ desk.state.shapes
-    → AreServed model shapes opening (map seen (take (at + 1) items)) new next (string_bytes text) (seen_later between later)
-served_next model shapes opening items at item desk new number next old text between later within is so next-is pushed same =
-    subst (λ (done : List Said). AreServed model shapes opening done new next (string_bytes text) (seen_later between later)) (sym (seen_next items at item within is))
-    (served_more model shapes opening (map seen (take at items)) (seen item) desk new number next old text between later so next-is pushed same)
+-- no item is left
+pub all_done : (done left items : List Said) → done ++ left ≡ items → left ≡ [] → done ≡ items
+all_done done left items parts none = sym (append-nil done) ∙ ap (λ (l : List Said). done ++ l) (sym none) ∙ parts
+
+-- an item among those that have names
+pub named_first : (done left others items : List Said) (item : Said) → done ++ left ≡ items → left ≡ item ∷ others → All (λ (said : Said). is_named said ≡ true) items → is_named item ≡ true
+named_first [] left others items item parts begins all = All-head (λ (said : Said). is_named said ≡ true) item others (subst (All (λ (said : Said). is_named said ≡ true)) (sym parts ∙ begins) all)
+named_first (first ∷ done) left others items item parts begins all =
+    named_first done left others (done ++ left) item refl begins (All-tail (λ (said : Said). is_named said ≡ true) first (done ++ left) (subst (All (λ (said : Said). is_named said ≡ true)) (sym parts) all))
 
 -- a model and refusals for what is so of all of them
 pub any_model : ModelParts
@@ -151,14 +181,3 @@ any_model = parts_of [] [] [] AllowOverride [] (truth 0 true)
 
 pub any_refusals : Refusals
 any_refusals = record { count = 0; patterns = [] }
-
--- an item of a script whose items have names
-pub named_at : (items script : List Item) → items ≡ script → (at : ℕ) (item : Item) → at < length items → item ≡ get_or items at item → All (λ (said : Said). is_named said ≡ true) (map seen script) → is_named (seen item) ≡ true
-named_at items script same at item within is all =
-    let here : All (λ (said : Said). is_named said ≡ true) (map seen items) = subst (λ (l : List Item). All (λ (said : Said). is_named said ≡ true) (map seen l)) (sym same) all in
-    subst (λ (said : Said). is_named said ≡ true) (map_at items at item within ∙ ap seen (sym is)) (here at (seen item) (omega (arith, length-map items seen, within)))
-  where
-    map_at : (items : List Item) (at : ℕ) (item : Item) → at < length items → get_or (map seen items) at (seen item) ≡ seen (get_or items at item)
-    map_at [] at item low = absurd (omega arith)
-    map_at (first ∷ items) zero item low = refl
-    map_at (first ∷ items) (suc at) item low = map_at items at item (omega arith)

@@ -1,9 +1,10 @@
-ghost use Rattle.std.specs.Prelude.{◌≡◌, ◌≤◌, All, IfErr, List, None, OnErr, OnOk, [], false, map, true};
+ghost use Rattle.std.specs.Prelude.{◌≡◌, ◌≤◌, All, IfErr, List, None, OnErr, OnOk, [], false, true};
 ghost use Rattle.answer_lines.specs.Told.{is_printable};
 ghost use Rattle.outside.specs.Faults.{Rose};
 ghost use Rattle.outside.specs.Told.{with_back};
 ghost use Rattle.script_read.specs.Named.{is_named};
 ghost use Rattle.script_read.specs.Said.{Said, seen};
+ghost use Rattle.script_read.specs.Script.{IsScript};
 ghost use Rattle.decision.specs.Programs.{Suits};
 ghost use Rattle.desk_session.specs.Desks.{StandsBehind};
 ghost use Rattle.desk_session.specs.Requests.{Refuses};
@@ -30,28 +31,29 @@ use outside::{NoMemory, Sink, push_all};
 use policy_desk::{Desk, open_desk};
 use regex_gate::Finder;
 use run_status::Stop;
-use script_read::{Item, Script};
+use script_read::{Item, items_are_named, next_item};
 use session_meaning::replies_are_printable;
 use std::alloc::Global;
 
-/// Does the items of a script one after the other, each by a line that is printed before the next is done.
+/// Does the items of a script one after the other: each is read, done, and told by a line before the next is read.
 pub fn serve<K: Sink, P: Finder>(
     alloc: Global,
     loaded: Loaded,
-    script: &Script,
+    json: bool,
+    script: &str,
     out: &mut K,
     finder: &mut P,
 ) -> Result<(), Stop>
     requires ready { IsReady loaded }
-    requires have_names { All (λ item. is_named item ≡ true) (map seen script.now) }
-    ensures { AreAnswered (λ items. items ≡ map seen script.now) loaded
+    requires checked { (items : List Said) × IsScript json script.now items }
+    ensures { AreAnswered (IsScript json script.now) loaded
         (P.refusals finder.old) (P.refusals finder.new)
         (taken (K.taken out.old) (K.faults out.old)) (taken (K.taken out.new) (K.faults out.new))
         result }
 {
     let opened = open_loaded(alloc, loaded)?;
     let mut desk = open_desk(alloc, opened.state)?;
-    print_items(alloc, out, &mut desk, &opened.program, script, finder)
+    print_items(alloc, out, &mut desk, &opened.program, json, script, finder)
 }
 
 // Does the items of a script at a desk, and prints a line for each, numbered from 1.
@@ -60,18 +62,19 @@ fn print_items<K: Sink, P: Finder>(
     out: &mut K,
     desk: &mut Desk,
     program: &Program,
-    script: &Script,
+    json: bool,
+    script: &str,
     finder: &mut P,
 ) -> Result<(), Stop>
     requires suits { Suits program.now desk.old.state.shapes }
     requires opening { versions desk.old.state.log ≡ 0 }
     requires none_pending { desk.old.pending ≡ [] }
     requires keeps_all { desk.old.kept ≡ None }
-    requires have_names { All (λ item. is_named item ≡ true) (map seen script.now) }
-    ensures printed { OnOk result (PrintedAll (λ items. items ≡ map seen script.now)
+    requires checked { (items : List Said) × IsScript json script.now items }
+    ensures printed { OnOk result (PrintedAll (IsScript json script.now)
         program.now desk.old.state.shapes (tables desk.old.state)
         (P.refusals finder.old) (P.refusals finder.new) (K.taken out.old) (K.taken out.new)) }
-    ensures stopped { IfErr result (PrintedSome (λ items. items ≡ map seen script.now)
+    ensures stopped { IfErr result (PrintedSome (IsScript json script.now)
         program.now desk.old.state.shapes (tables desk.old.state)
         (P.refusals finder.old) (P.refusals finder.new) (K.taken out.old) (K.taken out.new)
         (Rose (K.faults out.old) (K.faults out.new))) }
@@ -80,11 +83,13 @@ fn print_items<K: Sink, P: Finder>(
 {
     desk.holds();
     case_verdict_is_there();
+    items_are_named();
     let mut scratch = Scratch::for_program(alloc, program);
     let mut text = String::new(alloc);
     let mut number = 0;
-    let items = script.as_slice();
-    for item in items {
+    let mut at = 1;
+    let mut rest = script;
+    while let Some((item, next, behind)) = next_item(alloc, json, rest, at)? {
         number = next_number(number);
         push_item(
             alloc,
@@ -92,11 +97,13 @@ fn print_items<K: Sink, P: Finder>(
             number,
             desk,
             program,
-            item,
+            &item,
             finder,
             &mut scratch,
         )?;
         push_full(out, &mut text)?;
+        at = next;
+        rest = behind;
     }
     push_all(out, text.as_bytes())?;
     Ok(())

@@ -6,5 +6,6 @@ pub mod WordLemmas
 pub mod EndLemmas
 pub mod BlockLemmas
 pub mod ScriptLemmas
+pub mod WalkLemmas
 pub mod PairLemmas
 mod NamedLemmas

@@ -41,7 +41,7 @@ abbrev pub whole : Bool → List ℕ → Result (List Said) ScriptFault
 whole json bytes = reading json (parts (script_lines bytes))
 
 -- each reader gives the same
-part_same : (json : Bool) (reader : Reader json) (part : Part) → part_item reader.fields reader.request part ≡ item_of json part
+pub part_same : (json : Bool) (reader : Reader json) (part : Part) → part_item reader.fields reader.request part ≡ item_of json part
 part_same json reader part =
     ap (λ (fields : List ℕ → Result Fields LineCause). part_item fields reader.request part) (reader_fields reader) ∙ ap (λ (request : List ℕ → Reading). part_item fields_read request part) (reader_request json reader)
 

@@ -7,6 +7,7 @@ use Rattle.script_read.specs.Reads.{Reader}
 use Rattle.script_read.specs.Said.{Said, asks}
 use Rattle.script_read.specs.declared.fault.ScriptFault.{ScriptFault}
 use Rattle.script_read.specs.declared.fault.ScriptFault.TheVariants.{NotUtf8}
+use Rattle.text_parts.specs.Full.{full_lines}
 
 -- the parts say these items, one each
 abbrev pub SayItems : {json : Bool} → Reader json → List Part → List Said → Type 0
@@ -17,6 +18,15 @@ pub record IsScript (json : Bool) (bytes : List ℕ) (items : List Said) : Type 
   pub utf8 : IsUtf8 bytes
   pub reader : Reader json
   pub says : SayItems reader (parts (script_lines bytes)) items
+
+-- the lines of a text, numbered from here on, say these items
+pub record SaysFrom (json : Bool) (number : ℕ) (text : List ℕ) (items : List Said) : Type 0 where
+  pub reader : Reader json
+  pub says : SayItems reader (parts (full_lines number text)) items
+
+-- whatever a text says, this item is the first, and the others are those of the rest, whose lines are numbered from there
+abbrev pub BeginsWith : (json : Bool) (number : ℕ) (text : List ℕ) → Said → (next : ℕ) (rest : List ℕ) → Type 0
+BeginsWith json number text item next rest = (items : List Said) → SaysFrom json number text items → (left : List Said) × (items ≡ item ∷ left) × SaysFrom json next rest left
 
 -- behind parts that say items stands a part with this fault
 pub record IsFaultInPart (json : Bool) (bytes : List ℕ) (fault : ScriptFault) : Type 0 where

@@ -13,6 +13,7 @@ mod lines;
 mod reader;
 mod requests;
 mod script;
+mod walk;
 mod word;
 
 pub use fault::{LineCause, ScriptFault};
@@ -25,3 +26,4 @@ pub use laws::{
 pub use reader::read_script;
 pub use requests::{next_request, read_request, read_request_over};
 pub use script::Script;
+pub use walk::{check_script, next_item};

@@ -54,10 +54,14 @@ pub fn read_script(alloc: Global, bytes: &[u8], json: bool) -> Result<Script, Sc
     Ok(Script::from_vec(items))
 }
 
-// Where the part that a line begins is at its end: the number of the next line, the text from there
-// on, and the number of the line that ends a block. Behind the line stands this text, whose first line
-// has the given number.
-fn part_end<'a>(line: &'a str, after: &'a str, number: u64) -> (u64, &'a str, Option<u64>)
+/// Where the part that a line begins is at its end: the number of the next line, the text from there
+/// on, and the number of the line that ends a block. Behind the line stands this text, whose first line
+/// has the given number.
+pub(crate) fn part_end<'a>(
+    line: &'a str,
+    after: &'a str,
+    number: u64,
+) -> (u64, &'a str, Option<u64>)
     requires { number + length after.now < 2 ^ 64 }
     ensures behind { behind_part line.now (full_lines number after.now)
         ≡ full_lines result.0 result.1.now }
@@ -74,8 +78,8 @@ fn part_end<'a>(line: &'a str, after: &'a str, number: u64) -> (u64, &'a str, Op
     }
 }
 
-// Reads the part that the line of this number begins. Behind the line stands this text.
-fn read_part(
+/// Reads the part that the line of this number begins. Behind the line stands this text.
+pub(crate) fn read_part(
     alloc: Global,
     json: bool,
     number: u64,

@@ -52,3 +52,8 @@ Fails NoMemory read = Unit {0}
 abbrev pub Gives : {X Y : Type 0} → (X → Y) → Result X ScriptFault → Result Y ScriptFault → Type 0
 Gives view (Ok x) read = read ≡ Ok (view x)
 Gives view (Err fault) read = Fails fault read
+
+-- reading gives something, or the fault that was found, unless memory ran out
+abbrev pub Checks : {Y : Type 0} → Result (Unit {0}) ScriptFault → Result Y ScriptFault → Type 0
+Checks {Y = Y} (Ok none) read = (y : Y) × (read ≡ Ok y)
+Checks (Err fault) read = Fails fault read

@@ -1,8 +1,8 @@
-use Rattle.std.proofs.Common.{◌≡◌, List, Err, true, false, ap, refl, rules, sym, ◌∙◌}
+use Rattle.std.proofs.Common.{◌≡◌, Err, true, false, ap, refl, rules, sym, ◌∙◌}
 use Rattle.std.specs.Prelude.{map}
 use Rattle.std.proofs.lemmas.Result.{IfErr-weaker, on_ok_weaker}
-use Rattle.script_read.specs.Said.{Said, seen}
-use Rattle.script_read.specs.Script.{IsRequests}
+use Rattle.script_read.specs.Said.{seen}
+use Rattle.script_read.specs.Script.{IsRequests, IsScript}
 use Rattle.casbin_run.specs.Helps.Tasks.{ground}
 use Rattle.casbin_run.specs.Jobs.{has_workers}
 use Rattle.casbin_run.specs.declared.job.Task.{Task}
@@ -29,19 +29,22 @@ returns-in_ok-text-in-Enforce-clause-stopped g c =
     let left = g.S.Source.left c.args.input.now in
     rw c.in-Enforce.is (IfErr-weaker c.enforce.result _ _ (answered_stops (ground (Enforce json) c.args.loaded left) (λ items refused pieces text lines. lines) tt refl (IsRequests json c.as_str.result.now) (asked_says json left c.as_str.result.now (rw c.as_str.ensures.value c.in_ok-text-in-Enforce.ensures.read)) _ _ _ _ _ _) c.enforce.ensures.stopped)
 
+pub serve-requires-clause-checked : goal.serve-requires-clause-checked
+serve-requires-clause-checked g c = rw c.as_str-in-Serve.ensures.value c.in_ok-script-in-Serve.ensures.checked
+
 pub returns-in_ok-script-in-Serve-clause-done : goal.returns-in_ok-script-in-Serve-clause-done
 returns-in_ok-script-in-Serve-clause-done g c =
     let json = c.in-Serve.json in
     let left = g.S.Source.left c.args.input.now in
-    let script = map seen c.in_ok-script-in-Serve.script in
-    rw c.in-Serve.is (on_ok_weaker c.serve.result (λ all. answered_all (ground (Serve json) c.args.loaded left) (λ items refused pieces text lines. lines) tt refl (λ (items : List Said). items ≡ script) (served_says json left script c.in_ok-script-in-Serve.ensures.read) _ _ _ _ _ _ all refl) c.serve.ensures.printed)
+    let script = c.as_str-in-Serve.result.now in
+    rw c.in-Serve.is (on_ok_weaker c.serve.result (λ all. answered_all (ground (Serve json) c.args.loaded left) (λ items refused pieces text lines. lines) tt refl (IsScript json script) (served_says json left script (rw c.as_str-in-Serve.ensures.value c.in_ok-script-in-Serve.ensures.read)) _ _ _ _ _ _ all refl) c.serve.ensures.printed)
 
 pub returns-in_ok-script-in-Serve-clause-stopped : goal.returns-in_ok-script-in-Serve-clause-stopped
 returns-in_ok-script-in-Serve-clause-stopped g c =
     let json = c.in-Serve.json in
     let left = g.S.Source.left c.args.input.now in
-    let script = map seen c.in_ok-script-in-Serve.script in
-    rw c.in-Serve.is (IfErr-weaker c.serve.result _ _ (answered_stops (ground (Serve json) c.args.loaded left) (λ items refused pieces text lines. lines) tt refl (λ (items : List Said). items ≡ script) (served_says json left script c.in_ok-script-in-Serve.ensures.read) _ _ _ _ _ _) c.serve.ensures.stopped)
+    let script = c.as_str-in-Serve.result.now in
+    rw c.in-Serve.is (IfErr-weaker c.serve.result _ _ (answered_stops (ground (Serve json) c.args.loaded left) (λ items refused pieces text lines. lines) tt refl (IsScript json script) (served_says json left script (rw c.as_str-in-Serve.ensures.value c.in_ok-script-in-Serve.ensures.read)) _ _ _ _ _ _) c.serve.ensures.stopped)
 
 pub returns-in-Check-clause-done : goal.returns-in-Check-clause-done
 returns-in-Check-clause-done g c =

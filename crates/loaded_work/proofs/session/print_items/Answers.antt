@@ -1,74 +1,122 @@
-use Rattle.std.proofs.Common.{◌∙◌, ◌+◌, ap, arith, drop, map, refl, take}
+use Rattle.std.proofs.Common.{arith, refl, rules, subst, sym}
 use Rattle.std.proofs.lemmas.Result.{err_from_is_err_and}
+use Rattle.decision.specs.Programs.{Suits}
 use Rattle.desk_session.proofs.CallerLemmas.{stands_before}
+use Rattle.perm_base.specs.declared.shapes.Shapes.{Shapes}
 use Rattle.policy_state.specs.States.{tables}
 use Rattle.script_read.specs.Said.{seen}
-use Rattle.loaded_work.proofs.ItemLemmas.{named_at, seen_left, seen_parts, seen_whole, served_all, served_memory, served_moved, served_next, served_none, served_used, served_write, unserved_used}
+use Rattle.script_read.specs.Script.{BeginsWith, IsScript}
+use Rattle.loaded_work.proofs.ItemLemmas.{all_done, named_first, served_all, served_early, served_first, served_memory, served_next, served_none, served_on, served_used, served_write, unserved_used}
 use Rattle.loaded_work.proofs.session.print_items.Goals as goal
 
-pub loop-item-init : goal.loop-item-init
-loop-item-init g c =
-    served_none c.args.program.now c.args.desk.now.state.shapes (tables c.args.desk.now.state) c.args.desk.now _ _ (stands_before c.args.desk.now c.holds.ensures.desk c.requires.opening c.requires.none_pending c.requires.keeps_all) refl c.new-text.ensures.bytes refl refl refl
+pub loop-text-init : goal.loop-text-init
+loop-text-init g c = record {
+  served = λ items is.
+      served_first c.args.program.now c.args.desk.now.state.shapes (tables c.args.desk.now.state) c.args.json c.args.script.now items c.args.desk.now 0 _ _ is
+      (served_none c.args.program.now c.args.desk.now.state.shapes (tables c.args.desk.now.state) c.args.desk.now _ _ (stands_before c.args.desk.now c.holds.ensures.desk c.requires.opening c.requires.none_pending c.requires.keeps_all) refl c.new-text.ensures.bytes refl refl refl);
+  within = search rules;
+  utf8 = search rules;
+}
+
+pub next_item-requires-clause-checked : goal.next_item-requires-clause-checked
+next_item-requires-clause-checked g c =
+    let so = c.loop-text.invariant.served c.requires.checked.0 c.requires.checked.1 in
+    (so.left, so.says)
+
+-- memory ran out before an item was read
+pub returns-in_err-item-clause-stopped : goal.returns-in_err-item-clause-stopped
+returns-in_err-item-clause-stopped g c =
+    let p = err_from_is_err_and c.from_residual.result c.from_residual.ensures.1 in
+    let so = c.loop-text.invariant.served c.requires.checked.0 c.requires.checked.1 in
+    rw (p.1, p.2) (served_early c.args.program.now _ _ c.case_verdict_is_there.ensures (IsScript c.args.json c.args.script.now) so.done so.left c.requires.checked.0 c.requires.checked.1 _ _ _ _ so.parts so.served _)
+
+pub returns-in_err-item-clause-counted : goal.returns-in_err-item-clause-counted
+returns-in_err-item-clause-counted g c = (c.loop-text.invariant.served c.requires.checked.0 c.requires.checked.1).served.told.counted
+
+pub returns-in_err-item-clause-used : goal.returns-in_err-item-clause-used
+returns-in_err-item-clause-used g c = served_used c.args.program.now _ _ _ _ _ _ _ (c.loop-text.invariant.served c.requires.checked.0 c.requires.checked.1).served
+
+-- at an item
+pub push_item-requires-clause-suits : goal.push_item-requires-clause-suits
+push_item-requires-clause-suits g c = λ lifetimes outlive.
+    let so = c.loop-text.invariant.served c.requires.checked.0 c.requires.checked.1 in
+    subst (λ (s : Shapes). Suits c.args.program.now s) (sym so.served.under.shapes_are) c.requires.suits
 
 pub push_item-requires-clause-stands : goal.push_item-requires-clause-stands
-push_item-requires-clause-stands g c = λ lifetimes outlive. (tables c.args.desk.now.state, map seen (take c.loop-item.item-index c.as_slice-items.result.now), c.loop-item.invariant.under.behind)
+push_item-requires-clause-stands g c = λ lifetimes outlive.
+    let so = c.loop-text.invariant.served c.requires.checked.0 c.requires.checked.1 in
+    (tables c.args.desk.now.state, so.done, so.served.under.behind)
 
 pub push_item-requires-clause-has_name : goal.push_item-requires-clause-has_name
-push_item-requires-clause-has_name g c = λ lifetimes outlive. named_at c.as_slice-items.result.now c.args.script.now c.as_slice-items.ensures c.loop-item.item-index c.item-item.result c.loop-item-test.true c.item-item.is c.requires.have_names
+push_item-requires-clause-has_name g c = λ lifetimes outlive.
+    let so = c.loop-text.invariant.served c.requires.checked.0 c.requires.checked.1 in
+    let begins : BeginsWith c.args.json c.loop-text.at c.loop-text.rest.now (seen c.in-Some.item) c.in-Some.next c.in-Some.behind.now = rw c.in-Some.is at c.in_ok-item.ensures.first in
+    let first = begins so.left so.says in
+    named_first so.done so.left first.0 c.requires.checked.0 (seen c.in-Some.item) so.parts first.1 (c.items_are_named.ensures.script c.args.json c.args.script.now c.requires.checked.0 c.requires.checked.1)
 
 pub returns-in_err-push_item-clause-stopped : goal.returns-in_err-push_item-clause-stopped
 returns-in_err-push_item-clause-stopped g c =
-    let p = err_from_is_err_and c.from_residual.result c.from_residual.ensures.1 in
-    let items = c.as_slice-items.result.now in
-    let at = c.loop-item.item-index in
-    rw (p.1, p.2) (served_memory c.args.program.now _ _ c.case_verdict_is_there.ensures (map seen (take at items)) (map seen (drop at items)) (map seen c.args.script.now) _ _ _ _ (seen_parts items at ∙ ap (map seen) c.as_slice-items.ensures) c.loop-item.invariant
-    (seen c.item-item.result) _ _ _ (seen_left items at c.item-item.result c.loop-item-test.true c.item-item.is) c.in_err-push_item.ensures.refused)
+    let p = err_from_is_err_and c.from_residual-in_err-push_item.result c.from_residual-in_err-push_item.ensures.1 in
+    let so = c.loop-text.invariant.served c.requires.checked.0 c.requires.checked.1 in
+    let begins : BeginsWith c.args.json c.loop-text.at c.loop-text.rest.now (seen c.in-Some.item) c.in-Some.next c.in-Some.behind.now = rw c.in-Some.is at c.in_ok-item.ensures.first in
+    let first = begins so.left so.says in
+    rw (p.1, p.2) (served_memory c.args.program.now _ _ c.case_verdict_is_there.ensures (IsScript c.args.json c.args.script.now) so.done so.left c.requires.checked.0 c.requires.checked.1 _ _ _ _ so.parts so.served (seen c.in-Some.item) first.0 _ _ first.1 c.in_err-push_item.ensures.refused)
 
 pub returns-in_err-push_item-clause-counted : goal.returns-in_err-push_item-clause-counted
-returns-in_err-push_item-clause-counted g c = c.loop-item.invariant.told.counted
+returns-in_err-push_item-clause-counted g c = (c.loop-text.invariant.served c.requires.checked.0 c.requires.checked.1).served.told.counted
 
 pub returns-in_err-push_item-clause-used : goal.returns-in_err-push_item-clause-used
-returns-in_err-push_item-clause-used g c = unserved_used c.args.program.now _ _ _ (seen c.item-item.result) _ _ _ _ _ c.loop-item.invariant c.in_err-push_item.ensures.refused
+returns-in_err-push_item-clause-used g c = unserved_used c.args.program.now _ _ _ (seen c.in-Some.item) _ _ _ _ _ (c.loop-text.invariant.served c.requires.checked.0 c.requires.checked.1).served c.in_err-push_item.ensures.refused
 
+-- behind it
 pub returns-in_err-push_full-clause-stopped : goal.returns-in_err-push_full-clause-stopped
 returns-in_err-push_full-clause-stopped g c =
     let p = err_from_is_err_and c.from_residual-in_err-push_full.result c.from_residual-in_err-push_full.ensures.1 in
-    let items = c.as_slice-items.result.now in
-    let at = c.loop-item.item-index in
-    let next = served_next c.args.program.now _ _ items at c.item-item.result _ _ _ _ _ _ _ _ c.loop-item-test.true c.item-item.is c.loop-item.invariant c.next_number-number.ensures c.in_ok-push_item.ensures.pushed c.push_item.ensures.shapes in
-    rw (p.1, p.2) (served_write c.args.program.now _ _ c.case_verdict_is_there.ensures _ _ (map seen c.args.script.now) _ _ _ _ (seen_parts items (at + 1) ∙ ap (map seen) c.as_slice-items.ensures) next _ _ c.in_err-push_full.ensures.stopped c.in_err-push_full.ensures.failed)
+    let begins : BeginsWith c.args.json c.loop-text.at c.loop-text.rest.now (seen c.in-Some.item) c.in-Some.next c.in-Some.behind.now = rw c.in-Some.is at c.in_ok-item.ensures.first in
+    let next = served_next c.args.program.now _ _ c.args.json c.requires.checked.0 c.loop-text.at c.loop-text.rest.now (seen c.in-Some.item) c.in-Some.next c.in-Some.behind.now _ _ _ _ _ _ _ _ (c.loop-text.invariant.served c.requires.checked.0 c.requires.checked.1) begins c.next_number-number.ensures
+    c.in_ok-push_item.ensures.pushed c.push_item.ensures.shapes in
+    rw (p.1, p.2) (served_write c.args.program.now _ _ c.case_verdict_is_there.ensures (IsScript c.args.json c.args.script.now) next.done next.left c.requires.checked.0 c.requires.checked.1 _ _ _ _ next.parts next.served _ _ c.in_err-push_full.ensures.stopped c.in_err-push_full.ensures.failed)
 
 pub returns-in_err-push_full-clause-counted : goal.returns-in_err-push_full-clause-counted
-returns-in_err-push_full-clause-counted g c = omega (arith, c.loop-item.invariant.told.counted, c.push_full.ensures.counted)
+returns-in_err-push_full-clause-counted g c = omega (arith, (c.loop-text.invariant.served c.requires.checked.0 c.requires.checked.1).served.told.counted, c.push_full.ensures.counted)
 
 pub returns-in_err-push_full-clause-used : goal.returns-in_err-push_full-clause-used
-returns-in_err-push_full-clause-used g c = unserved_used c.args.program.now _ _ _ (seen c.item-item.result) _ _ _ _ _ c.loop-item.invariant c.in_ok-push_item.ensures.pushed.step.asked
+returns-in_err-push_full-clause-used g c = unserved_used c.args.program.now _ _ _ (seen c.in-Some.item) _ _ _ _ _ (c.loop-text.invariant.served c.requires.checked.0 c.requires.checked.1).served c.in_ok-push_item.ensures.pushed.step.asked
 
-pub loop-item-preserved : goal.loop-item-preserved
-loop-item-preserved g c =
-    let items = c.as_slice-items.result.now in
-    let at = c.loop-item.item-index in
-    let next = served_next c.args.program.now _ _ items at c.item-item.result _ _ _ _ _ _ _ _ c.loop-item-test.true c.item-item.is c.loop-item.invariant c.next_number-number.ensures c.in_ok-push_item.ensures.pushed c.push_item.ensures.shapes in
-    served_moved c.args.program.now _ _ _ _ _ _ _ _ _ _ next c.in_ok-push_full.ensures.moved c.push_full.ensures.counted
+pub loop-text-preserved : goal.loop-text-preserved
+loop-text-preserved g c =
+    let begins : BeginsWith c.args.json c.loop-text.at c.loop-text.rest.now (seen c.in-Some.item) c.in-Some.next c.in-Some.behind.now = rw c.in-Some.is at c.in_ok-item.ensures.first in
+    let within = rw c.in-Some.is at c.in_ok-item.ensures.within in
+    record {
+      served = λ items is.
+          let next = served_next c.args.program.now _ _ c.args.json items c.loop-text.at c.loop-text.rest.now (seen c.in-Some.item) c.in-Some.next c.in-Some.behind.now _ _ _ _ _ _ _ _ (c.loop-text.invariant.served items is) begins c.next_number-number.ensures
+          c.in_ok-push_item.ensures.pushed c.push_item.ensures.shapes in
+          served_on c.args.program.now _ _ c.args.json items _ _ _ _ _ _ _ _ _ next c.in_ok-push_full.ensures.moved c.push_full.ensures.counted;
+      within = omega (arith, within, c.loop-text.invariant.within);
+      utf8 = search rules;
+    }
 
+-- behind all items
 pub returns-in_err-push_all-clause-stopped : goal.returns-in_err-push_all-clause-stopped
 returns-in_err-push_all-clause-stopped g c =
     let p = err_from_is_err_and c.from_residual-in_err-push_all.result c.from_residual-in_err-push_all.ensures.1 in
-    let items = c.as_slice-items.result.now in
-    rw (p.1, p.2) (served_write c.args.program.now _ _ c.case_verdict_is_there.ensures _ _ (map seen c.args.script.now) _ _ _ _ (seen_parts items c.loop-item.item-index ∙ ap (map seen) c.as_slice-items.ensures) c.loop-item.invariant _ _ (rw c.as_bytes.ensures.value at c.in_err-push_all.ensures.stopped) c.in_err-push_all.ensures.failed)
+    let so = c.loop-text.invariant.served c.requires.checked.0 c.requires.checked.1 in
+    rw (p.1, p.2) (served_write c.args.program.now _ _ c.case_verdict_is_there.ensures (IsScript c.args.json c.args.script.now) so.done so.left c.requires.checked.0 c.requires.checked.1 _ _ _ _ so.parts so.served _ _ (rw c.as_bytes.ensures.value at c.in_err-push_all.ensures.stopped) c.in_err-push_all.ensures.failed)
 
 pub returns-in_err-push_all-clause-counted : goal.returns-in_err-push_all-clause-counted
-returns-in_err-push_all-clause-counted g c = omega (arith, c.loop-item.invariant.told.counted, c.push_all.ensures.counted)
+returns-in_err-push_all-clause-counted g c = omega (arith, (c.loop-text.invariant.served c.requires.checked.0 c.requires.checked.1).served.told.counted, c.push_all.ensures.counted)
 
 pub returns-in_err-push_all-clause-used : goal.returns-in_err-push_all-clause-used
-returns-in_err-push_all-clause-used g c = served_used c.args.program.now _ _ _ _ _ _ _ c.loop-item.invariant
+returns-in_err-push_all-clause-used g c = served_used c.args.program.now _ _ _ _ _ _ _ (c.loop-text.invariant.served c.requires.checked.0 c.requires.checked.1).served
 
 pub returns-clause-printed : goal.returns-clause-printed
 returns-clause-printed g c =
-    served_all c.args.program.now _ _ _ (map seen c.args.script.now) _ _ _ _ _ (seen_whole c.as_slice-items.result.now c.loop-item.item-index c.loop-item-test.false ∙ ap (map seen) c.as_slice-items.ensures) c.loop-item.invariant (rw c.as_bytes.ensures.value at c.in_ok-push_all.ensures.took)
+    let so = c.loop-text.invariant.served c.requires.checked.0 c.requires.checked.1 in
+    let none = (rw c.in_default.is at c.in_ok-item.ensures.none) so.left so.says in
+    served_all c.args.program.now _ _ (IsScript c.args.json c.args.script.now) so.done c.requires.checked.0 c.requires.checked.1 _ _ _ _ _ (all_done so.done so.left c.requires.checked.0 so.parts none) so.served (rw c.as_bytes.ensures.value at c.in_ok-push_all.ensures.took)
 
 pub returns-clause-counted : goal.returns-clause-counted
-returns-clause-counted g c = omega (arith, c.loop-item.invariant.told.counted, c.push_all.ensures.counted)
+returns-clause-counted g c = omega (arith, (c.loop-text.invariant.served c.requires.checked.0 c.requires.checked.1).served.told.counted, c.push_all.ensures.counted)
 
 pub returns-clause-used : goal.returns-clause-used
-returns-clause-used g c = served_used c.args.program.now _ _ _ _ _ _ _ c.loop-item.invariant
+returns-clause-used g c = served_used c.args.program.now _ _ _ _ _ _ _ (c.loop-text.invariant.served c.requires.checked.0 c.requires.checked.1).served
