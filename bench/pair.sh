@@ -116,7 +116,7 @@ PYTHON
 [ "$part" = entries ] || requests "${2:-120000}"
 [ "$part" != requests ] || exit 0
 
-make_program pair_costs edit_calls live_pair perm_base policy_desk policy_index policy_state policy_table
+make_program pair_costs edit_calls live_pair outside perm_base policy_desk policy_index policy_state policy_table
 mkdir -p "$program/proofs/pairs/measured"
 cat > "$program/src/main.rt" <<'RATTLE'
 //! Prints what entering a seat and leaving it costs, as ratios of times of one run.
@@ -161,7 +161,8 @@ ghost use Rattle.std.specs.Prelude.{◌≡◌, [], IfOk, false};
 ghost use Rattle.policy_state.specs.States.{StandsFor};
 ghost use Rattle.policy_table.specs.Tables.{without_rules};
 
-use perm_base::{NoMemory, RoleShapes, Shapes};
+use outside::NoMemory;
+use perm_base::{RoleShapes, Shapes};
 use policy_desk::{Desk, open_desk};
 use policy_index::RowKey;
 use policy_state::make_state;
@@ -197,7 +198,7 @@ use crate::desks::desk;
 use crate::edits::edits_until;
 use crate::entries::{ENTRIES, all_enter};
 use anyhow::{Result, bail};
-use live_pair::{Admin, Naming, Opened, PairPlaces, Seat, open_pair};
+use live_pair::{Admin, Naming, OpenedBook, PairPlaces, Seat, open_pair};
 use policy_desk::Desk;
 use std::alloc::Global;
 use std::marker::Brand;
@@ -225,7 +226,7 @@ pub fn measured<R: Clock + Threads + Wait + Sync>(
     let Ok(desk) = desk(alloc) else {
         bail!("no memory");
     };
-    match measured_over::<Brand, R>(rt, alloc, Opened::new(), desk, threads, is_edited) {
+    match measured_over::<Brand, R>(rt, alloc, OpenedBook::new(), desk, threads, is_edited) {
         Some(took) => Ok(took),
         None => bail!("a seat is missing, an entry or an edit is refused, or there is no memory or clock"),
     }
@@ -234,7 +235,7 @@ pub fn measured<R: Clock + Threads + Wait + Sync>(
 fn measured_over<J: Naming + Send + Sync, R: Clock + Threads + Wait + Sync>(
     rt: &R,
     alloc: Global,
-    opened: Opened,
+    opened: OpenedBook,
     desk: Desk,
     threads: u8,
     is_edited: bool,
@@ -380,7 +381,8 @@ cat > "$program/src/edits.rt" <<'RATTLE'
 
 use edit_calls::Call;
 use live_pair::{Admin, Naming};
-use perm_base::{NoMemory, Rule, TableId, Text};
+use outside::{NoMemory, Text};
+use perm_base::{Rule, TableId};
 use std::alloc::Global;
 use std::sync::{Mutex, Wait};
 
