@@ -119,11 +119,14 @@ none_known shapes policy known call none = subst (λ (k : KnownPlaces). AreKnown
     by (DeleteUser name) = (tt, tt)
     by (DeleteRole name) = (tt, tt)
 
+no_changes : (edits : List (List Change)) → length edits ≡ 0 → edits ≡ []
+no_changes [] none = refl
+no_changes (edit ∷ edits) none = absurd (omega (arith, none))
+
 -- where none is told, there are no edits
 pub no_edits : (edits : List (List Change)) (told : Bool) → told ≡ (length edits == 0) → not told ≡ false → edits ≡ []
-no_edits [] told is some = refl
-no_edits (edit ∷ edits) true is some = absurd (true≢false is)
-no_edits (edit ∷ edits) false is some = absurd (true≢false some)
+no_edits edits true is some = no_changes edits (eqb-true (length edits) 0 (sym is))
+no_edits edits false is some = absurd (true≢false some)
 
 -- ---- edits that are made
 

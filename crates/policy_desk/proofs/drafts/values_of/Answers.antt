@@ -2,5 +2,5 @@ use Rattle.std.proofs.Common.{◌∷◌, ◌++◌, ◌∙◌, [], List, ℕ, ap,
 use Rattle.policy_desk.specs.Helps.Asked.{asked_values}
 use Rattle.policy_desk.proofs.drafts.values_of.Goals as goal
 
-pub returns-in_default-domain : goal.returns-in_default-domain
-returns-in_default-domain c = c.in_ok-values.ensures ∙ ap (asked_values c.args.role.now) (sym c.in_default-domain.is)
+pub returns-in_default : goal.returns-in_default
+returns-in_default c = c.in_ok-values.ensures ∙ ap (asked_values c.args.role.now) (sym c.in_default.is)

@@ -33,12 +33,12 @@ returns-in_err-push_role-clause-stop c =
     let run = c.run_at-run.result in
     let fault = c.in_err-push_role.field-0.0 in
     let within : c.loop-at.at < length names = search rules in
-    let read : c.name-item.result ≡ get_or names c.loop-at.at c.name-item.result = search rules in
-    let is : (rows : List Fields) → IsSectionOf c.args.section.now rows → AreInOrder shape rows subject names → IsFar shape rows (asked shape domain) user c.name-item.result run.links
-    = λ rows of ordered. as_far_here shape rows subject names c.loop-at.at run.end run.links c.name-item.result (c.run_at-run.ensures.far rows of ordered (c.loop-at.invariant.known rows of ordered)) c.run_at-run.ensures.end within read in
+    let read : c.index-names-at.result ≡ get_or names c.loop-at.at c.index-names-at.result = search rules in
+    let is : (rows : List Fields) → IsSectionOf c.args.section.now rows → AreInOrder shape rows subject names → IsFar shape rows (asked shape domain) user c.index-names-at.result run.links
+    = λ rows of ordered. as_far_here shape rows subject names c.loop-at.at run.end run.links c.index-names-at.result (c.run_at-run.ensures.far rows of ordered (c.loop-at.invariant.known rows of ordered)) c.run_at-run.ensures.end within read in
     let stop : c.from_residual.result ≡ Err fault = search rules in
     rw stop
-    (λ rows of ordered. roles_stop shape rows subject names c.loop-at.at c.name-item.result run.links within read (is rows of ordered) c.args.text.now.items text (c.loop-at.invariant.adds rows of ordered) c.args.most fault
+    (λ rows of ordered. roles_stop shape rows subject names c.loop-at.at c.index-names-at.result run.links within read (is rows of ordered) c.args.text.now.items text (c.loop-at.invariant.adds rows of ordered) c.args.most fault
     (subst (λ (n : List ℕ). IsStop c.args.most (text ++ row_text default_writer (role_record user domain n run.links)) fault) c.as_str.ensures c.in_err-push_role.ensures.stop))
 
 pub loop-at-preserved : goal.loop-at-preserved
@@ -51,11 +51,11 @@ loop-at-preserved c =
     let text = c.loop-at.text.items in
     let run = c.run_at-run.result in
     let within : c.loop-at.at < length names = search rules in
-    let read : c.name-item.result ≡ get_or names c.loop-at.at c.name-item.result = search rules in
-    let is : (rows : List Fields) → IsSectionOf c.args.section.now rows → AreInOrder shape rows subject names → IsFar shape rows (asked shape domain) user c.name-item.result run.links
-    = λ rows of ordered. as_far_here shape rows subject names c.loop-at.at run.end run.links c.name-item.result (c.run_at-run.ensures.far rows of ordered (c.loop-at.invariant.known rows of ordered)) c.run_at-run.ensures.end within read in
+    let read : c.index-names-at.result ≡ get_or names c.loop-at.at c.index-names-at.result = search rules in
+    let is : (rows : List Fields) → IsSectionOf c.args.section.now rows → AreInOrder shape rows subject names → IsFar shape rows (asked shape domain) user c.index-names-at.result run.links
+    = λ rows of ordered. as_far_here shape rows subject names c.loop-at.at run.end run.links c.index-names-at.result (c.run_at-run.ensures.far rows of ordered (c.loop-at.invariant.known rows of ordered)) c.run_at-run.ensures.end within read in
     record {
-      adds = λ rows of ordered. roles_more shape rows subject names c.loop-at.at c.name-item.result run.links within read (is rows of ordered) c.args.text.now.items text (c.loop-at.invariant.adds rows of ordered) c.push_role.new.text.items
+      adds = λ rows of ordered. roles_more shape rows subject names c.loop-at.at c.index-names-at.result run.links within read (is rows of ordered) c.args.text.now.items text (c.loop-at.invariant.adds rows of ordered) c.push_role.new.text.items
           (subst (λ (n : List ℕ). c.push_role.new.text.items ≡ text ++ row_text default_writer (role_record user domain n run.links)) c.as_str.ensures c.in_ok-push_role.ensures.took);
       within = c.in_ok-push_role.ensures.within;
       known = λ rows of ordered. as_far_behind shape rows subject names c.loop-at.at run.end run.links (c.run_at-run.ensures.far rows of ordered (c.loop-at.invariant.known rows of ordered));
