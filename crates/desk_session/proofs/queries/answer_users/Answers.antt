@@ -1,7 +1,7 @@
 use Rattle.std.proofs.Common.{◌≡◌, ◌∙◌, Err, Ok, ap, refl, subst, sym}
 use Rattle.std.proofs.lemmas.Result.{IfOk-weaker}
 use Rattle.answer_lines.specs.declared.answer.Answer.{Answer}
-use Rattle.answer_lines.specs.declared.answer.Answer.TheVariants.{Users}
+use Rattle.answer_lines.specs.declared.answer.Answer.TheVariants as answer
 use Rattle.policy_desk.specs.Desks.{Work}
 use Rattle.policy_query.specs.Names.{users_answer}
 use Rattle.policy_state.specs.States.{State, tables}
@@ -18,6 +18,7 @@ returns-in-Ok-clause-step g c =
     let a = c.args in
     let reply = Users c.version-version.result c.in-Ok.names in
     let state_is : c.state.result.now ≡ (work a.editor.now).state = c.state.ensures.state ∙ ap (λ (d : Work). d.state) c.desk.ensures.desk in
+    let reply : Answer = answer.Users c.version-version.result c.in-Ok.names in
     subst (λ (d : Work). IsPlainStep (users a.relation a.name.now a.domain.now) (work a.editor.now) d reply) (sym c.in-Ok.ensures.same)
     (users_step (work a.editor.now) c.state.result.now state_is c.version-version.result c.version-version.ensures.value a.relation a.name.now a.name.now a.domain.now a.domain.now refl refl (Ok c.in-Ok.names)
     ((λ j. users_answer (state_is j).shapes (tables (state_is j)) a.relation a.name.now a.domain.now) ∙ c.in-Ok.ensures.answer) reply refl)
