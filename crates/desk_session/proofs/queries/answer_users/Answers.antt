@@ -16,7 +16,6 @@ pub returns-in-Ok-clause-step : goal.returns-in-Ok-clause-step
 returns-in-Ok-clause-step g c =
     let work = g.E.Editor.work in
     let a = c.args in
-    let reply = Users c.version-version.result c.in-Ok.names in
     let state_is : c.state.result.now ≡ (work a.editor.now).state = c.state.ensures.state ∙ ap (λ (d : Work). d.state) c.desk.ensures.desk in
     let reply : Answer = answer.Users c.version-version.result c.in-Ok.names in
     subst (λ (d : Work). IsPlainStep (users a.relation a.name.now a.domain.now) (work a.editor.now) d reply) (sym c.in-Ok.ensures.same)
