@@ -102,6 +102,7 @@ fn print_items<K: Sink, P: Finder>(
             &mut scratch,
         )?;
         push_full(out, &mut text)?;
+        drop(item);
         at = next;
         rest = behind;
     }
