@@ -1,2 +1,3 @@
 -- What only private functions and proofs say.
 pub mod Sessions
+pub mod Tallies

@@ -28,8 +28,12 @@ with_answer counts (Truth changed) = with_truth counts changed
 with_answer counts (Published version) = record counts { version = version }
 with_answer counts _ = counts
 
+-- lines behind others, and all
+abbrev pub counted_behind : Counts → List Line → Counts
+counted_behind counts lines = fold (λ (so_far : Counts) (line : Line). with_answer so_far line.answer) counts lines
+
 abbrev pub counted : List Line → Counts
-counted lines = fold (λ (counts : Counts) (line : Line). with_answer counts line.answer) none_counted lines
+counted lines = counted_behind none_counted lines
 
 -- the line that tells them: which demonstration it is and how many items it has, the verdicts, and the calls and the last version
 abbrev pub head_text : (count items : ℕ) → List ℕ
@@ -41,5 +45,8 @@ verdicts_text counts = codes ", allow " ++ decimal counts.allow ++ codes ", deny
 abbrev pub truths_text : Counts → List ℕ
 truths_text counts = codes ", true " ++ decimal counts.yes ++ codes ", false " ++ decimal counts.no ++ codes ", version " ++ decimal counts.version ++ codes "\n"
 
+abbrev pub tally_text : (count items : ℕ) → Counts → List ℕ
+tally_text count items counts = head_text count items ++ verdicts_text counts ++ truths_text counts
+
 abbrev pub summary : ℕ → List Line → List ℕ
-summary count lines = head_text count (length lines) ++ verdicts_text (counted lines) ++ truths_text (counted lines)
+summary count lines = tally_text count (length lines) (counted lines)

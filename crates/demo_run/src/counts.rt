@@ -1,6 +1,7 @@
-ghost use Rattle.std.specs.Prelude.{◌≡◌, ◌+◌, ◌<◌, ◌^◌, ◌++◌, IfOk, OnOk, decimal, string_bytes};
+ghost use Rattle.std.specs.Prelude.{◌≡◌, ◌+◌, ◌++◌, IfOk, OnOk, decimal, string_bytes};
 ghost use Rattle.answer_lines.specs.LineText.{Appends};
-ghost use Rattle.demo_run.specs.Summary.{counted, head_text, summary, truths_text, verdicts_text, with_answer, with_truth, with_verdict};
+ghost use Rattle.demo_run.specs.Helps.Tallies.{IsTallied};
+ghost use Rattle.demo_run.specs.Summary.{counted_behind, head_text, none_counted, tally_text, truths_text, verdicts_text, with_answer, with_truth, with_verdict};
 
 use answer_lines::{Answer, Line};
 use effect_fold::Verdict;
@@ -19,15 +20,65 @@ pub struct Counts {
     pub version: u64,
 }
 
-/// The summary of lines.
-pub(crate) fn summary(alloc: Global, count: u64, lines: &[Line]) -> Result<String, NoMemory>
-    ensures { IfOk result (λ text. string_bytes text ≡ summary count lines.now) }
+/// Lines that were counted: how many there are, and of which kinds.
+#[derive(Clone, Copy, Debug, PartialEq, Eq)]
+pub struct Tally {
+    pub items: u64,
+    pub counts: Counts,
+}
+
+impl Tally {
+    /// Before the first line.
+    pub(crate) fn none() -> Tally
+        ensures items { result.items ≡ 0 }
+        ensures counts { result.counts ≡ none_counted }
+    {
+        Tally {
+            items: 0,
+            counts: Counts {
+                allow: 0,
+                deny: 0,
+                fault: 0,
+                yes: 0,
+                no: 0,
+                version: 0,
+            },
+        }
+    }
+}
+
+/// Counts lines behind others. More than 2^64 - 1 are for want of memory.
+pub(crate) fn count_lines(tally: &mut Tally, lines: &[Line]) -> Result<(), NoMemory>
+    ensures { OnOk result (IsTallied tally.old lines.now tally.new) }
 {
-    let counts = count_lines(lines);
+    let Some(items) = tally.items.checked_add(lines.len() as u64) else {
+        return Err(NoMemory);
+    };
+    let counts = with_lines(tally.counts, lines)?;
+    tally.items = items;
+    tally.counts = counts;
+    Ok(())
+}
+
+// Lines more.
+fn with_lines(counts: Counts, lines: &[Line]) -> Result<Counts, NoMemory>
+    ensures { IfOk result (λ all. all ≡ counted_behind counts lines.now) }
+{
+    let mut all = counts;
+    for line in lines {
+        all = with_answer(all, &line.answer)?;
+    }
+    Ok(all)
+}
+
+/// The summary of lines that were counted.
+pub(crate) fn summary(alloc: Global, count: u64, tally: Tally) -> Result<String, NoMemory>
+    ensures { IfOk result (λ text. string_bytes text ≡ tally_text count tally.items tally.counts) }
+{
     let mut text = String::new(alloc);
-    push_head(&mut text, count, lines.len() as u64)?;
-    push_verdicts(&mut text, counts)?;
-    push_truths(&mut text, counts)?;
+    push_head(&mut text, count, tally.items)?;
+    push_verdicts(&mut text, tally.counts)?;
+    push_truths(&mut text, tally.counts)?;
     Ok(text)
 }
 
@@ -76,48 +127,21 @@ fn push_number(text: &mut String, number: u64) -> Result<(), NoMemory>
     Ok(())
 }
 
-// Counts lines.
-fn count_lines(lines: &[Line]) -> Counts
-    ensures { result ≡ counted lines.now }
-{
-    prove!(lines.len() <= usize::MAX);
-    let mut counts = Counts {
-        allow: 0,
-        deny: 0,
-        fault: 0,
-        yes: 0,
-        no: 0,
-        version: 0,
-    };
-    for line in lines {
-        counts = with_answer(counts, &line.answer);
-    }
-    counts
-}
-
 // One answer more.
-fn with_answer(counts: Counts, answer: &Answer) -> Counts
-    requires allow { counts.allow + 1 < 2 ^ 64 }
-    requires deny { counts.deny + 1 < 2 ^ 64 }
-    requires fault { counts.fault + 1 < 2 ^ 64 }
-    requires yes { counts.yes + 1 < 2 ^ 64 }
-    requires no { counts.no + 1 < 2 ^ 64 }
-    ensures { result ≡ with_answer counts answer.now }
+fn with_answer(counts: Counts, answer: &Answer) -> Result<Counts, NoMemory>
+    ensures { IfOk result (λ more. more ≡ with_answer counts answer.now) }
 {
     match answer {
         Answer::Decided { verdict, .. } => with_verdict(counts, *verdict),
         Answer::Truth(changed) => with_truth(counts, *changed),
-        Answer::Published(version) => with_version(counts, *version),
-        _ => counts,
+        Answer::Published(version) => Ok(with_version(counts, *version)),
+        _ => Ok(counts),
     }
 }
 
 // One verdict more.
-fn with_verdict(counts: Counts, verdict: Verdict) -> Counts
-    requires allow { counts.allow + 1 < 2 ^ 64 }
-    requires deny { counts.deny + 1 < 2 ^ 64 }
-    requires fault { counts.fault + 1 < 2 ^ 64 }
-    ensures { result ≡ with_verdict counts verdict }
+fn with_verdict(counts: Counts, verdict: Verdict) -> Result<Counts, NoMemory>
+    ensures { IfOk result (λ more. more ≡ with_verdict counts verdict) }
 {
     match verdict {
         Verdict::Allow(_) => with_allow(counts),
@@ -127,10 +151,8 @@ fn with_verdict(counts: Counts, verdict: Verdict) -> Counts
 }
 
 // One call more, by whether it changed the policy.
-fn with_truth(counts: Counts, changed: bool) -> Counts
-    requires yes { counts.yes + 1 < 2 ^ 64 }
-    requires no { counts.no + 1 < 2 ^ 64 }
-    ensures { result ≡ with_truth counts changed }
+fn with_truth(counts: Counts, changed: bool) -> Result<Counts, NoMemory>
+    ensures { IfOk result (λ more. more ≡ with_truth counts changed) }
 {
     if changed {
         return with_yes(counts);
@@ -138,49 +160,44 @@ fn with_truth(counts: Counts, changed: bool) -> Counts
     with_no(counts)
 }
 
-fn with_allow(counts: Counts) -> Counts
-    requires { counts.allow + 1 < 2 ^ 64 }
-    ensures { result ≡ record counts { allow = counts.allow + 1 } }
+fn with_allow(counts: Counts) -> Result<Counts, NoMemory>
+    ensures { IfOk result (λ more. more ≡ record counts { allow = counts.allow + 1 }) }
 {
     let mut more = counts;
-    more.allow += 1;
-    more
+    more.allow = one_more(counts.allow)?;
+    Ok(more)
 }
 
-fn with_deny(counts: Counts) -> Counts
-    requires { counts.deny + 1 < 2 ^ 64 }
-    ensures { result ≡ record counts { deny = counts.deny + 1 } }
+fn with_deny(counts: Counts) -> Result<Counts, NoMemory>
+    ensures { IfOk result (λ more. more ≡ record counts { deny = counts.deny + 1 }) }
 {
     let mut more = counts;
-    more.deny += 1;
-    more
+    more.deny = one_more(counts.deny)?;
+    Ok(more)
 }
 
-fn with_fault(counts: Counts) -> Counts
-    requires { counts.fault + 1 < 2 ^ 64 }
-    ensures { result ≡ record counts { fault = counts.fault + 1 } }
+fn with_fault(counts: Counts) -> Result<Counts, NoMemory>
+    ensures { IfOk result (λ more. more ≡ record counts { fault = counts.fault + 1 }) }
 {
     let mut more = counts;
-    more.fault += 1;
-    more
+    more.fault = one_more(counts.fault)?;
+    Ok(more)
 }
 
-fn with_yes(counts: Counts) -> Counts
-    requires { counts.yes + 1 < 2 ^ 64 }
-    ensures { result ≡ record counts { yes = counts.yes + 1 } }
+fn with_yes(counts: Counts) -> Result<Counts, NoMemory>
+    ensures { IfOk result (λ more. more ≡ record counts { yes = counts.yes + 1 }) }
 {
     let mut more = counts;
-    more.yes += 1;
-    more
+    more.yes = one_more(counts.yes)?;
+    Ok(more)
 }
 
-fn with_no(counts: Counts) -> Counts
-    requires { counts.no + 1 < 2 ^ 64 }
-    ensures { result ≡ record counts { no = counts.no + 1 } }
+fn with_no(counts: Counts) -> Result<Counts, NoMemory>
+    ensures { IfOk result (λ more. more ≡ record counts { no = counts.no + 1 }) }
 {
     let mut more = counts;
-    more.no += 1;
-    more
+    more.no = one_more(counts.no)?;
+    Ok(more)
 }
 
 fn with_version(counts: Counts, version: u32) -> Counts
@@ -189,4 +206,14 @@ fn with_version(counts: Counts, version: u32) -> Counts
     let mut more = counts;
     more.version = u64::from(version);
     more
+}
+
+// The next number.
+fn one_more(number: u64) -> Result<u64, NoMemory>
+    ensures { IfOk result (λ more. more ≡ number + 1) }
+{
+    let Some(more) = number.checked_add(1) else {
+        return Err(NoMemory);
+    };
+    Ok(more)
 }

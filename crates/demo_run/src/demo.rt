@@ -1,9 +1,9 @@
-ghost use Rattle.std.specs.Prelude.{◌≡◌, ◌≤◌, [], IfOk, None, drop, false, length, map, string_bytes};
+ghost use Rattle.std.specs.Prelude.{◌≡◌, ◌≤◌, [], IfOk, List, None, drop, false, length, map, string_bytes};
 ghost use Rattle.std.specs.List.{AllZip};
 ghost use Rattle.decision.specs.Programs.{Suits};
 ghost use Rattle.demo_run.specs.Demo.{IsDemo};
 ghost use Rattle.demo_run.specs.DemoTexts.{model_text, policy_text, script_text};
-ghost use Rattle.demo_run.specs.Helps.Sessions.{HasLines, IsFirstDesk, IsSession};
+ghost use Rattle.demo_run.specs.Helps.Sessions.{HasTally, IsFirstDesk, IsSession};
 ghost use Rattle.model_conf.specs.ModelText.{IsModel};
 ghost use Rattle.model_conf.specs.Shapes.{shapes_of};
 ghost use Rattle.perm_base.specs.Shapes.{AreValid};
@@ -11,16 +11,16 @@ ghost use Rattle.policy_csv.specs.Policy.{IsPolicy};
 ghost use Rattle.policy_state.specs.States.{tables};
 ghost use Rattle.policy_table.specs.Limits.{AreSound};
 ghost use Rattle.regex_gate.specs.Refusals.{IsUsed};
-ghost use Rattle.script_read.specs.Said.{seen};
+ghost use Rattle.script_read.specs.Said.{Said};
 ghost use Rattle.script_read.specs.Script.{IsScript};
 ghost use Rattle.version_log.specs.Log.{versions};
 
-use crate::counts::summary;
+use crate::counts::{Tally, count_lines, summary};
 use crate::texts::{MODEL, policy_text, script_text};
 use decision::{Program, make_program};
-use desk_session::{Lines, run_plain};
+use desk_session::{Line, run_plain};
 use live_pair::Places;
-use live_rounds::{Gate, run_shared};
+use live_rounds::{Gate, TakeStop, Taker, run_shared};
 use model_conf::{Model, read_model, shapes_of};
 use outside::NoMemory;
 use perm_base::Shapes;
@@ -29,7 +29,7 @@ use policy_desk::{Desk, open_desk};
 use policy_state::make_state;
 use policy_table::Tables;
 use regex_gate::Finder;
-use script_read::{Script, read_script};
+use script_read::{check_script, read_script};
 use std::alloc::Global;
 use std::sync::Wait;
 use std::thread::Threads;
@@ -37,12 +37,12 @@ use std::thread::Threads;
 // The greatest number of links.
 const MOST_LINKS: u8 = 10;
 
-// A session before its first item.
+// A session before its first item, with the text of its script.
 #[derive(Drop)]
 struct Session {
     program: Program,
     desk: Desk,
-    script: Script,
+    script: String,
 }
 
 /// The summary of the demonstration's session with so many permissions and users, done on one thread or with workers. Refused
@@ -65,12 +65,12 @@ pub fn summarize<R: Threads + Wait + Sync, P: Finder, G: Gate, H: Places>(
     ensures counted { H.faults places.old ≤ H.faults places.new }
 {
     let session = open_session(alloc, count)?;
-    let lines = lines_of(rt, alloc, session, workers, finders, gate, places)?;
-    summary(alloc, u64::from(count), lines.as_slice())
+    let tally = tally_of(rt, alloc, session, workers, finders, gate, places)?;
+    summary(alloc, u64::from(count), tally)
 }
 
-// The lines of a session.
-fn lines_of<R: Threads + Wait + Sync, P: Finder, G: Gate, H: Places>(
+// The lines of a session, counted.
+fn tally_of<R: Threads + Wait + Sync, P: Finder, G: Gate, H: Places>(
     rt: &R,
     alloc: Global,
     session: Session,
@@ -78,15 +78,16 @@ fn lines_of<R: Threads + Wait + Sync, P: Finder, G: Gate, H: Places>(
     finders: &mut Vec<P>,
     gate: &G,
     places: &mut H,
-) -> Result<Lines, NoMemory>
+) -> Result<Tally, NoMemory>
     requires suits { Suits session.program session.desk.state.shapes }
     requires opening { versions session.desk.state.log ≡ 0 }
     requires none_pending { session.desk.pending ≡ [] }
     requires keeps_all { session.desk.kept ≡ None }
     requires few { workers ≤ 8 }
     requires nine { length finders.old.items ≡ 9 }
-    ensures lines { IfOk result (HasLines workers
-        session.program session.desk.state.shapes (tables session.desk.state) session.script) }
+    requires checked { (items : List Said) × IsScript false (string_bytes session.script) items }
+    ensures lines { IfOk result (HasTally workers session.program session.desk.state.shapes
+        (tables session.desk.state) (string_bytes session.script)) }
     ensures used { AllZip IsUsed (map P.refusals finders.old.items)
         (map P.refusals finders.new.items) }
     ensures alone { workers ≡ 0 → drop 1 finders.new.items ≡ drop 1 finders.old.items }
@@ -97,19 +98,71 @@ fn lines_of<R: Threads + Wait + Sync, P: Finder, G: Gate, H: Places>(
         desk,
         script,
     } = session;
+    let text = script.as_str();
     if workers == 0 {
-        let mut desk = desk;
-        return run_plain(alloc, &mut desk, &program, &script, &mut finders[0]);
+        return plain_tally(alloc, desk, &program, text, &mut finders[0]);
     }
-    run_shared(
-        rt, alloc, desk, &program, &script, workers, finders, gate, places,
-    )
+    let counting = Counting;
+    let mut tally = Tally::none();
+    match run_shared(
+        rt, alloc, desk, &program, false, text, workers, finders, gate, places, &counting,
+        &mut tally,
+    ) {
+        Ok(()) => Ok(tally),
+        Err(_) => Err(NoMemory),
+    }
+}
+
+// Counts lines.
+#[derive(Clone, Copy)]
+struct Counting;
+
+impl Taker<Tally> for Counting {
+    ghost use Rattle.std.specs.Prelude.{⊤};
+    ghost use Rattle.demo_run.specs.Helps.Tallies.{IsTallied};
+
+    ghost took = { λ old lines new. IsTallied old lines new };
+
+    ghost stopped = { λ _ _ _ _. ⊤ };
+
+    fn take(&self, _alloc: Global, to: &mut Tally, lines: &[Line]) -> Result<(), TakeStop> {
+        count_lines(to, lines)?;
+        Ok(())
+    }
+}
+
+// The lines of a session on one thread, counted.
+fn plain_tally<P: Finder>(
+    alloc: Global,
+    desk: Desk,
+    program: &Program,
+    script: &str,
+    finder: &mut P,
+) -> Result<Tally, NoMemory>
+    requires suits { Suits program.now desk.state.shapes }
+    requires opening { versions desk.state.log ≡ 0 }
+    requires none_pending { desk.pending ≡ [] }
+    requires keeps_all { desk.kept ≡ None }
+    ensures plain { IfOk result
+        (HasTally 0 program.now desk.state.shapes (tables desk.state) script.now) }
+    ensures used { IsUsed (P.refusals finder.old) (P.refusals finder.new) }
+{
+    let Ok(items) = read_script(alloc, script.as_bytes(), false) else {
+        return Err(NoMemory);
+    };
+    let mut desk = desk;
+    let lines = run_plain(alloc, &mut desk, program, &items, finder)?;
+    let mut tally = Tally::none();
+    count_lines(&mut tally, lines.as_slice())?;
+    Ok(tally)
 }
 
 // The demonstration's session with so many permissions and users. Its texts are in order, so only want of memory refuses it.
 fn open_session(alloc: Global, count: u32) -> Result<Session, NoMemory>
     ensures session { IfOk result (λ session. IsSession count
-        session.program session.desk session.script) }
+        session.program session.desk (string_bytes session.script)) }
+    ensures checked { IfOk result (λ session. (items : List Said)
+        × IsScript false (string_bytes session.script) items) }
 {
     let script = demo_script(alloc, count)?;
     let made = demo_program(alloc)?;
@@ -181,12 +234,14 @@ fn demo_policy(alloc: Global, shapes: &Shapes, count: u32) -> Result<Tables, NoM
     }
 }
 
-fn demo_script(alloc: Global, count: u32) -> Result<Script, NoMemory>
-    ensures { IfOk result (λ script. IsScript false (script_text count) (map seen script)) }
+fn demo_script(alloc: Global, count: u32) -> Result<String, NoMemory>
+    ensures text { IfOk result (λ script. string_bytes script ≡ script_text count) }
+    ensures checked { IfOk result (λ script. (items : List Said)
+        × IsScript false (string_bytes script) items) }
 {
     let text = script_text(alloc, count)?;
-    match read_script(alloc, text.as_bytes(), false) {
-        Ok(script) => Ok(script),
-        Err(_) => Err(NoMemory),
-    }
+    let Ok(()) = check_script(alloc, text.as_bytes(), false) else {
+        return Err(NoMemory);
+    };
+    Ok(text)
 }

@@ -1,30 +1,31 @@
 -- Rounds one after the other.
-use Rattle.std.proofs.Common.{◌≡◌, ℕ, zero, suc, ◌+◌, ◌<◌, ◌≤◌, Bool, true, false, List, [], ◌∷◌, ◌++◌, append_assoc, append-nil, drop, get_or, length, map, take, refl, sym, ap, subst, ◌∙◌, arith}
+use Rattle.std.proofs.Common.{◌≡◌, inl, inr, ℕ, zero, suc, ◌+◌, ◌<◌, ◌≤◌, Bool, true, false, List, [], ◌∷◌, ◌++◌, append_assoc, append-nil, drop, length, length-append, take, refl, sym, ap, subst, ◌∙◌, arith}
 use Rattle.std.specs.Prelude.{All, if◌then◌else◌, sum_by}
 use Rattle.std.specs.List.{AllByRecursion, AllZip}
 use Rattle.std.proofs.lemmas.List.Elements.{All-from_recursion, recursion_from_All}
-use Rattle.answer_lines.specs.Told.{is_printable}
 use Rattle.script_read.specs.Named.{is_named}
-use Rattle.std.proofs.Math.Seq.{take-add}
-use Rattle.std.proofs.lemmas.List.{drop-drop, drop-take, drop_all, length-drop}
 use Rattle.std.proofs.lemmas.List.Sums.{sum_by-append}
 use Rattle.answer_lines.specs.declared.answer.Line.{Line}
-use Rattle.live_rounds.proofs.MergingLemmas.{split}
+use Rattle.live_pair.specs.Admins.{AdminSeen}
+use Rattle.live_pair.specs.Seats.{SeatSeen}
 use Rattle.live_rounds.proofs.RoundLemmas.{drop_front, take_front}
 use Rattle.live_rounds.proofs.ShareLemmas.{all_weighed}
 use Rattle.live_rounds.proofs.AllSharesLemmas.{same_refusals}
-use Rattle.live_rounds.proofs.SharesLemmas.{map_drop, map_long, map_take}
-use Rattle.live_rounds.specs.Done.{AreLinesOf, HaveRefused}
-use Rattle.live_rounds.specs.Requests.{items_before, items_between}
-use Rattle.live_rounds.specs.Scripts.{AreSharedLines, round_size}
+use Rattle.live_rounds.specs.Administrators.{IsAdminBehind}
+use Rattle.live_rounds.specs.Done.{AreLinesOf, HaveRefused, IsRun}
+use Rattle.live_rounds.specs.Scripts.{AreAllShared, AreSharedLines, AreSomeShared, BeginsWithRound, IsFirstRound, round_size}
+use Rattle.live_rounds.specs.Shares.{in_turn}
+use Rattle.live_rounds.specs.Taken.{AreAllTaken, AreTaken}
+use Rattle.live_rounds.specs.declared.taker.TakeStop.{TakeStop}
+use Rattle.live_rounds.specs.declared.taker.TakeStop.TheVariants.{NoMemory}
 use Rattle.model_conf.specs.ModelText.{ModelParts}
 use Rattle.perm_base.specs.declared.shapes.Shapes.{Shapes}
 use Rattle.policy_table.specs.Tables.{Policy}
 use Rattle.regex_gate.proofs.CallerLemmas.{used_none, used_then}
 use Rattle.regex_gate.specs.Refusals.{IsUsed, Refusals, after_refusals}
-use Rattle.script_read.specs.Said.{Said, seen}
-use Rattle.script_read.specs.declared.item.Item.{Item}
-use Rattle.session_meaning.specs.Plain.{all_refused}
+use Rattle.script_read.specs.Said.{Said}
+use Rattle.script_read.specs.Script.{BeginsWith, IsScript, SaysFrom}
+use Rattle.session_meaning.specs.Plain.{all_refused, none_refused}
 use Rattle.session_meaning.specs.Rounds.{AreLinesAt, AreOfRound, AreOfRounds, IsShared, is_sync, onto_first, rounds_of}
 
 -- ---- the first round
@@ -44,18 +45,74 @@ first_round_is item (next ∷ items) = by (is_sync item) (first_round_is next it
     by true rest = refl
     by false rest = ap (onto_first item) rest
 
--- how far it goes, item by item
-pub size_more : (items : List Item) (n : ℕ) (item : Item) → n < length items → item ≡ get_or items n item → is_sync (seen item) ≡ false → round_size (map seen (drop n items)) ≡ suc (round_size (map seen (drop (n + 1) items)))
-size_more items n item within is other =
-    ap (λ (l : List Item). round_size (map seen l)) (split items n item within is) ∙ ap (λ (test : Bool). if test then 1 else suc (round_size (map seen (drop (n + 1) items)))) other
+-- how far it goes: items that end no round stand in front of what is left
+pub record IsFront (json : Bool) (all front : List Said) (at : ℕ) (rest : List ℕ) : Type 0 where
+  pub left : List Said
+  pub parts : all ≡ front ++ left
+  pub size : round_size all ≡ length front + round_size left
+  pub says : SaysFrom json at rest left
 
-pub size_last : (items : List Item) (n : ℕ) (item : Item) → n < length items → item ≡ get_or items n item → is_sync (seen item) ≡ true → round_size (map seen (drop n items)) ≡ 1
-size_last items n item within is last =
-    ap (λ (l : List Item). round_size (map seen l)) (split items n item within is) ∙ ap (λ (test : Bool). if test then 1 else suc (round_size (map seen (drop (n + 1) items)))) last
+pub front_none : (json : Bool) (all front : List Said) (at : ℕ) (rest : List ℕ) → front ≡ [] → SaysFrom json at rest all → IsFront json all front at rest
+front_none json all front at rest none says = subst (λ (l : List Said). IsFront json all l at rest) (sym none) (record { left = all; parts = refl; size = omega arith; says = says })
 
--- behind the last item there is none
-pub size_none : (items : List Item) (n : ℕ) → length items ≤ n → round_size (map seen (drop n items)) ≡ 0
-size_none items n past = ap (λ (l : List Item). round_size (map seen l)) (drop_all n items past)
+module _ (json : Bool) (all front whole : List Said) (item : Said) (at : ℕ) (rest : List ℕ) (next : ℕ) (behind : List ℕ) (is : IsFront json all front at rest) (begins : BeginsWith json at rest item next behind) (whole-is : whole ≡ front ++ item ∷ []) where
+  abbrev left_on : List Said
+  left_on = (begins is.left is.says).0
+
+  left-is : is.left ≡ item ∷ left_on
+  left-is = (begins is.left is.says).1
+
+  says_on : SaysFrom json next behind left_on
+  says_on = (begins is.left is.says).2
+
+  parts_on : all ≡ whole ++ left_on
+  parts_on = is.parts ∙ ap (λ (l : List Said). front ++ l) left-is ∙ sym (append_assoc front (item ∷ []) left_on) ∙ ap (λ (l : List Said). l ++ left_on) (sym whole-is)
+
+  longer : length whole ≡ length front + 1
+  longer = omega (arith, ap (λ (l : List Said). length l) whole-is, length-append front (item ∷ []))
+
+  size_by : round_size is.left ≡ (if is_sync item then 1 else suc (round_size left_on))
+  size_by = ap round_size left-is
+
+  -- an item that ends no round
+  pub front_more : is_sync item ≡ false → IsFront json all whole next behind
+  front_more other =
+      let on : round_size is.left ≡ suc (round_size left_on) = size_by ∙ ap (λ (test : Bool). if test then 1 else suc (round_size left_on)) other in
+      record { left = left_on; parts = parts_on; size = omega (arith, is.size, longer, on); says = says_on }
+
+  -- one that ends it
+  pub front_last : is_sync item ≡ true → IsFirstRound json all whole next behind
+  front_last last =
+      let one : round_size is.left ≡ 1 = size_by ∙ ap (λ (test : Bool). if test then 1 else suc (round_size left_on)) last in
+      record { left = left_on; parts = parts_on; size = omega (arith, is.size, longer, one); says = says_on }
+
+-- no item is left
+pub front_end : (json : Bool) (all front : List Said) (at : ℕ) (rest : List ℕ) (is : IsFront json all front at rest) → is.left ≡ [] → IsFirstRound json all front at rest
+front_end json all front at rest is none =
+    let size : round_size is.left ≡ 0 = ap round_size none in
+    record { left = is.left; parts = is.parts; size = omega (arith, is.size, size); says = is.says }
+
+pub front_whole : (json : Bool) (all front : List Said) (at : ℕ) (rest : List ℕ) (is : IsFront json all front at rest) → front ≡ [] → is.left ≡ [] → all ≡ []
+front_whole json all front at rest is none nothing = is.parts ∙ ap (λ (l : List Said). l ++ is.left) none ∙ nothing
+
+-- each finder was used by itself
+pub used_alike : (list : List Refusals) → AllZip IsUsed list list
+used_alike [] = tt
+used_alike (r ∷ list) = (used_none r, used_alike list)
+
+-- each script has lines with any number of workers
+abbrev pub SharesPlain : Type 0
+SharesPlain = (model : ModelParts) (shapes : Shapes) (opening : Policy) (workers : ℕ) (items : List Said) → (lines : List Line) × IsShared model shapes opening workers items (none_refused items) lines
+
+-- ---- lists that are taken in turn
+
+pub in_turn_more : {X : Type 0} (lists : List (List X)) (more : List X) → in_turn (lists ++ more ∷ []) ≡ in_turn lists ++ more
+in_turn_more [] more = append-nil more
+in_turn_more {X = X} (xs ∷ lists) more = ap (λ (l : List X). xs ++ l) (in_turn_more lists more) ∙ sym (append_assoc xs (in_turn lists) more)
+
+pub taken_more : {X : Type 0} (took : X → List Line → X → Type 0) (old mid new : X) (lists : List (List Line)) (lines : List Line) → AreTaken took old lists mid → took mid lines new → AreTaken took old (lists ++ lines ∷ []) new
+taken_more {X = X} took old mid new [] lines taken more = (new, subst (λ (x : X). took x lines new) taken more, refl)
+taken_more took old mid new (first ∷ lists) lines taken more = (taken.0, taken.1, taken_more took taken.0 mid new lists lines taken.2 more)
 
 -- ---- rounds one after the other
 
@@ -111,6 +168,21 @@ module _ (model : ModelParts) (shapes : Shapes) (opening : Policy) where
   both_weighed weight (b ∷ befores) (n ∷ nows) (l ∷ laters) (patterns ∷ some) [] one other = absurd other
   both_weighed weight _ _ _ _ _ one other = absurd one
 
+  -- ---- items for which nothing is refused
+
+  second_none : (one two : List (List ℕ)) → one ++ two ≡ [] → two ≡ []
+  second_none [] two none = none
+  second_none (pattern ∷ one) two none = absurd cc
+
+  none_dropped : (n : ℕ) (refused : List (List (List ℕ))) → all_refused refused ≡ [] → all_refused (drop n refused) ≡ []
+  none_dropped zero refused none = none
+  none_dropped (suc n) [] none = refl
+  none_dropped (suc n) (patterns ∷ refused) none = none_dropped n refused (second_none patterns (all_refused refused) none)
+
+  nothing_refused : (items : List Said) → all_refused (none_refused items) ≡ []
+  nothing_refused [] = refl
+  nothing_refused (item ∷ items) = nothing_refused items
+
   -- ---- a script under way
 
   is_shared : (workers : ℕ) (items : List Said) (refused : List (List (List ℕ))) (lines : List Line) → AreOfRounds model shapes opening workers [] (rounds_of items) refused lines → IsShared model shapes opening workers items refused lines
@@ -118,13 +190,21 @@ module _ (model : ModelParts) (shapes : Shapes) (opening : Policy) where
   is_shared workers items refused lines are = are
 
   module _ (workers : ℕ) (items : List Said) (befores : List Refusals) where
-    -- the rounds up to a place are done
-    pub record AreRoundsSoFar (from : ℕ) (nows : List Refusals) (lines : List Line) : Type 0 where
+    -- the items that are left have lines for which nothing is refused
+    pub record HasRest (front left : List Said) : Type 0 where
       pub refused : List (List (List ℕ))
-      pub goes_on : (others : List (List (List ℕ))) (more : List Line) → AreOfRounds model shapes opening workers (take from items) (rounds_of (drop from items)) others more → AreOfRounds model shapes opening workers [] (rounds_of items) (refused ++ others) (lines ++ more)
+      pub lines : List Line
+      pub none : all_refused refused ≡ []
+      pub are : AreOfRounds model shapes opening workers front (rounds_of left) refused lines
+
+    -- the rounds of the first items are done, and these are left
+    pub record AreRoundsSoFar (front left : List Said) (nows : List Refusals) (lines : List Line) : Type 0 where
+      pub refused : List (List (List ℕ))
+      pub goes_on : (others : List (List (List ℕ))) (more : List Line) → AreOfRounds model shapes opening workers front (rounds_of left) others more → AreOfRounds model shapes opening workers [] (rounds_of items) (refused ++ others) (lines ++ more)
       pub more : List (List (List ℕ))
       pub used : HaveRefused befores nows more
       pub told : (weight : List ℕ → ℕ) → sum_by weight (all_refused refused) ≤ sum_by weight (all_refused more)
+      pub rest : (others : List (List (List ℕ))) (lines : List Line) → all_refused others ≡ [] → AreOfRounds model shapes opening workers [] (rounds_of items) others lines → HasRest front left
 
     abbrev none_yet : List Refusals → List (List (List ℕ))
     none_yet [] = []
@@ -134,55 +214,50 @@ module _ (model : ModelParts) (shapes : Shapes) (opening : Policy) where
     none_used [] = tt
     none_used (r ∷ list) = (refl, none_used list)
 
-    pub rounds_none : (lines : List Line) → lines ≡ [] → AreRoundsSoFar 0 befores lines
-    rounds_none lines none = subst (AreRoundsSoFar 0 befores) (sym none) (record {
+    pub rounds_none : (lines : List Line) → lines ≡ [] → AreRoundsSoFar [] items befores lines
+    rounds_none lines none = subst (AreRoundsSoFar [] items befores) (sym none) (record {
       refused = [];
       goes_on = λ others more are. are;
       more = none_yet befores;
       used = none_used befores;
       told = λ weight. omega arith;
+      rest = λ others all none are. record { refused = others; lines = all; none = none; are = are };
     })
 
-    -- the rounds behind a place are the next one and the others
-    next_round : (from size : ℕ) → from < length items → size ≡ round_size (drop from items) → rounds_of (drop from items) ≡ drop from (take (from + size) items) ∷ rounds_of (drop (from + size) items)
-    next_round from size within size-is = by (drop from items) refl
-      where
-        by : (left : List Said) → drop from items ≡ left → rounds_of (drop from items) ≡ drop from (take (from + size) items) ∷ rounds_of (drop (from + size) items)
-        by [] none = absurd (omega (arith, within, ap (λ (l : List Said). length l) none, length-drop from items))
-        by (item ∷ left) is =
-            ap rounds_of is ∙ first_round_is item left
-            ∙ ap (λ (l : List Said). take (round_size l) l ∷ rounds_of (drop (round_size l) l)) (sym is)
-            ∙ ap (λ (n : ℕ). take n (drop from items) ∷ rounds_of (drop n (drop from items))) (sym size-is)
-            ∙ (λ j. sym (drop-take from size items) j ∷ rounds_of (drop-drop size from items j))
+    -- the rounds that are left are the next one and the others
+    next_of : (left round behind : List Said) → left ≡ round ++ behind → round_size left ≡ length round → 0 < length round → rounds_of left ≡ round ∷ rounds_of behind
+    next_of [] round behind parts size some = absurd (omega (arith, some, length-append round behind, ap (λ (l : List Said). length l) parts))
+    next_of (item ∷ left) round behind parts size some =
+        first_round_is item left
+        ∙ ap (λ (n : ℕ). take n (item ∷ left) ∷ rounds_of (drop n (item ∷ left))) size
+        ∙ ap (λ (l : List Said). take (length round) l ∷ rounds_of (drop (length round) l)) parts
+        ∙ (λ j. take_front (length round) round behind refl j ∷ rounds_of (drop_front (length round) round behind refl j))
 
-    pub rounds_next : (from size to : ℕ) (nows laters : List Refusals) (lines round whole : List Line) → from < length items → size ≡ round_size (drop from items) → to ≡ from + size → AreRoundsSoFar from nows lines
-        → AreLinesOf model shapes opening workers (take from items) (drop from (take to items)) nows laters round → whole ≡ lines ++ round → AreRoundsSoFar to laters whole
-    rounds_next from size to nows laters lines round whole within size-is to-is so is whole-is = subst (AreRoundsSoFar to laters) (sym whole-is) (record {
+    pub rounds_next : (front left round behind : List Said) (nows laters : List Refusals) (lines told whole : List Line) → left ≡ round ++ behind → round_size left ≡ length round → 0 < length round → AreRoundsSoFar front left nows lines
+        → AreLinesOf model shapes opening workers front round nows laters told → whole ≡ lines ++ told → AreRoundsSoFar (front ++ round) behind laters whole
+    rounds_next front left round behind nows laters lines told whole parts size some so is whole-is = subst (AreRoundsSoFar (front ++ round) behind laters) (sym whole-is) (record {
       refused = so.refused ++ is.refused;
       goes_on = λ others more are.
-          let parts : take from items ++ drop from (take to items) ≡ take to items
-          = ap (λ (l : List Said). take from items ++ l) (ap (λ (n : ℕ). drop from (take n items)) to-is ∙ drop-take from size items) ∙ sym (take-add from size items) ∙ ap (λ (n : ℕ). take n items) (sym to-is) in
-          let here : AreOfRounds model shapes opening workers (take from items ++ drop from (take to items)) (rounds_of (drop to items)) others more
-          = subst (λ (l : List Said). AreOfRounds model shapes opening workers l (rounds_of (drop to items)) others more) (sym parts) are in
-          let both = of_rounds_first workers (take from items) (drop from (take to items)) (rounds_of (drop to items)) is.refused others round more is.lines_are here in
-          let rounds : drop from (take to items) ∷ rounds_of (drop to items) ≡ rounds_of (drop from items)
-          = (λ j. drop from (take (to-is j) items) ∷ rounds_of (drop (to-is j) items)) ∙ sym (next_round from size within size-is) in
-          let all = so.goes_on (is.refused ++ others) (round ++ more) (subst (λ (l : List (List Said)). AreOfRounds model shapes opening workers (take from items) l (is.refused ++ others) (round ++ more)) rounds both) in
-          subst (λ (l : List (List (List ℕ))). AreOfRounds model shapes opening workers [] (rounds_of items) l ((lines ++ round) ++ more)) (sym (append_assoc so.refused is.refused others))
-          (subst (AreOfRounds model shapes opening workers [] (rounds_of items) (so.refused ++ (is.refused ++ others))) (sym (append_assoc lines round more)) all);
+          let both = of_rounds_first workers front round (rounds_of behind) is.refused others told more is.lines_are are in
+          let all = so.goes_on (is.refused ++ others) (told ++ more) (subst (λ (l : List (List Said)). AreOfRounds model shapes opening workers front l (is.refused ++ others) (told ++ more)) (sym (next_of left round behind parts size some)) both) in
+          subst (λ (l : List (List (List ℕ))). AreOfRounds model shapes opening workers [] (rounds_of items) l ((lines ++ told) ++ more)) (sym (append_assoc so.refused is.refused others))
+          (subst (AreOfRounds model shapes opening workers [] (rounds_of items) (so.refused ++ (is.refused ++ others))) (sym (append_assoc lines told more)) all);
       more = both_refused so.more is.more;
       used = have_both befores nows laters so.more is.more so.used is.used;
       told = λ weight.
           let one = so.told weight in
           let two = is.told weight in
           omega (arith, one, two, all_weighed weight so.refused is.refused, both_weighed weight befores nows laters so.more is.more so.used is.used);
+      rest = λ others all none are.
+          let left_over = so.rest others all none are in
+          let here = subst (λ (l : List (List Said)). AreOfRounds model shapes opening workers front l left_over.refused left_over.lines) (next_of left round behind parts size some) left_over.are in
+          record { refused = drop (length round) left_over.refused; lines = drop (length round) left_over.lines; none = none_dropped (length round) left_over.refused left_over.none; are = here.1 };
     })
 
     -- all are done
-    pub rounds_all : (from : ℕ) (nows : List Refusals) (lines : List Line) → length items ≤ from → AreRoundsSoFar from nows lines → AreSharedLines model shapes opening workers befores nows items lines
-    rounds_all from nows lines past so =
-        let none : rounds_of (drop from items) ≡ [] = ap rounds_of (drop_all from items past) in
-        let ends : AreOfRounds model shapes opening workers (take from items) (rounds_of (drop from items)) [] [] = subst (λ (l : List (List Said)). AreOfRounds model shapes opening workers (take from items) l [] []) (sym none) tt in
+    pub rounds_all : (front left : List Said) (nows : List Refusals) (lines : List Line) → left ≡ [] → AreRoundsSoFar front left nows lines → AreSharedLines model shapes opening workers befores nows items lines
+    rounds_all front left nows lines none so =
+        let ends : AreOfRounds model shapes opening workers front (rounds_of left) [] [] = subst (λ (l : List Said). AreOfRounds model shapes opening workers front (rounds_of l) [] []) (sym none) tt in
         record {
           refused = so.refused;
           shared = is_shared workers items so.refused lines (subst (λ (l : List (List (List ℕ))). AreOfRounds model shapes opening workers [] (rounds_of items) l lines) (append-nil so.refused)
@@ -192,14 +267,154 @@ module _ (model : ModelParts) (shapes : Shapes) (opening : Policy) where
           told = so.told;
         }
 
--- ---- the items of a script
+    -- ---- memory ran out, or lines were not taken to their end
 
--- a round of a script, as the items from one place to another
-pub round_between : (script : List Item) (from to : ℕ) → items_between script from to ≡ drop from (take to (map seen script))
-round_between script from to = map_drop seen from (take to script) ∙ ap (drop from) (map_take seen to script)
+    used_lists : (nows laters : List Refusals) → AllZip IsUsed nows laters → (more : List (List (List ℕ))) × HaveRefused nows laters more
+    used_lists [] [] used = ([], tt)
+    used_lists (n ∷ nows) (l ∷ laters) used = let rest = used_lists nows laters used.1 in (used.0.more ∷ rest.0, (used.0.refused, rest.1))
+    used_lists [] (l ∷ laters) used = absurd used
+    used_lists (n ∷ nows) [] used = absurd used
 
-pub items_up_to : (script : List Item) (from : ℕ) → items_before script from ≡ take from (map seen script)
-items_up_to script from = map_take seen from script
+    -- lines of all items, of which the first are these
+    pub record HasMore (laters : List Refusals) (lines : List Line) : Type 0 where
+      pub more : List Line
+      pub are : AreSharedLines model shapes opening workers befores laters items (lines ++ more)
+
+    pub more_lines : SharesPlain → (front left : List Said) (nows laters : List Refusals) (lines : List Line) → AreRoundsSoFar front left nows lines → AllZip IsUsed nows laters → HasMore laters lines
+    unfolding IsShared
+    more_lines law front left nows laters lines so used =
+        let whole = law model shapes opening workers items in
+        let rest = so.rest (none_refused items) whole.0 (nothing_refused items) whole.1 in
+        let later = used_lists nows laters used in
+        record {
+          more = rest.lines;
+          are = record {
+            refused = so.refused ++ rest.refused;
+            shared = so.goes_on rest.refused rest.lines rest.are;
+            more = both_refused so.more later.0;
+            used = have_both befores nows laters so.more later.0 so.used later.1;
+            told = λ weight.
+                let one = so.told weight in
+                let none : sum_by weight (all_refused rest.refused) ≡ 0 = ap (λ (l : List (List ℕ)). sum_by weight l) rest.none in
+                omega (arith, one, all_weighed weight so.refused rest.refused, none, both_weighed weight befores nows laters so.more later.0 so.used later.1);
+          };
+        }
+
+    -- ---- lines that are taken round by round
+
+    module _ {X : Type 0} (took : X → List Line → X → Type 0) (old : X) where
+      -- the rounds of the first items are done at a pair and their lines taken, and the rest of the text says what is left
+      pub record AreDoneTo (json : Bool) (at : ℕ) (rest : List ℕ) (count : ℕ) (nows : List Refusals) (admin : AdminSeen) (to : X) : Type 0 where
+        pub front : List Said
+        pub left : List Said
+        pub lines : List Line
+        pub parts : items ≡ front ++ left
+        pub long : count ≡ length front
+        pub says : SaysFrom json at rest left
+        pub rounds : AreRoundsSoFar front left nows lines
+        pub behind : IsAdminBehind shapes opening front admin
+        pub taken : AreAllTaken took old lines to
+
+      pub done_none : (json : Bool) (script : List ℕ) (admin : AdminSeen) → IsScript json script items → IsAdminBehind shapes opening [] admin → AreDoneTo json 1 script 0 befores admin old
+      done_none json script admin is behind = record {
+        front = [];
+        left = items;
+        lines = [];
+        parts = refl;
+        long = refl;
+        says = record { reader = is.reader; says = is.says };
+        rounds = rounds_none [] refl;
+        behind = behind;
+        taken = record { lists = []; taken = refl; are = refl };
+      }
+
+      -- one round more
+      pub done_next : (json : Bool) (at : ℕ) (rest : List ℕ) (count : ℕ) (nows : List Refusals) (admin : AdminSeen) (to : X) (round : List Said) (next : ℕ) (behind : List ℕ) (sum : ℕ) (laters : List Refusals) (new : AdminSeen) (olds seats : List SeatSeen) (told : List Line) (later : X)
+          → (so : AreDoneTo json at rest count nows admin to) → BeginsWithRound json at rest round next behind → 0 < length round → sum ≡ count + length round → IsRun model shapes opening workers so.front round new olds seats nows laters told → took to told later
+          → AreDoneTo json next behind sum laters new later
+      done_next json at rest count nows admin to round next behind sum laters new olds seats told later so begins some sum-is run taken =
+          let first = begins so.left so.says in
+          record {
+            front = so.front ++ round;
+            left = first.left;
+            lines = so.lines ++ told;
+            parts = so.parts ∙ ap (λ (l : List Said). so.front ++ l) first.parts ∙ sym (append_assoc so.front round first.left);
+            long = omega (arith, sum-is, so.long, length-append so.front round);
+            says = first.says;
+            rounds = rounds_next so.front so.left round first.left nows laters so.lines told (so.lines ++ told) first.parts first.size some so.rounds run.lines_are refl;
+            behind = run.behind;
+            taken = record {
+              lists = so.taken.lists ++ told ∷ [];
+              taken = taken_more took old to later so.taken.lists told so.taken.taken taken;
+              are = ap (λ (l : List Line). l ++ told) so.taken.are ∙ sym (in_turn_more so.taken.lists told);
+            };
+          }
+
+      pub done_all : (json : Bool) (at : ℕ) (rest : List ℕ) (count : ℕ) (nows : List Refusals) (admin : AdminSeen) (to : X) (so : AreDoneTo json at rest count nows admin to) → so.left ≡ [] → AreAllShared took model shapes opening workers befores nows items old to
+      done_all json at rest count nows admin to so none = record { lines = so.lines; are = rounds_all so.front so.left nows so.lines none so.rounds; taken = so.taken }
+
+      pub done_behind : (json : Bool) (at : ℕ) (rest : List ℕ) (count : ℕ) (nows : List Refusals) (admin : AdminSeen) (to : X) (so : AreDoneTo json at rest count nows admin to) → so.left ≡ [] → IsAdminBehind shapes opening items admin
+      done_behind json at rest count nows admin to so none =
+          subst (λ (l : List Said). IsAdminBehind shapes opening l admin) (sym (so.parts ∙ ap (λ (l : List Said). so.front ++ l) none ∙ append-nil so.front)) so.behind
+
+      -- memory ran out between the lines of one round and those of the next
+      pub done_early : SharesPlain → (stopped : X → List Line → X → TakeStop → Type 0) (json : Bool) (at : ℕ) (rest : List ℕ) (count : ℕ) (nows laters : List Refusals) (admin : AdminSeen) (to : X) → AreDoneTo json at rest count nows admin to → AllZip IsUsed nows laters
+          → AreSomeShared took model shapes opening workers befores laters items stopped old to NoMemory
+      done_early law stopped json at rest count nows laters admin to so used =
+          let all = more_lines law so.front so.left nows laters so.lines so.rounds used in
+          record {
+            lines = so.lines ++ all.more;
+            are = all.are;
+            taken = record {
+              lists = so.taken.lists;
+              mid = to;
+              next = [];
+              more = all.more;
+              taken = so.taken.taken;
+              parts = ap (λ (l : List Line). l ++ all.more) so.taken.are;
+              ends = inl (refl, refl);
+            };
+          }
+
+      -- memory ran out before the first round
+      pub none_shared : SharesPlain → (stopped : X → List Line → X → TakeStop → Type 0) (laters : List Refusals) → AllZip IsUsed befores laters → AreSomeShared took model shapes opening workers befores laters items stopped old old NoMemory
+      none_shared law stopped laters used =
+          let all = more_lines law [] items befores laters [] (rounds_none [] refl) used in
+          record { lines = all.more; are = all.are; taken = record { lists = []; mid = old; next = []; more = all.more; taken = refl; parts = refl; ends = inl (refl, refl) } }
+
+      -- the lines of a round were not taken to their end
+      pub done_some : SharesPlain → (stopped : X → List Line → X → TakeStop → Type 0) (json : Bool) (at : ℕ) (rest : List ℕ) (count : ℕ) (nows laters : List Refusals) (admin new : AdminSeen) (to later : X) (round : List Said) (next : ℕ) (behind : List ℕ) (olds seats : List SeatSeen) (told : List Line) (stop : TakeStop)
+          → (so : AreDoneTo json at rest count nows admin to) → BeginsWithRound json at rest round next behind → 0 < length round → IsRun model shapes opening workers so.front round new olds seats nows laters told → stopped to told later stop
+          → AreSomeShared took model shapes opening workers befores laters items stopped old later stop
+      done_some law stopped json at rest count nows laters admin new to later round next behind olds seats told stop so begins some run amid =
+          let first = begins so.left so.says in
+          let rounds = rounds_next so.front so.left round first.left nows laters so.lines told (so.lines ++ told) first.parts first.size some so.rounds run.lines_are refl in
+          let all = more_lines law (so.front ++ round) first.left laters laters (so.lines ++ told) rounds (used_alike laters) in
+          record {
+            lines = (so.lines ++ told) ++ all.more;
+            are = all.are;
+            taken = record {
+              lists = so.taken.lists;
+              mid = to;
+              next = told;
+              more = all.more;
+              taken = so.taken.taken;
+              parts = append_assoc so.lines told all.more ∙ ap (λ (l : List Line). l ++ (told ++ all.more)) so.taken.are;
+              ends = inr amid;
+            };
+          }
+
+-- the items of the next round are among those that have names
+pub round_named : (items front left round others : List Said) → items ≡ front ++ left → left ≡ round ++ others → All (λ (item : Said). is_named item ≡ true) items → All (λ (item : Said). is_named item ≡ true) round
+round_named items front left round others parts begins all = All-from_recursion (λ (item : Said). is_named item ≡ true) round (in_front round others (subst (AllByRecursion (λ (item : Said). is_named item ≡ true)) begins (behind_front front left (recursion_from_All (λ (item : Said). is_named item ≡ true) (front ++ left) (subst (All (λ (item : Said). is_named item ≡ true)) parts all)))))
+  where
+    behind_front : (front left : List Said) → AllByRecursion (λ (item : Said). is_named item ≡ true) (front ++ left) → AllByRecursion (λ (item : Said). is_named item ≡ true) left
+    behind_front [] left all = all
+    behind_front (item ∷ front) left all = behind_front front left all.1
+
+    in_front : (front left : List Said) → AllByRecursion (λ (item : Said). is_named item ≡ true) (front ++ left) → AllByRecursion (λ (item : Said). is_named item ≡ true) front
+    in_front [] left all = tt
+    in_front (item ∷ front) left all = (all.0, in_front front left all.1)
 
 -- where the finders were used in one round and in the next, they were in both
 pub used_both : (befores nows laters : List Refusals) → AllZip IsUsed befores nows → AllZip IsUsed nows laters → AllZip IsUsed befores laters
@@ -209,47 +424,3 @@ used_both [] (n ∷ nows) laters one two = absurd one
 used_both (b ∷ befores) [] laters one two = absurd one
 used_both [] [] (l ∷ laters) one two = absurd two
 used_both (b ∷ befores) (n ∷ nows) [] one two = absurd two
-
-pub used_alike : (list : List Refusals) → AllZip IsUsed list list
-used_alike [] = tt
-used_alike (r ∷ list) = (used_none r, used_alike list)
-
--- one round more, of a script's items
-module _ (model : ModelParts) (shapes : Shapes) (opening : Policy) (workers : ℕ) (script : List Item) (befores : List Refusals) where
-  pub script_next : (from size to : ℕ) (nows laters : List Refusals) (lines round whole : List Line) → from < length script → size ≡ round_size (map seen (drop from script)) → to ≡ from + size → AreRoundsSoFar model shapes opening workers (map seen script) befores from nows lines
-      → AreLinesOf model shapes opening workers (items_before script from) (items_between script from to) nows laters round → whole ≡ lines ++ round → AreRoundsSoFar model shapes opening workers (map seen script) befores to laters whole
-  script_next from size to nows laters lines round whole within size-is to-is so is whole-is =
-      rounds_next model shapes opening workers (map seen script) befores from size to nows laters lines round whole (omega (arith, within, map_long seen script)) (size-is ∙ ap round_size (map_drop seen from script)) to-is so
-      (subst (λ (l : List Said). AreLinesOf model shapes opening workers l (drop from (take to (map seen script))) nows laters round) (items_up_to script from)
-      (subst (λ (l : List Said). AreLinesOf model shapes opening workers (items_before script from) l nows laters round) (round_between script from to) is)) whole-is
-
--- ---- lines that can be printed
-
-pub none_printable : {A : Type 0} (lines : List Line) → lines ≡ [] → A → All (λ (line : Line). is_printable line.answer ≡ true) lines
-none_printable lines none given = subst (All (λ (line : Line). is_printable line.answer ≡ true)) (sym none) (All-from_recursion (λ (line : Line). is_printable line.answer ≡ true) [] tt)
-
--- the items of a round are among those of the script
-named_between : (script : List Item) (from to : ℕ) → All (λ (item : Said). is_named item ≡ true) (map seen script) → All (λ (item : Said). is_named item ≡ true) (items_between script from to)
-named_between script from to named = subst (All (λ (item : Said). is_named item ≡ true)) (sym (round_between script from to))
-    (All-from_recursion (λ (item : Said). is_named item ≡ true) (drop from (take to (map seen script))) (dropped from (take to (map seen script)) (taken_of to (map seen script) (recursion_from_All (λ (item : Said). is_named item ≡ true) (map seen script) named))))
-  where
-    taken_of : (n : ℕ) (l : List Said) → AllByRecursion (λ (item : Said). is_named item ≡ true) l → AllByRecursion (λ (item : Said). is_named item ≡ true) (take n l)
-    taken_of zero l all = tt
-    taken_of (suc n) [] all = tt
-    taken_of (suc n) (x ∷ l) all = (all.0, taken_of n l all.1)
-
-    dropped : (n : ℕ) (l : List Said) → AllByRecursion (λ (item : Said). is_named item ≡ true) l → AllByRecursion (λ (item : Said). is_named item ≡ true) (drop n l)
-    dropped zero l all = all
-    dropped (suc n) [] all = tt
-    dropped (suc n) (x ∷ l) all = dropped n l all.1
-
-pub all_printable : (script : List Item) (from to : ℕ) (lines round whole : List Line) → whole ≡ lines ++ round → All (λ (line : Line). is_printable line.answer ≡ true) lines
-    → (All (λ (item : Said). is_named item ≡ true) (items_between script from to) → All (λ (line : Line). is_printable line.answer ≡ true) round) → All (λ (item : Said). is_named item ≡ true) (map seen script) → All (λ (line : Line). is_printable line.answer ≡ true) whole
-all_printable script from to lines round whole whole-is before next named =
-    let more = next (named_between script from to named) in
-    subst (All (λ (line : Line). is_printable line.answer ≡ true)) (sym whole-is) (All-from_recursion (λ (line : Line). is_printable line.answer ≡ true) (lines ++ round)
-    (both lines (recursion_from_All (λ (line : Line). is_printable line.answer ≡ true) lines before) (recursion_from_All (λ (line : Line). is_printable line.answer ≡ true) round more)))
-  where
-    both : (front : List Line) → AllByRecursion (λ (line : Line). is_printable line.answer ≡ true) front → AllByRecursion (λ (line : Line). is_printable line.answer ≡ true) round → AllByRecursion (λ (line : Line). is_printable line.answer ≡ true) (front ++ round)
-    both [] one two = two
-    both (x ∷ front) one two = (one.0, both front one.1 two)

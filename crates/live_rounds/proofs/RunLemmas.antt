@@ -1,8 +1,6 @@
 -- A whole round, out of its steps.
-use Rattle.std.proofs.Common.{◌≡◌, ⊎_elim, ℕ, zero, suc, ◌+◌, ◌-◌, ◌<◌, ◌≤◌, List, [], ◌∷◌, ◌++◌, drop, get_or, length, map, slice_set, take, refl, sym, ap, subst, ◌∙◌, arith}
+use Rattle.std.proofs.Common.{◌≡◌, ⊎_elim, ℕ, zero, suc, ◌+◌, ◌<◌, ◌≤◌, List, [], ◌∷◌, drop, get_or, length, map, slice_set, take, take_all, refl, sym, ap, subst, ◌∙◌, arith}
 use Rattle.std.specs.List.{AllZip}
-use Rattle.std.proofs.Math.Seq.{take-add}
-use Rattle.std.proofs.lemmas.List.{drop-take, length-drop, map-append}
 use mathlib.Core.List.{IsPrefix}
 use Rattle.answer_lines.specs.declared.answer.Answer.{Answer}
 use Rattle.answer_lines.specs.declared.answer.Line.{Line}
@@ -10,18 +8,17 @@ use Rattle.live_pair.proofs.CallerLemmas.{prefix_self, prefix_trans}
 use Rattle.live_pair.specs.Admins.{AdminSeen}
 use Rattle.live_pair.specs.Seats.{SeatSeen}
 use Rattle.live_rounds.proofs.AllSharesLemmas.{AreAnswered, all_answered}
-use Rattle.live_rounds.proofs.CutLemmas.{all_begin, took}
+use Rattle.live_rounds.proofs.CutLemmas.{all_begin}
 use Rattle.live_rounds.proofs.EndLemmas.{round_entered, round_lines}
 use Rattle.live_rounds.proofs.ShareLemmas.{at_end}
-use Rattle.live_rounds.proofs.SharesLemmas.{map_drop, map_long, map_take}
-use Rattle.live_rounds.specs.Administrators.{AreDoneBeside, IsAdminAmid, IsAdminBehind}
-use Rattle.live_rounds.specs.Done.{AreEntered, AreLinesOf, HaveLearned}
+use Rattle.live_rounds.specs.Administrators.{AreDoneBeside}
+use Rattle.live_rounds.specs.Done.{AreEntered, AreLinesOf, IsRun}
 use Rattle.live_rounds.specs.Helps.Asked.{AreShared}
 use Rattle.live_rounds.specs.Helps.Learned.{HasLearned}
 use Rattle.live_rounds.specs.Helps.Posts.{AreKept}
 use Rattle.live_rounds.specs.Lists.{last_from}
 use Rattle.live_rounds.specs.Merged.{merged}
-use Rattle.live_rounds.specs.Requests.{items_before, items_between, requests}
+use Rattle.live_rounds.specs.Requests.{requests}
 use Rattle.live_rounds.specs.Served.{IsPartKept}
 use Rattle.live_rounds.specs.Shares.{AddsParts, AreSizes, total}
 use Rattle.model_conf.specs.ModelText.{ModelParts}
@@ -31,16 +28,8 @@ use Rattle.policy_table.specs.Tables.{Policy}
 use Rattle.policy_table.specs.declared.change.Change.{Change}
 use Rattle.regex_gate.proofs.CallerLemmas.{used_then}
 use Rattle.regex_gate.specs.Refusals.{IsUsed, Refusals}
-use Rattle.script_read.specs.Said.{Said, seen}
-use Rattle.script_read.specs.declared.item.Item.{Item}
+use Rattle.script_read.specs.Said.{Said}
 use Rattle.version_log.specs.Log.{versions}
-
--- the items of a round, by how many they are
-round_items : (script : List Item) (from to : ℕ) → from ≤ to → items_between script from to ≡ take (to - from) (drop from (map seen script))
-round_items script from to within =
-    let size : to ≡ from + (to - from) = omega (arith, within) in
-    ap (λ (n : ℕ). map seen (drop from (take n script))) size ∙ ap (map seen) (drop-take from (to - from) script)
-    ∙ map_take seen (to - from) (drop from script) ∙ ap (take (to - from)) (map_drop seen from script)
 
 -- a seat that learned twice knows of what it knew of, and of the last front
 pub all_learned : (first last : List (List (List Change))) (zeros olds news finals : List SeatSeen) → AllZip (HasLearned first) zeros olds → AllZip (λ (s t : SeatSeen). IsPrefix s.front t.front) olds news → AllZip (HasLearned last) news finals
@@ -57,44 +46,29 @@ all_learned first last (z ∷ zeros) (o ∷ olds) [] finals one grown two = absu
 all_learned first last [] [] [] (f ∷ finals) one grown two = absurd two
 all_learned first last (z ∷ zeros) (o ∷ olds) (n ∷ news) [] one grown two = absurd two
 
-module _ (model : ModelParts) (shapes : Shapes) (opening : Policy) (script : List Item) (from to n : ℕ) (within : from ≤ to) (until : to ≤ length script) (old new : AdminSeen) (others : List Answer)
-    (done : AreDoneBeside shapes opening (items_before script from) (items_between script from to) old new others) (sizes : List ℕ) (added : AddsParts n (items_between script from to) [] sizes) where
-  abbrev before : List Said
-  before = items_before script from
-
-  abbrev round : List Said
-  round = items_between script from to
-
+module _ (model : ModelParts) (shapes : Shapes) (opening : Policy) (before round : List Said) (n : ℕ) (old new : AdminSeen) (others : List Answer) (done : AreDoneBeside shapes opening before round old new others) (sizes : List ℕ) (added : AddsParts n round [] sizes) where
   abbrev end : ℕ
   end = at_end model shapes opening before round old new others done
 
   sized_as : AreSizes n round sizes
   sized_as = subst (AreSizes n round) (sym added.added) added.sizes
 
-  round_long : length round ≤ to - from
-  round_long = ap_long (round_items script from to within)
-    where
-      take_few : (k : ℕ) (l : List Said) → length (take k l) ≤ k
-      take_few zero l = omega arith
-      take_few (suc k) [] = omega arith
-      take_few (suc k) (x ∷ l) = let rest = take_few k l in omega (arith, rest)
+  few : total sizes ≤ length round
+  few = subst (λ (l : List ℕ). total l ≤ length round) (sym added.added) added.few
 
-      ap_long : round ≡ take (to - from) (drop from (map seen script)) → length round ≤ to - from
-      ap_long is = omega (arith, ap (λ (l : List Said). length l) is, take_few (to - from) (drop from (map seen script)))
-
-  few : total sizes ≤ to - from
-  few = subst (λ (l : List ℕ). total l ≤ to - from) (sym added.added) (omega (arith, added.few, round_long))
+  whole : round ≡ take (length round) (drop 0 round)
+  whole = sym (take_all (length round) round (omega arith))
 
   module _ (firsts olds news finals : List SeatSeen) (befores nows : List Refusals) (kepts : List (List Answer)) (first last : Refusals) (asked : List Answer)
-      (one : AllZip (HasLearned old.list) firsts olds) (two : AllZip (HasLearned new.list) news finals) (kept : AreKept model shapes opening (map seen script) end from sizes olds news befores nows kepts) (shared : AreShared model new.desk.state round sizes kepts first last [] asked) where
-    answered : AreAnswered model shapes opening before round old new others done (map seen script) round sizes firsts finals befores nows first last [] asked
-    answered = all_answered model shapes opening before round old new others done (map seen script) n from (to - from) round sizes firsts olds news finals befores nows kepts first last [] asked sized_as (round_items script from to within) few one two kept shared
+      (one : AllZip (HasLearned old.list) firsts olds) (two : AllZip (HasLearned new.list) news finals) (kept : AreKept model shapes opening round end 0 sizes olds news befores nows kepts) (shared : AreShared model new.desk.state round sizes kepts first last [] asked) where
+    answered : AreAnswered model shapes opening before round old new others done round round sizes firsts finals befores nows first last [] asked
+    answered = all_answered model shapes opening before round old new others done round n 0 (length round) round sizes firsts olds news finals befores nows kepts first last [] asked sized_as whole few one two kept shared
 
     pub run_lines : (count : ℕ) → count ≡ length before → AreLinesOf model shapes opening (suc n) before round (first ∷ befores) (last ∷ nows) (merged count round asked others)
-    run_lines count count-is = round_lines model shapes opening before round (map seen script) old new others done n sizes sized_as firsts finals first last befores nows asked answered count count-is
+    run_lines count count-is = round_lines model shapes opening before round round old new others done n sizes sized_as firsts finals first last befores nows asked answered count count-is
 
     pub run_entered : (count : ℕ) → AreEntered (suc n) round new firsts finals (merged count round asked others)
-    run_entered count = round_entered model shapes opening before round (map seen script) old new others done n sizes sized_as firsts finals first last befores nows asked answered count
+    run_entered count = round_entered model shapes opening before round round old new others done n sizes sized_as firsts finals first last befores nows asked answered count
 
 -- ---- what seats know of behind the work
 
@@ -140,58 +114,30 @@ lines_with model shapes opening workers before round befores all nows now lines 
 
 -- ---- all of it, by what the steps say
 
--- what a round leaves
-pub record IsRun (model : ModelParts) (shapes : Shapes) (opening : Policy) (script : List Item) (from to workers : ℕ) (new : AdminSeen) (firsts finals : List SeatSeen) (befores nows : List Refusals) (lines : List Line) : Type 0 where
-  pub lines_are : AreLinesOf model shapes opening workers (items_before script from) (items_between script from to) befores nows lines
-  pub behind : IsAdminBehind shapes opening (items_before script to) new
-  pub entered : AreEntered workers (items_between script from to) new firsts finals lines
-  pub learned : HaveLearned new firsts finals
-
--- the items up to one place, and those from there to another
-parts_before : (script : List Item) (from to : ℕ) → from ≤ to → items_before script from ++ items_between script from to ≡ items_before script to
-parts_before script from to within =
-    let size : to ≡ from + (to - from) = omega (arith, within) in
-    sym (map-append seen (take from script) (drop from (take to script)))
-    ∙ ap (λ (l : List Item). map seen (take from script ++ l)) (ap (λ (n : ℕ). drop from (take n script)) size ∙ drop-take from (to - from) script)
-    ∙ ap (map seen) (sym (take-add from (to - from) script)) ∙ ap (λ (n : ℕ). map seen (take n script)) (sym size)
-
-before_long : (script : List Item) (from : ℕ) → from ≤ length script → from ≡ length (items_before script from)
-before_long script from within = sym (map_long seen (take from script) ∙ took from script within)
-
-module _ {P : Type 0} (refusals : P → Refusals) (model : ModelParts) (shapes : Shapes) (opening : Policy) (script items : List Item) (from to workers n : ℕ) (workers-is : workers ≡ suc n) (items-is : items ≡ drop from (take to script)) (within : from ≤ to) (until : to ≤ length script)
-    (old new : AdminSeen) (others asked : List Answer) (lines : List Line) (sizes : List ℕ) (s0 s1 s2 s3 : List SeatSeen) (f0 f1 : List P) (d first last : P) (kepts : List (List Answer)) (state : State) (front_old front_new : List (List (List Change))) where
-  pub run_all : AreDoneBeside shapes opening (items_before script from) (map seen items) old new others → AddsParts n (map seen items) [] sizes → front_old ≡ old.list → AllZip (HasLearned front_old) s0 s1 → front_new ≡ new.list → AllZip (HasLearned front_new) s2 s3
-      → AreKept model shapes opening (map seen script) (versions new.desk.state.log) from sizes s1 s2 (drop 1 (map refusals f0)) (drop 1 (map refusals f1)) kepts → state ≡ new.desk.state → AreShared model state (map seen items) sizes kepts (refusals first) (refusals last) [] asked
-      → take 1 f1 ≡ take 1 f0 → 0 < length f0 → first ≡ get_or f1 0 d → lines ≡ merged from (map seen items) asked others → IsRun model shapes opening script from to workers new s0 s3 (map refusals f0) (map refusals (slice_set f1 0 last)) lines
+module _ {P : Type 0} (refusals : P → Refusals) (model : ModelParts) (shapes : Shapes) (opening : Policy) (before round : List Said) (count workers n : ℕ) (count-is : count ≡ length before) (workers-is : workers ≡ suc n) (old new : AdminSeen) (others asked : List Answer) (lines : List Line)
+    (sizes : List ℕ) (s0 s1 s2 s3 : List SeatSeen) (f0 f1 : List P) (d first last : P) (kepts : List (List Answer)) (state : State) (front_old front_new : List (List (List Change))) where
+  pub run_all : AreDoneBeside shapes opening before round old new others → AddsParts n round [] sizes → front_old ≡ old.list → AllZip (HasLearned front_old) s0 s1 → front_new ≡ new.list → AllZip (HasLearned front_new) s2 s3
+      → AreKept model shapes opening round (versions new.desk.state.log) 0 sizes s1 s2 (drop 1 (map refusals f0)) (drop 1 (map refusals f1)) kepts → state ≡ new.desk.state → AreShared model state round sizes kepts (refusals first) (refusals last) [] asked
+      → take 1 f1 ≡ take 1 f0 → 0 < length f0 → first ≡ get_or f1 0 d → lines ≡ merged count round asked others → IsRun model shapes opening workers before round new s0 s3 (map refusals f0) (map refusals (slice_set f1 0 last)) lines
   run_all done added old-is learned_old new-is learned_new kept state-is shared same some first-is lines-is =
       let one : AllZip (HasLearned old.list) s0 s1 = subst (λ (l : List (List (List Change))). AllZip (HasLearned l) s0 s1) old-is learned_old in
       let two : AllZip (HasLearned new.list) s2 s3 = subst (λ (l : List (List (List Change))). AllZip (HasLearned l) s2 s3) new-is learned_new in
-      let round : map seen items ≡ items_between script from to = ap (map seen) items-is in
-      let done_here : AreDoneBeside shapes opening (items_before script from) (items_between script from to) old new others = subst (λ (l : List Said). AreDoneBeside shapes opening (items_before script from) l old new others) round done in
-      let added_here : AddsParts n (items_between script from to) [] sizes = subst (λ (l : List Said). AddsParts n l [] sizes) round added in
-      let shared_here : AreShared model new.desk.state (items_between script from to) sizes kepts (refusals first) (refusals last) [] asked
-      = subst (λ (s : State). AreShared model s (items_between script from to) sizes kepts (refusals first) (refusals last) [] asked) state-is (subst (λ (l : List Said). AreShared model state l sizes kepts (refusals first) (refusals last) [] asked) round shared) in
-      let lines_here : merged from (items_between script from to) asked others ≡ lines = ap (λ (l : List Said). merged from l asked others) (sym round) ∙ sym lines-is in
+      let shared_here : AreShared model new.desk.state round sizes kepts (refusals first) (refusals last) [] asked = subst (λ (s : State). AreShared model s round sizes kepts (refusals first) (refusals last) [] asked) state-is shared in
       let heads = first_same f0 f1 d same some in
       let first_old : refusals first ∷ drop 1 (map refusals f0) ≡ map refusals f0
       = ap (λ (f : P). refusals f ∷ drop 1 (map refusals f0)) (first-is ∙ heads.0) ∙ sym (first_and_others refusals f0 d some) in
       let last_new : refusals last ∷ drop 1 (map refusals f1) ≡ map refusals (slice_set f1 0 last) = sym (first_written refusals f1 last heads.1) in
-      let told = run_lines model shapes opening script from to n within until old new others done_here sizes added_here s0 s1 s2 s3 (drop 1 (map refusals f0)) (drop 1 (map refusals f1)) kepts (refusals first) (refusals last) asked one two kept shared_here
-      from (before_long script from (omega (arith, within, until))) in
-      let entered = run_entered model shapes opening script from to n within until old new others done_here sizes added_here s0 s1 s2 s3 (drop 1 (map refusals f0)) (drop 1 (map refusals f1)) kepts (refusals first) (refusals last) asked one two kept shared_here from in
+      let told = run_lines model shapes opening before round n old new others done sizes added s0 s1 s2 s3 (drop 1 (map refusals f0)) (drop 1 (map refusals f1)) kepts (refusals first) (refusals last) asked one two kept shared_here count count-is in
+      let entered = run_entered model shapes opening before round n old new others done sizes added s0 s1 s2 s3 (drop 1 (map refusals f0)) (drop 1 (map refusals f1)) kepts (refusals first) (refusals last) asked one two kept shared_here count in
       record {
         lines_are =
-            subst (λ (w : ℕ). AreLinesOf model shapes opening w (items_before script from) (items_between script from to) (map refusals f0) (map refusals (slice_set f1 0 last)) lines) (sym workers-is)
-            (subst (AreLinesOf model shapes opening (suc n) (items_before script from) (items_between script from to) (map refusals f0) (map refusals (slice_set f1 0 last))) lines_here
-            (lines_with model shapes opening (suc n) (items_before script from) (items_between script from to) _ (map refusals f0) _ (map refusals (slice_set f1 0 last)) _ first_old last_new told));
-        behind = subst (λ (l : List Said). IsAdminBehind shapes opening l new) (parts_before script from to within) done_here.behind;
-        entered = subst (λ (w : ℕ). AreEntered w (items_between script from to) new s0 s3 lines) (sym workers-is) (subst (AreEntered (suc n) (items_between script from to) new s0 s3) lines_here entered);
-        learned = all_learned old.list new.list s0 s1 s2 s3 one (kept_grown model shapes opening (map seen script) (versions new.desk.state.log) from sizes s1 s2 (drop 1 (map refusals f0)) (drop 1 (map refusals f1)) kepts kept) two;
+            subst (λ (w : ℕ). AreLinesOf model shapes opening w before round (map refusals f0) (map refusals (slice_set f1 0 last)) lines) (sym workers-is)
+            (subst (AreLinesOf model shapes opening (suc n) before round (map refusals f0) (map refusals (slice_set f1 0 last))) (sym lines-is)
+            (lines_with model shapes opening (suc n) before round _ (map refusals f0) _ (map refusals (slice_set f1 0 last)) _ first_old last_new told));
+        behind = done.behind;
+        entered = subst (λ (w : ℕ). AreEntered w round new s0 s3 lines) (sym workers-is) (subst (AreEntered (suc n) round new s0 s3) (sym lines-is) entered);
+        learned = all_learned old.list new.list s0 s1 s2 s3 one (kept_grown model shapes opening round (versions new.desk.state.log) 0 sizes s1 s2 (drop 1 (map refusals f0)) (drop 1 (map refusals f1)) kepts kept) two;
       }
-
--- an administrator amid items, where they are those of a round
-pub amid_items : (shapes : Shapes) (opening : Policy) (before : List Said) (script items : List Item) (from to : ℕ) (admin : AdminSeen) → items ≡ drop from (take to script) → IsAdminAmid shapes opening before (map seen items) admin → IsAdminAmid shapes opening before (items_between script from to) admin
-amid_items shapes opening before script items from to admin is amid = subst (λ (l : List Item). IsAdminAmid shapes opening before (map seen l) admin) is amid
 
 -- ---- what the steps want
 
@@ -210,13 +156,9 @@ added_long n items sizes added = ap (λ (l : List ℕ). length l) added.added �
 pub added_in : (n : ℕ) (items : List Said) (start new sizes : List ℕ) → start ≡ [] → sizes ≡ new → AddsParts n items start new → AddsParts n items [] sizes
 added_in n items start new sizes none same added = subst (AddsParts n items []) (sym same) (subst (λ (l : List ℕ). AddsParts n items l new) none added)
 
--- the parts end within the script
-pub added_within : (n from to : ℕ) (script items : List Item) (sizes : List ℕ) → items ≡ drop from (take to script) → from ≤ to → to ≤ length script → AddsParts n (map seen items) [] sizes → from + total sizes ≤ to
-added_within n from to script items sizes items-is within until added =
-    let total-is : total sizes ≡ total added.more = ap total added.added in
-    let long : length (map seen items) ≡ length items = map_long seen items in
-    let items-long : length items ≡ length (take to script) - from = ap (λ (l : List Item). length l) items-is ∙ length-drop from (take to script) in
-    omega (arith, added.few, total-is, long, items-long, took to script until, within)
+-- the parts end within the round
+pub added_within : (n : ℕ) (items : List Said) (sizes : List ℕ) → AddsParts n items [] sizes → total sizes ≤ length items
+added_within n items sizes added = subst (λ (l : List ℕ). total l ≤ length items) (sym added.added) added.few
 
 -- the finders behind the desk's answers
 pub used_first : {P : Type 0} (refusals : P → Refusals) (olds news : List P) (d first last : P) → AllZip IsUsed (map refusals olds) (map refusals news) → first ≡ get_or news 0 d → IsUsed (refusals first) (refusals last) → AllZip IsUsed (map refusals olds) (map refusals (slice_set news 0 last))

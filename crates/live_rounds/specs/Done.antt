@@ -1,5 +1,5 @@
 -- What a round leaves: its lines, what the finders refused, and where its seats stand.
-use Rattle.std.specs.Prelude.{◌≡◌, ◌≤◌, ◌+◌, ℕ, ⊤, min, List, [], ◌∷◌, Option, Some, None, length, map, sum_by}
+use Rattle.std.specs.Prelude.{◌≡◌, ◌≤◌, ◌+◌, ℕ, ⊤, min, List, [], ◌∷◌, ◌++◌, Option, Some, None, length, map, sum_by}
 use Rattle.std.specs.List.{AllZip}
 use mathlib.Core.List.{IsPrefix}
 use Rattle.answer_lines.specs.declared.answer.Answer.{Answer}
@@ -7,6 +7,7 @@ use Rattle.answer_lines.specs.declared.answer.Answer.TheVariants.{Decided}
 use Rattle.answer_lines.specs.declared.answer.Line.{Line}
 use Rattle.live_pair.specs.Admins.{AdminSeen}
 use Rattle.live_pair.specs.Seats.{SeatSeen, version_of}
+use Rattle.live_rounds.specs.Administrators.{IsAdminBehind}
 use Rattle.live_rounds.specs.Lists.{last_from}
 use Rattle.live_rounds.specs.Requests.{at_each_request}
 use Rattle.model_conf.specs.ModelText.{ModelParts}
@@ -71,3 +72,12 @@ AreEntered workers round admin olds news lines = EachHasEntered (version_of admi
 -- each seat knows of all that it knew of, and of the administrator's publishes
 abbrev pub HaveLearned : AdminSeen → (olds news : List SeatSeen) → Type 0
 HaveLearned admin olds news = AllZip (λ (old new : SeatSeen). IsPrefix old.front new.front × IsPrefix admin.list new.front) olds news
+
+-- ---- a round
+
+-- what a round behind others leaves: its lines, the administrator behind it, and its seats
+pub record IsRun (model : ModelParts) (shapes : Shapes) (opening : Policy) (workers : ℕ) (before round : List Said) (new : AdminSeen) (olds news : List SeatSeen) (finders now : List Refusals) (lines : List Line) : Type 0 where
+  pub lines_are : AreLinesOf model shapes opening workers before round finders now lines
+  pub behind : IsAdminBehind shapes opening (before ++ round) new
+  pub entered : AreEntered workers round new olds news lines
+  pub learned : HaveLearned new olds news

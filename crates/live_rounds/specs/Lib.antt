@@ -1,6 +1,7 @@
 pub mod Lists
 pub mod Requests
 pub mod Shares
+pub mod Taken
 pub mod Served
 pub mod Answered
 pub mod Merged

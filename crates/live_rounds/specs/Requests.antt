@@ -1,17 +1,8 @@
--- The items of a round, and its requests.
-use Rattle.std.specs.Prelude.{◌≡◌, ℕ, zero, suc, List, [], ◌∷◌, ◌++◌, drop, length, map, take}
-use Rattle.script_read.specs.Said.{Reading, Said, seen}
+-- The requests of a round.
+use Rattle.std.specs.Prelude.{◌≡◌, ℕ, zero, suc, List, [], ◌∷◌, ◌++◌, length}
+use Rattle.script_read.specs.Said.{Reading, Said}
 use Rattle.script_read.specs.Said as said
-use Rattle.script_read.specs.declared.item.Item.{Item}
 use Rattle.session_meaning.specs.Rounds.{share_size}
-
--- the items of a script before a place
-abbrev pub items_before : List Item → ℕ → List Said
-items_before script place = map seen (take place script)
-
--- those from a place up to but not including another
-abbrev pub items_between : List Item → (from to : ℕ) → List Said
-items_between script from to = map seen (drop from (take to script))
 
 -- the requests of items, in their order
 abbrev pub requests : List Said → List Reading

@@ -1,4 +1,4 @@
-ghost use Rattle.std.specs.Prelude.{◌≡◌, [], IfOk, OnOk, drop, map};
+ghost use Rattle.std.specs.Prelude.{◌≡◌, ◌++◌, [], IfOk, OnOk, drop, map};
 ghost use Rattle.decision.specs.Programs.{Suits};
 ghost use Rattle.live_rounds.specs.Helps.Asked.{AddsAnswered, AreShared, IsShared, first_kept, others_kept};
 ghost use Rattle.live_rounds.specs.Requests.{requests};
@@ -93,10 +93,22 @@ fn answer_part<P: Finder>(
         asked.old.items asked.new.items) }
     ensures used { IsUsed (P.refusals finder.old) (P.refusals finder.new) }
 {
-    let mut kept = kept;
     let skipped = kept.len();
-    asked.append(&mut kept)?;
+    put_behind(asked, kept)?;
     answer_left(alloc, state, program, part, skipped, finder, asked)
+}
+
+// Puts replies behind others; those of the first part are not copied.
+fn put_behind(asked: &mut Vec<Answer>, kept: Vec<Answer>) -> Result<(), NoMemory>
+    ensures { OnOk result (asked.new.items ≡ asked.old.items ++ kept.items) }
+{
+    if asked.is_empty() {
+        *asked = kept;
+        return Ok(());
+    }
+    let mut kept = kept;
+    asked.append(&mut kept)?;
+    Ok(())
 }
 
 // Answers the requests among items over a policy, but for so many of the first ones, and puts the replies behind others.

@@ -18,18 +18,18 @@ pub(crate) struct Crew<J: Naming, P: Finder> {
     pub finders: IntoIter<P>,
 }
 
-/// Posts for the parts of a round, whose places follow each other from this one on: each takes the next seat and the next finder
-/// behind the first, as far as there are seats. The first finder stays, and there is room for all to come back.
+/// Posts for the parts of a round behind so many other items: each takes the next seat and the next finder behind the first, as
+/// far as there are seats. The first finder stays, and there is room for all to come back.
 pub(crate) fn muster<J: Naming, P: Finder>(
     alloc: Global,
     seats: &mut Vec<Seat<J>>,
     finders: &mut Vec<P>,
     sizes: &[usize],
-    from: usize,
+    behind: u32,
 ) -> Result<Crew<J, P>, NoMemory>
     requires enough { length sizes.now < length finders.old.items }
-    requires places { from + total sizes.now < 2 ^ 64 }
-    ensures spans { IfOk result (λ crew. AreSpans from sizes.now
+    requires places { total sizes.now < 2 ^ 64 }
+    ensures spans { IfOk result (λ crew. AreSpans 0 sizes.now
         (map (λ p. p.from) crew.posts.items) (map (λ p. p.until) crew.posts.items)) }
     ensures seats { IfOk result (λ crew. seats.old.items
         ≡ map (λ p. p.seat) crew.posts.items ++ crew.seats.rest.items) }
@@ -58,7 +58,14 @@ pub(crate) fn muster<J: Naming, P: Finder>(
     let mut left_finders = all_finders.into_iter();
     let first = next_of(&mut left_finders);
     finders.push_reserved(first);
-    let posts = manned(alloc, room, &mut left_seats, &mut left_finders, sizes, from);
+    let posts = manned(
+        alloc,
+        room,
+        &mut left_seats,
+        &mut left_finders,
+        sizes,
+        behind,
+    );
     Ok(Crew {
         posts,
         seats: left_seats,
@@ -73,13 +80,13 @@ fn manned<J: Naming, P: Finder>(
     seats: &mut IntoIter<Seat<J>>,
     finders: &mut IntoIter<P>,
     sizes: &[usize],
-    from: usize,
+    behind: u32,
 ) -> Vec<Post<J, P>>
     requires none { room.items ≡ [] }
     requires room { length sizes.now ≤ vec_capacity room }
     requires enough { length sizes.now ≤ length finders.old.rest.items }
-    requires places { from + total sizes.now < 2 ^ 64 }
-    ensures spans { AreSpans from sizes.now
+    requires places { total sizes.now < 2 ^ 64 }
+    ensures spans { AreSpans 0 sizes.now
         (map (λ p. p.from) result.items) (map (λ p. p.until) result.items) }
     ensures seats { seats.old.rest.items
         ≡ map (λ p. p.seat) result.items ++ seats.new.rest.items }
@@ -89,14 +96,14 @@ fn manned<J: Naming, P: Finder>(
     ensures few { length result.items ≤ length sizes.now }
 {
     let mut posts = room;
-    let mut place = from;
+    let mut place = 0;
     for size in sizes {
         let Some(seat) = seats.next() else {
             return posts;
         };
         let finder = next_of(finders);
         let until = place + *size;
-        posts.push_reserved(Post::new(alloc, seat, finder, place, until));
+        posts.push_reserved(Post::new(alloc, seat, finder, place, until, behind));
         place = until;
     }
     posts

@@ -71,6 +71,7 @@ fn unpost<J: Naming, P: Finder>(
             finder,
             from: _from,
             until: _until,
+            behind: _behind,
             replies,
             ran_out: _ran_out,
         } = post;

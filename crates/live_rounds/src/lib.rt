@@ -18,9 +18,11 @@ mod script;
 mod seat_answers;
 mod seat_fronts;
 mod shares;
+mod taker;
 mod together;
 
 pub use gate::{FreeGate, Gate};
 pub use laws::{replies_are_the_lines_of_a_round, seats_answer_at_cuts};
 pub use round::run_round;
 pub use script::run_shared;
+pub use taker::{TakeStop, Taker};

@@ -17,13 +17,15 @@ use std::alloc::Global;
 use std::thread;
 use std::thread::Threads;
 
-/// A worker of a round: its seat, its finder, the places of its items, and what it answered to the requests among them.
+/// A worker of a round: its seat, its finder, the places of its items, how many items stand before the round, and what it answered
+/// to the requests among its own.
 #[derive(Drop)]
 pub(crate) struct Post<J: Naming, P: Finder> {
     pub seat: Seat<J>,
     pub finder: P,
     pub from: usize,
     pub until: usize,
+    pub behind: u32,
     pub replies: Vec<Answer>,
     pub ran_out: bool,
 }
@@ -36,6 +38,7 @@ impl<J: Naming, P: Finder> Post<J, P> {
         finder: P,
         from: usize,
         until: usize,
+        behind: u32,
     ) -> Post<J, P>
         ensures seat { result.seat ≡ seat }
         ensures finder { result.finder ≡ finder }
@@ -47,6 +50,7 @@ impl<J: Naming, P: Finder> Post<J, P> {
             finder,
             from,
             until,
+            behind,
             replies: Vec::new(alloc),
             ran_out: false,
         }
@@ -111,6 +115,11 @@ fn share<T: Sync>(_value: &T)
     ensures { IsSync T.row }
 {}
 
+// The number of the item before a place of a round, behind so many other items.
+fn number_of(behind: u32, place: usize) -> u32 {
+    behind.saturating_add(u32::try_from(place).unwrap_or(u32::MAX))
+}
+
 // Answers the requests of a post.
 fn serve<J: Naming, P: Finder, G: Gate>(
     alloc: Global,
@@ -125,7 +134,7 @@ fn serve<J: Naming, P: Finder, G: Gate>(
         post.old post.new }
 {
     let worker = u32::try_from(worker).unwrap_or(u32::MAX);
-    let others = u32::try_from(post.from).unwrap_or(u32::MAX);
+    let others = number_of(post.behind, post.from);
     let items = items_of(script, post.from, post.until);
     let finder = &mut post.finder;
     let Ok(replies) = answer_part(

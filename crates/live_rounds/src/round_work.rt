@@ -1,4 +1,4 @@
-ghost use Rattle.std.specs.Prelude.{◌≡◌, ◌+◌, ◌<◌, ◌^◌, IfOk, List, OnErr, drop, length, map, take};
+ghost use Rattle.std.specs.Prelude.{◌≡◌, ◌<◌, ◌^◌, IfOk, List, OnErr, drop, length, map, take};
 ghost use Rattle.std.specs.List.{AllZip};
 ghost use Rattle.decision.specs.Programs.{Suits};
 ghost use Rattle.live_rounds.specs.Administrators.{AreDoneBeside, IsAdminAmid, IsAdminBehind};
@@ -30,8 +30,8 @@ pub(crate) struct Worked {
     pub others: Vec<Answer>,
 }
 
-/// Workers answer the parts of a round at their seats, beside the administrator; seats and finders are back in their places
-/// afterwards, whatever the answer. The replies at a seat that is above the administrator's version are not kept.
+/// Workers answer the parts of a round, behind so many other items, at their seats, beside the administrator; seats and finders are
+/// back in their places afterwards, whatever the answer. The replies at a seat that is above the administrator's version are not kept.
 pub(crate) fn work_round<J: Naming + Send + Sync, R: Threads + Wait + Sync, P: Finder, G: Gate>(
     rt: &R,
     alloc: Global,
@@ -39,7 +39,7 @@ pub(crate) fn work_round<J: Naming + Send + Sync, R: Threads + Wait + Sync, P: F
     script: &Script,
     items: &[Item],
     sizes: &[usize],
-    from: usize,
+    behind: u32,
     gate: &G,
     admin: &mut Admin<J>,
     seats: &mut Vec<Seat<J>>,
@@ -47,9 +47,9 @@ pub(crate) fn work_round<J: Naming + Send + Sync, R: Threads + Wait + Sync, P: F
 ) -> Result<Worked, NoMemory>
     requires suits { Suits program.now J.shapes }
     requires enough { length sizes.now < length finders.old.items }
-    requires places { from + total sizes.now < 2 ^ 64 }
+    requires places { total sizes.now < 2 ^ 64 }
     ensures kept { IfOk result (λ worked. AreKept program.now J.shapes J.opening
-        (map seen script.now) (versions admin.new.desk.state.log) from sizes.now
+        (map seen script.now) (versions admin.new.desk.state.log) 0 sizes.now
         seats.old.items seats.new.items
         (drop 1 (map P.refusals finders.old.items))
         (drop 1 (map P.refusals finders.new.items))
@@ -66,7 +66,7 @@ pub(crate) fn work_round<J: Naming + Send + Sync, R: Threads + Wait + Sync, P: F
         (map P.refusals finders.new.items) }
 {
     let mut kept = Vec::with_capacity(alloc, sizes.len())?;
-    let mut crew = muster(alloc, seats, finders, sizes, from)?;
+    let mut crew = muster(alloc, seats, finders, sizes, behind)?;
     let posts = &mut crew.posts;
     let others = work_together(rt, alloc, program, script, items, gate, admin, posts);
     let version = admin.desk().state().version();

@@ -1,29 +1,36 @@
-ghost use Rattle.std.specs.Prelude.{◌≡◌, ◌+◌, ◌<◌, ◌≤◌, [], All, IfOk, OnOk, drop, length, map, true};
+ghost use Rattle.std.specs.Prelude.{◌≡◌, ◌+◌, ◌<◌, ◌≤◌, ◌^◌, [], IfErr, IfNone, IfOk, IfSome, List, OnOk, length, map};
 ghost use Rattle.std.specs.List.{AllZip};
-ghost use Rattle.answer_lines.specs.Told.{is_printable};
 ghost use Rattle.decision.specs.Programs.{Suits};
 ghost use Rattle.live_rounds.specs.Administrators.{IsAdminBehind};
-ghost use Rattle.live_rounds.specs.Scripts.{AreSharedLines, round_size};
+ghost use Rattle.live_rounds.specs.Scripts.{AreAllShared, AreSomeShared, BeginsWithRound};
 ghost use Rattle.regex_gate.specs.Refusals.{IsUsed};
-ghost use Rattle.script_read.specs.Named.{is_named};
-ghost use Rattle.script_read.specs.Said.{seen};
+ghost use Rattle.script_read.specs.Said.{Said, seen};
+ghost use Rattle.script_read.specs.Script.{IsScript, SaysFrom};
 ghost use Rattle.session_meaning.specs.Rounds.{is_sync};
 
 use crate::gate::Gate;
-use crate::items::behind;
 use crate::round::run_round;
+use crate::taker::{TakeStop, Taker};
 use decision::Program;
-use desk_session::Lines;
 use live_pair::{Admin, Naming, Seat};
 use outside::NoMemory;
 use regex_gate::Finder;
-use script_read::{Item, Script};
+use script_read::{Item, Script, items_are_named, next_item};
+use session_meaning::plain_lines_are_shared;
 use std::alloc::Global;
 use std::sync::Wait;
 use std::thread::Threads;
 
-/// The lines of a script at a pair, round after round. Scripts of more items than numbers of lines are for want of memory.
-pub(crate) fn run_rounds<J: Naming + Send + Sync, R: Threads + Wait + Sync, P: Finder, G: Gate>(
+/// Does a script at a pair, round after round: each is read when the lines of the one before it were taken. Scripts of more items
+/// than numbers of lines are for want of memory.
+pub(crate) fn run_rounds<
+    J: Naming + Send + Sync,
+    R: Threads + Wait + Sync,
+    P: Finder,
+    G: Gate,
+    X,
+    T: Taker<X>,
+>(
     rt: &R,
     alloc: Global,
     admin: &mut Admin<J>,
@@ -31,59 +38,96 @@ pub(crate) fn run_rounds<J: Naming + Send + Sync, R: Threads + Wait + Sync, P: F
     finders: &mut Vec<P>,
     workers: u32,
     program: &Program,
-    script: &Script,
+    json: bool,
+    script: &str,
     gate: &G,
-) -> Result<Lines, NoMemory>
+    taker: &T,
+    to: &mut X,
+) -> Result<(), TakeStop>
     requires some { 0 < workers }
     requires few { workers ≤ 8 }
     requires finders { workers < length finders.old.items }
     requires suits { Suits program.now J.shapes }
+    requires checked { (items : List Said) × IsScript json script.now items }
     requires behind { IsAdminBehind J.shapes J.opening [] admin.old }
-    ensures shared { IfOk result (AreSharedLines program.now J.shapes J.opening workers
-        (map P.refusals finders.old.items) (map P.refusals finders.new.items)
-        (map seen script.now)) }
-    ensures printable { IfOk result (λ lines.
-        All (λ item. is_named item ≡ true) (map seen script.now)
-        → All (λ line. is_printable line.answer ≡ true) lines) }
-    ensures behind { OnOk result
-        (IsAdminBehind J.shapes J.opening (map seen script.now) admin.new) }
+    ensures shared { OnOk result ((items : List Said) → IsScript json script.now items
+        → AreAllShared T.took program.now J.shapes J.opening workers
+        (map P.refusals finders.old.items) (map P.refusals finders.new.items) items
+        to.old to.new) }
+    ensures amid { IfErr result (λ stop. (items : List Said) → IsScript json script.now items
+        → AreSomeShared T.took program.now J.shapes J.opening workers
+        (map P.refusals finders.old.items) (map P.refusals finders.new.items) items
+        T.stopped to.old to.new stop) }
+    ensures behind { OnOk result ((items : List Said) → IsScript json script.now items
+        → IsAdminBehind J.shapes J.opening items admin.new) }
     ensures used { AllZip IsUsed (map P.refusals finders.old.items)
         (map P.refusals finders.new.items) }
 {
-    let Ok(count) = u32::try_from(script.len()) else {
-        return Err(NoMemory);
-    };
-    let items = script.as_slice();
-    let mut lines = Vec::new(alloc);
-    let mut from: u32 = 0;
-    while from < count {
-        let rest = behind(items, from as usize);
-        let to = from + first_round(rest);
-        let round = run_round(
-            rt, alloc, admin, seats, finders, workers, program, script, from, to, gate,
+    items_are_named();
+    plain_lines_are_shared();
+    let mut count: u32 = 0;
+    let mut at = 1;
+    let mut rest = script;
+    while let Some((round, next, behind)) = next_round(alloc, json, rest, at)? {
+        let Some(sum) = sum_of(count, round.len()) else {
+            return Err(TakeStop::NoMemory);
+        };
+        let told = run_round(
+            rt, alloc, admin, seats, finders, workers, program, &round, count, gate,
         )?;
-        let mut more = round.into_vec();
-        lines.append(&mut more)?;
-        from = to;
+        taker.take(alloc, to, told.as_slice())?;
+        count = sum;
+        at = next;
+        rest = behind;
     }
-    Ok(Lines::from_vec(lines))
+    Ok(())
 }
 
-// How many items the first round has.
-fn first_round(items: &[Item]) -> u32
-    requires { length items.now < 4294967296 }
-    ensures size { result ≡ round_size (map seen items.now) }
-    ensures some { 0 < length items.now → 0 < result }
-    ensures within { result ≤ length items.now }
+// So many items, and so many more.
+fn sum_of(count: u32, more: usize) -> Option<u32>
+    ensures { IfSome result (λ sum. sum ≡ count + more) }
 {
-    let mut size = 0;
-    for item in items {
-        size += 1;
-        if is_sync(item) {
-            return size;
+    let Ok(more) = u32::try_from(more) else {
+        return None;
+    };
+    count.checked_add(more)
+}
+
+// The first round of a text that was checked, the number of the line behind it, and what stands from there on.
+fn next_round(
+    alloc: Global,
+    json: bool,
+    text: &str,
+    number: u64,
+) -> Result<Option<(Script, u64, &str)>, NoMemory>
+    requires few { number + length text.now < 2 ^ 64 }
+    requires checked { (items : List Said) × SaysFrom json number text.now items }
+    ensures none { IfOk result (λ next. IfNone next ((items : List Said)
+        → SaysFrom json number text.now items → items ≡ [])) }
+    ensures first { IfOk result (λ next. IfSome next (λ found.
+        BeginsWithRound json number text.now (map seen found.0) found.1 found.2.now)) }
+    ensures some { IfOk result (λ next. IfSome next (λ found. 0 < length (map seen found.0))) }
+    ensures within { IfOk result (λ next. IfSome next (λ found.
+        found.1 + length found.2.now ≤ number + length text.now)) }
+    ensures shorter { IfOk result (λ next. IfSome next (λ found.
+        length found.2.now < length text.now)) }
+{
+    let mut items = Vec::new(alloc);
+    let mut at = number;
+    let mut rest = text;
+    while let Some((item, next, behind)) = next_item(alloc, json, rest, at)? {
+        let last = is_sync(&item);
+        items.push(item)?;
+        if last {
+            return Ok(Some((Script::from_vec(items), next, behind)));
         }
+        at = next;
+        rest = behind;
     }
-    size
+    if items.is_empty() {
+        return Ok(None);
+    }
+    Ok(Some((Script::from_vec(items), at, rest)))
 }
 
 // Whether an item ends a round.

@@ -1,19 +1,21 @@
 //! Two workers beside an administrator.
-ghost use Rattle.std.specs.Prelude.{◌<◌, length};
+ghost use Rattle.std.specs.Prelude.{◌<◌, List, false, length};
 ghost use Rattle.decision.specs.Programs.{Suits};
 ghost use Rattle.perm_base.specs.Shapes.{AreValid};
+ghost use Rattle.script_read.specs.Said.{Said};
+ghost use Rattle.script_read.specs.Script.{IsScript};
 
 use crate::desks::{desk, program};
 use crate::meeting::Meeting;
 use decision::Program;
-use desk_session::{Answer, Lines};
+use desk_session::{Answer, Line};
 use effect_fold::Verdict;
 use live_pair::{PairPlaces, Places};
-use live_rounds::{Gate, run_shared};
+use live_rounds::{Gate, TakeStop, Taker, run_shared};
 use outside::NoMemory;
 use perm_base::Shapes;
 use regex_gate::RegexFinder;
-use script_read::{Script, read_script};
+use script_read::check_script;
 use std::alloc::Global;
 use std::sync::Wait;
 use std::sync::atomic::Ordering;
@@ -30,6 +32,45 @@ ask alice, data1, read
 remove p, alice, data1, read
 publish
 ";
+
+// At each line the version and the verdict that it shows, where it shows one.
+#[derive(Drop)]
+struct Shown {
+    lines: Vec<Option<(u32, Verdict)>>,
+}
+
+// Keeps what lines show.
+#[derive(Clone, Copy)]
+struct Keeping;
+
+impl Taker<Shown> for Keeping {
+    ghost use Rattle.std.specs.Prelude.{⊤};
+
+    ghost took = { λ _ _ _. ⊤ };
+
+    ghost stopped = { λ _ _ _ _. ⊤ };
+
+    fn take(&self, _alloc: Global, to: &mut Shown, lines: &[Line]) -> Result<(), TakeStop> {
+        for line in lines {
+            to.lines
+                .push(shown_by(&line.answer))
+                .map_err(NoMemory::from)?;
+        }
+        Ok(())
+    }
+}
+
+// What an answer shows.
+fn shown_by(answer: &Answer) -> Option<(u32, Verdict)> {
+    match answer {
+        Answer::Decided {
+            version,
+            verdict,
+            ..
+        } => Some((*version, *verdict)),
+        _ => None,
+    }
+}
 
 #[test]
 fn workers_and_the_administrator_wait_for_each_other(rt: HostRuntime) -> Result<(), Fail> {
@@ -50,21 +91,23 @@ fn lines_of<R: Threads + Wait + Sync, G: Gate, H: Places>(
     alloc: Global,
     gate: &G,
     places: &mut H,
-) -> Result<Lines, NoMemory> {
-    let Ok(script) = read_script(alloc, TURNS.as_bytes(), false) else {
+) -> Result<Shown, NoMemory> {
+    let Ok(()) = check_script(alloc, TURNS.as_bytes(), false) else {
         return Err(NoMemory);
     };
-    lines_by(rt, alloc, &script, gate, places)
+    lines_by(rt, alloc, TURNS, gate, places)
 }
 
 // With a finder for each worker and one more.
 fn lines_by<R: Threads + Wait + Sync, G: Gate, H: Places>(
     rt: &R,
     alloc: Global,
-    script: &Script,
+    script: &str,
     gate: &G,
     places: &mut H,
-) -> Result<Lines, NoMemory> {
+) -> Result<Shown, NoMemory>
+    requires checked { (items : List Said) × IsScript false script.now items }
+{
     let mut finders = Vec::with_capacity(alloc, 3)?;
     for _ in 0..3 {
         finders.push(RegexFinder::new(alloc))?;
@@ -79,12 +122,13 @@ fn lines_by<R: Threads + Wait + Sync, G: Gate, H: Places>(
 fn lines_with<R: Threads + Wait + Sync, G: Gate, H: Places>(
     rt: &R,
     alloc: Global,
-    script: &Script,
+    script: &str,
     finders: &mut Vec<RegexFinder>,
     gate: &G,
     places: &mut H,
-) -> Result<Lines, NoMemory>
+) -> Result<Shown, NoMemory>
     requires finders { 2 < length finders.old.items }
+    requires checked { (items : List Said) × IsScript false script.now items }
 {
     let (program, shapes) = program(alloc)?;
     lines_over(rt, alloc, &program, shapes, script, finders, gate, places)
@@ -96,33 +140,27 @@ fn lines_over<R: Threads + Wait + Sync, G: Gate, H: Places>(
     alloc: Global,
     program: &Program,
     shapes: Shapes,
-    script: &Script,
+    script: &str,
     finders: &mut Vec<RegexFinder>,
     gate: &G,
     places: &mut H,
-) -> Result<Lines, NoMemory>
+) -> Result<Shown, NoMemory>
     requires suits { Suits program.now shapes }
     requires valid { AreValid shapes }
     requires finders { 2 < length finders.old.items }
+    requires checked { (items : List Said) × IsScript false script.now items }
 {
     let desk = desk(alloc, shapes)?;
-    run_shared(rt, alloc, desk, program, script, 2, finders, gate, places)
+    run_shared(
+        rt, alloc, desk, program, false, script, 2, finders, gate, places,
+    )
 }
 
 // Whether the line at a place shows the verdict before the first publish, or the one behind it.
-fn is_beside(lines: &Lines, place: usize) -> bool {
-    let Some(line) = lines.as_slice().get(place) else {
+fn is_beside(lines: &Shown, place: usize) -> bool {
+    let Some(Some((version, verdict))) = lines.lines.get(place) else {
         return false;
     };
-    match &line.answer {
-        Answer::Decided {
-            version,
-            verdict,
-            ..
-        } => {
-            (*version == 0 && *verdict == Verdict::Deny(None))
-                || (*version == 1 && *verdict == Verdict::Allow(Some(1)))
-        }
-        _ => false,
-    }
+    (*version == 0 && *verdict == Verdict::Deny(None))
+        || (*version == 1 && *verdict == Verdict::Allow(Some(1)))
 }

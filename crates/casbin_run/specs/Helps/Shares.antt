@@ -1,15 +1,18 @@
 -- What items that workers answer come to.
-use Rattle.std.specs.Prelude.{◌≡◌, ◌⊎◌, ℕ, ◌≤◌, List, Option, Result, IfErr, OnOk}
+use Rattle.std.specs.Prelude.{◌≡◌, ◌⊎◌, ℕ, ◌≤◌, List, Option, Result, IfErr, OnOk, take}
 use Rattle.std.specs.List.{AllZip}
 use Rattle.answer_lines.specs.declared.answer.Line.{Line}
 use Rattle.model_conf.specs.ModelText.{ModelParts}
 use Rattle.outside.specs.Faults.{Rose}
-use Rattle.outside.specs.Told.{with_back}
+use Rattle.live_rounds.specs.declared.taker.TakeStop.{TakeStop}
+use Rattle.live_rounds.specs.declared.taker.TakeStop.TheVariants as taker
+use Rattle.live_rounds.specs.declared.taker.TakeStop.TheVariants.{Failed}
+use Rattle.outside.specs.Told.{TookFront, with_back}
 use Rattle.perm_base.specs.declared.shapes.Shapes.{Shapes}
 use Rattle.policy_table.specs.Tables as table
 use Rattle.regex_gate.specs.Refusals.{IsUsed, Refusals}
 use Rattle.run_status.specs.declared.stop.Stop.{Stop}
-use Rattle.run_status.specs.declared.stop.Stop.TheVariants.{NoMemory}
+use Rattle.run_status.specs.declared.stop.Stop.TheVariants.{CannotWrite, NoMemory}
 use Rattle.script_read.specs.Said.{Said}
 use Rattle.session_meaning.specs.Plain.{all_refused}
 use Rattle.session_meaning.specs.Rounds.{IsShared}
@@ -43,3 +46,23 @@ pub record AreAnsweredShared (IsSaid : List Said → Type 0) (workers : ℕ) (lo
   pub stopped : IfErr result (λ (stop : Stop). ((stop ≡ NoMemory) × (out_now.bytes ≡ out.bytes)) ⊎ SharedSome IsSaid workers loaded.model loaded.shapes loaded.tables.policy befores nows out.bytes out_now.bytes (Rose out.faults out_now.faults) stop)
   pub counted : out.faults ≤ out_now.faults
   pub used : AllZip IsUsed befores nows
+
+-- ---- lines that are printed, those of each round once it is over
+
+-- a sink took the text of lines
+abbrev pub Printed : (out out_now : Option (List ℕ)) (faults faults_now : ℕ) → List Line → Type 0
+Printed out out_now faults faults_now lines = (out_now ≡ with_back out (text_of_lines lines)) × (faults ≤ faults_now)
+
+-- it took a front of it, or the whole lines of the first so many
+abbrev pub PrintedAmid : (out out_now : Option (List ℕ)) (faults faults_now : ℕ) → List Line → TakeStop → Type 0
+PrintedAmid out out_now faults faults_now lines Failed = (TookFront out out_now (text_of_lines lines) × Rose faults faults_now) × (faults ≤ faults_now)
+PrintedAmid out out_now faults faults_now lines taker.NoMemory = ((count : ℕ) × (out_now ≡ with_back out (text_of_lines (take count lines)))) × (faults ≤ faults_now)
+
+-- a stop at lines as their taker tells it, and as a run does
+abbrev pub take_stop_of : Stop → TakeStop
+take_stop_of CannotWrite = Failed
+take_stop_of _ = taker.NoMemory
+
+abbrev pub stop_of : TakeStop → Stop
+stop_of Failed = CannotWrite
+stop_of taker.NoMemory = NoMemory

@@ -1,7 +1,5 @@
 use Rattle.std.proofs.Common.{◌≡◌, Err, refl, rules}
-use Rattle.std.specs.Prelude.{map}
 use Rattle.std.proofs.lemmas.Result.{IfErr-weaker, on_ok_weaker}
-use Rattle.script_read.specs.Said.{seen}
 use Rattle.casbin_run.specs.Helps.Tasks.{ground}
 use Rattle.casbin_run.specs.declared.job.Task.TheVariants.{Share}
 use Rattle.casbin_run.proofs.FinderLemmas.{none_used}
@@ -27,13 +25,16 @@ returns-in_err-script-clause-ended g c =
 pub returns-in_err-script-clause-used : goal.returns-in_err-script-clause-used
 returns-in_err-script-clause-used g c = none_used _
 
+pub share-requires-clause-checked : goal.share-requires-clause-checked
+share-requires-clause-checked g c = rw c.as_str-text.ensures.value c.in_ok-script.ensures.checked
+
 pub returns-clause-done : goal.returns-clause-done
 returns-clause-done g c =
-    on_ok_weaker c.share.result (wrote_all c.args.json c.args.workers c.args.loaded (g.S.Source.left c.args.input.now) (map seen c.in_ok-script.script) c.in_ok-script.ensures.read _ _ _ _) c.share.ensures.shared.printed
+    on_ok_weaker c.share.result (wrote_all c.args.json c.args.workers c.args.loaded (g.S.Source.left c.args.input.now) c.as_str-text.result.now (rw c.as_str-text.ensures.value c.in_ok-script.ensures.read) _ _ _ _) c.share.ensures.shared.printed
 
 pub returns-clause-stopped : goal.returns-clause-stopped
 returns-clause-stopped g c =
-    IfErr-weaker c.share.result _ _ (wrote_stops c.args.json c.args.workers c.args.loaded (g.S.Source.left c.args.input.now) (map seen c.in_ok-script.script) c.in_ok-script.ensures.read _ _ _ _ _ _) c.share.ensures.shared.stopped
+    IfErr-weaker c.share.result _ _ (wrote_stops c.args.json c.args.workers c.args.loaded (g.S.Source.left c.args.input.now) c.as_str-text.result.now (rw c.as_str-text.ensures.value c.in_ok-script.ensures.read) _ _ _ _ _ _) c.share.ensures.shared.stopped
 
 pub returns-clause-read_to_end : goal.returns-clause-read_to_end
 returns-clause-read_to_end g c = λ past. c.in_ok-script.ensures.read_to_end refl
@@ -43,8 +44,8 @@ returns-clause-ended g c = λ past. c.in_ok-script.ensures.ended refl
 
 pub returns-clause-quiet : goal.returns-clause-quiet
 returns-clause-quiet g c =
-    IfErr-weaker c.share.result _ _ (wrote_quiet c.args.json c.args.workers c.args.loaded (g.S.Source.left c.args.input.now) (map seen c.in_ok-script.script) c.in_ok-script.ensures.read _ _ _ _ _) c.share.ensures.shared.stopped
+    IfErr-weaker c.share.result _ _ (wrote_quiet c.args.json c.args.workers c.args.loaded (g.S.Source.left c.args.input.now) c.as_str-text.result.now (rw c.as_str-text.ensures.value c.in_ok-script.ensures.read) _ _ _ _ _) c.share.ensures.shared.stopped
 
 pub returns-clause-idle : goal.returns-clause-idle
 returns-clause-idle g c =
-    IfErr-weaker c.share.result _ _ (wrote_idle c.args.json c.args.workers c.args.loaded (g.S.Source.left c.args.input.now) (map seen c.in_ok-script.script) c.in_ok-script.ensures.read _ _ _ _ _) c.share.ensures.shared.stopped
+    IfErr-weaker c.share.result _ _ (wrote_idle c.args.json c.args.workers c.args.loaded (g.S.Source.left c.args.input.now) c.as_str-text.result.now (rw c.as_str-text.ensures.value c.in_ok-script.ensures.read) _ _ _ _ _) c.share.ensures.shared.stopped

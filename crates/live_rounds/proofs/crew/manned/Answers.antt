@@ -4,11 +4,11 @@ use Rattle.live_rounds.proofs.PostLemmas.{left_over, manned_all, manned_few, man
 use Rattle.live_rounds.proofs.crew.manned.Goals as goal
 
 pub loop-size-init : goal.loop-size-init
-loop-size-init g c = (manned_none _ _ _ _ c.args.from c.args.sizes.now c.args.seats.now.rest.items c.args.finders.now.rest.items c.args.room.items c.args.from c.requires.none refl, c.requires.room)
+loop-size-init g c = (manned_none _ _ _ _ 0 c.args.sizes.now c.args.seats.now.rest.items c.args.finders.now.rest.items c.args.room.items 0 c.requires.none refl, c.requires.room)
 
 pub loop-size-preserved : goal.loop-size-preserved
 loop-size-preserved g c = (
-  manned_more _ _ _ _ c.args.from c.args.sizes.now c.args.seats.now.rest.items c.args.finders.now.rest.items c.loop-size.size-index _ c.loop-size.seats.rest.items c.next.new.self.rest.items c.loop-size.finders.rest.items c.next_of-finder.new.values.rest.items c.loop-size.place _
+  manned_more _ _ _ _ 0 c.args.sizes.now c.args.seats.now.rest.items c.args.finders.now.rest.items c.loop-size.size-index _ c.loop-size.seats.rest.items c.next.new.self.rest.items c.loop-size.finders.rest.items c.next_of-finder.new.values.rest.items c.loop-size.place _
       c.loop-size.posts.items c.push_reserved.new.self.items c.new.result c.loop-size-test.true c.loop-size.invariant.0 (c.in-Some.ensures.cases.0 ∙ ap (λ seat. seat ∷ c.next.new.self.rest.items) (sym c.new.ensures.seat)) (c.next_of-finder.ensures ∙ ap (λ finder. finder ∷ c.next_of-finder.new.values.rest.items) (sym c.new.ensures.finder))
       c.new.ensures.from c.new.ensures.until refl c.push_reserved.ensures.items,
   subst (λ (n : ℕ). length c.args.sizes.now ≤ n) (sym c.push_reserved.ensures.capacity) c.loop-size.invariant.1,
@@ -20,7 +20,7 @@ next_of-finder-requires g c =
     left_over (λ p. p.finder) c.loop-size.posts.items c.loop-size.finders.rest.items c.args.finders.now.rest.items c.loop-size.size-index (length c.args.sizes.now) c.loop-size.invariant.0.finders_are c.loop-size.invariant.0.long c.loop-size-test.true c.requires.enough
 
 pub overflow_add-until : goal.overflow_add-until
-overflow_add-until g c = omega (arith, until_fits c.args.from c.loop-size.place c.args.sizes.now c.loop-size.size-index 0 c.loop-size-test.true c.loop-size.invariant.0.next_is c.requires.places)
+overflow_add-until g c = omega (arith, until_fits 0 c.loop-size.place c.args.sizes.now c.loop-size.size-index 0 c.loop-size-test.true c.loop-size.invariant.0.next_is (omega (arith, c.requires.places)))
 
 pub push_reserved-requires : goal.push_reserved-requires
 push_reserved-requires g c = omega (arith, c.loop-size.invariant.1, c.loop-size.invariant.0.long, c.loop-size-test.true, c.loop-size.posts.ok.0)
@@ -44,7 +44,7 @@ returns-in_default-clause-all g c =
     inr left
 
 pub returns-in_default-clause-few : goal.returns-in_default-clause-few
-returns-in_default-clause-few g c = manned_few _ _ _ _ c.args.from c.args.sizes.now _ _ c.loop-size.size-index _ _ _ c.loop-size.posts.items c.loop-size.invariant.0
+returns-in_default-clause-few g c = manned_few _ _ _ _ 0 c.args.sizes.now _ _ c.loop-size.size-index _ _ _ c.loop-size.posts.items c.loop-size.invariant.0
 
 -- all parts have a post
 pub returns-clause-spans : goal.returns-clause-spans
@@ -57,7 +57,7 @@ pub returns-clause-finders : goal.returns-clause-finders
 returns-clause-finders g c = c.loop-size.invariant.0.finders_are
 
 pub returns-clause-all : goal.returns-clause-all
-returns-clause-all g c = inl (manned_all _ _ _ _ c.args.from c.args.sizes.now _ _ c.loop-size.size-index _ _ _ c.loop-size.posts.items c.loop-size-test.false c.loop-size.invariant.0)
+returns-clause-all g c = inl (manned_all _ _ _ _ 0 c.args.sizes.now _ _ c.loop-size.size-index _ _ _ c.loop-size.posts.items c.loop-size-test.false c.loop-size.invariant.0)
 
 pub returns-clause-few : goal.returns-clause-few
-returns-clause-few g c = manned_few _ _ _ _ c.args.from c.args.sizes.now _ _ c.loop-size.size-index _ _ _ c.loop-size.posts.items c.loop-size.invariant.0
+returns-clause-few g c = manned_few _ _ _ _ 0 c.args.sizes.now _ _ c.loop-size.size-index _ _ _ c.loop-size.posts.items c.loop-size.invariant.0

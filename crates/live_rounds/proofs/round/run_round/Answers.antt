@@ -1,62 +1,53 @@
-use Rattle.std.proofs.Common.{◌-◌, ap, arith, map, subst, sym, ◌∙◌}
+use Rattle.std.proofs.Common.{◌-◌, List, ap, arith, map, subst, sym, ◌∙◌}
+use Rattle.std.proofs.lemmas.List.{length-map}
 use Rattle.decision.specs.Programs.{Suits}
 use Rattle.policy_desk.specs.Desks.{Work}
 use Rattle.policy_state.specs.States.{State}
 use Rattle.script_read.specs.Said.{seen}
+use Rattle.script_read.specs.declared.item.Item.{Item}
 use Rattle.desk_session.proofs.CallerLemmas.{on_err_of}
 use Rattle.live_rounds.proofs.AdminLemmas.{amid_first}
 use Rattle.live_rounds.proofs.EndLemmas.{round_printable}
 use Rattle.live_rounds.proofs.RoundsLemmas.{used_alike}
-use Rattle.live_rounds.proofs.RunLemmas.{added_in, added_long, added_within, amid_items, run_all, used_first}
+use Rattle.live_rounds.proofs.RunLemmas.{added_in, added_long, added_within, run_all, used_first}
 use Rattle.live_rounds.proofs.WorkedLemmas.{amid_all}
+use Rattle.live_rounds.specs.Administrators.{IsAdminAmid}
+use Rattle.live_rounds.specs.Done.{IsRun}
 use Rattle.live_rounds.proofs.round.run_round.Goals as goal
 
 -- want of memory before anything was done
 pub returns-in_err-push_parts-clause-stopped : goal.returns-in_err-push_parts-clause-stopped
-returns-in_err-push_parts-clause-stopped g c = on_err_of c.from_residual.result (amid_first _ _ _ _ c.args.admin.now c.requires.behind)
+returns-in_err-push_parts-clause-stopped g c = on_err_of c.from_residual.result (λ before is. amid_first _ _ before _ c.args.admin.now is)
 
 -- while the workers and the administrator were at it
 pub returns-in_err-worked-clause-stopped : goal.returns-in_err-worked-clause-stopped
-returns-in_err-worked-clause-stopped g c = on_err_of c.from_residual-in_err-worked.result (amid_items _ _ _ c.args.script.now c.items_of-items.result.now c.args.from c.args.to c.work_round-worked.new.admin c.items_of-items.ensures (c.in_err-worked.ensures.stopped _ c.requires.behind))
+returns-in_err-worked-clause-stopped g c = on_err_of c.from_residual-in_err-worked.result (λ before is.
+    subst (λ (l : List Item). IsAdminAmid g.J.Naming.shapes g.J.Naming.opening before (map seen l) c.work_round-worked.new.admin) c.as_slice-items.ensures (c.in_err-worked.ensures.stopped before is))
 
 -- and behind them
 pub returns-in_err-asked-clause-stopped : goal.returns-in_err-asked-clause-stopped
-returns-in_err-asked-clause-stopped g c = on_err_of c.from_residual-in_err-asked.result (amid_items _ _ _ c.args.script.now c.items_of-items.result.now c.args.from c.args.to c.work_round-worked.new.admin c.items_of-items.ensures (amid_all _ _ _ _ c.args.admin.now c.work_round-worked.new.admin c.in_ok-worked.worked.others.items (c.in_ok-worked.ensures.done _ c.requires.behind)))
+returns-in_err-asked-clause-stopped g c = on_err_of c.from_residual-in_err-asked.result (λ before is.
+    subst (λ (l : List Item). IsAdminAmid g.J.Naming.shapes g.J.Naming.opening before (map seen l) c.work_round-worked.new.admin) c.as_slice-items.ensures
+    (amid_all _ _ before _ c.args.admin.now c.work_round-worked.new.admin c.in_ok-worked.worked.others.items (c.in_ok-worked.ensures.done before is)))
 
 pub returns-in_err-lines-clause-stopped : goal.returns-in_err-lines-clause-stopped
-returns-in_err-lines-clause-stopped g c = on_err_of c.from_residual-in_err-lines.result (amid_items _ _ _ c.args.script.now c.items_of-items.result.now c.args.from c.args.to c.work_round-worked.new.admin c.items_of-items.ensures (amid_all _ _ _ _ c.args.admin.now c.work_round-worked.new.admin c.in_ok-worked.worked.others.items (c.in_ok-worked.ensures.done _ c.requires.behind)))
+returns-in_err-lines-clause-stopped g c = on_err_of c.from_residual-in_err-lines.result (λ before is.
+    subst (λ (l : List Item). IsAdminAmid g.J.Naming.shapes g.J.Naming.opening before (map seen l) c.work_round-worked.new.admin) c.as_slice-items.ensures
+    (amid_all _ _ before _ c.args.admin.now c.work_round-worked.new.admin c.in_ok-worked.worked.others.items (c.in_ok-worked.ensures.done before is)))
 
--- each clause behind Ok is a field of `run_all` at what the steps say
-pub returns-clause-lines : goal.returns-clause-lines
-returns-clause-lines g c =
-    (run_all g.P.Finder.refusals c.args.program.now _ _ c.args.script.now c.items_of-items.result.now c.args.from c.args.to c.args.workers (c.args.workers - 1) (omega (arith, c.requires.some)) c.items_of-items.ensures c.requires.from c.requires.until
+-- behind Ok, at what the steps say
+pub returns-clause-run : goal.returns-clause-run
+returns-clause-run g c = λ before long is.
+    subst (λ (l : List Item). IsRun c.args.program.now g.J.Naming.shapes g.J.Naming.opening c.args.workers before (map seen l) c.work_round-worked.new.admin c.args.seats.now.items c.learn_seats-2.new.seats.items (map g.P.Finder.refusals c.args.finders.now.items) _ c.from_vec.result) c.as_slice-items.ensures
+    (run_all g.P.Finder.refusals c.args.program.now g.J.Naming.shapes g.J.Naming.opening before (map seen c.as_slice-items.result.now) c.args.behind c.args.workers (c.args.workers - 1) long (omega (arith, c.requires.some))
     c.args.admin.now c.work_round-worked.new.admin c.in_ok-worked.worked.others.items c.in_ok-asked.asked.items c.from_vec.result c.as_slice-sizes.result.now c.args.seats.now.items c.learn_seats.new.seats.items c.work_round-worked.new.seats.items c.learn_seats-2.new.seats.items
-    c.args.finders.now.items c.work_round-worked.new.finders.items _ _ c.answer_asks.new.finder _ c.state-state.result.now c.front.result c.front-2.result (c.in_ok-worked.ensures.done _ c.requires.behind) (added_in (c.args.workers - 1) (map seen c.items_of-items.result.now) c.new-sizes.result.items c.push_parts.new.sizes.items c.as_slice-sizes.result.now c.new-sizes.ensures.items c.as_slice-sizes.ensures.value c.in_ok-push_parts.ensures.parts) c.front.ensures.front c.learn_seats.ensures.learned c.front-2.ensures.front c.learn_seats-2.ensures.learned c.in_ok-worked.ensures.kept
-    (c.state-state.ensures.state ∙ ap (λ (desk : Work). desk.state) c.desk.ensures.desk) c.in_ok-asked.ensures.shared c.work_round-worked.ensures.first (omega (arith, c.requires.finders)) c.index_mut.ensures.value (c.from_vec.ensures ∙ c.in_ok-lines.ensures)).lines_are
-
-pub returns-clause-behind : goal.returns-clause-behind
-returns-clause-behind g c =
-    (run_all g.P.Finder.refusals c.args.program.now _ _ c.args.script.now c.items_of-items.result.now c.args.from c.args.to c.args.workers (c.args.workers - 1) (omega (arith, c.requires.some)) c.items_of-items.ensures c.requires.from c.requires.until
-    c.args.admin.now c.work_round-worked.new.admin c.in_ok-worked.worked.others.items c.in_ok-asked.asked.items c.from_vec.result c.as_slice-sizes.result.now c.args.seats.now.items c.learn_seats.new.seats.items c.work_round-worked.new.seats.items c.learn_seats-2.new.seats.items
-    c.args.finders.now.items c.work_round-worked.new.finders.items _ _ c.answer_asks.new.finder _ c.state-state.result.now c.front.result c.front-2.result (c.in_ok-worked.ensures.done _ c.requires.behind) (added_in (c.args.workers - 1) (map seen c.items_of-items.result.now) c.new-sizes.result.items c.push_parts.new.sizes.items c.as_slice-sizes.result.now c.new-sizes.ensures.items c.as_slice-sizes.ensures.value c.in_ok-push_parts.ensures.parts) c.front.ensures.front c.learn_seats.ensures.learned c.front-2.ensures.front c.learn_seats-2.ensures.learned c.in_ok-worked.ensures.kept
-    (c.state-state.ensures.state ∙ ap (λ (desk : Work). desk.state) c.desk.ensures.desk) c.in_ok-asked.ensures.shared c.work_round-worked.ensures.first (omega (arith, c.requires.finders)) c.index_mut.ensures.value (c.from_vec.ensures ∙ c.in_ok-lines.ensures)).behind
-
-pub returns-clause-entered : goal.returns-clause-entered
-returns-clause-entered g c =
-    (run_all g.P.Finder.refusals c.args.program.now _ _ c.args.script.now c.items_of-items.result.now c.args.from c.args.to c.args.workers (c.args.workers - 1) (omega (arith, c.requires.some)) c.items_of-items.ensures c.requires.from c.requires.until
-    c.args.admin.now c.work_round-worked.new.admin c.in_ok-worked.worked.others.items c.in_ok-asked.asked.items c.from_vec.result c.as_slice-sizes.result.now c.args.seats.now.items c.learn_seats.new.seats.items c.work_round-worked.new.seats.items c.learn_seats-2.new.seats.items
-    c.args.finders.now.items c.work_round-worked.new.finders.items _ _ c.answer_asks.new.finder _ c.state-state.result.now c.front.result c.front-2.result (c.in_ok-worked.ensures.done _ c.requires.behind) (added_in (c.args.workers - 1) (map seen c.items_of-items.result.now) c.new-sizes.result.items c.push_parts.new.sizes.items c.as_slice-sizes.result.now c.new-sizes.ensures.items c.as_slice-sizes.ensures.value c.in_ok-push_parts.ensures.parts) c.front.ensures.front c.learn_seats.ensures.learned c.front-2.ensures.front c.learn_seats-2.ensures.learned c.in_ok-worked.ensures.kept
-    (c.state-state.ensures.state ∙ ap (λ (desk : Work). desk.state) c.desk.ensures.desk) c.in_ok-asked.ensures.shared c.work_round-worked.ensures.first (omega (arith, c.requires.finders)) c.index_mut.ensures.value (c.from_vec.ensures ∙ c.in_ok-lines.ensures)).entered
-
-pub returns-clause-learned : goal.returns-clause-learned
-returns-clause-learned g c =
-    (run_all g.P.Finder.refusals c.args.program.now _ _ c.args.script.now c.items_of-items.result.now c.args.from c.args.to c.args.workers (c.args.workers - 1) (omega (arith, c.requires.some)) c.items_of-items.ensures c.requires.from c.requires.until
-    c.args.admin.now c.work_round-worked.new.admin c.in_ok-worked.worked.others.items c.in_ok-asked.asked.items c.from_vec.result c.as_slice-sizes.result.now c.args.seats.now.items c.learn_seats.new.seats.items c.work_round-worked.new.seats.items c.learn_seats-2.new.seats.items
-    c.args.finders.now.items c.work_round-worked.new.finders.items _ _ c.answer_asks.new.finder _ c.state-state.result.now c.front.result c.front-2.result (c.in_ok-worked.ensures.done _ c.requires.behind) (added_in (c.args.workers - 1) (map seen c.items_of-items.result.now) c.new-sizes.result.items c.push_parts.new.sizes.items c.as_slice-sizes.result.now c.new-sizes.ensures.items c.as_slice-sizes.ensures.value c.in_ok-push_parts.ensures.parts) c.front.ensures.front c.learn_seats.ensures.learned c.front-2.ensures.front c.learn_seats-2.ensures.learned c.in_ok-worked.ensures.kept
-    (c.state-state.ensures.state ∙ ap (λ (desk : Work). desk.state) c.desk.ensures.desk) c.in_ok-asked.ensures.shared c.work_round-worked.ensures.first (omega (arith, c.requires.finders)) c.index_mut.ensures.value (c.from_vec.ensures ∙ c.in_ok-lines.ensures)).learned
+    c.args.finders.now.items c.work_round-worked.new.finders.items _ _ c.answer_asks.new.finder _ c.state-state.result.now c.front.result c.front-2.result (c.in_ok-worked.ensures.done before is) (added_in (c.args.workers - 1) (map seen c.as_slice-items.result.now) c.new-sizes.result.items c.push_parts.new.sizes.items c.as_slice-sizes.result.now c.new-sizes.ensures.items c.as_slice-sizes.ensures.value c.in_ok-push_parts.ensures.parts) c.front.ensures.front c.learn_seats.ensures.learned c.front-2.ensures.front c.learn_seats-2.ensures.learned
+    (rw c.as_slice-items.ensures c.in_ok-worked.ensures.kept)
+    (c.state-state.ensures.state ∙ ap (λ (desk : Work). desk.state) c.desk.ensures.desk) c.in_ok-asked.ensures.shared c.work_round-worked.ensures.first (omega (arith, c.requires.finders)) c.index_mut.ensures.value (c.from_vec.ensures ∙ c.in_ok-lines.ensures))
 
 pub returns-clause-printable : goal.returns-clause-printable
-returns-clause-printable g c named = round_printable c.order_of_rows_is_one.ensures.moved c.args.program.now _ _ c.args.workers _ _ _ _ c.from_vec.result (returns-clause-lines g c) named
+returns-clause-printable g c named =
+    round_printable c.order_of_rows_is_one.ensures.moved c.args.program.now _ _ c.args.workers _ _ _ _ c.from_vec.result (returns-clause-run g c c.requires.stands.0 c.requires.stands.1 c.requires.stands.2).lines_are named
 
 -- what the steps want
 pub answer_asks-requires-clause-suits : goal.answer_asks-requires-clause-suits
@@ -64,12 +55,11 @@ answer_asks-requires-clause-suits g c = λ lifetimes outlive.
     subst (Suits c.args.program.now) (sym (ap (λ (state : State). state.shapes) (c.state-state.ensures.state ∙ ap (λ (desk : Work). desk.state) c.desk.ensures.desk) ∙ c.desk.ensures.shapes)) c.requires.suits
 
 pub work_round-worked-requires-clause-enough : goal.work_round-worked-requires-clause-enough
-work_round-worked-requires-clause-enough g c = omega (arith, added_long (c.args.workers - 1) (map seen c.items_of-items.result.now) c.as_slice-sizes.result.now (added_in (c.args.workers - 1) (map seen c.items_of-items.result.now) c.new-sizes.result.items c.push_parts.new.sizes.items c.as_slice-sizes.result.now c.new-sizes.ensures.items c.as_slice-sizes.ensures.value c.in_ok-push_parts.ensures.parts), c.requires.some, c.requires.finders)
+work_round-worked-requires-clause-enough g c = omega (arith, added_long (c.args.workers - 1) (map seen c.as_slice-items.result.now) c.as_slice-sizes.result.now (added_in (c.args.workers - 1) (map seen c.as_slice-items.result.now) c.new-sizes.result.items c.push_parts.new.sizes.items c.as_slice-sizes.result.now c.new-sizes.ensures.items c.as_slice-sizes.ensures.value c.in_ok-push_parts.ensures.parts), c.requires.some, c.requires.finders)
 
 pub work_round-worked-requires-clause-places : goal.work_round-worked-requires-clause-places
 work_round-worked-requires-clause-places g c =
-    let within = added_within (c.args.workers - 1) c.args.from c.args.to c.args.script.now c.items_of-items.result.now c.as_slice-sizes.result.now c.items_of-items.ensures c.requires.from c.requires.until (added_in (c.args.workers - 1) (map seen c.items_of-items.result.now) c.new-sizes.result.items c.push_parts.new.sizes.items c.as_slice-sizes.result.now c.new-sizes.ensures.items c.as_slice-sizes.ensures.value c.in_ok-push_parts.ensures.parts) in
-    omega (arith, within)
+    omega (arith, added_within (c.args.workers - 1) (map seen c.as_slice-items.result.now) c.as_slice-sizes.result.now (added_in (c.args.workers - 1) (map seen c.as_slice-items.result.now) c.new-sizes.result.items c.push_parts.new.sizes.items c.as_slice-sizes.result.now c.new-sizes.ensures.items c.as_slice-sizes.ensures.value c.in_ok-push_parts.ensures.parts), length-map c.as_slice-items.result.now seen)
 
 -- the finders
 pub returns-in_err-push_parts-clause-used : goal.returns-in_err-push_parts-clause-used

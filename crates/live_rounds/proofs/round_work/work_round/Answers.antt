@@ -85,10 +85,10 @@ returns-clause-kept g c =
     let version : c.version-version.result ≡ versions c.work_together-others.new.admin.desk.state.log
     = c.version-version.ensures.value ∙ ap (λ (state : State). versions state.log) (c.state.ensures.state ∙ ap (λ (desk : Work). desk.state) c.desk.ensures.desk) in
     let kept = map (λ v. v.items) c.dismiss-whole.new.kept.items in
-    subst (λ (v : ℕ). AreKept c.args.program.now g.J.Naming.shapes g.J.Naming.opening (map seen c.args.script.now) v c.args.from c.args.sizes.now c.args.seats.now.items c.dismiss-whole.new.seats.items (drop 1 (map g.P.Finder.refusals c.args.finders.now.items)) (drop 1 (map g.P.Finder.refusals c.dismiss-whole.new.finders.items)) kept) version
+    subst (λ (v : ℕ). AreKept c.args.program.now g.J.Naming.shapes g.J.Naming.opening (map seen c.args.script.now) v 0 c.args.sizes.now c.args.seats.now.items c.dismiss-whole.new.seats.items (drop 1 (map g.P.Finder.refusals c.args.finders.now.items)) (drop 1 (map g.P.Finder.refusals c.dismiss-whole.new.finders.items)) kept) version
     (worked_kept (λ p. p.seat) (λ p. p.finder) (λ p. p.from) (λ p. p.until) g.P.Finder.refusals crew.posts.items crew.posts.items news news crew.seats.rest.items crew.finders.rest.items c.muster.new.finders.items refl refl c.work_together-others.ensures.served.count
     c.in_ok-crew.ensures.first c.args.finders.now.items c.dismiss-whole.new.finders.items c.in_ok-crew.ensures.finders c.dismiss-whole.ensures.finders
-    (λ p. p.replies.items) (λ p. p.ran_out) c.args.program.now g.J.Naming.shapes g.J.Naming.opening c.args.script.now c.version-version.result c.args.from c.args.sizes.now c.args.seats.now.items c.dismiss-whole.new.seats.items _
+    (λ p. p.replies.items) (λ p. p.ran_out) c.args.program.now g.J.Naming.shapes g.J.Naming.opening c.args.script.now c.version-version.result 0 c.args.sizes.now c.args.seats.now.items c.dismiss-whole.new.seats.items _
     c.in_ok-crew.ensures.seats (behind_none _ _ _ c.dismiss-whole.ensures.seats c.in_ok-crew.ensures.taken) c.in_ok-crew.ensures.spans c.in_ok-crew.ensures.all (c.dismiss-whole.ensures.whole c.if-not-whole.false) (λ i d within. (c.work_together-others.ensures.served.each i d within).served)
     (behind_none _ _ _ c.dismiss-whole.ensures.kept (ap (map (λ v. v.items)) c.in_ok-kept.ensures.items)))
 

@@ -1,84 +1,113 @@
-use Rattle.std.proofs.Common.{◌≡◌, ◌++◌, List, ap, arith, drop, length, map, refl, subst, take, take_all, ◌∙◌}
-use Rattle.std.proofs.lemmas.List.{length-drop}
+use Rattle.std.proofs.Common.{◌≡◌, ◌+◌, Err, ap, arith, length, map, rules, sym, ◌∙◌}
 use Rattle.std.proofs.lemmas.List.Elements.{length_all_zip}
-use Rattle.answer_lines.specs.declared.answer.Line.{Line}
+use Rattle.std.proofs.lemmas.Result.{err_from_is_err_and}
 use Rattle.regex_gate.specs.Refusals.{IsUsed}
 use Rattle.script_read.specs.Said.{seen}
-use Rattle.live_rounds.proofs.RoundsLemmas.{all_printable, none_printable, rounds_all, rounds_none, script_next, used_alike, used_both}
+use Rattle.live_rounds.proofs.RoundsLemmas.{done_all, done_behind, done_early, done_next, done_none, done_some, round_named, used_alike, used_both}
 use Rattle.live_rounds.proofs.SharesLemmas.{map_long}
-use Rattle.live_rounds.specs.Administrators.{IsAdminBehind}
-use Rattle.live_rounds.specs.Scripts.{round_size}
-use Rattle.script_read.specs.declared.item.Item.{Item}
+use Rattle.live_rounds.specs.Scripts.{BeginsWithRound}
 use Rattle.live_rounds.proofs.rounds.run_rounds.Goals as goal
 
-pub returns-in_default-clause-used : goal.returns-in_default-clause-used
-returns-in_default-clause-used g c = used_alike _
+pub loop-count-init : goal.loop-count-init
+loop-count-init g c = record {
+  done = λ items is. done_none c.args.program.now _ _ c.args.workers items _ g.T.Taker.took c.args.to.now c.args.json c.args.script.now c.args.admin.now is c.requires.behind;
+  used = used_alike _;
+  within = search rules;
+  utf8 = search rules;
+}
 
-pub loop-from-init : goal.loop-from-init
-loop-from-init g c = (
-  rounds_none c.args.program.now _ _ c.args.workers (map seen c.args.script.now) (map g.P.Finder.refusals c.args.finders.now.items) c.new-lines.result.items c.new-lines.ensures.items,
-  c.requires.behind,
-  used_alike _,
-  none_printable c.new-lines.result.items c.new-lines.ensures.items,
-  omega arith,
-)
+pub next_round-requires-clause-checked : goal.next_round-requires-clause-checked
+next_round-requires-clause-checked g c =
+    let so = c.loop-count.invariant.done c.requires.checked.0 c.requires.checked.1 in
+    (so.left, so.says)
 
--- one round more: its places, its lines behind the others, the administrator behind it
-pub loop-from-preserved : goal.loop-from-preserved
-loop-from-preserved g c =
-    let inv = c.loop-from.invariant in
-    let behind : c.append.new.self.items ≡ c.loop-from.lines.items ++ c.in_ok-round.round = c.in_ok-append.ensures.items ∙ ap (λ (l : List Line). c.loop-from.lines.items ++ l) c.into_vec-more.ensures in
-    let rest = c.behind-rest.ensures ∙ ap (λ (l : List Item). drop c.loop-from.from l) c.as_slice-items.ensures in (
-      script_next c.args.program.now _ _ c.args.workers c.args.script.now (map g.P.Finder.refusals c.args.finders.now.items) c.loop-from.from c.first_round.result _ _ _ c.loop-from.lines.items c.in_ok-round.round c.append.new.self.items (omega (arith, c.loop-from-test.true, c.len.ensures)) (c.first_round.ensures.size ∙ ap (λ (l : List Item). round_size (map seen l)) rest) refl inv.0 c.in_ok-round.ensures.lines behind,
-      c.in_ok-round.ensures.behind,
-      used_both _ _ _ inv.2 c.run_round.ensures.used,
-      λ named. all_printable c.args.script.now c.loop-from.from _ c.loop-from.lines.items c.in_ok-round.round c.append.new.self.items behind (inv.3 named) c.in_ok-round.ensures.printable named,
-      omega (arith, c.first_round.ensures.within, ap length rest, length-drop c.loop-from.from c.args.script.now, inv.4),
-    )
+-- memory ran out before a round was read
+pub returns-in_err-round-clause-amid : goal.returns-in_err-round-clause-amid
+returns-in_err-round-clause-amid g c =
+    let p = err_from_is_err_and c.from_residual.result c.from_residual.ensures.1 in
+    rw (p.1, p.2) (λ items is. done_early c.args.program.now _ _ c.args.workers items _ g.T.Taker.took c.args.to.now c.plain_lines_are_shared.ensures.there g.T.Taker.stopped c.args.json c.loop-count.at c.loop-count.rest.now c.loop-count.count _ _ _ _ (c.loop-count.invariant.done items is) (used_alike _))
 
--- what the first round of those that are left wants
-pub first_round-requires : goal.first_round-requires
-first_round-requires g c =
-    let rest = c.behind-rest.ensures ∙ ap (λ (l : List Item). drop c.loop-from.from l) c.as_slice-items.ensures in
-    omega (arith, ap length rest, length-drop c.loop-from.from c.args.script.now, c.len.ensures)
+pub returns-in_err-round-clause-used : goal.returns-in_err-round-clause-used
+returns-in_err-round-clause-used g c = c.loop-count.invariant.used
 
-pub overflow_add-to : goal.overflow_add-to
-overflow_add-to g c =
-    let rest = c.behind-rest.ensures ∙ ap (λ (l : List Item). drop c.loop-from.from l) c.as_slice-items.ensures in
-    omega (arith, c.first_round.ensures.within, ap length rest, length-drop c.loop-from.from c.args.script.now, c.loop-from-test.true, c.len.ensures)
+-- there are more items than numbers
+pub returns-in_default-sum-clause-amid : goal.returns-in_default-sum-clause-amid
+returns-in_default-sum-clause-amid g c = λ items is. done_early c.args.program.now _ _ c.args.workers items _ g.T.Taker.took c.args.to.now c.plain_lines_are_shared.ensures.there g.T.Taker.stopped c.args.json c.loop-count.at c.loop-count.rest.now c.loop-count.count _ _ _ _ (c.loop-count.invariant.done items is) (used_alike _)
+
+pub returns-in_default-sum-clause-used : goal.returns-in_default-sum-clause-used
+returns-in_default-sum-clause-used g c = c.loop-count.invariant.used
 
 -- what a round wants
-pub run_round-requires-clause-until : goal.run_round-requires-clause-until
-run_round-requires-clause-until g c =
-    let rest = c.behind-rest.ensures ∙ ap (λ (l : List Item). drop c.loop-from.from l) c.as_slice-items.ensures in
-    omega (arith, c.first_round.ensures.within, ap length rest, length-drop c.loop-from.from c.args.script.now, c.loop-from.invariant.4)
+pub run_round-told-requires-clause-finders : goal.run_round-told-requires-clause-finders
+run_round-told-requires-clause-finders g c = λ lifetimes outlive.
+    let same = length_all_zip IsUsed (map g.P.Finder.refusals c.args.finders.now.items) (map g.P.Finder.refusals c.loop-count.finders.items) c.loop-count.invariant.used in
+    omega (arith, c.requires.finders, same, map_long g.P.Finder.refusals c.args.finders.now.items, map_long g.P.Finder.refusals c.loop-count.finders.items)
 
-pub run_round-requires-clause-finders : goal.run_round-requires-clause-finders
-run_round-requires-clause-finders g c =
-    let same = length_all_zip IsUsed (map g.P.Finder.refusals c.args.finders.now.items) (map g.P.Finder.refusals c.loop-from.finders.items) c.loop-from.invariant.2 in
-    omega (arith, c.requires.finders, same, map_long g.P.Finder.refusals c.args.finders.now.items, map_long g.P.Finder.refusals c.loop-from.finders.items)
+pub run_round-told-requires-clause-stands : goal.run_round-told-requires-clause-stands
+run_round-told-requires-clause-stands g c = λ lifetimes outlive.
+    let so = c.loop-count.invariant.done c.requires.checked.0 c.requires.checked.1 in
+    (so.front, so.long, so.behind)
+
+-- memory ran out within it
+pub returns-in_err-told-clause-amid : goal.returns-in_err-told-clause-amid
+returns-in_err-told-clause-amid g c =
+    let p = err_from_is_err_and c.from_residual-in_err-told.result c.from_residual-in_err-told.ensures.1 in
+    rw (p.1, p.2) (λ items is. done_early c.args.program.now _ _ c.args.workers items _ g.T.Taker.took c.args.to.now c.plain_lines_are_shared.ensures.there g.T.Taker.stopped c.args.json c.loop-count.at c.loop-count.rest.now c.loop-count.count _ _ _ _ (c.loop-count.invariant.done items is) c.run_round-told.ensures.used)
+
+pub returns-in_err-told-clause-used : goal.returns-in_err-told-clause-used
+returns-in_err-told-clause-used g c = used_both _ _ _ c.loop-count.invariant.used c.run_round-told.ensures.used
+
+-- its lines can be printed
+pub take-requires : goal.take-requires
+take-requires g c =
+    let begins : BeginsWithRound c.args.json c.loop-count.at c.loop-count.rest.now (map seen c.in-Some.round) c.in-Some.next c.in-Some.behind.now = rw c.in-Some.is at c.in_ok-round.ensures.first in
+    let so = c.loop-count.invariant.done c.requires.checked.0 c.requires.checked.1 in
+    let first = begins so.left so.says in
+    rw c.as_slice.ensures
+    (c.in_ok-told.ensures.printable (round_named c.requires.checked.0 so.front so.left (map seen c.in-Some.round) first.left so.parts first.parts (c.items_are_named.ensures.script c.args.json c.args.script.now c.requires.checked.0 c.requires.checked.1)))
+
+-- they were not taken to their end
+pub returns-in_err-take-clause-amid : goal.returns-in_err-take-clause-amid
+returns-in_err-take-clause-amid g c =
+    let stop : c.from_residual-in_err-take.result ≡ Err c.in_err-take.field-0.0 = search rules in
+    let begins : BeginsWithRound c.args.json c.loop-count.at c.loop-count.rest.now (map seen c.in-Some.round) c.in-Some.next c.in-Some.behind.now = rw c.in-Some.is at c.in_ok-round.ensures.first in
+    let some = rw c.in-Some.is at c.in_ok-round.ensures.some in
+    rw stop (λ items is.
+    let so = c.loop-count.invariant.done items is in
+    done_some c.args.program.now _ _ c.args.workers items _ g.T.Taker.took c.args.to.now c.plain_lines_are_shared.ensures.there g.T.Taker.stopped c.args.json c.loop-count.at c.loop-count.rest.now c.loop-count.count _ _ _ _ _ _ (map seen c.in-Some.round) c.in-Some.next c.in-Some.behind.now _ _ c.in_ok-told.told _
+    so begins some (c.in_ok-told.ensures.run so.front so.long so.behind) (rw c.as_slice.ensures at c.in_err-take.ensures.stopped))
+
+pub returns-in_err-take-clause-used : goal.returns-in_err-take-clause-used
+returns-in_err-take-clause-used g c = used_both _ _ _ c.loop-count.invariant.used c.run_round-told.ensures.used
+
+-- one round more
+pub loop-count-preserved : goal.loop-count-preserved
+loop-count-preserved g c =
+    let inv = c.loop-count.invariant in
+    let begins : BeginsWithRound c.args.json c.loop-count.at c.loop-count.rest.now (map seen c.in-Some.round) c.in-Some.next c.in-Some.behind.now = rw c.in-Some.is at c.in_ok-round.ensures.first in
+    let some = rw c.in-Some.is at c.in_ok-round.ensures.some in
+    let within = rw c.in-Some.is at c.in_ok-round.ensures.within in
+    let sum : c.in-Some-sum.sum ≡ c.loop-count.count + length (map seen c.in-Some.round) = c.in-Some-sum.ensures ∙ ap (λ n. c.loop-count.count + n) (c.len.ensures ∙ sym (map_long seen c.in-Some.round)) in
+    record {
+      done = λ items is.
+          let so = inv.done items is in
+          done_next c.args.program.now _ _ c.args.workers items _ g.T.Taker.took c.args.to.now c.args.json c.loop-count.at c.loop-count.rest.now c.loop-count.count _ _ _ (map seen c.in-Some.round) c.in-Some.next c.in-Some.behind.now c.in-Some-sum.sum _ _ _ _ c.in_ok-told.told _
+          so begins some sum (c.in_ok-told.ensures.run so.front so.long so.behind) (rw c.as_slice.ensures at c.in_ok-take.ensures.took);
+      used = used_both _ _ _ inv.used c.run_round-told.ensures.used;
+      within = omega (arith, within, inv.within);
+      utf8 = search rules;
+    }
 
 -- all rounds are done
 pub returns-clause-shared : goal.returns-clause-shared
-returns-clause-shared g c =
-    rw c.from_vec.ensures (rounds_all c.args.program.now g.J.Naming.shapes g.J.Naming.opening c.args.workers (map seen c.args.script.now) (map g.P.Finder.refusals c.args.finders.now.items) c.loop-from.from (map g.P.Finder.refusals c.loop-from.finders.items)
-    c.loop-from.lines.items (omega (arith, c.loop-from-test.false, map_long seen c.args.script.now, c.len.ensures)) c.loop-from.invariant.0)
-
-pub returns-clause-printable : goal.returns-clause-printable
-returns-clause-printable g c = rw c.from_vec.ensures c.loop-from.invariant.3
+returns-clause-shared g c = λ items is.
+    let so = c.loop-count.invariant.done items is in
+    done_all c.args.program.now _ _ c.args.workers items _ g.T.Taker.took c.args.to.now c.args.json c.loop-count.at c.loop-count.rest.now c.loop-count.count _ _ _ so ((rw c.in_default.is at c.in_ok-round.ensures.none) so.left so.says)
 
 pub returns-clause-behind : goal.returns-clause-behind
-returns-clause-behind g c =
-    let whole : map seen (take c.loop-from.from c.args.script.now) ≡ map seen c.args.script.now = ap (map seen) (take_all c.loop-from.from c.args.script.now (omega (arith, c.loop-from-test.false, c.len.ensures))) in
-    subst (λ items. IsAdminBehind g.J.Naming.shapes g.J.Naming.opening items c.loop-from.admin) whole c.loop-from.invariant.1
-
--- ---- the finders
-
-pub returns-in_err-round-clause-used : goal.returns-in_err-round-clause-used
-returns-in_err-round-clause-used g c = used_both _ _ _ c.loop-from.invariant.2 c.run_round.ensures.used
-
-pub returns-in_err-append-clause-used : goal.returns-in_err-append-clause-used
-returns-in_err-append-clause-used g c = used_both _ _ _ c.loop-from.invariant.2 c.run_round.ensures.used
+returns-clause-behind g c = λ items is.
+    let so = c.loop-count.invariant.done items is in
+    done_behind c.args.program.now _ _ c.args.workers items _ g.T.Taker.took c.args.to.now c.args.json c.loop-count.at c.loop-count.rest.now c.loop-count.count _ _ _ so ((rw c.in_default.is at c.in_ok-round.ensures.none) so.left so.says)
 
 pub returns-clause-used : goal.returns-clause-used
-returns-clause-used g c = c.loop-from.invariant.2
+returns-clause-used g c = c.loop-count.invariant.used
