@@ -151,9 +151,16 @@ fn lines_over<R: Threads + Wait + Sync, G: Gate, H: Places>(
     requires checked { (items : List Said) × IsScript false script.now items }
 {
     let desk = desk(alloc, shapes)?;
-    run_shared(
-        rt, alloc, desk, program, false, script, 2, finders, gate, places,
-    )
+    let keeping = Keeping;
+    let mut shown = Shown {
+        lines: Vec::new(alloc),
+    };
+    match run_shared(
+        rt, alloc, desk, program, false, script, 2, finders, gate, places, &keeping, &mut shown,
+    ) {
+        Ok(()) => Ok(shown),
+        Err(_) => Err(NoMemory),
+    }
 }
 
 // Whether the line at a place shows the verdict before the first publish, or the one behind it.
