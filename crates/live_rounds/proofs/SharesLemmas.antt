@@ -1,6 +1,8 @@
 -- Requests that are shared out.
-use Rattle.std.proofs.Common.{◌≡◌, ℕ, zero, suc, ◌+◌, ◌-◌, ◌*◌, ◌/◌, ◌<◌, ◌≤◌, List, [], ◌∷◌, ◌++◌, append_assoc, length, map, take, drop, refl, sym, ap, subst, ◌∙◌, arith}
+use Rattle.std.proofs.Common.{◌≡◌, ℕ, zero, suc, ◌+◌, ◌-◌, ◌*◌, ◌/◌, ◌<◌, ◌≤◌, Bool, true, false, List, [], ◌∷◌, ◌++◌, append_assoc, length, map, take, drop, refl, sym, ap, subst, ◌∙◌, arith}
+use Rattle.std.specs.Prelude.{◌==◌}
 use Rattle.std.specs.Int.{div_ceil}
+use Rattle.std.proofs.lemmas.Bool.{eqb-false, eqb-true}
 use Rattle.std.proofs.lemmas.Grind.{div_ceil_times}
 use Rattle.std.proofs.lemmas.List.{length-drop, take-append-drop}
 use Rattle.std.proofs.lemmas.Nat.{div-mul-add, div_below, mul-le, row_fits}
@@ -29,6 +31,15 @@ take_past {X = X} (suc n) (x ∷ xs) past = ap (λ (l : List X). x ∷ l) (take_
 pub map_long : {X Y : Type 0} (f : X → Y) (xs : List X) → length (map f xs) ≡ length xs
 map_long f [] = refl
 map_long f (x ∷ xs) = ap (λ (n : ℕ). suc n) (map_long f xs)
+
+-- what a test for items tells
+pub none_in : {X : Type 0} (n : ℕ) (xs : List X) (test : Bool) → n ≡ length xs → test ≡ (n == 0) → test ≡ true → xs ≡ []
+none_in n [] test long is none = refl
+none_in n (x ∷ xs) test long is none = absurd (let nothing : n ≡ 0 = eqb-true n 0 (sym is ∙ none) in omega arith)
+
+pub some_in : {X : Type 0} (n : ℕ) (xs : List X) (test : Bool) → n ≡ length xs → test ≡ (n == 0) → test ≡ false → 0 < length xs
+some_in n [] test long is some = absurd (eqb-false n 0 (sym is ∙ some) long)
+some_in n (x ∷ xs) test long is some = omega arith
 
 -- ---- the size of a share
 

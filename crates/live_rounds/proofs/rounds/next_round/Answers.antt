@@ -1,8 +1,9 @@
-use Rattle.std.proofs.Common.{◌≡◌, ◌+◌, ◌<◌, ◌++◌, ◌∷◌, [], List, ap, arith, length, length-append, map, rules, sym, ◌∙◌}
+use Rattle.std.proofs.Common.{◌≡◌, ◌++◌, ◌∷◌, [], List, ap, arith, length, length-append, map, rules, sym, ◌∙◌}
+use Rattle.std.specs.Prelude.{vec_len}
 use Rattle.std.proofs.lemmas.Grind.{common_steps}
 use Rattle.std.proofs.lemmas.List.{map_push}
 use Rattle.live_rounds.proofs.RoundsLemmas.{front_end, front_last, front_more, front_none, front_whole}
-use Rattle.live_rounds.proofs.SharesLemmas.{map_long}
+use Rattle.live_rounds.proofs.SharesLemmas.{map_long, none_in, some_in}
 use Rattle.script_read.specs.Said.{seen}
 use Rattle.script_read.specs.Script.{BeginsWith}
 use Rattle.script_read.specs.declared.item.Item.{Item}
@@ -69,7 +70,7 @@ loop-items-preserved c =
 pub returns-then-is_empty-clause-none : goal.returns-then-is_empty-clause-none
 returns-then-is_empty-clause-none c = λ all says.
     let so = c.loop-items.invariant.front all says in
-    let none : c.loop-items.items.items ≡ [] = grind (arith, common_steps) in
+    let none = none_in (vec_len c.loop-items.items) c.loop-items.items.items c.is_empty.result c.loop-items.items.ok.0 c.is_empty.ensures c.if-is_empty.true in
     front_whole c.args.json all (map seen c.loop-items.items.items) c.loop-items.at c.loop-items.rest.now so (ap (map seen) none) ((rw c.in_default.is at c.in_ok-item.ensures.none) so.left so.says)
 
 pub returns-clause-first : goal.returns-clause-first
@@ -79,7 +80,7 @@ returns-clause-first c = λ all says.
 
 pub returns-clause-some : goal.returns-clause-some
 returns-clause-some c =
-    let some : 0 < length c.loop-items.items.items = grind (arith, common_steps) in
+    let some = some_in (vec_len c.loop-items.items) c.loop-items.items.items c.is_empty.result c.loop-items.items.ok.0 c.is_empty.ensures c.if-is_empty.false in
     omega (arith, some, map_long seen c.from_vec.result, ap (λ (l : List Item). length l) c.from_vec.ensures)
 
 pub returns-clause-within : goal.returns-clause-within
@@ -87,5 +88,5 @@ returns-clause-within c = c.loop-items.invariant.within
 
 pub returns-clause-shorter : goal.returns-clause-shorter
 returns-clause-shorter c =
-    let some : 0 < length c.loop-items.items.items = grind (arith, common_steps) in
+    let some = some_in (vec_len c.loop-items.items) c.loop-items.items.items c.is_empty.result c.loop-items.items.ok.0 c.is_empty.ensures c.if-is_empty.false in
     c.loop-items.invariant.shorter some

@@ -31,20 +31,20 @@ pub returns-in_err-round-clause-used : goal.returns-in_err-round-clause-used
 returns-in_err-round-clause-used g c = c.loop-count.invariant.used
 
 -- there are more items than numbers
-pub returns-in_default-sum-clause-amid : goal.returns-in_default-sum-clause-amid
-returns-in_default-sum-clause-amid g c = λ items is. done_early c.args.program.now _ _ c.args.workers items _ g.T.Taker.took c.args.to.now c.plain_lines_are_shared.ensures.there g.T.Taker.stopped c.args.json c.loop-count.at c.loop-count.rest.now c.loop-count.count _ _ _ _ (c.loop-count.invariant.done items is) (used_alike _)
+pub returns-in_default-sum_of-clause-amid : goal.returns-in_default-sum_of-clause-amid
+returns-in_default-sum_of-clause-amid g c = λ items is. done_early c.args.program.now _ _ c.args.workers items _ g.T.Taker.took c.args.to.now c.plain_lines_are_shared.ensures.there g.T.Taker.stopped c.args.json c.loop-count.at c.loop-count.rest.now c.loop-count.count _ _ _ _ (c.loop-count.invariant.done items is) (used_alike _)
 
-pub returns-in_default-sum-clause-used : goal.returns-in_default-sum-clause-used
-returns-in_default-sum-clause-used g c = c.loop-count.invariant.used
+pub returns-in_default-sum_of-clause-used : goal.returns-in_default-sum_of-clause-used
+returns-in_default-sum_of-clause-used g c = c.loop-count.invariant.used
 
 -- what a round wants
-pub run_round-told-requires-clause-finders : goal.run_round-told-requires-clause-finders
-run_round-told-requires-clause-finders g c = λ lifetimes outlive.
+pub run_round-requires-clause-finders : goal.run_round-requires-clause-finders
+run_round-requires-clause-finders g c = λ lifetimes outlive.
     let same = length_all_zip IsUsed (map g.P.Finder.refusals c.args.finders.now.items) (map g.P.Finder.refusals c.loop-count.finders.items) c.loop-count.invariant.used in
     omega (arith, c.requires.finders, same, map_long g.P.Finder.refusals c.args.finders.now.items, map_long g.P.Finder.refusals c.loop-count.finders.items)
 
-pub run_round-told-requires-clause-stands : goal.run_round-told-requires-clause-stands
-run_round-told-requires-clause-stands g c = λ lifetimes outlive.
+pub run_round-requires-clause-stands : goal.run_round-requires-clause-stands
+run_round-requires-clause-stands g c = λ lifetimes outlive.
     let so = c.loop-count.invariant.done c.requires.checked.0 c.requires.checked.1 in
     (so.front, so.long, so.behind)
 
@@ -52,10 +52,10 @@ run_round-told-requires-clause-stands g c = λ lifetimes outlive.
 pub returns-in_err-told-clause-amid : goal.returns-in_err-told-clause-amid
 returns-in_err-told-clause-amid g c =
     let p = err_from_is_err_and c.from_residual-in_err-told.result c.from_residual-in_err-told.ensures.1 in
-    rw (p.1, p.2) (λ items is. done_early c.args.program.now _ _ c.args.workers items _ g.T.Taker.took c.args.to.now c.plain_lines_are_shared.ensures.there g.T.Taker.stopped c.args.json c.loop-count.at c.loop-count.rest.now c.loop-count.count _ _ _ _ (c.loop-count.invariant.done items is) c.run_round-told.ensures.used)
+    rw (p.1, p.2) (λ items is. done_early c.args.program.now _ _ c.args.workers items _ g.T.Taker.took c.args.to.now c.plain_lines_are_shared.ensures.there g.T.Taker.stopped c.args.json c.loop-count.at c.loop-count.rest.now c.loop-count.count _ _ _ _ (c.loop-count.invariant.done items is) c.run_round.ensures.used)
 
 pub returns-in_err-told-clause-used : goal.returns-in_err-told-clause-used
-returns-in_err-told-clause-used g c = used_both _ _ _ c.loop-count.invariant.used c.run_round-told.ensures.used
+returns-in_err-told-clause-used g c = used_both _ _ _ c.loop-count.invariant.used c.run_round.ensures.used
 
 -- its lines can be printed
 pub take-requires : goal.take-requires
@@ -78,7 +78,7 @@ returns-in_err-take-clause-amid g c =
     so begins some (c.in_ok-told.ensures.run so.front so.long so.behind) (rw c.as_slice.ensures at c.in_err-take.ensures.stopped))
 
 pub returns-in_err-take-clause-used : goal.returns-in_err-take-clause-used
-returns-in_err-take-clause-used g c = used_both _ _ _ c.loop-count.invariant.used c.run_round-told.ensures.used
+returns-in_err-take-clause-used g c = used_both _ _ _ c.loop-count.invariant.used c.run_round.ensures.used
 
 -- one round more
 pub loop-count-preserved : goal.loop-count-preserved
@@ -87,13 +87,13 @@ loop-count-preserved g c =
     let begins : BeginsWithRound c.args.json c.loop-count.at c.loop-count.rest.now (map seen c.in-Some.round) c.in-Some.next c.in-Some.behind.now = rw c.in-Some.is at c.in_ok-round.ensures.first in
     let some = rw c.in-Some.is at c.in_ok-round.ensures.some in
     let within = rw c.in-Some.is at c.in_ok-round.ensures.within in
-    let sum : c.in-Some-sum.sum ≡ c.loop-count.count + length (map seen c.in-Some.round) = c.in-Some-sum.ensures ∙ ap (λ n. c.loop-count.count + n) (c.len.ensures ∙ sym (map_long seen c.in-Some.round)) in
+    let sum : c.in-Some-sum_of.sum ≡ c.loop-count.count + length (map seen c.in-Some.round) = c.in-Some-sum_of.ensures ∙ ap (λ n. c.loop-count.count + n) (c.len.ensures ∙ sym (map_long seen c.in-Some.round)) in
     record {
       done = λ items is.
           let so = inv.done items is in
-          done_next c.args.program.now _ _ c.args.workers items _ g.T.Taker.took c.args.to.now c.args.json c.loop-count.at c.loop-count.rest.now c.loop-count.count _ _ _ (map seen c.in-Some.round) c.in-Some.next c.in-Some.behind.now c.in-Some-sum.sum _ _ _ _ c.in_ok-told.told _
+          done_next c.args.program.now _ _ c.args.workers items _ g.T.Taker.took c.args.to.now c.args.json c.loop-count.at c.loop-count.rest.now c.loop-count.count _ _ _ (map seen c.in-Some.round) c.in-Some.next c.in-Some.behind.now c.in-Some-sum_of.sum _ _ _ _ c.in_ok-told.told _
           so begins some sum (c.in_ok-told.ensures.run so.front so.long so.behind) (rw c.as_slice.ensures at c.in_ok-take.ensures.took);
-      used = used_both _ _ _ inv.used c.run_round-told.ensures.used;
+      used = used_both _ _ _ inv.used c.run_round.ensures.used;
       within = omega (arith, within, inv.within);
       utf8 = search rules;
     }
