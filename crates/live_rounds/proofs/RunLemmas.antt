@@ -28,7 +28,8 @@ use Rattle.policy_table.specs.Tables.{Policy}
 use Rattle.policy_table.specs.declared.change.Change.{Change}
 use Rattle.regex_gate.proofs.CallerLemmas.{used_then}
 use Rattle.regex_gate.specs.Refusals.{IsUsed, Refusals}
-use Rattle.script_read.specs.Said.{Said}
+use Rattle.script_read.specs.Said.{Said, seen}
+use Rattle.script_read.specs.declared.item.Item.{Item}
 use Rattle.version_log.specs.Log.{versions}
 
 -- a seat that learned twice knows of what it knew of, and of the last front
@@ -116,10 +117,10 @@ lines_with model shapes opening workers before round befores all nows now lines 
 
 module _ {P : Type 0} (refusals : P → Refusals) (model : ModelParts) (shapes : Shapes) (opening : Policy) (before round : List Said) (count workers n : ℕ) (count-is : count ≡ length before) (workers-is : workers ≡ suc n) (old new : AdminSeen) (others asked : List Answer) (lines : List Line)
     (sizes : List ℕ) (s0 s1 s2 s3 : List SeatSeen) (f0 f1 : List P) (d first last : P) (kepts : List (List Answer)) (state : State) (front_old front_new : List (List (List Change))) where
-  pub run_all : AreDoneBeside shapes opening before round old new others → AddsParts n round [] sizes → front_old ≡ old.list → AllZip (HasLearned front_old) s0 s1 → front_new ≡ new.list → AllZip (HasLearned front_new) s2 s3
+  run_items : AreDoneBeside shapes opening before round old new others → AddsParts n round [] sizes → front_old ≡ old.list → AllZip (HasLearned front_old) s0 s1 → front_new ≡ new.list → AllZip (HasLearned front_new) s2 s3
       → AreKept model shapes opening round (versions new.desk.state.log) 0 sizes s1 s2 (drop 1 (map refusals f0)) (drop 1 (map refusals f1)) kepts → state ≡ new.desk.state → AreShared model state round sizes kepts (refusals first) (refusals last) [] asked
       → take 1 f1 ≡ take 1 f0 → 0 < length f0 → first ≡ get_or f1 0 d → lines ≡ merged count round asked others → IsRun model shapes opening workers before round new s0 s3 (map refusals f0) (map refusals (slice_set f1 0 last)) lines
-  run_all done added old-is learned_old new-is learned_new kept state-is shared same some first-is lines-is =
+  run_items done added old-is learned_old new-is learned_new kept state-is shared same some first-is lines-is =
       let one : AllZip (HasLearned old.list) s0 s1 = subst (λ (l : List (List (List Change))). AllZip (HasLearned l) s0 s1) old-is learned_old in
       let two : AllZip (HasLearned new.list) s2 s3 = subst (λ (l : List (List (List Change))). AllZip (HasLearned l) s2 s3) new-is learned_new in
       let shared_here : AreShared model new.desk.state round sizes kepts (refusals first) (refusals last) [] asked = subst (λ (s : State). AreShared model s round sizes kepts (refusals first) (refusals last) [] asked) state-is shared in
@@ -138,6 +139,23 @@ module _ {P : Type 0} (refusals : P → Refusals) (model : ModelParts) (shapes :
         entered = subst (λ (w : ℕ). AreEntered w round new s0 s3 lines) (sym workers-is) (subst (AreEntered (suc n) round new s0 s3) (sym lines-is) entered);
         learned = all_learned old.list new.list s0 s1 s2 s3 one (kept_grown model shapes opening round (versions new.desk.state.log) 0 sizes s1 s2 (drop 1 (map refusals f0)) (drop 1 (map refusals f1)) kepts kept) two;
       }
+
+-- the same where the items are those of a script
+module _ {P : Type 0} (refusals : P → Refusals) (model : ModelParts) (shapes : Shapes) (opening : Policy) (before : List Said) (script items : List Item) (items-is : items ≡ script) (count workers n : ℕ) (count-is : count ≡ length before) (workers-is : workers ≡ suc n) (old new : AdminSeen) (others asked : List Answer) (lines : List Line)
+    (sizes : List ℕ) (s0 s1 s2 s3 : List SeatSeen) (f0 f1 : List P) (d first last : P) (kepts : List (List Answer)) (state : State) (front_old front_new : List (List (List Change))) where
+  abbrev Kept : List Item → Type 0
+  Kept l = AreKept model shapes opening (map seen l) (versions new.desk.state.log) 0 sizes s1 s2 (drop 1 (map refusals f0)) (drop 1 (map refusals f1)) kepts
+
+  abbrev Run : List Item → Type 0
+  Run l = IsRun model shapes opening workers before (map seen l) new s0 s3 (map refusals f0) (map refusals (slice_set f1 0 last)) lines
+
+  pub run_all : AreDoneBeside shapes opening before (map seen items) old new others → AddsParts n (map seen items) [] sizes → front_old ≡ old.list → AllZip (HasLearned front_old) s0 s1 → front_new ≡ new.list → AllZip (HasLearned front_new) s2 s3
+      → AreKept model shapes opening (map seen script) (versions new.desk.state.log) 0 sizes s1 s2 (drop 1 (map refusals f0)) (drop 1 (map refusals f1)) kepts → state ≡ new.desk.state → AreShared model state (map seen items) sizes kepts (refusals first) (refusals last) [] asked
+      → take 1 f1 ≡ take 1 f0 → 0 < length f0 → first ≡ get_or f1 0 d → lines ≡ merged count (map seen items) asked others → IsRun model shapes opening workers before (map seen script) new s0 s3 (map refusals f0) (map refusals (slice_set f1 0 last)) lines
+  run_all done added old-is learned_old new-is learned_new kept state-is shared same some first-is lines-is =
+      subst (λ (l : List Item). Kept l → Run l) items-is
+      (λ here. run_items refusals model shapes opening before (map seen items) count workers n count-is workers-is old new others asked lines sizes s0 s1 s2 s3 f0 f1 d first last kepts state front_old front_new done added old-is learned_old new-is learned_new here state-is shared same some first-is lines-is)
+      kept
 
 -- ---- what the steps want
 

@@ -12,12 +12,11 @@ use Rattle.live_rounds.proofs.RoundsLemmas.{used_alike}
 use Rattle.live_rounds.proofs.RunLemmas.{added_in, added_long, added_within, run_all, used_first}
 use Rattle.live_rounds.proofs.WorkedLemmas.{amid_all}
 use Rattle.live_rounds.specs.Administrators.{IsAdminAmid}
-use Rattle.live_rounds.specs.Done.{IsRun}
 use Rattle.live_rounds.proofs.round.run_round.Goals as goal
 
 -- want of memory before anything was done
 pub returns-in_err-push_parts-clause-stopped : goal.returns-in_err-push_parts-clause-stopped
-returns-in_err-push_parts-clause-stopped g c = on_err_of c.from_residual.result (λ before is. amid_first _ _ before _ c.args.admin.now is)
+returns-in_err-push_parts-clause-stopped g c = on_err_of c.from_residual.result (λ before is. amid_first g.J.Naming.shapes g.J.Naming.opening before (map seen c.args.round.now) c.args.admin.now is)
 
 -- while the workers and the administrator were at it
 pub returns-in_err-worked-clause-stopped : goal.returns-in_err-worked-clause-stopped
@@ -28,22 +27,20 @@ returns-in_err-worked-clause-stopped g c = on_err_of c.from_residual-in_err-work
 pub returns-in_err-asked-clause-stopped : goal.returns-in_err-asked-clause-stopped
 returns-in_err-asked-clause-stopped g c = on_err_of c.from_residual-in_err-asked.result (λ before is.
     subst (λ (l : List Item). IsAdminAmid g.J.Naming.shapes g.J.Naming.opening before (map seen l) c.work_round-worked.new.admin) c.as_slice-items.ensures
-    (amid_all _ _ before _ c.args.admin.now c.work_round-worked.new.admin c.in_ok-worked.worked.others.items (c.in_ok-worked.ensures.done before is)))
+    (amid_all g.J.Naming.shapes g.J.Naming.opening before (map seen c.as_slice-items.result.now) c.args.admin.now c.work_round-worked.new.admin c.in_ok-worked.worked.others.items (c.in_ok-worked.ensures.done before is)))
 
 pub returns-in_err-lines-clause-stopped : goal.returns-in_err-lines-clause-stopped
 returns-in_err-lines-clause-stopped g c = on_err_of c.from_residual-in_err-lines.result (λ before is.
     subst (λ (l : List Item). IsAdminAmid g.J.Naming.shapes g.J.Naming.opening before (map seen l) c.work_round-worked.new.admin) c.as_slice-items.ensures
-    (amid_all _ _ before _ c.args.admin.now c.work_round-worked.new.admin c.in_ok-worked.worked.others.items (c.in_ok-worked.ensures.done before is)))
+    (amid_all g.J.Naming.shapes g.J.Naming.opening before (map seen c.as_slice-items.result.now) c.args.admin.now c.work_round-worked.new.admin c.in_ok-worked.worked.others.items (c.in_ok-worked.ensures.done before is)))
 
 -- behind Ok, at what the steps say
 pub returns-clause-run : goal.returns-clause-run
 returns-clause-run g c = λ before long is.
-    subst (λ (l : List Item). IsRun c.args.program.now g.J.Naming.shapes g.J.Naming.opening c.args.workers before (map seen l) c.work_round-worked.new.admin c.args.seats.now.items c.learn_seats-2.new.seats.items (map g.P.Finder.refusals c.args.finders.now.items) _ c.from_vec.result) c.as_slice-items.ensures
-    (run_all g.P.Finder.refusals c.args.program.now g.J.Naming.shapes g.J.Naming.opening before (map seen c.as_slice-items.result.now) c.args.behind c.args.workers (c.args.workers - 1) long (omega (arith, c.requires.some))
+    run_all g.P.Finder.refusals c.args.program.now g.J.Naming.shapes g.J.Naming.opening before c.args.round.now c.as_slice-items.result.now c.as_slice-items.ensures c.args.behind c.args.workers (c.args.workers - 1) long (omega (arith, c.requires.some))
     c.args.admin.now c.work_round-worked.new.admin c.in_ok-worked.worked.others.items c.in_ok-asked.asked.items c.from_vec.result c.as_slice-sizes.result.now c.args.seats.now.items c.learn_seats.new.seats.items c.work_round-worked.new.seats.items c.learn_seats-2.new.seats.items
-    c.args.finders.now.items c.work_round-worked.new.finders.items _ _ c.answer_asks.new.finder _ c.state-state.result.now c.front.result c.front-2.result (c.in_ok-worked.ensures.done before is) (added_in (c.args.workers - 1) (map seen c.as_slice-items.result.now) c.new-sizes.result.items c.push_parts.new.sizes.items c.as_slice-sizes.result.now c.new-sizes.ensures.items c.as_slice-sizes.ensures.value c.in_ok-push_parts.ensures.parts) c.front.ensures.front c.learn_seats.ensures.learned c.front-2.ensures.front c.learn_seats-2.ensures.learned
-    (rw c.as_slice-items.ensures c.in_ok-worked.ensures.kept)
-    (c.state-state.ensures.state ∙ ap (λ (desk : Work). desk.state) c.desk.ensures.desk) c.in_ok-asked.ensures.shared c.work_round-worked.ensures.first (omega (arith, c.requires.finders)) c.index_mut.ensures.value (c.from_vec.ensures ∙ c.in_ok-lines.ensures))
+    c.args.finders.now.items c.work_round-worked.new.finders.items _ _ c.answer_asks.new.finder _ c.state-state.result.now c.front.result c.front-2.result (c.in_ok-worked.ensures.done before is) (added_in (c.args.workers - 1) (map seen c.as_slice-items.result.now) c.new-sizes.result.items c.push_parts.new.sizes.items c.as_slice-sizes.result.now c.new-sizes.ensures.items c.as_slice-sizes.ensures.value c.in_ok-push_parts.ensures.parts) c.front.ensures.front c.learn_seats.ensures.learned c.front-2.ensures.front c.learn_seats-2.ensures.learned c.in_ok-worked.ensures.kept
+    (c.state-state.ensures.state ∙ ap (λ (desk : Work). desk.state) c.desk.ensures.desk) c.in_ok-asked.ensures.shared c.work_round-worked.ensures.first (omega (arith, c.requires.finders)) c.index_mut.ensures.value (c.from_vec.ensures ∙ c.in_ok-lines.ensures)
 
 pub returns-clause-printable : goal.returns-clause-printable
 returns-clause-printable g c named =
