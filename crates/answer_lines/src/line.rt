@@ -1,4 +1,4 @@
-ghost use Rattle.std.specs.Prelude.{◌≡◌, ◌≤◌, ◌++◌, IfOk, OnOk, codes, decimal, length, option_copied, true};
+ghost use Rattle.std.specs.Prelude.{◌≡◌, ◌≤◌, ◌++◌, [], IfOk, OnOk, codes, decimal, length, option_copied, true};
 ghost use Rattle.answer_lines.specs.LineText.{Appends, decided_text, line_text};
 ghost use Rattle.answer_lines.specs.Told.{comes_with_rule, is_printable};
 
@@ -49,20 +49,21 @@ pub fn push_decided(
     ensures appended { OnOk result (Appends text.old text.new
         (decided_text number version verdict (option_copied rule.entry))) }
 {
-    push_verdict(text, numbered(number), version, verdict, rule)?;
+    let mut front = Front::new();
+    push_start(&mut front, number);
+    push_verdict(text, &mut front, version, verdict, rule)?;
     text.push_str("\n")?;
     Ok(())
 }
 
-// The number by which a line begins.
-fn numbered(number: u32) -> Front
-    ensures text { result ≡ decimal number ++ codes " " }
-    ensures few { length result ≤ 11 }
+// Puts the number by which a line begins into an empty front.
+fn push_start(front: &mut Front, number: u32)
+    requires { front.old ≡ [] }
+    ensures text { front.new ≡ decimal number ++ codes " " }
+    ensures few { length front.new ≤ 11 }
 {
-    let mut front = Front::new();
     front.push_number(number);
     front.push(" ");
-    front
 }
 
 // Appends the number by which a line begins.

@@ -20,7 +20,10 @@ pub(crate) fn push_answer(text: &mut String, answer: &Answer) -> Result<(), NoMe
             version,
             verdict,
             rule,
-        } => push_verdict(text, Front::new(), *version, *verdict, rule.as_ref()),
+        } => {
+            let mut front = Front::new();
+            push_verdict(text, &mut front, *version, *verdict, rule.as_ref())
+        }
         Answer::Arity { got, want } => push_arity(text, *got, *want),
         Answer::Request(fault) => push_fault(text, *fault),
         Answer::Call(refused) => push_call(text, *refused),

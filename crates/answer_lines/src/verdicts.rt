@@ -12,15 +12,15 @@ use perm_base::{Rule, push_fields};
 /// Appends a front and a verdict.
 pub(crate) fn push_verdict(
     text: &mut String,
-    front: Front,
+    front: &mut Front,
     version: u32,
     verdict: Verdict,
     rule: Option<&Rule>,
 ) -> Result<(), NoMemory>
-    requires front { length front ≤ 11 }
+    requires front { length front.old ≤ 11 }
     requires rule { comes_with_rule verdict (option_copied rule) ≡ true }
     ensures { OnOk result (Appends text.old text.new
-        (front ++ verdict_text version verdict (option_copied rule.entry))) }
+        (front.old ++ verdict_text version verdict (option_copied rule.entry))) }
 {
     match verdict {
         Verdict::Allow(row) => push_judged(text, front, "allow @", version, row, rule),
@@ -32,59 +32,57 @@ pub(crate) fn push_verdict(
 // Appends a front, a word, a version, and the place of a row with its rule, or that there is none.
 fn push_judged(
     text: &mut String,
-    front: Front,
+    front: &mut Front,
     word: &str,
     version: u32,
     row: Option<u32>,
     rule: Option<&Rule>,
 ) -> Result<(), NoMemory>
-    requires front { length front ≤ 11 }
+    requires front { length front.old ≤ 11 }
     requires word { length word.now ≤ 8 }
     requires rule { row_has_rule row (option_copied rule) ≡ true }
     ensures { OnOk result (Appends text.old text.new
-        (front ++ judged_text word.now version row (option_copied rule.entry))) }
+        (front.old ++ judged_text word.now version row (option_copied rule.entry))) }
 {
-    let mut head = headed(front, word, version, row);
+    push_head(front, word, version, row);
     if row.is_none() {
-        return push_text(text, head.as_str());
+        return push_text(text, front.as_str());
     }
     let Some(rule) = rule else { unreachable!() };
-    head.push(" ");
-    text.push_str(head.as_str())?;
+    front.push(" ");
+    text.push_str(front.as_str())?;
     push_fields(text, rule)
 }
 
 // Appends a front and a failed evaluation.
 fn push_failed(
     text: &mut String,
-    front: Front,
+    front: &mut Front,
     version: u32,
     row: Option<u32>,
     fault: Fault,
 ) -> Result<(), NoMemory>
-    requires { length front ≤ 11 }
+    requires { length front.old ≤ 11 }
     ensures { OnOk result (Appends text.old text.new
-        (front ++ failed_text version row fault)) }
+        (front.old ++ failed_text version row fault)) }
 {
-    let mut head = headed(front, "fault @", version, row);
-    head.push(" ");
-    text.push_str(head.as_str())?;
+    push_head(front, "fault @", version, row);
+    front.push(" ");
+    text.push_str(front.as_str())?;
     push_fault(text, fault)
 }
 
-// A front, a word, a version, and the place of a row or that there is none.
-fn headed(front: Front, word: &str, version: u32, row: Option<u32>) -> Front
-    requires front { length front ≤ 11 }
+// Puts a word, a version, and the place of a row or that there is none behind a front.
+fn push_head(front: &mut Front, word: &str, version: u32, row: Option<u32>)
+    requires front { length front.old ≤ 11 }
     requires word { length word.now ≤ 8 }
-    ensures text { result ≡ front ++ head_text word.now version row }
-    ensures few { length result ≤ 43 }
+    ensures text { front.new ≡ front.old ++ head_text word.now version row }
+    ensures few { length front.new ≤ 43 }
 {
-    let mut head = front;
-    head.push(word);
-    head.push_number(version);
-    head.push(" ");
-    push_place(&mut head, row);
-    head
+    front.push(word);
+    front.push_number(version);
+    front.push(" ");
+    push_place(front, row);
 }
 
 // Appends the place of a row, or that there is none.

@@ -27,7 +27,7 @@ pub(crate) fn name_asked<'a>(
     let Some(question) = asking.question else {
         return None;
     };
-    if rows_asked(asking, looked) < MANY_ROWS {
+    if asks_few(asking, looked) {
         return None;
     }
     let Some(name) = text_at(asking.request, question.request) else {
@@ -43,6 +43,11 @@ pub(crate) fn name_asked<'a>(
         return None;
     }
     name_in(asking.state, question.relation, name, domain, room)
+}
+
+/// Whether few rows are asked.
+pub(crate) fn asks_few(asking: &Asking, looked: Looked<'_>) -> bool {
+    rows_asked(asking, looked) < MANY_ROWS
 }
 
 // How many rows are asked.

@@ -1,14 +1,15 @@
-ghost use Rattle.std.specs.Prelude.{◌≡◌, IfErr, IfOk, None, false, true};
+ghost use Rattle.std.specs.Prelude.{◌≡◌, IfErr, IfOk, IfSome, None, false, true};
 ghost use Rattle.regex_gate.specs.Refusals.{IsUsed, RefusedOnly};
 ghost use Rattle.matcher_meaning.specs.Comes.{takes_memory};
-ghost use Rattle.decision.specs.Helps.Asked.{CanRun, case_in, rows_of};
+ghost use Rattle.decision.specs.Helps.Asked.{CanRun, DecideAlone, IsAsked, KnowsName, case_in, rows_of};
 ghost use Rattle.decision.specs.Helps.LeftOut.{LeavesOut, LooksAtNone};
 ghost use Rattle.decision.specs.Helps.Outcomes.{HasOutcomesInOrder, IsJudgedOn, IsVerdictOn, is_by_subjects};
 
 use crate::asking::Asking;
 use crate::candidates::Candidates;
 use crate::looked::Looked;
-use crate::outcome::outcome;
+use crate::outcome::{outcome, outcome_told};
+use crate::plain_parts::PlainParts;
 use effect_fold::{Fold, Verdict};
 use matcher_code::Stack;
 use matcher_meaning::case_answer_is_there;
@@ -25,6 +26,35 @@ pub(crate) fn verdict_of_none(asking: &Asking<'_>, looked: Looked<'_>) -> Verdic
 {
     let fold = Fold::new(asking.model.effect());
     fold.end()
+}
+
+/// The verdict of the rows, in the order of the table, where parts decide alone; none where the request lacks a text that is
+/// asked about.
+pub(crate) fn verdict_by_parts(
+    asking: &Asking<'_>,
+    looked: Looked<'_>,
+    parts: PlainParts<'_>,
+) -> Option<Verdict>
+    requires asked { IsAsked asking.now }
+    requires knows { KnowsName asking.now }
+    requires parts { DecideAlone asking.now parts }
+    requires leaves { LeavesOut (case_in asking.now) (rows_of asking.now) looked }
+    requires effect { is_by_subjects asking.now.model.now.effect ≡ false }
+    ensures { IfSome result (IsVerdictOn (case_in asking.now)
+        (HasOutcomesInOrder (case_in asking.now) (rows_of asking.now) None)) }
+{
+    case_answer_is_there();
+    let mut fold = Fold::new(asking.model.effect());
+    let mut candidates = Candidates::of(asking, looked);
+    while let Some((number, row)) = candidates.next() {
+        let Some(outcome) = outcome_told(asking, row, parts) else {
+            return None;
+        };
+        if fold.take(Some(number), outcome) {
+            return Some(fold.end());
+        }
+    }
+    Some(fold.end())
 }
 
 /// The verdict of the rows, in the order of the table.

@@ -1,8 +1,8 @@
-ghost use Rattle.std.specs.Prelude.{◌≡◌, IsTrue, map, option_and_then, option_copied, option_map};
+ghost use Rattle.std.specs.Prelude.{◌≡◌, IfSome, IsTrue, map, option_and_then, option_copied, option_map};
 ghost use Rattle.std.specs.List.{list_all};
 ghost use Rattle.perm_value.specs.Seen.{datum, datum_of_view};
 ghost use Rattle.matcher_meaning.specs.Calls.{text_of};
-ghost use Rattle.decision.specs.Helps.Asked.{IsAsked, case_in, rows_of};
+ghost use Rattle.decision.specs.Helps.Asked.{IsAsked, ServesFor, case_in, rows_of};
 ghost use Rattle.decision.specs.Helps.LeftOut.{LeavesOut};
 ghost use Rattle.decision.specs.Helps.KeptPlans.{has_text_at, serves, value_at};
 
@@ -21,24 +21,40 @@ pub(crate) enum Looked<'a> {
     At(&'a [u32]),
 }
 
-/// Which rows of p the request has to be judged by; the matcher does not hold for any other. Their places take the place of
-/// what `found` held; where there is no memory for them, all rows are looked at.
-pub(crate) fn looked_at<'a>(asking: &Asking<'_>, found: &'a mut Vec<u32>) -> Looked<'a>
+/// The plan of the model, where it serves for the request.
+pub(crate) fn serving_plan<'a>(asking: &Asking<'a>) -> Option<&'a KeptPlan>
     requires { IsAsked asking.now }
+    ensures { IfSome result (λ plan. ServesFor asking.now plan.now) }
+{
+    let Some(plan) = asking.plan else {
+        return None;
+    };
+    if !serves(asking, plan) {
+        return None;
+    }
+    Some(plan)
+}
+
+/// Which rows of p the request has to be judged by, by a plan that serves for it; the matcher does not hold for any other. Their
+/// places take the place of what `found` held; where there is no memory for them, all rows are looked at.
+pub(crate) fn looked_at<'a>(
+    asking: &Asking<'_>,
+    plan: Option<&KeptPlan>,
+    found: &'a mut Vec<u32>,
+) -> Looked<'a>
+    requires asked { IsAsked asking.now }
+    requires serves { IfSome plan (λ plan. ServesFor asking.now plan.now) }
     ensures { LeavesOut (case_in asking.now) (rows_of asking.now) result }
 {
     case_answer_is_there();
     asking.state.kept();
     found.clear();
-    let Some(plan) = asking.plan else {
+    let Some(plan) = plan else {
         return Looked::All;
     };
     let Some(index) = asking.state.index() else {
         return Looked::All;
     };
-    if !serves(asking, plan) {
-        return Looked::All;
-    }
     if !is_key(index.key(), &plan.key) {
         return Looked::All;
     }
@@ -52,9 +68,9 @@ pub(crate) fn looked_at<'a>(asking: &Asking<'_>, found: &'a mut Vec<u32>) -> Loo
     }
 }
 
-/// Whether the plan serves: the request has as many values as the model wants, the rows have the model's columns, and the parts of the
-/// matcher that count are asked with texts.
-pub(crate) fn serves(asking: &Asking, plan: &KeptPlan) -> bool
+// Whether the plan serves: the request has as many values as the model wants, the rows have the model's columns, and the parts of the
+// matcher that count are asked with texts.
+fn serves(asking: &Asking, plan: &KeptPlan) -> bool
     ensures { result ≡ serves asking.now.model.now asking.now.state.now.shapes
         asking.now.request.now plan.now }
 {

@@ -1,22 +1,38 @@
-ghost use Rattle.std.specs.Prelude.{◌≡◌, ℕ, IfErr, IfOk, IfSome, List, Ok, Option, option_copied, true};
+ghost use Rattle.std.specs.Prelude.{◌≡◌, ℕ, IfErr, IfOk, IfSome, List, None, Ok, Option, Some, option_copied, true};
 ghost use Rattle.perm_value.specs.Datum as datums;
 ghost use Rattle.regex_gate.specs.Refusals.{IsUsed, RefusedOnly};
 ghost use Rattle.matcher_meaning.specs.Cases.{at_row, where_refused};
 ghost use Rattle.matcher_meaning.specs.Comes.{TruthIs, takes_memory};
 ghost use Rattle.matcher_meaning.specs.Perm.{outcome_of, word_of};
 ghost use Rattle.matcher_code.specs.RunEnds.{IsAnswer, IsWantOfMemory};
-ghost use Rattle.decision.specs.Helps.Asked.{CanRun, IsAsked, KnowsName, KnowsParts, case_in};
-ghost use Rattle.decision.specs.Helps.Outcomes.{ComesTo, SaysTruth, truth_in, word_of_row};
+ghost use Rattle.decision.specs.Helps.Asked.{CanRun, DecideAlone, IsAsked, KnowsName, KnowsParts, case_in};
+ghost use Rattle.decision.specs.Helps.Outcomes.{ComesTo, OutcomeIs, SaysTruth, truth_in, word_of_row};
 
 use crate::asking::Asking;
 use crate::links::StateLinks;
-use crate::plain_parts::told_by;
+use crate::plain_parts::{PlainParts, told_by};
 use effect_fold::Outcome;
 use matcher_code::{NoTruth, Stack, run};
 use outside::NoMemory;
 use perm_base::Rule;
 use perm_value::View;
 use regex_gate::Finder;
+
+/// What a row comes to, where parts tell it alone; none where the request lacks a text that is asked about.
+pub(crate) fn outcome_told(asking: &Asking, row: &Rule, parts: PlainParts<'_>) -> Option<Outcome>
+    requires asked { IsAsked asking.now }
+    requires knows { KnowsName asking.now }
+    requires parts { DecideAlone asking.now parts }
+    ensures { IfSome result (OutcomeIs (case_in asking.now) None (Some row.now)) }
+{
+    let Some(truth) = told_by(asking, row, parts) else {
+        return None;
+    };
+    if !truth {
+        return Some(Outcome::Unmatched);
+    }
+    Some(matched(word_of_row(asking, Some(row))))
+}
 
 /// What a row comes to, or the evaluation without one.
 pub(crate) fn outcome<'a, P: Finder, const N: usize>(

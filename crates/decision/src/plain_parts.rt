@@ -1,6 +1,6 @@
 ghost use Rattle.std.specs.Prelude.{◌≡◌, IfSome, Some, map};
 ghost use Rattle.perm_value.specs.Seen.{datum};
-ghost use Rattle.decision.specs.Helps.Asked.{DecideAlone, IsAsked, KnowsName, case_in};
+ghost use Rattle.decision.specs.Helps.Asked.{DecideAlone, KnowsName, ServesFor, case_in};
 ghost use Rattle.decision.specs.Helps.KeptPlans.{asked_seen, pair_seen};
 ghost use Rattle.decision.specs.Helps.PlainParts.{IsAnswered, IsToldBy, field_at, has_same_text};
 ghost use Rattle.decision.specs.Helps.PlainParts.{have_same_texts};
@@ -8,8 +8,8 @@ ghost use Rattle.decision.specs.Helps.PlainParts.{have_same_texts};
 use crate::asking::Asking;
 use crate::found_rows::domain_at;
 use crate::links::StateLinks;
-use crate::looked::{serves, text_at};
-use crate::plan::{AskedColumns, EqualColumns};
+use crate::looked::text_at;
+use crate::plan::{AskedColumns, EqualColumns, KeptPlan};
 use matcher_code::Links;
 use matcher_meaning::case_answer_is_there;
 use perm_base::Rule;
@@ -22,19 +22,19 @@ pub(crate) struct PlainParts<'a> {
     pub(crate) question: Option<AskedColumns>,
 }
 
-/// The parts of the matcher, where it has no others, and the request serves for them.
-pub(crate) fn plain_parts_of<'a>(asking: &Asking<'a>) -> Option<PlainParts<'a>>
-    requires { IsAsked asking.now }
+/// The parts of the matcher, where it has no others, by a plan that serves for the request.
+pub(crate) fn plain_parts_of<'a>(
+    asking: &Asking<'_>,
+    plan: Option<&'a KeptPlan>,
+) -> Option<PlainParts<'a>>
+    requires { IfSome plan (λ plan. ServesFor asking.now plan.now) }
     ensures { IfSome result (DecideAlone asking.now) }
 {
     case_answer_is_there();
-    let Some(plan) = asking.plan else {
+    let Some(plan) = plan else {
         return None;
     };
     if !plan.plain {
-        return None;
-    }
-    if !serves(asking, plan) {
         return None;
     }
     Some(PlainParts {

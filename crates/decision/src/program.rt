@@ -125,7 +125,7 @@ impl Program {
 }
 
 impl Program {
-    ghost use Rattle.decision.specs.Helps.Asked.{IsAsked};
+    ghost use Rattle.decision.specs.Helps.Asked.{IsAsked, KnowsName};
 
     /// What a request over a policy is asked for.
     pub(crate) fn asking<'a>(
@@ -135,6 +135,7 @@ impl Program {
         request: &'a Request,
     ) -> Asking<'a>
         ensures asked { IsAsked result }
+        ensures knows { KnowsName result }
         ensures model { result.model.now ≡ self.now }
         ensures state { result.state.now ≡ state.now }
         ensures request { result.request.now ≡ request.now }

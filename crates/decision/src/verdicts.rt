@@ -5,19 +5,19 @@ ghost use Rattle.regex_gate.specs.Refusals.{IsRefused, IsUsed};
 ghost use Rattle.matcher_meaning.specs.Comes.{takes_memory};
 ghost use Rattle.matcher_meaning.specs.Perm.{names_policy};
 ghost use Rattle.matcher_meaning.specs.Verdicts.{HasOneOutcome, HasOutcomesOver, IsJudged};
-ghost use Rattle.decision.specs.Helps.Asked.{CanRun, IsAsked, KnowsName, KnowsParts, case_in, rows_of};
+ghost use Rattle.decision.specs.Helps.Asked.{CanRun, DecideAlone, IsAsked, KnowsName, KnowsParts, case_in, rows_of};
 ghost use Rattle.decision.specs.Helps.LeftOut.{LeavesOut, LooksAtNone};
 ghost use Rattle.decision.specs.Helps.Outcomes.{IsJudgedOn, IsVerdictOn, is_by_subjects};
 ghost use Rattle.decision.specs.Decisions.{IsJudgedWith, RefusedIn};
 ghost use Rattle.decision.specs.Programs.{Suits};
 
-use crate::asked_name::{name_asked, with_known};
+use crate::asked_name::{asks_few, name_asked, with_known};
 use crate::asking::Asking;
-use crate::by_rows::{verdict_by_rows, verdict_of_none};
+use crate::by_rows::{verdict_by_parts, verdict_by_rows, verdict_of_none};
 use crate::by_subjects::verdict_by_subjects;
-use crate::looked::{Looked, looked_at};
+use crate::looked::{Looked, looked_at, serving_plan};
 use crate::outcome::outcome;
-use crate::plain_parts::plain_parts_of;
+use crate::plain_parts::{PlainParts, plain_parts_of};
 use crate::program::Program;
 use crate::scratch::Scratch;
 use effect_fold::{Effect, Fold, Verdict};
@@ -58,29 +58,34 @@ pub fn decide<P: Finder>(
     ensures used { IsUsed (P.refusals finder.old) (P.refusals finder.new) }
 {
     let asking = program.asking(scratch.alloc(), state, request);
-    let looked = looked_at(&asking, &mut scratch.found);
-    if let Some(verdict) = verdict_at_once(&asking, looked) {
+    let plan = serving_plan(&asking);
+    let looked = looked_at(&asking, plan, &mut scratch.found);
+    let parts = plain_parts_of(&asking, plan);
+    if let Some(verdict) = verdict_at_once(&asking, looked, parts) {
         return Ok(verdict);
     }
     let name = name_asked(&asking, looked, &mut scratch.room);
-    let known = with_known(&asking, name.as_ref(), plain_parts_of(&asking));
+    let known = with_known(&asking, name.as_ref(), parts);
     if known.code.height() <= NARROW {
         return on_narrow_stack(&known, looked, finder);
     }
     on_wide_stack(&known, looked, finder)
 }
 
-// The verdict where no row is left to judge, and no evaluation goes without one.
-fn verdict_at_once(asking: &Asking<'_>, looked: Looked<'_>) -> Option<Verdict>
+// The verdict where no code has to run and nothing is found first: no row is left to judge, or parts tell all rows alone.
+fn verdict_at_once(
+    asking: &Asking<'_>,
+    looked: Looked<'_>,
+    parts: Option<PlainParts<'_>>,
+) -> Option<Verdict>
     requires asked { IsAsked asking.now }
+    requires knows { KnowsName asking.now }
+    requires parts { IfSome parts (DecideAlone asking.now) }
     requires leaves { LeavesOut (case_in asking.now) (rows_of asking.now) looked }
     ensures { IfSome result (IsVerdictOn (case_in asking.now)
         (HasOutcomesOver (case_in asking.now) None
         (names_policy asking.now.model.now.matcher) (rows_of asking.now))) }
 {
-    if !leaves_none(looked) {
-        return None;
-    }
     if !asking.by_row {
         return None;
     }
@@ -90,7 +95,15 @@ fn verdict_at_once(asking: &Asking<'_>, looked: Looked<'_>) -> Option<Verdict>
     if is_by_subjects(asking.model.effect()) {
         return None;
     }
-    Some(verdict_of_none(asking, looked))
+    if leaves_none(looked) {
+        return Some(verdict_of_none(asking, looked));
+    }
+    let parts = parts?;
+    if parts.question.is_some() && !asks_few(asking, looked) {
+        return None;
+    }
+    let verdict = verdict_by_parts(asking, looked, parts)?;
+    Some(verdict)
 }
 
 // Whether no row is looked at.

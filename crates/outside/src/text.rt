@@ -1,4 +1,4 @@
-ghost use Rattle.std.specs.Prelude.{◌≡◌, IfOk, IsUtf8, nat_eq, string_bytes};
+ghost use Rattle.std.specs.Prelude.{◌≡◌, IfOk, IsUtf8, OnErr, OnOk, nat_eq, string_bytes};
 ghost use Rattle.std.specs.Cmp.Lexicographic.{nat_list_eq_equiv, pointwise};
 ghost use Rattle.std.specs.Cmp.Rules.{hashing};
 ghost use Rattle.std.specs.Cmp.{partial_equiv_from_equiv};
@@ -11,6 +11,9 @@ use arrayvec::ArrayString;
 use std::alloc::Global;
 use std::hash::{Hash, Hasher};
 use std::marker::Model;
+
+// How many bytes lie in the text itself at most.
+const SHORT: usize = 24;
 
 /// A text: bytes that are UTF-8. Contracts see its bytes. One of at most 24 bytes lies in its own place.
 #[derive(Drop)]
@@ -44,6 +47,26 @@ impl Text {
             Err(_) => Held::Long(String::from_str(alloc, text)?),
         };
         Ok(Text { held })
+    }
+
+    /// Puts another text in the place of this one. One of at most 24 bytes that takes the place of such a one is copied there. Where
+    /// memory runs out the text stays as it was.
+    pub fn set(&mut self, alloc: Global, text: &str) -> Result<(), NoMemory>
+        ensures set { OnOk result (self.new ≡ text.now) }
+        ensures same { OnErr result (self.new ≡ self.old) }
+    {
+        if text.len() > SHORT {
+            *self = Text::from_str(alloc, text)?;
+            return Ok(());
+        }
+        match &mut self.held {
+            Held::Short(short) => {
+                short.clear();
+                short.push_str(text);
+            }
+            Held::Long(_) => *self = Text::from_str(alloc, text)?,
+        }
+        Ok(())
     }
 
     /// This text. It takes no memory.

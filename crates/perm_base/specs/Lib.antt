@@ -8,3 +8,4 @@ pub mod RoleShapes
 pub mod Shapes
 pub mod TableNames
 pub mod Patterns
+pub mod Helps

@@ -3,6 +3,7 @@
 
 mod fields;
 mod line_ends;
+mod line_field;
 mod patterns;
 mod quoted;
 mod quoted_print;
@@ -13,6 +14,7 @@ mod shapes;
 mod table_names;
 
 pub use fields::push_texts;
+pub use line_field::LineField;
 pub use patterns::is_pattern;
 pub use quoted::{
     FieldFault, every_line_is_fields_or_at_fault, fault_of_a_line_is_unique,

@@ -5,6 +5,7 @@ ghost use Rattle.perm_base.specs.LineEnds.{AreFields, has_line_end};
 ghost use Rattle.perm_base.specs.FieldSteps.{Gives, before_comma, behind_comma, column_of, closed_field, fields_of, first_field, line_end_column, plain_field, quoted_field, quoted_text, seen};
 
 use crate::line_ends::{first_line_end, has_line_end, plain_end};
+use crate::line_field::LineField;
 use outside::{NoMemory, Text};
 use std::alloc::Global;
 use text_parts::{before_blanks, behind, behind_blanks, cut_at};
@@ -91,7 +92,8 @@ fn fields_of(alloc: Global, line: &str) -> Result<Vec<Text>, FieldFault>
     let mut rest = line;
     for at in 0..MOST_FIELDS {
         let (field, behind) = first_field(alloc, line.len(), rest)?;
-        fields.push(field).map_err(NoMemory::from)?;
+        let text = field.into_text(alloc)?;
+        fields.push(text).map_err(NoMemory::from)?;
         let Some(next) = behind else {
             return Ok(fields);
         };
@@ -101,31 +103,30 @@ fn fields_of(alloc: Global, line: &str) -> Result<Vec<Text>, FieldFault>
 }
 
 /// The field at the front of the last bytes of a line of this size, and what stands behind its comma: what `read_fields` reads
-/// 34 times at most, for a caller that wants no list of the fields.
+/// 34 times at most, for a caller that wants no list of the fields. It takes memory for a long field in quotes alone.
 pub fn first_field(
     alloc: Global,
     size: usize,
     rest: &str,
-) -> Result<(Text, Option<&str>), FieldFault>
+) -> Result<(LineField<'_>, Option<&str>), FieldFault>
     ensures { Gives seen result (first_field size rest.now) }
 {
     let field = behind_blanks(rest);
     match behind(field, b'"') {
         Some(inside) => quoted_field(alloc, size, inside),
-        None => plain_field(alloc, size, field),
+        None => plain_field(size, field),
     }
 }
 
 // A field that does not begin with a quote.
-fn plain_field(alloc: Global, size: usize, field: &str) -> Result<(Text, Option<&str>), FieldFault>
+fn plain_field(size: usize, field: &str) -> Result<(LineField<'_>, Option<&str>), FieldFault>
     ensures { Gives seen result (plain_field size field.now) }
 {
     let Some((text, behind)) = clean_parts(field) else {
         let column = line_end_column(size, field);
         return Err(FieldFault::Quote { column });
     };
-    let text = Text::from_str(alloc, before_blanks(text))?;
-    Ok((text, behind))
+    Ok((LineField::part(before_blanks(text)), behind))
 }
 
 // A field that begins with a quote, behind that quote.
@@ -133,7 +134,7 @@ fn quoted_field(
     alloc: Global,
     size: usize,
     inside: &str,
-) -> Result<(Text, Option<&str>), FieldFault>
+) -> Result<(LineField<'_>, Option<&str>), FieldFault>
     ensures { Gives seen result (quoted_field size inside.now) }
 {
     let Some((text, after)) = quoted_text(alloc, inside)? else {
@@ -144,18 +145,22 @@ fn quoted_field(
         let column = line_end_column(size, inside);
         return Err(FieldFault::Quote { column });
     }
-    closed_field(size, text, behind_blanks(after))
+    closed_field(size, LineField::own(text), behind_blanks(after))
 }
 
 // A field behind whose closing quote, and the blanks there, this stands.
-fn closed_field(size: usize, text: Text, after: &str) -> Result<(Text, Option<&str>), FieldFault>
-    ensures { Gives seen result (closed_field size text after.now) }
+fn closed_field<'a>(
+    size: usize,
+    field: LineField<'a>,
+    after: &'a str,
+) -> Result<(LineField<'a>, Option<&'a str>), FieldFault>
+    ensures { Gives seen result (closed_field size field.entry after.now) }
 {
     if after.is_empty() {
-        return Ok((text, None));
+        return Ok((field, None));
     }
     match behind(after, b',') {
-        Some(rest) => Ok((text, Some(rest))),
+        Some(rest) => Ok((field, Some(rest))),
         None => Err(FieldFault::Quote {
             column: column_of(size, after.len()),
         }),

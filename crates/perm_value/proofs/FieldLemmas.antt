@@ -1,6 +1,6 @@
 -- The values of a request, made of the fields of a line as it is cut.
-use Rattle.std.proofs.Common.{◌≡◌, ℕ, ◌+◌, ◌-◌, ◌<◌, ◌≤◌, List, [], ◌∷◌, ◌++◌, length, map, Some, None, Result, Ok, Err, refl, sym, ap, ◌∙◌, subst, arith}
-use Rattle.std.proofs.lemmas.List.{length-map, map_push}
+use Rattle.std.proofs.Common.{◌≡◌, ℕ, ◌+◌, ◌-◌, ◌<◌, ◌≤◌, List, [], ◌∷◌, ◌++◌, length, map, Some, None, Result, Ok, Err, refl, sym, ap, ◌∙◌, subst}
+use Rattle.std.proofs.lemmas.List.{map_push}
 use Rattle.perm_base.specs.declared.quoted.FieldFault.{FieldFault}
 use Rattle.perm_base.specs.declared.quoted.FieldFault.TheVariants.{Quote, TooMany, NoMemory}
 use Rattle.perm_base.specs.FieldSteps.{Fails, fields_of, fields_within, first_field, more_fields}
@@ -8,8 +8,6 @@ use Rattle.perm_base.proofs.CallerLemmas.{LineIs, begin_fields, field_fault, fie
 use Rattle.perm_value.specs.Datum.{Datum, text}
 use Rattle.perm_value.specs.Fields.{AreTexts, IsLineFault, fault_of}
 use Rattle.perm_value.specs.Helps.Texts.{as_texts}
-use Rattle.perm_value.specs.Seen.{datum}
-use Rattle.perm_value.specs.declared.value.Value.{Value}
 
 -- so many fields of a line are read, as these data, and the rest is left
 pub record AreCut (line rest : List ℕ) (at : ℕ) (values : List Datum) : Type 0 where
@@ -19,10 +17,6 @@ pub record AreCut (line rest : List ℕ) (at : ℕ) (values : List Datum) : Type
 
 pub cut_none : (line : List ℕ) (values : List Datum) → values ≡ [] → AreCut line line 0 values
 cut_none line values none = record { fields = []; texts = none; left = begin_fields line }
-
--- a value behind others
-pub pushed_text : (old new : List Value) (value : Value) (field : List ℕ) → new ≡ old ++ value ∷ [] → datum value ≡ text field → map datum new ≡ map datum old ++ text field ∷ []
-pushed_text old new value field is seen = ap (map datum) is ∙ map_push datum old value ∙ ap (λ (d : Datum). map datum old ++ d ∷ []) seen
 
 texts_more : (fields : List (List ℕ)) (field : List ℕ) (values new : List Datum) → values ≡ map text fields → new ≡ values ++ text field ∷ [] → new ≡ map text (fields ++ field ∷ [])
 texts_more fields field values new texts is = is ∙ ap (λ (ds : List Datum). ds ++ text field ∷ []) texts ∙ sym (map_push text fields field)
@@ -57,11 +51,6 @@ texts_found line values e = by (fields_of line) refl e
         let same : values ≡ map text fields = cc in
         record { fields = fields; are_fields = subst (LineIs line) is (line_is line); texts = same }
     by (Err fault) is seen = absurd cc
-
-pub texts_few : (line : List ℕ) (values : List Datum) → as_texts (fields_of line) ≡ Ok values → length values ≤ 34
-texts_few line values e =
-    let are = texts_found line values e in
-    omega (arith, ap length are.texts, length-map are.fields text, are.are_fields.few)
 
 texts_read : (line : List ℕ) (values : List Datum) → AreTexts line values → as_texts (fields_of line) ≡ Ok values
 texts_read line values are = ap as_texts (fields_of-is line are.fields are.are_fields) ∙ ap Ok (sym are.texts)

@@ -1,4 +1,4 @@
-ghost use Rattle.std.specs.Prelude.{◌≡◌, ◌≤◌, IfOk, IfErr, List, MatchResult, length, map};
+ghost use Rattle.std.specs.Prelude.{◌≡◌, ◌+◌, ◌<◌, ◌≤◌, ◌++◌, ◌∷◌, [], IfOk, IfErr, List, MatchResult, OnOk, length, map, take};
 ghost use Rattle.perm_base.specs.FieldSteps.{Gives, fields_of};
 ghost use Rattle.perm_value.specs.Datum.{Datum, text};
 ghost use Rattle.perm_value.specs.Fields.{AreTexts, IsLineFault};
@@ -8,8 +8,8 @@ ghost use Rattle.perm_value.specs.declared.request.RequestFault.TheVariants as f
 
 use crate::request::{Request, RequestFault};
 use crate::value::Value;
-use outside::{NoMemory, Text};
-use perm_base::{FieldFault, first_field};
+use outside::NoMemory;
+use perm_base::{FieldFault, LineField, first_field};
 use std::alloc::Global;
 
 // How many fields a line has at most.
@@ -47,12 +47,12 @@ fn values_over(alloc: Global, others: Vec<Value>, line: &str) -> Result<Vec<Valu
     ensures few { IfOk result (λ values. length values.items ≤ 34) }
 {
     let mut values = others;
-    values.clear();
     let mut rest = line;
     for at in 0..MOST_FIELDS {
         let (field, behind) = first_field(alloc, line.len(), rest)?;
-        values.push(text_value(field)).map_err(NoMemory::from)?;
+        put_field(alloc, &mut values, at, field)?;
         let Some(next) = behind else {
+            values.truncate(at + 1);
             return Ok(values);
         };
         rest = next;
@@ -60,9 +60,35 @@ fn values_over(alloc: Global, others: Vec<Value>, line: &str) -> Result<Vec<Valu
     Err(FieldFault::TooMany)
 }
 
-// The field as a value.
-fn text_value(field: Text) -> Value
-    ensures { datum result ≡ text field }
+// Puts a field in the place of the value at a place, or behind all values.
+fn put_field(
+    alloc: Global,
+    values: &mut Vec<Value>,
+    at: usize,
+    field: LineField,
+) -> Result<(), NoMemory>
+    requires { at ≤ length values.old.items }
+    ensures put { OnOk result (map datum (take (at + 1) values.new.items)
+        ≡ map datum (take at values.old.items) ++ text field.entry ∷ []) }
+    ensures within { OnOk result (at < length values.new.items) }
 {
-    Value::Text(field)
+    if at < values.len() {
+        return put_value(alloc, &mut values[at], field);
+    }
+    let value = Value::Text(field.into_text(alloc)?);
+    values.push(value)?;
+    Ok(())
+}
+
+// Puts a field in the place of a value.
+fn put_value(alloc: Global, value: &mut Value, field: LineField) -> Result<(), NoMemory>
+    ensures { OnOk result (datum value.new ≡ text field.entry) }
+{
+    match value {
+        Value::Text(text) => field.put_in(alloc, text),
+        _ => {
+            *value = Value::Text(field.into_text(alloc)?);
+            Ok(())
+        }
+    }
 }

@@ -12,7 +12,7 @@ use Rattle.std.proofs.lemmas.List.{drop-drop, drop-set-lt, length-set, take_all}
 use Rattle.std.proofs.lemmas.List.Elements.{All-cons, All-nil, filter_more}
 use Rattle.std.proofs.lemmas.List.Filters.{All-dedup}
 use Rattle.std.proofs.lemmas.List.Kept.{AllPairs-filter, AllPairs-from_increasing, Contains-dedup_nat}
-use Rattle.std.proofs.lemmas.List.Sorted.{All-permutation, Contains-permutation}
+use Rattle.std.proofs.lemmas.List.Sorted.{All-permutation, Contains-permutation, IsPermutation-refl}
 use Rattle.std.proofs.lemmas.Map.Keys.{IsStrictlyIncreasing-dedup}
 use Rattle.std.proofs.lemmas.Option.{get_or_from_slice_get, slice_get_within}
 use Rattle.std.specs.Str.{bytes_eq}
@@ -78,6 +78,15 @@ ordered_places by_slot rows from mid sorted new once are moved rises is = subst 
       let stands_there : Contains (dedup nat_eq sorted) found.0 = Contains-dedup_nat sorted found.0 (Contains-permutation mid sorted found.0 moved (Contains-from_any (λ x y e. eqb-true x y e) found.0 mid found.1)) in
       subst (λ (n : ℕ). list_any (nat_eq n) (dedup nat_eq sorted) ≡ true) equal (list_any-from_Contains nat_eq_equiv found.0 (dedup nat_eq sorted) stands_there);
 })
+
+-- less than two places are in order as they are
+pub few_places : (by_slot rows : List Fields) (from new : List ℕ) → IsDistinct same rows → ArePlacesOfEach by_slot rows from new → length new < 2 → ArePlacesOf by_slot rows from new
+few_places by_slot rows from new once are few = ordered_places by_slot rows from new new new once are (IsPermutation-refl new) (λ k d low high. absurd (omega (arith, few))) (few_differ new few)
+  where
+    few_differ : (xs : List ℕ) → length xs < 2 → xs ≡ dedup nat_eq xs
+    few_differ [] few = refl
+    few_differ (x ∷ []) few = refl
+    few_differ (x ∷ y ∷ xs) few = absurd (omega (arith, few))
 
 -- ---- the rows that are found
 

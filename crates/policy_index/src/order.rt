@@ -31,6 +31,9 @@ pub(crate) fn put_rows_in_order(tables: &Tables, table: TableId, found: &mut Vec
 {
     tables.kept();
     put_places(tables, table, found);
+    if found.len() < 2 {
+        return;
+    }
     found.sort_unstable();
     found.dedup();
 }

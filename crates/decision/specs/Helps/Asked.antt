@@ -1,5 +1,5 @@
 -- What a decision is asked for, as a case over the tables of its policy.
-use Rattle.std.specs.Prelude.{◌≤◌, ℕ, Bool, IfSome, List, Ok, Option, Some, map, option_copied}
+use Rattle.std.specs.Prelude.{◌≡◌, ◌≤◌, ℕ, Bool, IfSome, List, Ok, Option, Some, map, option_copied, true}
 use Rattle.perm_base.specs.declared.shapes.TableId.TheVariants.{P}
 use Rattle.perm_value.specs.Seen.{datum}
 use Rattle.policy_state.specs.States.{tables}
@@ -7,11 +7,13 @@ use Rattle.policy_table.specs.Tables.{Fields, rows}
 use Rattle.matcher_meaning.specs.Cases.{Case, at_row, where_refused}
 use Rattle.matcher_meaning.specs.Comes.{TruthIs}
 use Rattle.matcher_meaning.specs.Verdicts.{case_of}
+use Rattle.decision.specs.Helps.KeptPlans.{IsPlan, serves}
 use Rattle.decision.specs.Helps.Parts.{IsProgram}
 use Rattle.decision.specs.Helps.PlainParts.{IsToldBy}
 use Rattle.decision.specs.Helps.ReachedNames.{KnowsLinks}
 use Rattle.decision.specs.declared.asking.Asking.{Asking}
 use Rattle.decision.specs.declared.plain_parts.PlainParts.{PlainParts}
+use Rattle.decision.specs.declared.plan.KeptPlan.{KeptPlan}
 
 -- the request over the tables of the policy, without a row, and with nothing refused
 abbrev pub case_in : Asking → Case
@@ -24,6 +26,11 @@ rows_of asking = rows (tables asking.state.now) P
 -- what it knows beside the model is that of a program
 abbrev pub IsAsked : Asking → Type 0
 IsAsked asking = IsProgram asking.model.now asking.code.now asking.by_row asking.effect_place asking.domain_place (option_copied asking.plan)
+
+-- it is the plan of the model, and it serves for the request
+pub record ServesFor (asking : Asking) (plan : KeptPlan) : Type 0 where
+  pub kept : IsPlan asking.model.now plan
+  pub able : serves asking.model.now asking.state.now.shapes asking.request.now plan ≡ true
 
 -- what is known of the name that the rows ask about is so
 abbrev pub KnowsName : Asking → Type 0

@@ -8,13 +8,13 @@ use Rattle.perm_base.proofs.quoted.closed_field.Goals as goal
 pub returns-then-is_empty : goal.returns-then-is_empty
 returns-then-is_empty c =
     let none : length c.args.after.now ≡ 0 = grind (arith, nat_tests) in
-    closed_end c.args.size c.args.text c.args.after.now none
+    closed_end c.args.size c.args.field c.args.after.now none
 
 pub returns-in-Some : goal.returns-in-Some
-returns-in-Some c = closed_comma c.args.size c.args.text c.args.after.now c.in-Some.rest.now c.in-Some.ensures
+returns-in-Some c = closed_comma c.args.size c.args.field c.args.after.now c.in-Some.rest.now c.in-Some.ensures
 
-pub returns-in-None : goal.returns-in-None
-returns-in-None c =
+pub returns : goal.returns
+returns c =
     let some : 0 < length c.args.after.now = grind (arith, nat_tests) in
-    let fault : closed_field c.args.size c.args.text c.args.after.now ≡ Err (Quote (column_of c.args.size (length c.args.after.now))) = closed_other c.args.size c.args.text c.args.after.now some c.in-None.ensures in
+    let fault : closed_field c.args.size c.args.field c.args.after.now ≡ Err (Quote (column_of c.args.size (length c.args.after.now))) = closed_other c.args.size c.args.field c.args.after.now some c.in-None.ensures in
     cc

@@ -1,4 +1,4 @@
-use Rattle.std.proofs.Common.{◌≡◌, [], ◌∷◌, ◌++◌, length, arith, rules}
+use Rattle.std.proofs.Common.{◌≡◌, ℕ, List, [], ◌∷◌, ◌++◌, length, subst, arith, rules}
 use Rattle.std.proofs.lemmas.Grind.{common_steps}
 use Rattle.std.proofs.lemmas.Result.{err_from_is_err_and}
 use Rattle.perm_base.specs.FieldSteps.{fields_of, first_field}
@@ -15,13 +15,13 @@ returns-in_err-field c =
 
 pub returns-in_default : goal.returns-in_default
 returns-in_default c =
-    let items : c.push.new.self.items ≡ c.loop-at.fields.items ++ c.in_ok-field.field ∷ [] = grind (arith, common_steps) in
+    let items : c.push.new.self.items ≡ c.loop-at.fields.items ++ c.in_ok-field.field ∷ [] = subst (λ (text : List ℕ). c.push.new.self.items ≡ c.loop-at.fields.items ++ text ∷ []) c.in_ok-text.ensures (grind (arith, common_steps)) in
     let read = rw c.in_default.is at c.in_ok-field.ensures in
     record { exact = rw items (field_last c.loop-at.at (length c.args.line.now) c.loop-at.rest.now c.in_ok-field.field c.loop-at.fields.items (fields_of c.args.line.now) (omega arith) c.loop-at.invariant.same read) }
 
 pub loop-at-preserved : goal.loop-at-preserved
 loop-at-preserved c =
-    let items : c.push.new.self.items ≡ c.loop-at.fields.items ++ c.in_ok-field.field ∷ [] = grind (arith, common_steps) in
+    let items : c.push.new.self.items ≡ c.loop-at.fields.items ++ c.in_ok-field.field ∷ [] = subst (λ (text : List ℕ). c.push.new.self.items ≡ c.loop-at.fields.items ++ text ∷ []) c.in_ok-text.ensures (grind (arith, common_steps)) in
     let read = rw c.in-Some.is at c.in_ok-field.ensures in
     record {
       same = rw items (field_more c.loop-at.at (length c.args.line.now) c.loop-at.rest.now c.in_ok-field.field c.in-Some.next.now c.loop-at.fields.items (fields_of c.args.line.now) (omega arith) c.loop-at.invariant.same read);

@@ -1,4 +1,4 @@
-use Rattle.std.proofs.Common.{◌≡◌, ◌+◌, Some, None, Err, true, false, length, ap, sym, ◌∙◌}
+use Rattle.std.proofs.Common.{◌≡◌, ◌+◌, ℕ, List, Some, None, Err, true, false, length, ap, sym, ◌∙◌}
 use Rattle.perm_base.specs.LineEnds.{has_line_end}
 use Rattle.perm_base.specs.declared.quoted.FieldFault.TheVariants.{Quote}
 use Rattle.perm_base.specs.FieldSteps.{closed_field, column_of, quoted_field, quoted_text}
@@ -21,5 +21,6 @@ pub returns : goal.returns
 returns c =
     let found : quoted_text c.args.inside.now ≡ Some (c.in-Some.text, c.in-Some.after.now) = sym (rw c.in-Some.is at c.in_ok-text.ensures) in
     let none : has_line_end c.in-Some.text ≡ false = cc in
-    let e : quoted_field c.args.size c.args.inside.now ≡ closed_field c.args.size c.in-Some.text c.behind_blanks.result.now = quoted_closed c.args.size c.args.inside.now c.in-Some.text c.in-Some.after.now found none ∙ ap (closed_field c.args.size c.in-Some.text) (sym c.behind_blanks.ensures) in
+    let e : quoted_field c.args.size c.args.inside.now ≡ closed_field c.args.size c.own.result c.behind_blanks.result.now =
+    quoted_closed c.args.size c.args.inside.now c.in-Some.text c.in-Some.after.now found none ∙ ap (closed_field c.args.size c.in-Some.text) (sym c.behind_blanks.ensures) ∙ ap (λ (text : List ℕ). closed_field c.args.size text c.behind_blanks.result.now) (sym c.own.ensures) in
     rw e c.closed_field.ensures
