@@ -1,5 +1,5 @@
 -- Finders that follow the changes of tables, and what they find.
-use Rattle.std.proofs.Common.{◌≡◌, ℕ, zero, suc, ◌+◌, ◌<◌, ◌≤◌, ◌==◌, ◌&&◌, ◌||◌, ◌⊎◌, inl, inr, Bool, true, false, true≢false, not, cond, List, [], ◌∷◌, length, get_or, set, drop, slice_get, All, Option, Some, None, refl, sym, ap, subst, ◌∙◌, arith, add-one}
+use Rattle.std.proofs.Common.{◌≡◌, ℕ, zero, suc, ◌+◌, ◌<◌, ◌≤◌, ◌==◌, ◌&&◌, ◌||◌, ◌⊎◌, inl, inr, Bool, true, false, true≢false, not, cond, List, [], ◌∷◌, length, get_or, set, drop, slice_get, Option, Some, None, refl, sym, ap, subst, ◌∙◌, arith, add-one}
 use Rattle.std.specs.Prelude.{IfSome, is_some}
 use Rattle.std.specs.Option.{option_map_or}
 use Rattle.std.specs.Str.{bytes_eq}
@@ -11,15 +11,14 @@ use Rattle.policy_table.specs.Changes.{is_possible, is_table, suits, table_of}
 use Rattle.policy_table.specs.Filters.{fits_filter, fits_values}
 use Rattle.policy_table.specs.Held.{Held}
 use Rattle.policy_table.specs.Slots.{AreSlots, slots, slots_after, slots_changed}
-use Rattle.policy_table.specs.Tables.{Fields, Lists, Policy, most_tables, place, rows}
+use Rattle.policy_table.specs.Tables.{Fields, Policy, most_tables, place, rows}
 use Rattle.policy_table.specs.declared.change.Change.{Change}
 use Rattle.policy_table.proofs.CallerLemmas.{same_table, slots_other, slots_own}
 use Rattle.policy_index.specs.Finders.{AreFindersIn, IsFinderIn, Sought}
-use Rattle.policy_index.specs.Found.{AddsSlots, ArePlacesOf, FindRows, passes_at}
+use Rattle.policy_index.specs.Found.{AddsSlots, ArePlacesOf, FindRows}
 use Rattle.policy_index.specs.Helps.Filters.{columns_from, texts_of}
 use Rattle.policy_index.specs.Indexed.{Indexed, IsIndexOf}
 use Rattle.policy_index.specs.Keys.{KeyParts, agrees, fits_pattern, has_texts, is_below}
-use Rattle.policy_index.specs.Places.{has_text}
 use Rattle.policy_index.proofs.OrderLemmas.{finds_rows}
 
 -- what holds of a value where there is one

@@ -1,5 +1,5 @@
 -- Hashes that are made byte by byte and column by column, and texts that are cut.
-use Rattle.std.proofs.Common.{◌≡◌, ℕ, zero, suc, ◌+◌, ◌-◌, ◌*◌, ◌%◌, ◌^◌, ◌<◌, ◌≤◌, true, List, [], ◌∷◌, length, take, drop, get_or, slice_get, Some, sym, ap, ◌∙◌, arith}
+use Rattle.std.proofs.Common.{◌≡◌, ℕ, zero, suc, ◌+◌, ◌-◌, ◌*◌, ◌%◌, ◌^◌, ◌<◌, ◌≤◌, true, List, [], ◌∷◌, length, take, drop, get_or, slice_get, Some, refl, sym, ap, ◌∙◌, arith}
 use Rattle.std.specs.Prelude.{fold, nat_lt}
 use Rattle.std.specs.List.{list_all}
 use Rattle.std.proofs.lemmas.Bool.{and_parts}
@@ -50,7 +50,29 @@ two_bytes hash first second =
     ∙ sym (cut_before (hash * 1099511628211 + (first + 1)) 1099511628211 (second + 1))
     ∙ sym (ap (λ (before : ℕ). ((before * 1099511628211) % 2 ^ 64 + (second + 1)) % 2 ^ 64) (cut_sum (hash * 1099511628211) (first + 1)))
 
--- the hash of what is left behind two bytes, and behind the last one
+-- four steps are one product of the hash, with the square of the square
+fourth_power : (hash front back : ℕ) → (hash * 956575116354345 + front) * 956575116354345 + back ≡ hash * 11527715348014283921 + (front * 956575116354345 + back) + hash * 49604198419 * 2 ^ 64
+fourth_power hash front back = omega arith
+
+cut_parts : (hash part back : ℕ) → (hash % 2 ^ 64 + (part % 2 ^ 64 + back) % 2 ^ 64) % 2 ^ 64 ≡ (hash + (part + back)) % 2 ^ 64
+cut_parts hash part back = omega arith
+
+two_pairs : (hash front back : ℕ) → ((hash * 11527715348014283921) % 2 ^ 64 + ((front * 956575116354345) % 2 ^ 64 + back) % 2 ^ 64) % 2 ^ 64 ≡ (((((hash * 956575116354345) % 2 ^ 64 + front) % 2 ^ 64) * 956575116354345) % 2 ^ 64 + back) % 2 ^ 64
+two_pairs hash front back =
+    cut_parts (hash * 11527715348014283921) (front * 956575116354345) back
+    ∙ sym (over_gone (hash * 11527715348014283921 + (front * 956575116354345 + back)) (hash * 49604198419))
+    ∙ ap (λ (sum : ℕ). sum % 2 ^ 64) (sym (fourth_power hash front back))
+    ∙ sym (cut_before (hash * 956575116354345 + front) 956575116354345 back)
+    ∙ sym (ap (λ (before : ℕ). ((before * 956575116354345) % 2 ^ 64 + back) % 2 ^ 64) (cut_sum (hash * 956575116354345) front))
+
+pub four_bytes : (hash first second third fourth : ℕ)
+    → ((hash * 11527715348014283921) % 2 ^ 64 + ((((first + 1) * 1099511628211 + (second + 1)) * 956575116354345) % 2 ^ 64 + ((third + 1) * 1099511628211 + (fourth + 1))) % 2 ^ 64) % 2 ^ 64 ≡ hash_step (hash_step (hash_step (hash_step hash first) second) third) fourth
+four_bytes hash first second third fourth =
+    two_pairs hash ((first + 1) * 1099511628211 + (second + 1)) ((third + 1) * 1099511628211 + (fourth + 1))
+    ∙ ap (λ (before : ℕ). ((before * 956575116354345) % 2 ^ 64 + ((third + 1) * 1099511628211 + (fourth + 1))) % 2 ^ 64) (two_bytes hash first second)
+    ∙ two_bytes (hash_step (hash_step hash first) second) third fourth
+
+-- the hash of what is left behind two bytes, behind four, and behind the last one
 pub pair_more : (bytes : List ℕ) (at d e so_far next whole : ℕ) → at + 1 < length bytes → next ≡ hash_step (hash_step so_far (get_or bytes at d)) (get_or bytes (at + 1) e)
     → bytes_hash so_far (drop at bytes) ≡ whole → bytes_hash next (drop (at + 2) bytes) ≡ whole
 pair_more bytes at d e so_far next whole within is same =
@@ -61,6 +83,12 @@ pair_more bytes at d e so_far next whole within is same =
     ∙ ap (λ (h : ℕ). bytes_hash h (drop (at + 1 + 1) bytes)) is
     ∙ sym (ap (bytes_hash so_far) pair)
     ∙ same
+
+pub four_more : (bytes : List ℕ) (at d e f g so_far next whole : ℕ) → at + 2 + 1 < length bytes → next ≡ hash_step (hash_step (hash_step (hash_step so_far (get_or bytes at d)) (get_or bytes (at + 1) e)) (get_or bytes (at + 2) f)) (get_or bytes (at + 2 + 1) g)
+    → bytes_hash so_far (drop at bytes) ≡ whole → bytes_hash next (drop (at + 2 + 2) bytes) ≡ whole
+four_more bytes at d e f g so_far next whole within is same =
+    pair_more bytes (at + 2) f g (hash_step (hash_step so_far (get_or bytes at d)) (get_or bytes (at + 1) e)) next whole within is
+    (pair_more bytes at d e so_far (hash_step (hash_step so_far (get_or bytes at d)) (get_or bytes (at + 1) e)) whole (omega (arith, within)) refl same)
 
 pub last_byte : (bytes : List ℕ) (at d so_far next whole : ℕ) → at < length bytes → length bytes - at < 2 → next ≡ hash_step so_far (get_or bytes at d) → bytes_hash so_far (drop at bytes) ≡ whole → next ≡ whole
 last_byte bytes at d so_far next whole within few is same =

@@ -11,6 +11,9 @@ const FACTOR: u64 = 1_099_511_628_211;
 // Its square, as far as 64 bits hold it.
 const SQUARE: u64 = 956_575_116_354_345;
 
+// And the square of that.
+const FOURTH: u64 = 11_527_715_348_014_283_921;
+
 // Signs of what follows, which are no bytes.
 const TEXT: u64 = 256;
 
@@ -81,6 +84,26 @@ fn hash_bytes(hash: u64, bytes: &[u8]) -> u64
 {
     let mut so_far = hash;
     let mut at = 0;
+    'fours: while bytes.len() - at >= 4 {
+        let next = at + 2;
+        so_far = hash_four(
+            so_far,
+            bytes[at],
+            bytes[at + 1],
+            bytes[next],
+            bytes[next + 1],
+        );
+        at = next + 2;
+    }
+    hash_pairs(so_far, &bytes[at..])
+}
+
+// A hash with further bytes, two at a time.
+fn hash_pairs(hash: u64, bytes: &[u8]) -> u64
+    ensures { result ≡ bytes_hash hash bytes.now }
+{
+    let mut so_far = hash;
+    let mut at = 0;
     'pairs: while bytes.len() - at >= 2 {
         so_far = hash_two(so_far, bytes[at], bytes[at + 1]);
         at += 2;
@@ -97,6 +120,17 @@ fn hash_two(hash: u64, first: u8, second: u8) -> u64
 {
     let both = (first as u64 + 1) * FACTOR + (second as u64 + 1);
     hash.wrapping_mul(SQUARE).wrapping_add(both)
+}
+
+// A hash with four bytes more, of which one product waits for the hash before.
+fn hash_four(hash: u64, first: u8, second: u8, third: u8, fourth: u8) -> u64
+    ensures { result
+        ≡ hash_step (hash_step (hash_step (hash_step hash first) second) third) fourth }
+{
+    let front = (first as u64 + 1) * FACTOR + (second as u64 + 1);
+    let back = (third as u64 + 1) * FACTOR + (fourth as u64 + 1);
+    let both = front.wrapping_mul(SQUARE).wrapping_add(back);
+    hash.wrapping_mul(FOURTH).wrapping_add(both)
 }
 
 // A hash with a byte or a sign more.

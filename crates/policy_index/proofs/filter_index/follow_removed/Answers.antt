@@ -1,4 +1,4 @@
-use Rattle.std.proofs.Common.{◌≡◌, ◌<◌, ◌∙◌, Some, ap, arith, length, position, subst, sym}
+use Rattle.std.proofs.Common.{◌≡◌, ◌∙◌, Some, ap, arith, length, position, subst, sym}
 use Rattle.std.proofs.lemmas.List.{length-map}
 use Rattle.policy_table.specs.Slots.{slots}
 use Rattle.policy_table.specs.Tables.{same}

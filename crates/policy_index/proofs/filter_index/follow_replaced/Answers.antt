@@ -1,8 +1,7 @@
-use Rattle.std.proofs.Common.{◌≡◌, ◌<◌, ◌∙◌, List, Some, ap, arith, length, position, subst, sym}
-use Rattle.std.specs.List.{IsDistinct}
+use Rattle.std.proofs.Common.{◌≡◌, ◌∙◌, Some, ap, arith, length, position, sym}
 use Rattle.std.proofs.lemmas.List.{length-map}
 use Rattle.policy_table.specs.Slots.{slots}
-use Rattle.policy_table.specs.Tables.{Fields, same}
+use Rattle.policy_table.specs.Tables.{same}
 use Rattle.policy_table.proofs.CallerLemmas.{found_slot}
 use Rattle.policy_index.specs.Hashes.{mark_of}
 use Rattle.policy_index.proofs.filter_index.follow_replaced.Goals as goal

@@ -1,4 +1,4 @@
-use Rattle.std.proofs.Common.{[], List, ℕ, ap, subst, sym}
+use Rattle.std.proofs.Common.{[], List, ℕ, subst}
 use Rattle.policy_table.specs.Slots.{slots}
 use Rattle.policy_table.specs.Tables.{rows}
 use Rattle.policy_index.specs.Finders.{Sought}

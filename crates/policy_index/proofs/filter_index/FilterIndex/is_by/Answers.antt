@@ -1,4 +1,4 @@
-use Rattle.std.proofs.Common.{List, ℕ, ap, sym, ◌∙◌}
+use Rattle.std.proofs.Common.{ap, sym, ◌∙◌}
 use Rattle.policy_table.proofs.CallerLemmas.{same_table}
 use Rattle.policy_index.specs.Finders.{Sought}
 use Rattle.policy_index.proofs.filter_index.FilterIndex.is_by.Goals as goal

@@ -1,4 +1,4 @@
-use Rattle.std.proofs.Common.{◌≡◌, ◌∙◌, ◌++◌, ◌∷◌, [], List, ap, arith, length, sym, subst, true}
+use Rattle.std.proofs.Common.{◌≡◌, ◌∙◌, ◌++◌, ◌∷◌, [], ap, arith, length, sym, subst, true}
 use Rattle.policy_index.specs.Hashes.{mark_of}
 use Rattle.policy_index.specs.Indexed.{Indexed}
 use Rattle.policy_index.specs.Keys.{KeyParts, is_below}

@@ -1,4 +1,4 @@
-use Rattle.std.proofs.Common.{◌≡◌, ◌∙◌, ap, arith, length, subst, sym}
+use Rattle.std.proofs.Common.{ap, arith, length, subst, sym}
 use Rattle.std.proofs.lemmas.List.{length-map}
 use Rattle.policy_index.specs.Hashes.{mark_of}
 use Rattle.policy_index.specs.Indexed.{Indexed, IsIndexOf}
