@@ -30,9 +30,9 @@ pub(crate) fn verdict_of_none(asking: &Asking<'_>, looked: Looked<'_>) -> Verdic
 
 /// The verdict of the rows, in the order of the table, where parts decide alone; none where the request lacks a text that is
 /// asked about.
-pub(crate) fn verdict_by_parts(
-    asking: &Asking<'_>,
-    looked: Looked<'_>,
+pub(crate) fn verdict_by_parts<'a>(
+    asking: &Asking<'a>,
+    looked: Looked<'a>,
     parts: PlainParts<'_>,
 ) -> Option<Verdict>
     requires asked { IsAsked asking.now }

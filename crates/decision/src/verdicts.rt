@@ -73,9 +73,9 @@ pub fn decide<P: Finder>(
 }
 
 // The verdict where no code has to run and nothing is found first: no row is left to judge, or parts tell all rows alone.
-fn verdict_at_once(
-    asking: &Asking<'_>,
-    looked: Looked<'_>,
+fn verdict_at_once<'a>(
+    asking: &Asking<'a>,
+    looked: Looked<'a>,
     parts: Option<PlainParts<'_>>,
 ) -> Option<Verdict>
     requires asked { IsAsked asking.now }

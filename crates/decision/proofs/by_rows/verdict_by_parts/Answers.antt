@@ -23,7 +23,7 @@ returns-then-take c =
     judged_unrefused case (HasOutcomesInOrder case table) c.end.result
     (judged_in_table_order case Unrefused table c.end.result c.requires.effect
     (judged_over_all case Unrefused (numbered_from 1 table) c.of-candidates.result c.end.result c.of-candidates.ensures
-    (settled_there case (truths_at c.case_answer_is_there.ensures.truth case) Unrefused table c.of-candidates.result _ c.loop-number.fold c.take.new.self row c.in-Some-outcome.outcome c.take.result c.end.result c.of-candidates.ensures so (inl (tt, c.in-Some-outcome.ensures)) c.take.ensures.taken
+    (settled_there case (truths_at c.case_answer_is_there.ensures.truth case) Unrefused table c.of-candidates.result _ c.loop-number.fold c.take.new.self row c.in-Some-outcome_told.outcome c.take.result c.end.result c.of-candidates.ensures so (inl (tt, c.in-Some-outcome_told.ensures)) c.take.ensures.taken
     c.take.ensures.settled c.if-take.true c.end.ensures)))
 
 pub loop-number-preserved : goal.loop-number-preserved
@@ -32,7 +32,7 @@ loop-number-preserved c =
     let row : Numbered = numbered c.in-Some.number c.in-Some.row.now in
     let so = subst (λ (rest : List Numbered). IsFolded case c.of-candidates.result rest c.loop-number.fold) c.in-Some.ensures c.loop-number.invariant.folded in
     record {
-      folded = folded_more case Unrefused _ _ c.loop-number.fold c.take.new.self row c.in-Some-outcome.outcome c.take.result so (inl (tt, c.in-Some-outcome.ensures)) c.take.ensures.taken c.take.ensures.settled c.if-take.false;
+      folded = folded_more case Unrefused _ _ c.loop-number.fold c.take.new.self row c.in-Some-outcome_told.outcome c.take.result so (inl (tt, c.in-Some-outcome_told.ensures)) c.take.ensures.taken c.take.ensures.settled c.if-take.false;
     }
 
 pub returns : goal.returns
