@@ -76,12 +76,12 @@ returns-then-is_empty-clause-none c = λ all says.
 pub returns-clause-first : goal.returns-clause-first
 returns-clause-first c = λ all says.
     let so = c.loop-items.invariant.front all says in
-    rw c.from_vec.ensures (front_end c.args.json all (map seen c.loop-items.items.items) c.loop-items.at c.loop-items.rest.now so ((rw c.in_default.is at c.in_ok-item.ensures.none) so.left so.says))
+    rw c.from_vec-2.ensures (front_end c.args.json all (map seen c.loop-items.items.items) c.loop-items.at c.loop-items.rest.now so ((rw c.in_default.is at c.in_ok-item.ensures.none) so.left so.says))
 
 pub returns-clause-some : goal.returns-clause-some
 returns-clause-some c =
     let some = some_in (vec_len c.loop-items.items) c.loop-items.items.items c.is_empty.result c.loop-items.items.ok.0 c.is_empty.ensures c.if-is_empty.false in
-    omega (arith, some, map_long seen c.from_vec.result, ap (λ (l : List Item). length l) c.from_vec.ensures)
+    omega (arith, some, map_long seen c.from_vec-2.result, ap (λ (l : List Item). length l) c.from_vec-2.ensures)
 
 pub returns-clause-within : goal.returns-clause-within
 returns-clause-within c = c.loop-items.invariant.within

@@ -8,8 +8,8 @@ use Rattle.script_read.specs.Script.{IsScript}
 use Rattle.live_rounds.proofs.rounds.run_rounds.Given as goal
 
 -- the rounds so far are done and their lines taken, and the rest of the text says what is left; the finders were used
-abbrev pub invariant-loop-count : goal.invariant-loop-count
-invariant-loop-count g l = record {
+abbrev pub invariant-loop-round : goal.invariant-loop-round
+invariant-loop-round g l = record {
   done : (items : List Said) → IsScript l.json l.script items
       → AreDoneTo l.program g.J.Naming.shapes g.J.Naming.opening l.workers items (map g.P.Finder.refusals l.initial.finders.items) g.T.Taker.took l.initial.to l.json l.at l.rest l.count (map g.P.Finder.refusals l.finders.items) l.admin l.to;
   used : AllZip IsUsed (map g.P.Finder.refusals l.initial.finders.items) (map g.P.Finder.refusals l.finders.items);
@@ -18,5 +18,5 @@ invariant-loop-count g l = record {
 }
 
 -- what is left of the script
-abbrev pub decreases-loop-count : goal.decreases-loop-count
-decreases-loop-count g l = length l.rest
+abbrev pub decreases-loop-round : goal.decreases-loop-round
+decreases-loop-round g l = length l.rest
