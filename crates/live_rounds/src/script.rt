@@ -63,9 +63,17 @@ pub fn run_shared<R: Threads + Wait + Sync, P: Finder, G: Gate, H: Places, X, T:
 {
     desk.holds();
     let opened = OpenedBook::new();
+    let script = Told { json, text: script };
     run_over::<Brand, R, P, G, H, X, T>(
-        rt, alloc, opened, desk, program, json, script, workers, finders, gate, places, taker, to,
+        rt, alloc, opened, desk, program, script, workers, finders, gate, places, taker, to,
     )
+}
+
+// The text of a script, and whether its requests are JSON. A call that names a pair takes no bare `&str`.
+#[derive(Clone, Copy)]
+struct Told<'a> {
+    json: bool,
+    text: &'a str,
 }
 
 // The same for a pair that this call names.
@@ -83,8 +91,7 @@ fn run_over<
     opened: OpenedBook,
     desk: Desk,
     program: &Program,
-    json: bool,
-    script: &str,
+    script: Told,
     workers: u32,
     finders: &mut Vec<P>,
     gate: &G,
@@ -103,12 +110,14 @@ fn run_over<
     requires suits { Suits program.now J.shapes }
     requires keeps_all { desk.kept ≡ None }
     requires opening { versions desk.state.log ≡ 0 }
-    requires checked { (items : List Said) × IsScript json script.now items }
-    ensures shared { OnOk result ((items : List Said) → IsScript json script.now items
+    requires checked { (items : List Said) × IsScript script.json script.text.now items }
+    ensures shared { OnOk result ((items : List Said)
+        → IsScript script.entry.json script.entry.text.now items
         → AreAllShared T.took program.now J.shapes J.opening workers
         (map P.refusals finders.old.items) (map P.refusals finders.new.items) items
         to.old to.new) }
-    ensures amid { IfErr result (λ stop. (items : List Said) → IsScript json script.now items
+    ensures amid { IfErr result (λ stop. (items : List Said)
+        → IsScript script.entry.json script.entry.text.now items
         → AreSomeShared T.took program.now J.shapes J.opening workers
         (map P.refusals finders.old.items) (map P.refusals finders.new.items) items
         T.stopped to.old to.new stop) }
@@ -121,7 +130,18 @@ fn run_over<
     let pair = open_pair::<J, R, H>(rt, alloc, opened, desk, workers as u8, places)?;
     let (mut admin, mut seats) = pair;
     let shared = run_rounds(
-        rt, alloc, &mut admin, &mut seats, finders, workers, program, json, script, gate, taker, to,
+        rt,
+        alloc,
+        &mut admin,
+        &mut seats,
+        finders,
+        workers,
+        program,
+        script.json,
+        script.text,
+        gate,
+        taker,
+        to,
     );
     drop(admin.close(rt));
     shared
