@@ -24,6 +24,6 @@ returns-in-Ok-clause-checked g c =
     (found.0, subst (λ (bytes : List ℕ). IsScript c.args.json bytes found.0) same found.1)
 
 -- a script is UTF-8
-pub returns-in-Err-clause-stopped : goal.returns-in-Err-clause-stopped
-returns-in-Err-clause-stopped g c =
-    absurd (c.in-Err.ensures.succeeds (subst (λ (bytes : List ℕ). IsUtf8 bytes) c.deref.ensures.value c.in_ok-check_script.ensures.found.1.utf8))
+pub returns-clause-stopped : goal.returns-clause-stopped
+returns-clause-stopped g c =
+    absurd (true≢false (sym (c.in-Err.ensures.succeeds (subst (λ (bytes : List ℕ). IsUtf8 bytes) c.deref.ensures.value c.in_ok-check_script.ensures.found.1.utf8))))

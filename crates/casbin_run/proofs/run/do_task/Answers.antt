@@ -30,7 +30,7 @@ returns-in_ok-text-in-Enforce-clause-stopped g c =
     rw c.in-Enforce.is (IfErr-weaker c.enforce.result _ _ (answered_stops (ground (Enforce json) c.args.loaded left) (λ items refused pieces text lines. lines) tt refl (IsRequests json c.as_str.result.now) (asked_says json left c.as_str.result.now (rw c.as_str.ensures.value c.in_ok-text-in-Enforce.ensures.read)) _ _ _ _ _ _) c.enforce.ensures.stopped)
 
 pub serve-requires-clause-checked : goal.serve-requires-clause-checked
-serve-requires-clause-checked g c = rw c.as_str-in-Serve.ensures.value c.in_ok-script-in-Serve.ensures.checked
+serve-requires-clause-checked g c = λ lifetimes outlive. rw c.as_str-in-Serve.ensures.value c.in_ok-script-in-Serve.ensures.checked
 
 pub returns-in_ok-script-in-Serve-clause-done : goal.returns-in_ok-script-in-Serve-clause-done
 returns-in_ok-script-in-Serve-clause-done g c =
