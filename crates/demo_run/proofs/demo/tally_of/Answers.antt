@@ -32,5 +32,5 @@ returns-in-Ok-clause-lines g c =
 pub returns-in-Ok-clause-alone : goal.returns-in-Ok-clause-alone
 returns-in-Ok-clause-alone g c = λ none. absurd (omega (arith, none, c.if-workers-eq0.false))
 
-pub returns-in-Err-clause-alone : goal.returns-in-Err-clause-alone
-returns-in-Err-clause-alone g c = λ none. absurd (omega (arith, none, c.if-workers-eq0.false))
+pub returns-clause-alone : goal.returns-clause-alone
+returns-clause-alone g c = λ none. absurd (omega (arith, none, c.if-workers-eq0.false))
