@@ -29,8 +29,8 @@ returns-in-Ok-clause-shared g c =
     let printed = all_printed g.K.Sink.taken g.K.Sink.faults c.args.out.now all.lines c.run_shared.new.to all.taken in
     shared_over (IsScript c.args.json c.args.script.now) c.args.workers c.in_ok-opened.opened.program desk.state.shapes (tables desk.state) _ _ c.args.loaded _ _ (Ok tt) is.program_is same_shapes same_policy (shared_all _ _ _ _ _ _ _ items all.lines says all.are _ _ printed.0) tt printed.1 c.run_shared.ensures.used
 
-pub returns-in-Err-clause-shared : goal.returns-in-Err-clause-shared
-returns-in-Err-clause-shared g c =
+pub returns-clause-shared : goal.returns-clause-shared
+returns-clause-shared g c =
     let is = c.in_ok-opened.ensures in
     let desk = c.in_ok-desk.desk in
     let same_shapes = ap (λ (s : State). s.shapes) c.in_ok-desk.ensures.state ∙ is.shapes_are in

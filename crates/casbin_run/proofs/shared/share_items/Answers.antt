@@ -26,7 +26,7 @@ pub returns-in_err-script-clause-used : goal.returns-in_err-script-clause-used
 returns-in_err-script-clause-used g c = none_used _
 
 pub share-requires-clause-checked : goal.share-requires-clause-checked
-share-requires-clause-checked g c = rw c.as_str-text.ensures.value c.in_ok-script.ensures.checked
+share-requires-clause-checked g c = λ lifetimes outlive. rw c.as_str-text.ensures.value c.in_ok-script.ensures.checked
 
 pub returns-clause-done : goal.returns-clause-done
 returns-clause-done g c =
