@@ -1,7 +1,8 @@
 #!/usr/bin/env bash
 # Tries the must-fail edits of checks/edits that the gate leaves out for its price, each of which a crate's proof has to refuse, beside
-# those that the gate tries, in a copy of the crates. Outside the gate; where the crates are proved on this machine it takes some
-# minutes a crate, else it proves first what they stand on. Usage: checks/edits.sh [CRATE]..., all crates that have some where none is told
+# those that the gate tries, in a copy of the crates. Outside the gate. It first proves what the crates stand on, but for what `rt check`
+# kept on this machine (what the gate kept does not serve), and then takes some minutes a crate. Usage: checks/edits.sh [CRATE]...,
+# all crates that have some where none is told
 set -eu
 root="$(cd "$(dirname "${BASH_SOURCE[0]}")/.." && pwd)"
 work="$(mktemp -d)"
