@@ -26,7 +26,7 @@ pub(crate) fn plain_end(text: &str) -> Option<usize>
 fn ends_plain(byte: u8) -> bool
     ensures { result ≡ ends_plain byte }
 {
-    byte == b',' || is_line_end(byte)
+    byte <= b',' && (byte == b',' || is_line_end(byte))
 }
 
 fn is_line_end(byte: u8) -> bool

@@ -101,7 +101,7 @@ fn has_mark(field: &str) -> bool
 fn is_mark(byte: u8) -> bool
     ensures { result ≡ is_mark byte }
 {
-    byte == b',' || byte == b'"'
+    byte <= b',' && (byte == b',' || byte == b'"')
 }
 
 // The field begins or ends with a blank, or begins with `#`.
