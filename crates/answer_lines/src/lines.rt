@@ -33,13 +33,6 @@ impl Lines {
     {
         &self.lines
     }
-
-    /// The lines as a `Vec`. It takes no memory.
-    pub fn into_vec(self) -> Vec<Line>
-        ensures { result.items ≡ self }
-    {
-        self.lines
-    }
 }
 
 impl Share for Lines {}

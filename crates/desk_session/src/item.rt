@@ -1,18 +1,18 @@
 ghost use Rattle.std.specs.Prelude.{◌≡◌, IfOk, OnErr};
-ghost use Rattle.script_read.specs.Said.{asks, reading, seen};
+ghost use Rattle.script_read.specs.Said.{asks, reading_of, seen};
 ghost use Rattle.decision.specs.Programs.{Suits};
 ghost use Rattle.desk_session.specs.Requests.{Refuses};
 ghost use Rattle.desk_session.specs.Steps.{IsStep, IsStopped};
 
 use crate::asked::asked_in;
 use crate::other::answer_other;
-use crate::request::answer_request;
+use crate::request::answer_text;
 use answer_lines::Answer;
 use decision::{Program, Scratch};
 use outside::NoMemory;
 use policy_desk::Desk;
 use regex_gate::Finder;
-use script_read::{Item, RequestLine};
+use script_read::{Item, RequestText};
 use std::alloc::Global;
 
 /// Answers one item of a script at a desk, and does what it says: requests and queries are answered by the published policy,
@@ -40,20 +40,20 @@ pub fn answer_item<P: Finder>(
     answer_ask(alloc, desk, program, asked, finder, scratch)
 }
 
-// Answers a line of requests by the published policy.
+// Answers a request by the published policy.
 fn answer_ask<P: Finder>(
     alloc: Global,
     desk: &Desk,
     program: &Program,
-    asked: &RequestLine,
+    asked: &RequestText,
     finder: &mut P,
     scratch: &mut Scratch,
 ) -> Result<Answer, NoMemory>
     requires suits { Suits program.now desk.now.state.shapes }
     ensures step { IfOk result (IsStep program.now (P.refusals finder.old)
-        (P.refusals finder.new) (asks (reading asked.now)) desk.now desk.now) }
+        (P.refusals finder.new) (asks (reading_of asked.now)) desk.now desk.now) }
     ensures refused { OnErr result (Refuses program.now
-        (P.refusals finder.old) (P.refusals finder.new) (asks (reading asked.now))) }
+        (P.refusals finder.old) (P.refusals finder.new) (asks (reading_of asked.now))) }
 {
-    answer_request(alloc, desk.state(), program, asked, finder, scratch)
+    answer_text(alloc, desk.state(), program, asked, finder, scratch)
 }

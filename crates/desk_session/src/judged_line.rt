@@ -1,7 +1,7 @@
 ghost use Rattle.std.specs.Prelude.{◌≡◌, Ok, OnErr, OnOk, map, true};
 ghost use Rattle.perm_value.specs.Seen.{datum};
 ghost use Rattle.script_read.specs.Named.{is_named};
-ghost use Rattle.script_read.specs.Said.{asks, reading};
+ghost use Rattle.script_read.specs.Said.{asks, reading, reading_of};
 ghost use Rattle.decision.specs.Programs.{Suits};
 ghost use Rattle.desk_session.specs.Requests.{Refuses, TellsAnswer};
 
@@ -13,7 +13,8 @@ use outside::NoMemory;
 use perm_value::Request;
 use policy_state::PolicyState;
 use regex_gate::Finder;
-use script_read::RequestLine;
+use script_read::{RequestLine, RequestText, read_text};
+use std::alloc::Global;
 
 /// Appends the line that tells what a line of requests is answered over a policy: the answer that `answer_request` gives, as
 /// `push_line` tells it, with a rule that is not copied. It takes memory for the text, and for `regexMatch` and `eval` alone;
@@ -44,6 +45,29 @@ pub fn push_request<P: Finder>(
             push_line(text, &Line { number, answer })
         }
     }
+}
+
+/// Appends the line that tells what a request of a script, which is read here, is answered over a policy, as `push_request` says it.
+pub fn push_asked<P: Finder>(
+    alloc: Global,
+    text: &mut String,
+    number: u32,
+    state: &PolicyState,
+    program: &Program,
+    asked: &RequestText,
+    finder: &mut P,
+    scratch: &mut Scratch,
+) -> Result<(), NoMemory>
+    requires suits { Suits program.now state.now.shapes }
+    requires named { is_named (asks (reading_of asked.now)) ≡ true }
+    ensures told { OnOk result (TellsAnswer program.now state.now
+        (P.refusals finder.old) (P.refusals finder.new) (reading_of asked.now) number
+        text.old text.new) }
+    ensures stopped { OnErr result (Refuses program.now
+        (P.refusals finder.old) (P.refusals finder.new) (asks (reading_of asked.now))) }
+{
+    let line = read_text(alloc, Vec::new(alloc), asked)?;
+    push_request(text, number, state, program, &line, finder, scratch)
 }
 
 // Appends the line of what a request is answered.

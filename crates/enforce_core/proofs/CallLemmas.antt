@@ -4,11 +4,11 @@ use Rattle.std.specs.Prelude.{◌≢◌, ◌==◌, Result, Ok, Err}
 use Rattle.std.proofs.lemmas.Bool.{eqb-false, eqb-true}
 use Rattle.desk_session.specs.Steps.{is_request}
 use Rattle.policy_desk.specs.Desks.{Work}
-use Rattle.script_read.specs.Said.{Said, asks, reading, seen}
+use Rattle.script_read.specs.Said.{Said, asks, reading_of, seen}
 use Rattle.script_read.specs.Script.{IsScript, IsScriptFault}
 use Rattle.script_read.specs.declared.fault.ScriptFault.{ScriptFault}
 use Rattle.script_read.specs.declared.fault.ScriptFault.TheVariants as script
-use Rattle.script_read.specs.declared.item.RequestLine.{RequestLine}
+use Rattle.script_read.specs.declared.item.RequestText.{RequestText}
 use Rattle.script_read.specs.declared.item.Item.{Item}
 use Rattle.enforce_core.specs.Called.{CallsAt, SaysOne, are_one, call_stop_of}
 use Rattle.enforce_core.specs.Helps.Items.{DoesItem}
@@ -40,7 +40,7 @@ not_alone items others item empty is told some =
     subst (λ (l : List Item). are_one (map seen l) ≡ false) (sym is) (more_than_one item others (eqb-false (length others) 0 (sym told ∙ some)))
 
 -- a request
-pub one_asked : (items others : List Item) (item : Item) (asked : RequestLine) (empty : Bool) → items ≡ item ∷ others → empty ≡ (length others == 0) → empty ≡ true → seen item ≡ asks (reading asked) → are_one (map seen items) ≡ false
+pub one_asked : (items others : List Item) (item : Item) (asked : RequestText) (empty : Bool) → items ≡ item ∷ others → empty ≡ (length others == 0) → empty ≡ true → seen item ≡ asks (reading_of asked) → are_one (map seen items) ≡ false
 one_asked items others item asked empty is told none request =
     ap (λ (l : List Item). are_one (map seen l)) (one_is items others item empty is told none) ∙ ap (λ (s : Said). are_one (s ∷ [])) request
 

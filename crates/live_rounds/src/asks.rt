@@ -6,7 +6,7 @@ ghost use Rattle.regex_gate.specs.Refusals.{IsUsed};
 ghost use Rattle.script_read.specs.Said.{seen};
 
 use decision::{Program, Scratch};
-use desk_session::{Answer, answer_request, asked_in};
+use desk_session::{Answer, answer_text, asked_in};
 use outside::NoMemory;
 use policy_state::PolicyState;
 use regex_gate::Finder;
@@ -137,7 +137,7 @@ fn answer_left<P: Finder>(
             left -= 1;
             continue;
         }
-        let reply = answer_request(alloc, state, program, request, finder, &mut scratch)?;
+        let reply = answer_text(alloc, state, program, request, finder, &mut scratch)?;
         asked.push(reply)?;
     }
     Ok(())

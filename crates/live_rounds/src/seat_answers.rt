@@ -1,10 +1,10 @@
-ghost use Rattle.std.specs.Prelude.{◌≡◌, IfErr, IfOk, Ok, map};
+ghost use Rattle.std.specs.Prelude.{◌≡◌, IfErr, IfOk, IsErrOf, Ok, map};
 ghost use Rattle.decision.specs.Programs.{Suits};
 ghost use Rattle.live_rounds.specs.Served.{IsPartServed, IsServedBy};
 ghost use Rattle.live_seat.specs.Decided.{IsStoppedAt};
 ghost use Rattle.perm_value.specs.Seen.{datum};
 ghost use Rattle.regex_gate.specs.Refusals.{IsUsed};
-ghost use Rattle.script_read.specs.Said.{reading, seen};
+ghost use Rattle.script_read.specs.Said.{reading, reading_of, seen};
 
 use crate::gate::Gate;
 use decision::{Program, Scratch};
@@ -12,10 +12,11 @@ use desk_session::{Answer, asked_in};
 use live_pair::{Naming, Seat};
 use live_seat::{SeatStop, explain_seat};
 use outside::NoMemory;
-use perm_value::Request;
+use perm_value::{Request, Value};
 use regex_gate::Finder;
-use script_read::{Item, RequestLine};
+use script_read::{Item, RequestLine, RequestText, read_text, values_of};
 use std::alloc::Global;
+use std::mem;
 
 /// Answers the requests among a worker's items at a seat, each in its turn, until an entry is refused. The items stand behind so
 /// many others of the script.
@@ -36,15 +37,24 @@ pub(crate) fn answer_part<J: Naming, P: Finder, G: Gate>(
     ensures used { IsUsed (P.refusals finder.old) (P.refusals finder.new) }
 {
     let mut scratch = Scratch::for_program(alloc, program);
+    let mut values = Vec::new(alloc);
     let mut replies = Vec::new(alloc);
     let mut number = others;
     for item in items {
         number = number.saturating_add(1);
-        let Some(asked) = asked_in(item) else {
+        let Some(text) = asked_in(item) else {
             continue;
         };
         gate.pass(worker, number);
-        match answer_asked(alloc, seat, program, asked, finder, &mut scratch) {
+        match answer_asked(
+            alloc,
+            seat,
+            program,
+            text,
+            finder,
+            &mut scratch,
+            &mut values,
+        ) {
             Ok(reply) => replies.push(reply)?,
             Err(SeatStop::Shut) => return Ok(replies),
             Err(SeatStop::NoMemory) => return Err(NoMemory),
@@ -53,8 +63,35 @@ pub(crate) fn answer_part<J: Naming, P: Finder, G: Gate>(
     Ok(replies)
 }
 
-// Answers a line of requests at a seat, by one entry where it is decided.
+// Answers a request at a seat, by one entry where it is decided. Its values take the place of others.
 fn answer_asked<J: Naming, P: Finder>(
+    alloc: Global,
+    seat: &mut Seat<J>,
+    program: &Program,
+    text: &RequestText,
+    finder: &mut P,
+    scratch: &mut Scratch,
+    values: &mut Vec<Value>,
+) -> Result<Answer, SeatStop>
+    requires suits { Suits program.now J.shapes }
+    ensures served { IfOk result (IsServedBy program.now J.shapes J.opening
+        (reading_of text.now) (P.refusals finder.old) (P.refusals finder.new)
+        seat.old seat.new) }
+    ensures shut { IsErrOf result SeatStop.Shut → IsStoppedAt
+        (P.refusals finder.old) (P.refusals finder.new) seat.old seat.new SeatStop.Shut }
+    ensures used { IsUsed (P.refusals finder.old) (P.refusals finder.new) }
+{
+    let others = mem::replace(values, Vec::new(alloc));
+    let Ok(asked) = read_text(alloc, others, text) else {
+        return Err(SeatStop::NoMemory);
+    };
+    let reply = answer_read(alloc, seat, program, &asked, finder, scratch);
+    *values = values_of(alloc, asked);
+    reply
+}
+
+// The same for a request that was read.
+fn answer_read<J: Naming, P: Finder>(
     alloc: Global,
     seat: &mut Seat<J>,
     program: &Program,

@@ -10,7 +10,7 @@ ghost use Rattle.live_serve.specs.Helps.Asked.{IsAsked, IsQueried};
 
 use answer_lines::Answer;
 use decision::{Program, Scratch};
-use desk_session::{answer_request, bytes_of, refusal_answer};
+use desk_session::{answer_text, bytes_of, refusal_answer};
 use outside::{NoMemory, Text};
 use perm_base::{Rule, TableId};
 use policy_query::QueryRefused;
@@ -41,7 +41,7 @@ pub(crate) fn answer_query<P: Finder>(
 {
     match item {
         Item::Ask(asked) => {
-            let reply = answer_request(alloc, state, program, asked, finder, scratch)?;
+            let reply = answer_text(alloc, state, program, asked, finder, scratch)?;
             Ok(Some(reply))
         }
         Item::Sync => Ok(Some(Answer::Synced(state.version()))),

@@ -22,7 +22,7 @@ use perm_value::{RequestFault, Value};
 use policy_state::PolicyState;
 use regex_gate::Finder;
 use run_status::Stop;
-use script_read::{RequestLine, next_request, read_request_over};
+use script_read::{RequestLine, next_request, read_request_over, values_of};
 use std::alloc::Global;
 use std::mem;
 
@@ -165,13 +165,5 @@ fn ask_over(
         Ok(request) => Ok(RequestLine::Request(request)),
         Err(RequestFault::NoMemory) => Err(NoMemory),
         Err(fault) => Ok(RequestLine::Refused(fault)),
-    }
-}
-
-// The values of what was asked.
-fn values_of(alloc: Global, asked: RequestLine) -> Vec<Value> {
-    match asked {
-        RequestLine::Request(request) => request.into_vec(),
-        RequestLine::Refused(_) => Vec::new(alloc),
     }
 }

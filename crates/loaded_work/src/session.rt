@@ -25,7 +25,7 @@ use crate::loaded::Loaded;
 use crate::opened::open_loaded;
 use answer_lines::push_line;
 use decision::{Program, Scratch};
-use desk_session::{Line, answer_other, asked_in, push_request};
+use desk_session::{Line, answer_other, asked_in, push_asked};
 use matcher_meaning::case_verdict_is_there;
 use outside::{NoMemory, Sink, push_all};
 use policy_desk::{Desk, open_desk};
@@ -134,7 +134,8 @@ fn push_item<P: Finder>(
     let Some(asked) = asked_in(item) else {
         return push_other(alloc, text, number, desk, item);
     };
-    push_request(text, number, desk.state(), program, asked, finder, scratch)
+    let state = desk.state();
+    push_asked(alloc, text, number, state, program, asked, finder, scratch)
 }
 
 // The same for an item that is no request.

@@ -1,4 +1,5 @@
 pub mod Results
+pub mod Readings
 pub mod Said
 pub mod Lines
 pub mod Reads

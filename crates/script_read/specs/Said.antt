@@ -1,19 +1,16 @@
 -- What items say. A request shows its data, or why the line is none.
-use Rattle.std.specs.Prelude.{ℕ, List, map, Option, Result, Ok, Err}
+use Rattle.std.specs.Prelude.{ℕ, List, map, Option, Ok, Err}
 use Rattle.edit_calls.specs.declared.call.Call.{Call}
 use Rattle.perm_base.specs.declared.shapes.TableId.{TableId}
-use Rattle.perm_value.specs.Datum.{Datum}
 use Rattle.perm_value.specs.Seen.{datum}
-use Rattle.perm_value.specs.declared.request.RequestFault.{RequestFault}
 use Rattle.policy_table.specs.Tables.{Fields}
+pub use Rattle.script_read.specs.Readings.{Reading}
+use Rattle.script_read.specs.Readings.{request_read}
 use Rattle.script_read.specs.declared.item.RequestLine.{RequestLine}
 use Rattle.script_read.specs.declared.item.RequestLine.TheVariants.{Request, Refused}
+use Rattle.script_read.specs.declared.item.RequestText.{RequestText}
 use Rattle.script_read.specs.declared.item.Item.{Item}
 use Rattle.script_read.specs.declared.item.Item.TheVariants as item
-
--- what the line of a request is read as
-abbrev pub Reading : Type 0
-Reading = Result (List Datum) RequestFault
 
 pub data Said : Type 0 where
   asks : Reading → Said
@@ -32,9 +29,13 @@ abbrev pub reading : RequestLine → Reading
 reading (Request values) = Ok (map datum values)
 reading (Refused fault) = Err fault
 
+-- what the text of a request is read as
+abbrev pub reading_of : RequestText → Reading
+reading_of text = request_read text.json text.line
+
 -- what is seen of an item
 abbrev pub seen : Item → Said
-seen (item.Ask asked) = asks (reading asked)
+seen (item.Ask text) = asks (reading_of text)
 seen (item.Edit call) = edits call
 seen item.Publish = publishes
 seen item.Sync = syncs

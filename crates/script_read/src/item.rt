@@ -10,11 +10,20 @@ pub enum RequestLine {
     Refused(RequestFault),
 }
 
+/// A request as it stands in a script. `read_text` reads it.
+#[derive(Drop)]
+pub struct RequestText {
+    /// It is JSON.
+    pub json: bool,
+    /// What stands behind `ask`.
+    pub line: Text,
+}
+
 /// What one line of a script says, or one block of lines.
 #[derive(Drop)]
 pub enum Item {
     /// Asks for the decision on a request.
-    Ask(RequestLine),
+    Ask(RequestText),
     /// Makes a management call.
     Edit(Call),
     /// Publishes the edits so far as a version.
@@ -52,5 +61,7 @@ pub enum Item {
 }
 
 impl Share for RequestLine {}
+
+impl Share for RequestText {}
 
 impl Share for Item {}

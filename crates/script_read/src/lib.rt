@@ -17,13 +17,13 @@ mod walk;
 mod word;
 
 pub use fault::{LineCause, ScriptFault};
-pub use item::{Item, RequestLine};
+pub use item::{Item, RequestLine, RequestText};
 pub use laws::{
     every_input_is_requests_or_at_fault, every_text_is_a_script_or_at_fault,
     faulty_text_is_no_script, input_says_one_list_of_requests, items_are_named,
     text_has_one_script_fault, text_says_one_script, texts_are_read_in_one_way,
 };
 pub use reader::read_script;
-pub use requests::{next_request, read_request, read_request_over};
+pub use requests::{next_request, read_request, read_request_over, read_text, values_of};
 pub use script::Script;
 pub use walk::{check_script, next_item};

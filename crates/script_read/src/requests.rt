@@ -4,10 +4,10 @@ ghost use Rattle.perm_value.specs.declared.request.RequestFault.TheVariants as f
 ghost use Rattle.script_read.specs.Helps.Given.{request_read};
 ghost use Rattle.script_read.specs.Lines.{requests_of};
 ghost use Rattle.script_read.specs.Reads.{Says};
-ghost use Rattle.script_read.specs.Said.{reading};
+ghost use Rattle.script_read.specs.Said.{reading, reading_of};
 
-use crate::item::RequestLine;
-use outside::NoMemory;
+use crate::item::{RequestLine, RequestText};
+use outside::{NoMemory, Text};
 use perm_value::{Request, RequestFault, Value, request_of_json, request_over_fields};
 use std::alloc::Global;
 use text_parts::{is_passed, next_text_line};
@@ -54,13 +54,34 @@ pub fn read_request_over(
     }
 }
 
-/// Reads the line of a request; where it is none, the answer says why.
-pub(crate) fn ask(alloc: Global, json: bool, line: &str) -> Result<RequestLine, NoMemory>
-    ensures { IfOk result (λ asked. request_read json line.now ≡ reading asked) }
+/// The request of a line as it stands in a script, which is not read yet.
+pub(crate) fn ask(alloc: Global, json: bool, line: &str) -> Result<RequestText, NoMemory>
+    ensures { IfOk result (λ text. request_read json line.now ≡ reading_of text) }
 {
-    match read_request(alloc, json, line) {
+    let line = Text::from_str(alloc, line)?;
+    Ok(RequestText { json, line })
+}
+
+/// Reads the request of a script, whose values take the place of others; where it is none, the answer says why. It takes no
+/// memory where there were as many values, which are short texts.
+pub fn read_text(
+    alloc: Global,
+    others: Vec<Value>,
+    text: &RequestText,
+) -> Result<RequestLine, NoMemory>
+    ensures { IfOk result (λ asked. reading asked ≡ reading_of text.now) }
+{
+    match read_request_over(alloc, others, text.json, text.line.as_str()) {
         Ok(request) => Ok(RequestLine::Request(request)),
         Err(RequestFault::NoMemory) => Err(NoMemory),
         Err(fault) => Ok(RequestLine::Refused(fault)),
+    }
+}
+
+/// The values of a request, for another one to take their place: none where there is no request.
+pub fn values_of(alloc: Global, asked: RequestLine) -> Vec<Value> {
+    match asked {
+        RequestLine::Request(request) => request.into_vec(),
+        RequestLine::Refused(_) => Vec::new(alloc),
     }
 }

@@ -38,13 +38,6 @@ impl Script {
         &self.items
     }
 
-    /// The items as a `Vec`. It takes no memory.
-    pub fn into_vec(self) -> Vec<Item>
-        ensures { result.items ≡ self }
-    {
-        self.items
-    }
-
     /// How many items there are.
     pub fn len(&self) -> usize
         ensures { result ≡ length self.now }

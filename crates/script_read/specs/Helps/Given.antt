@@ -1,14 +1,10 @@
 -- What texts read as, as functions, and what readers give back.
-use Rattle.std.specs.Prelude.{◌≡◌, ℕ, Bool, true, false, List, map, Result, Ok, Err}
-use Rattle.serde_json.specs.Read.{read}
+use Rattle.std.specs.Prelude.{◌≡◌, ℕ, List, Result, Ok, Err}
 use Rattle.perm_base.specs.FieldSteps.{fields_of}
 use Rattle.perm_base.specs.declared.quoted.FieldFault.{FieldFault}
 use Rattle.perm_base.specs.declared.quoted.FieldFault.TheVariants as field
-use Rattle.perm_value.specs.Datum.{text}
-use Rattle.perm_value.specs.Fields as fields
-use Rattle.perm_value.specs.Json.{values_of}
 use Rattle.policy_table.specs.Tables.{Fields}
-use Rattle.script_read.specs.Said.{Reading}
+pub use Rattle.script_read.specs.Readings.{as_texts, request_read}
 use Rattle.script_read.specs.declared.fault.LineCause.{LineCause}
 use Rattle.script_read.specs.declared.fault.LineCause.TheVariants as cause
 use Rattle.script_read.specs.declared.fault.ScriptFault.{ScriptFault}
@@ -27,19 +23,6 @@ by_cause (Err fault) = Err (cause_of fault)
 -- the fields of a text
 unfoldable pub fields_read : List ℕ → Result Fields LineCause
 fields_read line = by_cause (fields_of line)
-
--- the data of a text for each field
-abbrev pub as_texts : Result Fields FieldFault → Reading
-as_texts (Ok found) = Ok (map text found)
-as_texts (Err fault) = Err (fields.fault_of fault)
-
-abbrev pub by_form : Bool → List ℕ → Reading
-by_form true line = values_of (read line)
-by_form false line = as_texts (fields_of line)
-
--- the request that a line is
-unfoldable pub request_read : Bool → List ℕ → Reading
-request_read json line = by_form json line
 
 -- the fault is the one that reading gives, unless memory ran out
 abbrev pub Fails : {Y : Type 0} → ScriptFault → Result Y ScriptFault → Type 0

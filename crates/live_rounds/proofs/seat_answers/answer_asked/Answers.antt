@@ -1,9 +1,9 @@
+use Rattle.std.proofs.Common.{sym}
 use Rattle.regex_gate.proofs.CallerLemmas.{used_none}
-use Rattle.live_rounds.proofs.ServedLemmas.{served_fault}
 use Rattle.live_rounds.proofs.seat_answers.answer_asked.Goals as goal
 
-pub returns-in-Refused-clause-served : goal.returns-in-Refused-clause-served
-returns-in-Refused-clause-served g c = rw c.in-Refused.is (served_fault c.args.program.now _ _ (g.P.Finder.refusals c.args.finder.now) c.args.seat.now c.in-Refused.fault)
+pub returns-in_default-clause-used : goal.returns-in_default-clause-used
+returns-in_default-clause-used g c = used_none _
 
-pub returns-in-Refused-clause-used : goal.returns-in-Refused-clause-used
-returns-in-Refused-clause-used g c = used_none _
+pub returns-clause-served : goal.returns-clause-served
+returns-clause-served g c = rw (sym c.in-Ok.ensures) c.answer_read.ensures.served
