@@ -8,7 +8,8 @@ use Rattle.perm_base.specs.declared.quoted.FieldFault.TheVariants as field
 use Rattle.perm_value.specs.Datum.{Datum}
 use Rattle.perm_value.specs.declared.request.RequestFault.TheVariants.{Quote, TooMany, Syntax, NotAnArray, TooDeep, NotWhole, NoMemory}
 use Rattle.policy_table.specs.Tables.{Fields}
-use Rattle.script_read.specs.Helps.Given.{as_texts, by_cause, fields_read, request_read}
+use Rattle.script_read.specs.Helps.Given.{by_cause, fields_read}
+use Rattle.script_read.specs.Readings.{as_texts, request_read}
 use Rattle.script_read.specs.Reads.{Reader, ReadsFields, Says, SaysFields}
 use Rattle.script_read.specs.Said.{Reading}
 use Rattle.script_read.specs.declared.fault.LineCause.{LineCause}

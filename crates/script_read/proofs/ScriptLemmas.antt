@@ -9,7 +9,8 @@ use Rattle.script_read.proofs.GivesLemmas.{mapped_fails, step_fails}
 use Rattle.script_read.proofs.ReadLemmas.{reader_fields, reader_request, the_reader}
 use Rattle.script_read.specs.Blocks.{Part, part_item, parts}
 use Rattle.script_read.specs.Helps.Ends.{behind_part, first_part}
-use Rattle.script_read.specs.Helps.Given.{Fails, fields_read, request_read}
+use Rattle.script_read.specs.Helps.Given.{Fails, fields_read}
+use Rattle.script_read.specs.Readings.{request_read}
 use Rattle.script_read.specs.Lines.{requests_of, script_lines}
 use Rattle.text_parts.specs.Full.{full_lines}
 use Rattle.script_read.specs.Reads.{Reader}

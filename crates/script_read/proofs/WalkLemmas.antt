@@ -6,7 +6,8 @@ use Rattle.script_read.proofs.EndLemmas.{parts_first}
 use Rattle.script_read.proofs.ScriptLemmas.{item_of, part_same}
 use Rattle.script_read.specs.Blocks.{Part, at_line, block, parts, single}
 use Rattle.script_read.specs.Helps.Ends.{before_end, behind_part, end_number, first_part}
-use Rattle.script_read.specs.Helps.Given.{fields_read, request_read}
+use Rattle.script_read.specs.Helps.Given.{fields_read}
+use Rattle.script_read.specs.Readings.{request_read}
 use Rattle.script_read.specs.Items.{word_item}
 use Rattle.script_read.specs.Lines.{arguments_of, word_of}
 use Rattle.script_read.specs.Reads.{Reader}

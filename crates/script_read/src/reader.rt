@@ -2,7 +2,8 @@ ghost use Rattle.std.specs.Prelude.{◌≡◌, ◌≢◌, ◌+◌, ◌<◌, ◌�
 ghost use Rattle.std.specs.Prelude.{IfErr, IfOk, List, MatchResult, length, map};
 ghost use Rattle.script_read.specs.Blocks.{part_item};
 ghost use Rattle.script_read.specs.Helps.Ends.{behind_part, end_of_part, first_part};
-ghost use Rattle.script_read.specs.Helps.Given.{Gives, fields_read, request_read};
+ghost use Rattle.script_read.specs.Helps.Given.{Gives, fields_read};
+ghost use Rattle.script_read.specs.Readings.{request_read};
 ghost use Rattle.text_parts.specs.Full.{full_lines};
 ghost use Rattle.script_read.specs.Said.{Said, seen};
 ghost use Rattle.script_read.specs.Script.{IsScript, IsScriptFault};

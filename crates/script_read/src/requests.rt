@@ -1,7 +1,7 @@
 ghost use Rattle.std.specs.Prelude.{◌≡◌, ◌≢◌, ◌<◌, ◌∷◌, [], Ok, Err, IfErr, IfNone, IfOk, IfSome, length, map};
 ghost use Rattle.perm_value.specs.Seen.{datum};
 ghost use Rattle.perm_value.specs.declared.request.RequestFault.TheVariants as fault;
-ghost use Rattle.script_read.specs.Helps.Given.{request_read};
+ghost use Rattle.script_read.specs.Readings.{request_read};
 ghost use Rattle.script_read.specs.Lines.{requests_of};
 ghost use Rattle.script_read.specs.Reads.{Says};
 ghost use Rattle.script_read.specs.Said.{reading, reading_of};

@@ -3,7 +3,8 @@ ghost use Rattle.std.specs.Prelude.{IfErr, IfNone, IfOk, IfSome, List, OnOk, [],
 ghost use Rattle.std.specs.Str.{bytes_eq};
 ghost use Rattle.script_read.specs.Blocks.{part_item};
 ghost use Rattle.script_read.specs.Helps.Ends.{end_of_part, first_part};
-ghost use Rattle.script_read.specs.Helps.Given.{Checks, fields_read, request_read};
+ghost use Rattle.script_read.specs.Helps.Given.{Checks, fields_read};
+ghost use Rattle.script_read.specs.Readings.{request_read};
 ghost use Rattle.script_read.specs.Lines.{word_of};
 ghost use Rattle.script_read.specs.Said.{Said, seen};
 ghost use Rattle.script_read.specs.Script.{BeginsWith, IsScript, IsScriptFault, SaysFrom};
@@ -13,7 +14,7 @@ ghost use Rattle.text_parts.specs.Numbered.{line as line_at};
 use crate::fault::ScriptFault;
 use crate::item::Item;
 use crate::reader::{part_end, read_part};
-use crate::word::word_and_arguments;
+use crate::word::word_in;
 use outside::NoMemory;
 use std::alloc::Global;
 use text_parts::next_full_line;
@@ -65,8 +66,7 @@ fn check_part(
 fn is_ask(line: &str) -> bool
     ensures { result ≡ bytes_eq (word_of line.now) (codes "ask") }
 {
-    let (word, _) = word_and_arguments(line);
-    word == "ask"
+    word_in(line) == "ask"
 }
 
 /// The first item of a text that was checked, the number of the line behind it, and what stands from

@@ -49,6 +49,14 @@ pub(crate) fn verb_named(word: &str) -> Option<Verb>
     }
 }
 
+/// The word of a line.
+pub(crate) fn word_in(line: &str) -> &str
+    ensures { result.now ≡ word_of line.now }
+{
+    let end = word_end(line.as_bytes());
+    &line[..end]
+}
+
 /// The word of a line, and its arguments.
 pub(crate) fn word_and_arguments(line: &str) -> (&str, &str)
     ensures word { result.0.now ≡ word_of line.now }
@@ -69,8 +77,7 @@ fn word_end(line: &[u8]) -> usize
 pub(crate) fn begins_block(line: &str) -> bool
     ensures { result ≡ begins_block line.now }
 {
-    let (word, _) = word_and_arguments(line);
-    word == "begin"
+    word_in(line) == "begin"
 }
 
 /// Whether the line ends a block.

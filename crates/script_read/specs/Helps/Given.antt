@@ -4,7 +4,6 @@ use Rattle.perm_base.specs.FieldSteps.{fields_of}
 use Rattle.perm_base.specs.declared.quoted.FieldFault.{FieldFault}
 use Rattle.perm_base.specs.declared.quoted.FieldFault.TheVariants as field
 use Rattle.policy_table.specs.Tables.{Fields}
-pub use Rattle.script_read.specs.Readings.{as_texts, request_read}
 use Rattle.script_read.specs.declared.fault.LineCause.{LineCause}
 use Rattle.script_read.specs.declared.fault.LineCause.TheVariants as cause
 use Rattle.script_read.specs.declared.fault.ScriptFault.{ScriptFault}

@@ -1,6 +1,6 @@
 use Rattle.std.proofs.Common.{◌≡◌, ◌+◌, Err, sym, ◌∙◌, rules}
 use Rattle.script_read.proofs.WalkLemmas.{asked_is}
-use Rattle.script_read.specs.Helps.Given.{request_read}
+use Rattle.script_read.specs.Readings.{request_read}
 use Rattle.script_read.specs.Lines.{arguments_of}
 use Rattle.script_read.specs.Said.{asks, seen}
 use Rattle.text_parts.specs.Full.{full_lines}
