@@ -24,7 +24,7 @@ pub(crate) fn merge(
 {
     let mut asked = asked.into_iter();
     let mut others = others.into_iter();
-    let mut lines = Vec::new(alloc);
+    let mut lines = Vec::with_capacity(alloc, items.len())?;
     let mut number = behind;
     for item in items {
         number = number.saturating_add(1);

@@ -38,7 +38,7 @@ pub(crate) fn answer_part<J: Naming, P: Finder, G: Gate>(
 {
     let mut scratch = Scratch::for_program(alloc, program);
     let mut values = Vec::new(alloc);
-    let mut replies = Vec::new(alloc);
+    let mut replies = Vec::with_capacity(alloc, items.len())?;
     let mut number = others;
     for item in items {
         number = number.saturating_add(1);

@@ -5,7 +5,7 @@ use Rattle.script_read.specs.Said.{seen}
 use Rattle.live_rounds.proofs.merger.merge.Goals as goal
 
 pub loop-item-init : goal.loop-item-init
-loop-item-init c = (omega arith, merge_none c.args.behind c.args.items.now c.new-lines.result.items _ _ c.new-lines.ensures.items)
+loop-item-init c = (omega arith, merge_none c.args.behind c.args.items.now c.in_ok-lines.lines.items _ _ c.in_ok-lines.ensures.items)
 
 -- no reply is left for an item
 pub returns-in_default : goal.returns-in_default

@@ -1,11 +1,11 @@
 use Rattle.std.proofs.Common.{◌≡◌, ◌++◌, ◌∷◌, [], rules, map, take}
-use Rattle.regex_gate.proofs.CallerLemmas.{used_then}
+use Rattle.regex_gate.proofs.CallerLemmas.{used_none, used_then}
 use Rattle.script_read.specs.Said.{seen}
 use Rattle.live_rounds.proofs.ServedLemmas.{serving_all, serving_first, serving_next, serving_past, serving_shut, serving_used}
 use Rattle.live_rounds.proofs.seat_answers.answer_part.Goals as goal
 
 pub loop-item-init : goal.loop-item-init
-loop-item-init g c = serving_first c.args.program.now g.J.Naming.shapes g.J.Naming.opening c.args.items.now (g.P.Finder.refusals c.args.finder.now) c.args.seat.now c.new-replies.result.items c.new-replies.ensures.items
+loop-item-init g c = serving_first c.args.program.now g.J.Naming.shapes g.J.Naming.opening c.args.items.now (g.P.Finder.refusals c.args.finder.now) c.args.seat.now c.in_ok-replies.replies.items c.in_ok-replies.ensures.items
 
 -- an item that is no request
 pub loop-item-preserved-in_default : goal.loop-item-preserved-in_default
@@ -33,6 +33,9 @@ returns-clause-served g c =
     c.loop-item-test.false c.loop-item.invariant
 
 -- ---- the finder
+
+pub returns-in_err-replies-clause-used : goal.returns-in_err-replies-clause-used
+returns-in_err-replies-clause-used g c = used_none _
 
 pub returns-in-Err-Shut-clause-used : goal.returns-in-Err-Shut-clause-used
 returns-in-Err-Shut-clause-used g c =
