@@ -74,9 +74,18 @@ fn is_flat(square: &DistRows, links: &LinkGroups, roles: &Roles, touched: &NodeM
     square.size() == 0 && !gets_links(links, roles, touched)
 }
 
-// Whether a touched node has a link, and distances are to be kept.
+// Whether a touched node has a link, and distances are to be kept. The tests that cost least are made first: most edits touch no node.
 fn gets_links(links: &LinkGroups, roles: &Roles, touched: &NodeMarks) -> bool {
-    has_links(links, roles, touched) && are_kept(links, roles)
+    roles.len() <= MOST_NODES
+        && is_any_marked(roles, touched)
+        && has_links(links, roles, touched)
+        && are_kept(links, roles)
+}
+
+// Whether a role's node is marked.
+fn is_any_marked(roles: &Roles, touched: &NodeMarks) -> bool {
+    let nodes = roles.len().min(MOST_NODES);
+    touched[..nodes].iter().any(|mark| *mark)
 }
 
 // Whether distances are to be kept: some role has links of its own, and either the roles are few, or those with links are not.
