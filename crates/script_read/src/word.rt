@@ -1,4 +1,4 @@
-ghost use Rattle.std.specs.Prelude.{◌≡◌, find};
+ghost use Rattle.std.specs.Prelude.{◌≡◌, find, true};
 ghost use Rattle.std.specs.Str.{bytes_eq};
 ghost use Rattle.script_read.specs.Items.{verbs, word_of_verb};
 ghost use Rattle.script_read.specs.Lines.{arguments_of, begins_block, ends_block, word_of};
@@ -77,7 +77,17 @@ fn word_end(line: &[u8]) -> usize
 pub(crate) fn begins_block(line: &str) -> bool
     ensures { result ≡ begins_block line.now }
 {
-    word_in(line) == "begin"
+    has_front(line) && word_in(line) == "begin"
+}
+
+// Whether the first byte of a line is that of `begin`: most lines are told from one that begins a block by it.
+fn has_front(line: &str) -> bool
+    ensures { begins_block line.now ≡ true → result ≡ true }
+{
+    let Some(byte) = line.as_bytes().first() else {
+        return false;
+    };
+    *byte == b'b'
 }
 
 /// Whether the line ends a block.
