@@ -23,7 +23,7 @@ loop-item-preserved g c =
 -- an entry was refused
 pub returns-in-Err-Shut-clause-served : goal.returns-in-Err-Shut-clause-served
 returns-in-Err-Shut-clause-served g c =
-    let stopped = c.answer_asked.ensures.shut c.in-Err-Shut.is in
+    let stopped = c.answer_asked.ensures.shut (rw c.in-Err-Shut.field-0-is at c.in-Err-Shut.is) in
     serving_shut c.args.program.now g.J.Naming.shapes g.J.Naming.opening c.args.items.now (g.P.Finder.refusals c.args.finder.now) c.args.seat.now c.loop-item.item-index (g.P.Finder.refusals c.loop-item.finder)
     (g.P.Finder.refusals c.answer_asked.new.finder) c.loop-item.seat c.answer_asked.new.seat c.loop-item.replies.items stopped.1 stopped.0 c.loop-item.invariant
 

@@ -13,7 +13,7 @@ pub returns-clause-pushed : goal.returns-clause-pushed
 returns-clause-pushed g c =
     rw c.in-Some.ensures
     (on_ok_weaker c.push_asked.result
-    (λ told. record { reply = told.reply; step = request_step c.args.program.now _ _ c.args.desk.now c.state.result.now c.state.ensures.state (reading_of c.in-Some.asked.now) told.reply told.answered; appended = told.appended })
+    (λ told. record { reply = told.reply; step = request_step c.args.program.now _ _ c.args.desk.now c.state-state.result.now c.state-state.ensures.state (reading_of c.in-Some.asked.now) told.reply told.answered; appended = told.appended })
     c.push_asked.ensures.told)
 
 pub returns-clause-refused : goal.returns-clause-refused
