@@ -1,6 +1,7 @@
 pub mod FieldLemmas
 pub mod QuotedLemmas
 mod PlainLemmas
+mod MarkLemmas
 pub mod PrintLemmas
 pub mod SpellingLemmas
 pub mod ReadLemmas

@@ -1,13 +1,14 @@
 -- Fields without quotes, which are looked through once: for the comma that ends one, and for the CR or LF that makes it bad.
-use Rattle.std.proofs.Common.{◌≡◌, ◌≢◌, ℕ, ◌+◌, ◌<◌, ◌||◌, Bool, true, false, List, [], ◌∷◌, ◌++◌, eqb, get_or, take, drop, take-append-drop, Some, None, refl, sym, ap, ◌∙◌, arith}
-use Rattle.std.specs.List.{list_any}
-use Rattle.std.specs.Prelude.{position}
-use Rattle.std.specs.Str.{IsCharBoundary}
-use Rattle.std.proofs.lemmas.Bool.{ne_eqb, or_parts}
+use Rattle.std.proofs.Common.{◌≡◌, ℕ, ◌+◌, ◌-◌, ◌<◌, ◌≤◌, ◌||◌, Bool, true, false, cond, ltb, length, List, [], ◌∷◌, ◌++◌, eqb, get_or, take, drop, take-append-drop, Option, Some, None, refl, sym, ap, ◌∙◌, arith}
+use Rattle.std.specs.List.{list_any, position_from}
+use Rattle.std.specs.Prelude.{option_map, position}
+use Rattle.std.specs.Str.{IsCharBoundary, IsUtf8}
+use Rattle.std.proofs.lemmas.Bool.{or_parts}
 use Rattle.std.proofs.lemmas.Bool.Decides.{nat_tests}
-use Rattle.std.proofs.lemmas.List.{drop_more}
+use Rattle.std.proofs.lemmas.List.{drop_more, length-take-le, take_rest}
+use Rattle.std.proofs.lemmas.Iterator.Adapters.{position_from-zero}
 use Rattle.std.proofs.lemmas.List.Quantifiers.{position-Some}
-use Rattle.std.proofs.lemmas.Str.{IsCharBoundary-before_ascii}
+use Rattle.std.proofs.lemmas.Str.{IsCharBoundary-after_ascii, IsCharBoundary-before_ascii}
 use Rattle.text_parts.specs.Lines.{has_byte}
 use Rattle.text_parts.proofs.CallerLemmas.{position-None, position-none_before}
 use Rattle.perm_base.specs.LineEnds.{has_line_end, is_line_end}
@@ -19,11 +20,11 @@ plain_ascii : (byte : ℕ) → ends_plain byte ≡ true → byte < 128
 plain_ascii byte is = grind (arith, nat_tests)
 
 -- two tests of which one holds, or none
-or_left : (a b : Bool) → a ≡ true → (a || b) ≡ true
+pub or_left : (a b : Bool) → a ≡ true → (a || b) ≡ true
 or_left true b is = refl
 or_left false b is = absurd cc
 
-or_right : (a b : Bool) → b ≡ true → (a || b) ≡ true
+pub or_right : (a b : Bool) → b ≡ true → (a || b) ≡ true
 or_right true b is = refl
 or_right false b is = is
 
@@ -50,6 +51,14 @@ plain_boundary text at place =
     let there = position-Some ends_plain text at 0 place in
     IsCharBoundary-before_ascii text at there.0 (plain_ascii (get_or text at 0) there.1)
 
+pub plain_behind : (text : List ℕ) (at : ℕ) → IsUtf8 text → position ends_plain text ≡ Some at → IsCharBoundary text (at + 1)
+plain_behind text at utf8 place =
+    let there = position-Some ends_plain text at 0 place in
+    IsCharBoundary-after_ascii text at utf8 there.0 (plain_ascii (get_or text at 0) there.1)
+
+pub plain_place : (text : List ℕ) (at : ℕ) → position ends_plain text ≡ Some at → at < length text
+plain_place text at place = (position-Some ends_plain text at 0 place).0
+
 -- a text without any is one field to its end
 pub plain_whole : (text : List ℕ) → position ends_plain text ≡ None → (before_comma text ≡ text) × ((behind_comma text ≡ None) × (has_line_end text ≡ false))
 plain_whole text place =
@@ -57,12 +66,54 @@ plain_whole text place =
     let parts = before_comma-none text front.0 in
     (parts.0, (parts.1, front.1))
 
+-- above a comma stands no such byte
+none_above : (byte : ℕ) → ltb byte 45 ≡ false → ends_plain byte ≡ false
+none_above byte above = grind (arith, nat_tests)
+
+pub none_low : (text : List ℕ) → list_any (λ (byte : ℕ). ltb byte 45) text ≡ false → list_any ends_plain text ≡ false
+none_low [] none = refl
+none_low (byte ∷ text) none =
+    let here = or_parts (ltb byte 45) (list_any (λ (b : ℕ). ltb b 45) text) none in
+    or_none (ends_plain byte) (list_any ends_plain text) (none_above byte here.0) (none_low text here.1)
+
+-- places counted from a later byte
+shifted : {X : Type 0} (p : X → Bool) (xs : List X) (at n : ℕ) → position_from p (n + at) xs ≡ option_map (λ (k : ℕ). n + k) (position_from p at xs)
+shifted p [] at n = refl
+shifted p (x ∷ xs) at n = step (p x) (position_from p (n + at + 1) xs) (position_from p (at + 1) xs) (ap (λ (k : ℕ). position_from p k xs) (omega arith) ∙ shifted p xs (at + 1) n)
+  where
+    step : (b : Bool) (more less : Option ℕ) → more ≡ option_map (λ (k : ℕ). n + k) less → cond b (Some (n + at)) more ≡ option_map (λ (k : ℕ). n + k) (cond b (Some at) less)
+    step true more less e = refl
+    step false more less e = e
+
+passed : {X : Type 0} (p : X → Bool) (front xs : List X) (at : ℕ) → list_any p front ≡ false → position_from p at (front ++ xs) ≡ position_from p (at + length front) xs
+passed p [] xs at none = ap (λ (k : ℕ). position_from p k xs) (omega arith)
+passed p (x ∷ front) xs at none =
+    let here = or_parts (p x) (list_any p front) none in
+    rw (here.0) (passed p front xs (at + 1) here.1 ∙ ap (λ (k : ℕ). position_from p k xs) (omega arith))
+
+position_behind : {X : Type 0} (p : X → Bool) (xs : List X) (at : ℕ) → at ≤ length xs → list_any p (take at xs) ≡ false → position p xs ≡ option_map (λ (k : ℕ). at + k) (position p (drop at xs))
+position_behind p xs at within none =
+    let size : 0 + length (take at xs) ≡ at + 0 = omega (arith, length-take-le at xs within) in
+    position_from-zero p xs
+    ∙ ap (position_from p 0) (sym (take-append-drop at xs))
+    ∙ passed p (take at xs) (drop at xs) 0 none
+    ∙ ap (λ (k : ℕ). position_from p k (drop at xs)) size
+    ∙ shifted p (drop at xs) 0 at
+    ∙ ap (option_map (λ (k : ℕ). at + k)) (sym (position_from-zero p (drop at xs)))
+
+-- the first of them, looked for behind a front that has none
+pub found_behind : (text bytes : List ℕ) (front : ℕ) (r : Option ℕ) → bytes ≡ text → front ≤ length bytes → list_any ends_plain (take front bytes) ≡ false
+    → r ≡ position ends_plain (take (length bytes - front) (drop front bytes)) → option_map (λ (k : ℕ). front + k) r ≡ position ends_plain text
+found_behind text bytes front r same within none found =
+    ap (option_map (λ (k : ℕ). front + k)) (found ∙ ap (position ends_plain) (take_rest bytes front)) ∙ sym (position_behind ends_plain bytes front within none) ∙ ap (position ends_plain) same
+
 -- where the first is a comma, the field ends there
-pub plain_comma : (text before end rest : List ℕ) (at : ℕ) → position ends_plain text ≡ Some at → before ≡ take at text → end ≡ drop at text → end ≡ 44 ∷ rest → (before_comma text ≡ before) × ((behind_comma text ≡ Some rest) × (has_line_end before ≡ false))
-plain_comma text before end rest at place front back comma =
+pub plain_comma : (text bytes before rest : List ℕ) (at : ℕ) → position ends_plain text ≡ Some at → bytes ≡ text → before ≡ take at text → rest ≡ drop (at + 1) text → get_or bytes at 0 ≡ 44 → (before_comma text ≡ before) × ((behind_comma text ≡ Some rest) × (has_line_end before ≡ false))
+plain_comma text bytes before rest at place same front back comma =
     let none : list_any ends_plain before ≡ false = ap (list_any ends_plain) front ∙ position-none_before ends_plain text at place in
     let both = plain_front before none in
-    let whole : text ≡ before ++ 44 ∷ rest = sym (take-append-drop at text) ∙ ap (λ (t : List ℕ). t ++ drop at text) (sym front) ∙ ap (λ (t : List ℕ). before ++ t) (sym back ∙ comma) in
+    let from : drop at text ≡ 44 ∷ rest = drop_more text at 0 (plain_place text at place) ∙ ap (λ (b : ℕ). b ∷ drop (at + 1) text) (ap (λ (t : List ℕ). get_or t at 0) (sym same) ∙ comma) ∙ ap (λ (t : List ℕ). 44 ∷ t) (sym back) in
+    let whole : text ≡ before ++ 44 ∷ rest = sym (take-append-drop at text) ∙ ap (λ (t : List ℕ). t ++ drop at text) (sym front) ∙ ap (λ (t : List ℕ). before ++ t) from in
     let parts = before_comma-cut text before rest (record { parts = whole; first = both.0 }) in
     (parts.0, (parts.1, both.1))
 
@@ -75,13 +126,12 @@ stays_before (first ∷ front) rest byte none other is =
     rw (here.0) (or_right (is_line_end first) (has_line_end (before_comma (front ++ byte ∷ rest))) (stays_before front rest byte here.1 other is))
 
 -- where the first is no comma, it makes the field bad
-pub plain_bad : (text end : List ℕ) (at : ℕ) → position ends_plain text ≡ Some at → end ≡ drop at text → ((rest : List ℕ) → end ≢ 44 ∷ rest) → has_line_end (before_comma text) ≡ true
-plain_bad text end at place back other =
+pub plain_bad : (text : List ℕ) (at : ℕ) → position ends_plain text ≡ Some at → eqb (get_or text at 0) 44 ≡ false → has_line_end (before_comma text) ≡ true
+plain_bad text at place no_comma =
     let there = position-Some ends_plain text at 0 place in
     let byte = get_or text at 0 in
     let rest = drop (at + 1) text in
     let from : drop at text ≡ byte ∷ rest = drop_more text at 0 there.0 in
-    let no_comma : eqb byte 44 ≡ false = ne_eqb byte 44 (λ e. other rest (back ∙ from ∙ ap (λ (b : ℕ). b ∷ rest) e)) in
     let line_end : is_line_end byte ≡ true = or_second (eqb byte 44) (is_line_end byte) there.1 no_comma in
     let front = plain_front (take at text) (position-none_before ends_plain text at place) in
     let whole : text ≡ take at text ++ byte ∷ rest = sym (take-append-drop at text) ∙ ap (λ (t : List ℕ). take at text ++ t) from in

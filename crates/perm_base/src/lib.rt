@@ -4,6 +4,7 @@
 mod fields;
 mod line_ends;
 mod line_field;
+mod marks;
 mod patterns;
 mod quoted;
 mod quoted_print;

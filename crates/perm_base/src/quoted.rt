@@ -196,11 +196,10 @@ fn clean_parts(text: &str) -> Option<(&str, Option<&str>)>
     let Some(at) = plain_end(text) else {
         return Some((text, None));
     };
-    let (before, end) = text.split_at(at);
-    let Some(rest) = behind(end, b',') else {
+    if text.as_bytes()[at] != b',' {
         return None;
-    };
-    Some((before, Some(rest)))
+    }
+    Some((&text[..at], Some(&text[at + 1..])))
 }
 
 // The column of the first CR or LF of the last bytes of a line of this size.

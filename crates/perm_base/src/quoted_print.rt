@@ -1,10 +1,9 @@
-ghost use Rattle.std.specs.Prelude.{◌≡◌, ◌<◌, ◌≤◌, ◌++◌, ◌||◌, ◌∷◌, ℕ, List, IfOk, IsUtf8, Ok, OnOk, length, string_bytes};
+ghost use Rattle.std.specs.Prelude.{◌≡◌, ◌<◌, ◌≤◌, ◌++◌, ◌∷◌, ℕ, List, IfOk, IsUtf8, Ok, OnOk, length, string_bytes, true};
 ghost use Rattle.text_parts.specs.Blanks.{is_blank};
-ghost use Rattle.text_parts.specs.Lines.{has_byte};
 ghost use Rattle.perm_base.specs.LineEnds.{AreFields};
 ghost use Rattle.perm_base.specs.FieldLine.{IsFields, doubled, has_odd_ends, needs_quotes, printed, printed_field};
-ghost use Rattle.perm_base.specs.FieldSteps.{is_mark};
 
+use crate::marks::has_mark;
 use crate::rule::Rule;
 use outside::{NoMemory, Text};
 use std::alloc::Global;
@@ -64,6 +63,16 @@ fn push_field(text: &mut String, field: &str) -> Result<(), NoMemory>
         text.push_str(field)?;
         return Ok(());
     }
+    push_quoted(text, field)
+}
+
+// Appends a field in double quotes. Few fields need them, and their code stays out of the loop over the others.
+#[inline(never)]
+fn push_quoted(text: &mut String, field: &str) -> Result<(), NoMemory>
+    requires { needs_quotes field.now ≡ true }
+    ensures { OnOk result
+        (string_bytes text.new ≡ string_bytes text.old ++ printed_field field.now) }
+{
     text.push_str("\"")?;
     push_doubled(text, field)?;
     text.push_str("\"")?;
@@ -89,19 +98,6 @@ fn needs_quotes(field: &str) -> bool
     ensures { result ≡ needs_quotes field.now }
 {
     field.is_empty() || has_odd_ends(field) || has_mark(field)
-}
-
-// The field holds a comma or a double quote.
-fn has_mark(field: &str) -> bool
-    ensures { result ≡ (has_byte 44 field.now || has_byte 34 field.now) }
-{
-    field.as_bytes().iter().any(|byte| is_mark(*byte))
-}
-
-fn is_mark(byte: u8) -> bool
-    ensures { result ≡ is_mark byte }
-{
-    byte <= b',' && (byte == b',' || byte == b'"')
 }
 
 // The field begins or ends with a blank, or begins with `#`.

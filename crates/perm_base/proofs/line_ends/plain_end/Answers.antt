@@ -1,9 +1,9 @@
-use Rattle.std.proofs.Common.{rules, tests, ap, ◌∙◌}
-use Rattle.std.specs.Prelude.{position}
-use Rattle.std.proofs.lemmas.Iterator.{YieldsList-from_slice}
-use Rattle.std.proofs.lemmas.Iterator.Search.{position_from_yields_List}
-use Rattle.perm_base.specs.FieldSteps.{ends_plain}
+use Rattle.std.proofs.Common.{Some, None}
+use Rattle.perm_base.proofs.PlainLemmas.{found_behind}
 use Rattle.perm_base.proofs.line_ends.plain_end.Goals as goal
 
-pub returns : goal.returns
-returns c = position_from_yields_List ends_plain _ _ _ c.position.ensures.ran (YieldsList-from_slice _ c.iter.ensures.rest) (λ x b q k. search (rules, tests)) ∙ ap (position ends_plain) c.as_bytes.ensures.value
+pub returns-in-Some : goal.returns-in-Some
+returns-in-Some c = found_behind c.args.text.now c.as_bytes-bytes.result.now c.plain_front-front.result (Some c.in-Some.at) c.as_bytes-bytes.ensures.value c.plain_front-front.ensures.within c.plain_front-front.ensures.none c.in-Some.ensures
+
+pub returns-in-None : goal.returns-in-None
+returns-in-None c = found_behind c.args.text.now c.as_bytes-bytes.result.now c.plain_front-front.result None c.as_bytes-bytes.ensures.value c.plain_front-front.ensures.within c.plain_front-front.ensures.none c.in-None.ensures

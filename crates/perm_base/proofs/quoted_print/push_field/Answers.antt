@@ -1,7 +1,7 @@
-use Rattle.std.proofs.Common.{◌≡◌, ◌++◌, List, ℕ, true, false, ap, sym, ◌∙◌}
+use Rattle.std.proofs.Common.{◌≡◌, ◌++◌, List, ℕ, false, ap, sym, ◌∙◌}
 use Rattle.std.specs.String.{string_bytes}
 use Rattle.perm_base.specs.FieldLine.{needs_quotes}
-use Rattle.perm_base.proofs.QuotedLemmas.{printed_plain, pushed_quoted}
+use Rattle.perm_base.proofs.QuotedLemmas.{printed_plain}
 use Rattle.perm_base.proofs.quoted_print.push_field.Goals as goal
 
 pub returns-then-not-needs_quotes : goal.returns-then-not-needs_quotes
@@ -9,7 +9,5 @@ returns-then-not-needs_quotes c =
     let none : needs_quotes c.args.field.now ≡ false = sym c.needs_quotes.ensures ∙ c.if-not-needs_quotes.true in
     c.in_ok-push_str.ensures.bytes ∙ ap (λ (t : List ℕ). string_bytes c.args.text.now ++ t) (sym (printed_plain c.args.field.now none))
 
-pub returns : goal.returns
-returns c =
-    let some : needs_quotes c.args.field.now ≡ true = sym c.needs_quotes.ensures ∙ c.if-not-needs_quotes.false in
-    pushed_quoted _ _ _ _ c.args.field.now some c.in_ok-push_str-2.ensures.bytes c.in_ok-push_doubled.ensures c.in_ok-push_str-3.ensures.bytes
+pub push_quoted-requires : goal.push_quoted-requires
+push_quoted-requires c = sym c.needs_quotes.ensures ∙ c.if-not-needs_quotes.false

@@ -1,0 +1,8 @@
+use Rattle.std.proofs.Common.{rules, tests}
+use Rattle.std.proofs.lemmas.Iterator.{YieldsList-from_slice}
+use Rattle.std.proofs.lemmas.Iterator.Search.{any_from_yields_List}
+use Rattle.perm_base.specs.FieldSteps.{is_mark}
+use Rattle.perm_base.proofs.marks.is_marked.Goals as goal
+
+pub returns : goal.returns
+returns c = any_from_yields_List is_mark _ _ _ c.any.ensures.ran (YieldsList-from_slice _ c.iter.ensures.rest) (λ x b q k. search (rules, tests))
