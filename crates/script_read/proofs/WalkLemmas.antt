@@ -5,7 +5,7 @@ use Rattle.std.proofs.lemmas.Slice.Eq.{bytes_eq-Decides}
 use Rattle.script_read.proofs.EndLemmas.{parts_first}
 use Rattle.script_read.proofs.ScriptLemmas.{item_of, part_same}
 use Rattle.script_read.specs.Blocks.{Part, at_line, block, parts, single}
-use Rattle.script_read.specs.Helps.Ends.{before_end, behind_part, end_number, first_part}
+use Rattle.script_read.specs.Helps.Ends.{before_end, behind_end, behind_part, end_number, first_part}
 use Rattle.script_read.specs.Helps.Given.{fields_read}
 use Rattle.script_read.specs.Readings.{request_read}
 use Rattle.script_read.specs.Items.{word_item}
@@ -53,3 +53,9 @@ asked_is json number line lines test =
     let word : word_of line ≡ codes "ask" = (bytes_eq-Decides (word_of line) (codes "ask")).0 test in
     ap (λ (w : List ℕ). item_of json (if bytes_eq w (codes "begin") then block (numbered.line number line) (before_end lines) (end_number lines) else single (numbered.line number line))) word
     ∙ ap (λ (w : List ℕ). at_line (given_number number) (word_item fields_read (request_read json) w (arguments_of line))) word
+
+-- and no block, so that the next line is behind it
+pub asked_goes : (line : List ℕ) (lines : List numbered.Line) → bytes_eq (word_of line) (codes "ask") ≡ true → behind_part line lines ≡ lines
+asked_goes line lines test =
+    let word : word_of line ≡ codes "ask" = (bytes_eq-Decides (word_of line) (codes "ask")).0 test in
+    ap (λ (w : List ℕ). if bytes_eq w (codes "begin") then behind_end lines else lines) word

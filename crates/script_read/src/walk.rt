@@ -5,8 +5,8 @@ ghost use Rattle.script_read.specs.Blocks.{part_item};
 ghost use Rattle.script_read.specs.Helps.Ends.{end_of_part, first_part};
 ghost use Rattle.script_read.specs.Helps.Given.{Checks, fields_read};
 ghost use Rattle.script_read.specs.Readings.{request_read};
-ghost use Rattle.script_read.specs.Lines.{word_of};
-ghost use Rattle.script_read.specs.Said.{Said, seen};
+ghost use Rattle.script_read.specs.Lines.{arguments_of, word_of};
+ghost use Rattle.script_read.specs.Said.{Said, asks, seen};
 ghost use Rattle.script_read.specs.Script.{BeginsWith, IsScript, IsScriptFault, SaysFrom};
 ghost use Rattle.text_parts.specs.Full.{full_lines};
 ghost use Rattle.text_parts.specs.Numbered.{line as line_at};
@@ -14,7 +14,8 @@ ghost use Rattle.text_parts.specs.Numbered.{line as line_at};
 use crate::fault::ScriptFault;
 use crate::item::Item;
 use crate::reader::{part_end, read_part};
-use crate::word::word_in;
+use crate::requests::ask;
+use crate::word::{word_and_arguments, word_in};
 use outside::NoMemory;
 use std::alloc::Global;
 use text_parts::next_full_line;
@@ -91,9 +92,21 @@ pub fn next_item(
     let Some((at, line, after)) = next_full_line(text, number) else {
         return Ok(None);
     };
+    if is_ask(line) {
+        let item = asked_item(alloc, json, line)?;
+        return Ok(Some((item, at + 1, after)));
+    }
     let (next, behind, end) = part_end(line, after, at + 1);
     let Ok(item) = read_part(alloc, json, at, line, after, end) else {
         return Err(NoMemory);
     };
     Ok(Some((item, next, behind)))
+}
+
+// The item of the line of a request.
+fn asked_item(alloc: Global, json: bool, line: &str) -> Result<Item, NoMemory>
+    ensures { IfOk result (λ item. seen item ≡ asks (request_read json (arguments_of line.now))) }
+{
+    let (_, arguments) = word_and_arguments(line);
+    Ok(Item::Ask(ask(alloc, json, arguments)?))
 }
