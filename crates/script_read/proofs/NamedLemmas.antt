@@ -1,18 +1,18 @@
 -- The items that a text says name tables that have names, and no want of memory.
-use Rattle.std.proofs.Common.{◌≡◌, ◌≢◌, ℕ, ◌+◌, Bool, true, false, List, [], ◌∷◌, map, Option, Some, None, Result, Ok, Err, refl, sym, ap, subst, ◌∙◌}
+use Rattle.std.proofs.Common.{◌≡◌, ◌≢◌, ℕ, ◌+◌, Bool, true, false, List, [], ◌∷◌, map, Option, Some, None, Result, Ok, Err, refl, sym, ap, subst}
 use Rattle.std.specs.Prelude.{codes, find, if◌then◌else◌, is_some, ok_or, option_and_then, option_map, nat_le, nat_lt, ⊤}
-use Rattle.std.specs.List.{AllByRecursion, AllZip}
+use Rattle.std.specs.List.{AllByRecursion}
 use Rattle.std.specs.Option.{unwrap_or}
 use Rattle.std.specs.Str.{bytes_eq}
 use Rattle.edit_calls.specs.Refusals.{table_of as call_table}
 use Rattle.edit_calls.specs.declared.call.Call.{Call}
 use Rattle.edit_calls.specs.declared.call.Call.TheVariants as call
 use Rattle.perm_base.proofs.CallerLemmas.{name_from_named}
-use Rattle.perm_base.specs.TableNames.{name_of as name_of_table, table_named}
+use Rattle.perm_base.specs.TableNames.{table_named}
 use Rattle.perm_base.specs.declared.shapes.TableId.{TableId}
 use Rattle.perm_base.specs.declared.shapes.TableId.TheVariants.{P, G}
 use Rattle.perm_value.specs.Datum.{Datum}
-use Rattle.perm_value.specs.Json.{datum_of, member_value, most_levels, most_values, onto_answers, values_from, values_of, values_of_data, values_of_items}
+use Rattle.perm_value.specs.Json.{datum_of, member_value, most_levels, most_values, onto_answers, values_from, values_of}
 use Rattle.perm_value.specs.declared.request.RequestFault.{RequestFault}
 use Rattle.perm_value.specs.declared.request.RequestFault.TheVariants as fault
 use Rattle.policy_table.specs.Tables.{Fields}
@@ -22,7 +22,7 @@ use Rattle.serde_json.specs.Read.{read}
 use Rattle.script_read.specs.Blocks.{Part, single, block, at_line, block_call, block_of, block_of_word, call_of, ended_block, filtered, inner_rule, of_block, of_plain, pairs_of, parts, part_item, plain_block, rule_before, rule_in, rules_of, same_table, table_of_block}
 use Rattle.script_read.specs.Items.{FieldReader, RequestReader, alone, count_of, filter_of, line_item, name_of, names_of, numeral, relation_number, relation_of, rows_of, rule_of, table_of, verb_call, verb_item, verbs, word_item, word_of_verb, worded}
 use Rattle.script_read.specs.Lines.{arguments_of, requests_of, script_lines, word_of}
-use Rattle.script_read.specs.Reads.{Reader, Says, SaysFields}
+use Rattle.script_read.specs.Reads.{Reader, Says}
 use Rattle.script_read.specs.Results.{followed, mapped}
 use Rattle.script_read.specs.Said.{Reading, Said}
 use Rattle.script_read.specs.Said as said
@@ -31,8 +31,6 @@ use Rattle.script_read.specs.declared.block.Block.{Block}
 use Rattle.script_read.specs.declared.block.Block.TheVariants.{AddAll, AddEx, RemoveAll, Update, UpdateFiltered}
 use Rattle.script_read.specs.declared.fault.LineCause.{LineCause}
 use Rattle.script_read.specs.declared.fault.LineCause.TheVariants as cause
-use Rattle.script_read.specs.declared.fault.ScriptFault.{ScriptFault}
-use Rattle.script_read.specs.declared.fault.ScriptFault.TheVariants as stop
 use Rattle.script_read.specs.declared.word.CallVerb.{CallVerb}
 use Rattle.script_read.specs.declared.word.CallVerb.TheVariants as call_verb
 use Rattle.script_read.specs.declared.word.Verb.{Verb}
