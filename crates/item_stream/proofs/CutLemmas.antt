@@ -1,12 +1,12 @@
 -- The sections of a stream, as pieces of it are taken.
-use Rattle.std.proofs.Common.{◌≡◌, ℕ, ◌+◌, ◌<◌, ◌≤◌, ◌||◌, Bool, true, false, List, [], ◌∷◌, ◌++◌, length, take, drop, eqb, Some, None, refl, sym, ap, subst, ◌∙◌, append-nil, append_assoc, arith}
+use Rattle.std.proofs.Common.{◌≡◌, ℕ, ◌<◌, ◌≤◌, ◌||◌, Bool, true, false, List, [], ◌∷◌, ◌++◌, length, eqb, Some, None, refl, sym, ap, subst, ◌∙◌, append-nil, append_assoc, arith}
 use Rattle.std.specs.Prelude.{Option, is_some, if◌then◌else◌}
 use Rattle.std.specs.Option.{option_or}
 use Rattle.text_parts.specs.Lines.{has_byte}
 use Rattle.item_stream.proofs.KeepLemmas.{kept_on, kept_short, kept_twice}
 use Rattle.item_stream.specs.Lines.{kept}
 use Rattle.item_stream.specs.Sections.{GoesTo, Held, Section, Stage, ended_at, first_stage, left_at, listed, next_held, none_left, nothing, rest_left, rest_of, section_of, sections_by, sections_of, whole_sections}
-use Rattle.item_stream.specs.Seen.{seen, seen_option}
+use Rattle.item_stream.specs.Seen.{seen_option}
 use Rattle.item_stream.specs.declared.section.Section as declared
 
 abbrev pub End : Type 0

@@ -1,9 +1,9 @@
 -- What is held behind a line, and what ends with it, by the line's kind.
 use Rattle.std.proofs.Common.{◌≡◌, ℕ, true, false, List, sym, ap, ◌∙◌}
-use Rattle.std.specs.Prelude.{Bool, Option, None, if◌then◌else◌}
+use Rattle.std.specs.Prelude.{Bool, None, if◌then◌else◌}
 use Rattle.std.proofs.lemmas.Bool.{cond-false, cond-true}
 use Rattle.item_stream.specs.Lines.{kind_of}
-use Rattle.item_stream.specs.Sections.{Held, Section, ended_at, ended_by, goes_on, held_by, next_held, nothing, section_of, with_line}
+use Rattle.item_stream.specs.Sections.{Held, ended_at, ended_by, goes_on, held_by, next_held, nothing, section_of, with_line}
 use Rattle.item_stream.specs.declared.kind.Kind.{Kind}
 
 held_is : (follow : Bool) (kind : Kind) (held : Held) (line : List ℕ) → kind ≡ kind_of follow line → held_by kind held line ≡ next_held follow held line

@@ -1,20 +1,18 @@
 -- The sections of bytes, line by line.
-use Rattle.std.proofs.Common.{◌≡◌, ℕ, ◌+◌, ◌<◌, ◌≤◌, ◌||◌, Bool, true, false, List, [], ◌∷◌, ◌++◌, length, take, drop, get_or, eqb, eqb-true, Some, None, refl, sym, ap, subst, ◌∙◌, append_assoc, arith}
+use Rattle.std.proofs.Common.{◌≡◌, ℕ, ◌+◌, ◌<◌, ◌||◌, Bool, true, false, List, [], ◌∷◌, ◌++◌, length, drop, get_or, eqb, eqb-true, Some, None, refl, sym, ap, subst, ◌∙◌, append_assoc, arith}
 use Rattle.std.specs.Prelude.{IsUtf8, Option, is_some, if◌then◌else◌}
 use Rattle.std.specs.List.{AllByRecursion}
 use Rattle.std.specs.Option.{option_or}
-use Rattle.std.specs.Str.{IsCharBoundary}
 use Rattle.std.proofs.Math.Seq.{drop-append_seam, get_or-append_seam, take-append_seam}
 use Rattle.std.proofs.lemmas.List.{append-nil, drop-drop, length-append, length-take}
 use Rattle.std.proofs.lemmas.List.Folds.{list_any-append}
 use Rattle.std.proofs.lemmas.Str.{IsCharBoundary-after_ascii, IsCharBoundary-before_ascii, IsUtf8-drop, IsUtf8-take}
 use Rattle.text_parts.proofs.CallerLemmas.{lines_of-cut, lines_of-last}
 use Rattle.text_parts.specs.Lines.{has_byte, lines_of}
-use Rattle.item_stream.proofs.CutLemmas.{at_end, at_line_end, by_first, by_byte}
+use Rattle.item_stream.proofs.CutLemmas.{at_end, by_first, by_byte}
 use Rattle.item_stream.proofs.KeepLemmas.{kept_on, kept_short}
 use Rattle.item_stream.specs.Lines.{kept, kind_of}
 use Rattle.item_stream.specs.Sections.{Held, Section, ended_at, goes_on, listed, next_held, nothing, rest_left, rest_of, section_of, sections_by, sections_of, with_line}
-use Rattle.item_stream.specs.declared.kind.Kind.{Kind}
 
 -- the sections of lines, behind what is held, where the stream ends
 abbrev pub sections_on : Held → List (List ℕ) → List Section

@@ -1,5 +1,5 @@
 -- What is seen of sections and of what is held.
-use Rattle.std.specs.Prelude.{ℕ, List, Option, Some, None, option_map}
+use Rattle.std.specs.Prelude.{Option, Some, None, option_map}
 use Rattle.item_stream.specs.Sections.{Held}
 use Rattle.item_stream.specs.Sections as sections
 use Rattle.item_stream.specs.declared.held.Held as declared

@@ -1,11 +1,10 @@
 ghost use Rattle.std.specs.Prelude.{◌≡◌, ◌||◌};
-ghost use Rattle.std.specs.List.{prefix_len};
-ghost use Rattle.script_read.specs.Helps.Ends.{is_no_blank};
-ghost use Rattle.script_read.specs.Lines.{begins_block, ends_block, word_of};
+ghost use Rattle.script_read.specs.Lines.{begins_block, ends_block};
 ghost use Rattle.item_stream.specs.Lines.{begins_packet, ends_packet, kind_of, kind_of_text};
 
 use crate::packet::is_packet;
-use text_parts::{before_blanks, is_blank, is_passed, without_cr};
+use script_read::{begins_block, ends_block};
+use text_parts::{is_passed, without_cr};
 
 /// What a line is to the lines before and behind it.
 #[derive(Clone, Copy)]
@@ -77,34 +76,4 @@ fn ends_packet(line: &str) -> bool
     ensures { result ≡ ends_packet line.now }
 {
     line == "."
-}
-
-// Whether the line begins a block.
-fn begins_block(line: &str) -> bool
-    ensures { result ≡ begins_block line.now }
-{
-    let word = word_of(line);
-    word == "begin"
-}
-
-// Whether the line ends a block.
-fn ends_block(line: &str) -> bool
-    ensures { result ≡ ends_block line.now }
-{
-    before_blanks(line) == "end"
-}
-
-// What stands before the first blank, or all.
-fn word_of(line: &str) -> &str
-    ensures { result.now ≡ word_of line.now }
-{
-    let end = word_end(line.as_bytes());
-    &line[..end]
-}
-
-// How many bytes these are.
-fn word_end(line: &[u8]) -> usize
-    ensures { result ≡ prefix_len is_no_blank line.now }
-{
-    line.iter().take_while(|byte| !is_blank(**byte)).count()
 }

@@ -27,3 +27,4 @@ pub use reader::read_script;
 pub use requests::{next_request, read_request, read_request_over, read_text, values_of};
 pub use script::Script;
 pub use walk::{check_script, next_item};
+pub use word::{begins_block, ends_block};

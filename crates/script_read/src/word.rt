@@ -73,8 +73,8 @@ fn word_end(line: &[u8]) -> usize
     line.iter().take_while(|byte| !is_blank(**byte)).count()
 }
 
-/// Whether the line begins a block.
-pub(crate) fn begins_block(line: &str) -> bool
+/// Whether the line begins a block: its word is `begin`.
+pub fn begins_block(line: &str) -> bool
     ensures { result ≡ begins_block line.now }
 {
     has_front(line) && word_in(line) == "begin"
@@ -90,8 +90,8 @@ fn has_front(line: &str) -> bool
     *byte == b'b'
 }
 
-/// Whether the line ends a block.
-pub(crate) fn ends_block(line: &str) -> bool
+/// Whether the line ends a block: it is `end`, with blanks behind it at most.
+pub fn ends_block(line: &str) -> bool
     ensures { result ≡ ends_block line.now }
 {
     before_blanks(line) == "end"

@@ -1,4 +1,4 @@
-use Rattle.std.proofs.Common.{◌≡◌, ◌<◌, [], List, ℕ, length, vec_len, ap, subst, sym, ◌∙◌, arith, eqb-true, rules}
+use Rattle.std.proofs.Common.{◌≡◌, ◌<◌, [], length, vec_len, ap, sym, ◌∙◌, arith, eqb-true, rules}
 use Rattle.std.proofs.lemmas.Bool.{eqb-false}
 use Rattle.std.proofs.lemmas.List.{nil_from_length}
 use Rattle.item_stream.specs.Sections.{Stage, left_at}
