@@ -2,7 +2,7 @@
 # Prints what an edit with its publish costs in a session over 1,000 rows and over 200,000, each as a ratio of one run: rules of p
 # that are removed and added again, plain and ranked, found by equalities or by key patterns, or all under one key; rules that are
 # updated; role rows that are removed and added again among users and roles that stand, in one domain and in as many as there are
-# roles, and links among roles that are all linked; calls that take five rows out, by a name, by a filter of one or two columns and
+# roles, and links among roles that are all linked, whose number grows with the rows, or stays and stands in more domains; calls that take five rows out, by a name, by a filter of one or two columns and
 # as a batch, behind the first of their kind, which goes over the rows; and what a row costs of a batch that removes 100 rows and of
 # one that removes 10,000, by a filter and as those of one user. Usage: bench/edits.sh [EDITS].
 source "$(dirname "${BASH_SOURCE[0]}")/timing.sh"
@@ -12,6 +12,8 @@ import math, resource, subprocess, sys
 
 program, work, most = sys.argv[1], sys.argv[2], int(sys.argv[3])
 FEW, MANY = 1_000, 200_000
+# The links among 45 roles that are all linked.
+ISLAND = 990
 EQUAL = "r.sub == p.sub && r.obj == p.obj && r.act == p.act"
 PLAIN = "e = some(where (p.eft == allow))"
 
@@ -28,6 +30,7 @@ model("keys", "r.sub == p.sub && keyMatch2(r.obj, p.obj) && r.act == p.act")
 model("one", "r.act == p.act")
 model("linked", "g(r.sub, p.sub) && r.obj == p.obj && r.act == p.act", roles="[role_definition]\ng = _, _\n")
 model("roles", "g(r.sub, p.sub) && r.obj == p.obj && r.act == p.act", roles="[role_definition]\ng = _, _\n")
+model("islands", "g(r.sub, p.sub, r.dom) && r.dom == p.dom && r.obj == p.obj && r.act == p.act", "sub, dom, obj, act", roles="[role_definition]\ng = _, _, _\n")
 model("domains", "g(r.sub, p.sub, r.dom) && r.dom == p.dom && r.obj == p.obj && r.act == p.act", "sub, dom, obj, act", roles="[role_definition]\ng = _, _, _\n")
 
 
@@ -44,6 +47,9 @@ def row(kind, i, n):
         return f"g, role{below:03d}, role{i - below * (below - 1) // 2:03d}"
     if kind == "domains":
         return f"g, user{i:06d}, role{i % (n // 100)}, dom{i % (n // 100)}"
+    if kind == "islands":
+        below = (1 + math.isqrt(1 + 8 * (i % ISLAND))) // 2
+        return f"g, role{below:03d}, role{i % ISLAND - below * (below - 1) // 2:03d}, dom{i // ISLAND}"
     return f"p, user{i:06d}, data{i:06d}, read"
 
 
@@ -94,6 +100,7 @@ for kind, way, what in [
     ("roles", "remove", "a role row removed or added"),
     ("linked", "remove", "a link among roles that are all linked removed or added"),
     ("domains", "remove", "a role row in one of many domains removed or added"),
+    ("islands", "remove", "a link among 45 roles that are all linked, in one of many such domains, removed or added"),
 ]:
     few, many = edit_cost(kind, way, FEW), edit_cost(kind, way, MANY)
     print(f"{what}, with its publish: over {FEW} rows {few * 1e6:.1f} us, over {MANY} {many * 1e6:.1f} us, ratio {many / few:.2f}", flush=True)
