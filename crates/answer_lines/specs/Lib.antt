@@ -1,3 +1,4 @@
 pub mod Told
 pub mod LineText
+pub mod Printed
 pub mod Helps

@@ -1,36 +1,31 @@
 -- How many lines of each kind there are, and the last version that they tell of a publish.
 use Rattle.std.specs.Prelude.{ℕ, ◌+◌, Bool, true, false, List, ◌++◌, codes, decimal, fold, length}
-use Rattle.answer_lines.specs.declared.answer.Answer.{Answer}
-use Rattle.answer_lines.specs.declared.answer.Answer.TheVariants.{Decided, Published, Truth}
+use Rattle.answer_lines.specs.Printed.{shown_by}
 use Rattle.answer_lines.specs.declared.answer.Line.{Line}
+use Rattle.answer_lines.specs.declared.printed.Shown.{Shown}
+use Rattle.answer_lines.specs.declared.printed.Shown.TheVariants.{Allow, Deny, Fault, Other, Published, Truth}
 use Rattle.demo_run.specs.declared.counts.Counts.{Counts}
-use Rattle.effect_fold.specs.declared.verdict.Verdict.{Verdict}
-use Rattle.effect_fold.specs.declared.verdict.Verdict.TheVariants.{Allow, Deny, Fault}
 
 abbrev pub none_counted : Counts
 none_counted = record { allow = 0; deny = 0; fault = 0; yes = 0; no = 0; version = 0 }
-
--- one verdict more
-abbrev pub with_verdict : Counts → Verdict → Counts
-with_verdict counts (Allow row) = record counts { allow = counts.allow + 1 }
-with_verdict counts (Deny row) = record counts { deny = counts.deny + 1 }
-with_verdict counts (Fault row failed) = record counts { fault = counts.fault + 1 }
 
 -- one call more, by whether it changed the policy
 abbrev pub with_truth : Counts → Bool → Counts
 with_truth counts true = record counts { yes = counts.yes + 1 }
 with_truth counts false = record counts { no = counts.no + 1 }
 
--- one answer more
-abbrev pub with_answer : Counts → Answer → Counts
-with_answer counts (Decided version verdict rule) = with_verdict counts verdict
-with_answer counts (Truth changed) = with_truth counts changed
-with_answer counts (Published version) = record counts { version = version }
-with_answer counts _ = counts
+-- one answer more, by what it shows
+abbrev pub with_shown : Counts → Shown → Counts
+with_shown counts (Allow version) = record counts { allow = counts.allow + 1 }
+with_shown counts (Deny version) = record counts { deny = counts.deny + 1 }
+with_shown counts (Fault version) = record counts { fault = counts.fault + 1 }
+with_shown counts (Truth changed) = with_truth counts changed
+with_shown counts (Published version) = record counts { version = version }
+with_shown counts Other = counts
 
 -- lines behind others, and all
 abbrev pub counted_behind : Counts → List Line → Counts
-counted_behind counts lines = fold (λ (so_far : Counts) (line : Line). with_answer so_far line.answer) counts lines
+counted_behind counts lines = fold (λ (so_far : Counts) (line : Line). with_shown so_far (shown_by line.answer)) counts lines
 
 abbrev pub counted : List Line → Counts
 counted lines = counted_behind none_counted lines

@@ -1,10 +1,11 @@
-ghost use Rattle.std.specs.Prelude.{◌≡◌, ◌+◌, ◌++◌, IfOk, OnOk, decimal, string_bytes};
+ghost use Rattle.std.specs.Prelude.{◌≡◌, ◌+◌, ◌++◌, IfOk, List, OnOk, decimal, map, string_bytes};
 ghost use Rattle.answer_lines.specs.LineText.{Appends};
+ghost use Rattle.answer_lines.specs.Printed.{printed_line};
+ghost use Rattle.answer_lines.specs.declared.answer.Line as line;
 ghost use Rattle.demo_run.specs.Helps.Tallies.{IsTallied};
-ghost use Rattle.demo_run.specs.Summary.{counted_behind, head_text, none_counted, tally_text, truths_text, verdicts_text, with_answer, with_truth, with_verdict};
+ghost use Rattle.demo_run.specs.Summary.{head_text, none_counted, tally_text, truths_text, verdicts_text, with_shown, with_truth};
 
-use answer_lines::{Answer, Line};
-use effect_fold::Verdict;
+use answer_lines::{Line, PrintedLine, Shown, shown_by};
 use itoa::Buffer;
 use outside::NoMemory;
 use std::alloc::Global;
@@ -51,24 +52,36 @@ impl Tally {
 pub(crate) fn count_lines(tally: &mut Tally, lines: &[Line]) -> Result<(), NoMemory>
     ensures { OnOk result (IsTallied tally.old lines.now tally.new) }
 {
-    let Some(items) = tally.items.checked_add(lines.len() as u64) else {
+    let mut counts = tally.counts;
+    for line in lines {
+        counts = with_shown(counts, shown_by(&line.answer))?;
+    }
+    set_tally(tally, lines.len(), counts)
+}
+
+/// The same of lines that were printed.
+pub(crate) fn count_printed(tally: &mut Tally, lines: &[PrintedLine]) -> Result<(), NoMemory>
+    ensures { OnOk result ((told : List line.Line) → lines.now ≡ map printed_line told
+        → IsTallied tally.old told tally.new) }
+{
+    let mut counts = tally.counts;
+    for line in lines {
+        counts = with_shown(counts, line.answer.shown)?;
+    }
+    set_tally(tally, lines.len(), counts)
+}
+
+// So many lines more, with which these are the counts.
+fn set_tally(tally: &mut Tally, more: usize, counts: Counts) -> Result<(), NoMemory>
+    ensures items { OnOk result (tally.new.items ≡ tally.old.items + more) }
+    ensures counts { OnOk result (tally.new.counts ≡ counts) }
+{
+    let Some(items) = tally.items.checked_add(more as u64) else {
         return Err(NoMemory);
     };
-    let counts = with_lines(tally.counts, lines)?;
     tally.items = items;
     tally.counts = counts;
     Ok(())
-}
-
-// Lines more.
-fn with_lines(counts: Counts, lines: &[Line]) -> Result<Counts, NoMemory>
-    ensures { IfOk result (λ all. all ≡ counted_behind counts lines.now) }
-{
-    let mut all = counts;
-    for line in lines {
-        all = with_answer(all, &line.answer)?;
-    }
-    Ok(all)
 }
 
 /// The summary of lines that were counted.
@@ -127,26 +140,17 @@ fn push_number(text: &mut String, number: u64) -> Result<(), NoMemory>
     Ok(())
 }
 
-// One answer more.
-fn with_answer(counts: Counts, answer: &Answer) -> Result<Counts, NoMemory>
-    ensures { IfOk result (λ more. more ≡ with_answer counts answer.now) }
+// One answer more, by what it shows.
+fn with_shown(counts: Counts, shown: Shown) -> Result<Counts, NoMemory>
+    ensures { IfOk result (λ more. more ≡ with_shown counts shown) }
 {
-    match answer {
-        Answer::Decided { verdict, .. } => with_verdict(counts, *verdict),
-        Answer::Truth(changed) => with_truth(counts, *changed),
-        Answer::Published(version) => Ok(with_version(counts, *version)),
-        _ => Ok(counts),
-    }
-}
-
-// One verdict more.
-fn with_verdict(counts: Counts, verdict: Verdict) -> Result<Counts, NoMemory>
-    ensures { IfOk result (λ more. more ≡ with_verdict counts verdict) }
-{
-    match verdict {
-        Verdict::Allow(_) => with_allow(counts),
-        Verdict::Deny(_) => with_deny(counts),
-        Verdict::Fault { .. } => with_fault(counts),
+    match shown {
+        Shown::Allow(_) => with_allow(counts),
+        Shown::Deny(_) => with_deny(counts),
+        Shown::Fault(_) => with_fault(counts),
+        Shown::Truth(changed) => with_truth(counts, changed),
+        Shown::Published(version) => Ok(with_version(counts, version)),
+        Shown::Other => Ok(counts),
     }
 }
 

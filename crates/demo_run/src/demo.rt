@@ -15,10 +15,11 @@ ghost use Rattle.script_read.specs.Said.{Said};
 ghost use Rattle.script_read.specs.Script.{IsScript};
 ghost use Rattle.version_log.specs.Log.{versions};
 
-use crate::counts::{Tally, count_lines, summary};
+use crate::counts::{Tally, count_lines, count_printed, summary};
 use crate::texts::{MODEL, policy_text, script_text};
+use answer_lines::PrintedLine;
 use decision::{Program, make_program};
-use desk_session::{Line, run_plain};
+use desk_session::run_plain;
 use live_pair::Places;
 use live_rounds::{Gate, TakeStop, Taker, run_shared};
 use model_conf::{Model, read_model, shapes_of};
@@ -125,8 +126,8 @@ impl Taker<Tally> for Counting {
 
     ghost stopped = { λ _ _ _ _. ⊤ };
 
-    fn take(&self, _alloc: Global, to: &mut Tally, lines: &[Line]) -> Result<(), TakeStop> {
-        count_lines(to, lines)?;
+    fn take(&self, _alloc: Global, to: &mut Tally, lines: &[PrintedLine]) -> Result<(), TakeStop> {
+        count_printed(to, lines)?;
         Ok(())
     }
 }

@@ -54,8 +54,7 @@ pub fn answer_text<P: Finder>(
     requires suits { Suits program.now state.now.shapes }
     ensures answer { IfOk result (IsAnsweredBy program.now state.now
         (P.refusals finder.old) (P.refusals finder.new) (reading_of text.now)) }
-    ensures printable { IfOk result (λ reply. is_named (asks (reading_of text.now)) ≡ true
-        → is_printable reply ≡ true) }
+    ensures printable { IfOk result (λ reply. is_printable reply ≡ true) }
     ensures stopped { OnErr result (Refuses program.now
         (P.refusals finder.old) (P.refusals finder.new) (asks (reading_of text.now))) }
 {

@@ -2,12 +2,15 @@
 use Rattle.std.proofs.Common.{◌≡◌, ⊎_elim, ℕ, true, false, List, [], ◌∷◌, ◌++◌, append_assoc, append-nil, length, length-append, refl, sym, ap, subst, ◌∙◌, arith}
 use mathlib.Core.List.{IsPrefix}
 use Rattle.answer_lines.specs.declared.answer.Answer.{Answer}
+use Rattle.answer_lines.specs.Printed.{printed_answer}
+use Rattle.answer_lines.specs.declared.printed.PrintedAnswer.{PrintedAnswer}
 use Rattle.live_pair.proofs.CallerLemmas.{edits_more, one_less, prefix_self, prefix_trans, prefix_whole}
 use Rattle.live_pair.specs.Admins.{AdminSeen}
 use Rattle.live_pair.specs.Story.{edits_in}
 use Rattle.desk_session.specs.Desks.{HasEditsOf}
 use Rattle.live_rounds.specs.Administrators.{AreAt, AreDoneBeside, AreReplies, IsAdminAmid, IsAdminBehind, IsAdminStep, list_behind}
 use Rattle.desk_session.specs.Steps.{is_request}
+use Rattle.live_rounds.specs.Printed.{IsPrinted}
 use Rattle.effect_fold.specs.declared.effect.Effect.TheVariants.{AllowOverride}
 use Rattle.matcher_read.specs.Expression.{truth}
 use Rattle.model_conf.specs.ModelText.{ModelParts}
@@ -102,23 +105,31 @@ module _ (shapes : Shapes) (opening : Policy) where
 
   -- ---- items one after the other
 
+  -- what a reply answers behind these items
+  abbrev Replies : List Said → Said → PrintedAnswer → Type 0
+  Replies before item reply = IsPrinted (λ (answer : Answer). (model : ModelParts) → IsReply model shapes opening [] before item answer) reply
+
+  -- behind the same items
+  replies_at : (before behind : List Said) (item : Said) (reply : PrintedAnswer) → before ≡ behind → Replies before item reply → Replies behind item reply
+  replies_at before behind item reply same is = subst (λ (b : List Said). Replies b item reply) same is
+
   -- one more that is no request
-  replies_more : (before items : List Said) (replies : List Answer) (item : Said) (reply : Answer) → is_request item ≡ false → AreReplies shapes opening before items replies → ((model : ModelParts) → IsReply model shapes opening [] (before ++ items) item reply)
+  replies_more : (before items : List Said) (replies : List PrintedAnswer) (item : Said) (reply : PrintedAnswer) → is_request item ≡ false → AreReplies shapes opening before items replies → Replies (before ++ items) item reply
       → AreReplies shapes opening before (items ++ item ∷ []) (replies ++ reply ∷ [])
-  replies_more before [] [] item reply other are is = by item other (λ (model : ModelParts). subst (λ (b : List Said). IsReply model shapes opening [] b item reply) (append-nil before) (is model))
+  replies_more before [] [] item reply other are is = by item other (replies_at (before ++ []) before item reply (append-nil before) is)
     where
-      by : (item : Said) → is_request item ≡ false → ((model : ModelParts) → IsReply model shapes opening [] before item reply) → AreReplies shapes opening before (item ∷ []) (reply ∷ [])
+      by : (item : Said) → is_request item ≡ false → Replies before item reply → AreReplies shapes opening before (item ∷ []) (reply ∷ [])
       by (said.asks reading) other is = absurd cc
       by _ other is = (is, tt)
   replies_more before (said.asks reading ∷ items) replies item reply other are is =
-      replies_more (before ++ said.asks reading ∷ []) items replies item reply other are (λ (model : ModelParts). subst (λ (b : List Said). IsReply model shapes opening [] b item reply) (sym (append_assoc before (said.asks reading ∷ []) items)) (is model))
+      replies_more (before ++ said.asks reading ∷ []) items replies item reply other are (replies_at (before ++ (said.asks reading ∷ items)) ((before ++ said.asks reading ∷ []) ++ items) item reply (sym (append_assoc before (said.asks reading ∷ []) items)) is)
   replies_more before (first ∷ items) (told ∷ replies) item reply other are is =
-      (are.0, replies_more (before ++ first ∷ []) items replies item reply other are.1 (λ (model : ModelParts). subst (λ (b : List Said). IsReply model shapes opening [] b item reply) (sym (append_assoc before (first ∷ []) items)) (is model)))
+      (are.0, replies_more (before ++ first ∷ []) items replies item reply other are.1 (replies_at (before ++ (first ∷ items)) ((before ++ first ∷ []) ++ items) item reply (sym (append_assoc before (first ∷ []) items)) is))
   replies_more before [] (told ∷ replies) item reply other are is = absurd are
   replies_more before (first ∷ items) [] item reply other are is = absurd are
 
   -- a request more
-  replies_asked : (before items : List Said) (replies : List Answer) (item : Said) → is_request item ≡ true → AreReplies shapes opening before items replies → AreReplies shapes opening before (items ++ item ∷ []) replies
+  replies_asked : (before items : List Said) (replies : List PrintedAnswer) (item : Said) → is_request item ≡ true → AreReplies shapes opening before items replies → AreReplies shapes opening before (items ++ item ∷ []) replies
   replies_asked before [] [] item asks are = by item asks
     where
       by : (item : Said) → is_request item ≡ true → AreReplies shapes opening before (item ∷ []) []
@@ -154,10 +165,11 @@ module _ (shapes : Shapes) (opening : Policy) where
     }
 
     -- one item more
-    pub beside_more : (done : List Said) (item : Said) (mid new : AdminSeen) (replies more : List Answer) (reply : Answer) → is_request item ≡ false → AreDoneBeside shapes opening before done old mid replies → IsAdminStep item mid new reply
-        → more ≡ replies ++ reply ∷ [] → AreDoneBeside shapes opening before (done ++ item ∷ []) old new more
-    beside_more done item mid new replies more reply other so step more-is = record {
-      replies_are = subst (AreReplies shapes opening before (done ++ item ∷ [])) (sym more-is) (replies_more before done replies item reply other so.replies_are (step_reply (before ++ done) item mid new reply other so.behind step));
+    pub beside_more : (done : List Said) (item : Said) (mid new : AdminSeen) (replies more : List PrintedAnswer) (reply : Answer) (printed : PrintedAnswer) → is_request item ≡ false → AreDoneBeside shapes opening before done old mid replies → IsAdminStep item mid new reply
+        → printed ≡ printed_answer reply → more ≡ replies ++ printed ∷ [] → AreDoneBeside shapes opening before (done ++ item ∷ []) old new more
+    beside_more done item mid new replies more reply printed other so step told more-is = record {
+      replies_are = subst (AreReplies shapes opening before (done ++ item ∷ [])) (sym more-is) (replies_more before done replies item printed other so.replies_are
+          (record { answer = reply; holds = step_reply (before ++ done) item mid new reply other so.behind step; told = told }));
       behind = behind;
       grown = prefix_trans old.list mid.list new.list so.grown (subst (IsPrefix mid.list) (sym step.list_is) (begins item));
       cuts = λ list from until. by item step.list_is list from until;
@@ -180,7 +192,7 @@ module _ (shapes : Shapes) (opening : Policy) where
         by _ list-is list from until = at_more done item list (so.cuts list from (subst (IsPrefix list) list-is until))
 
     -- a request more
-    pub beside_asked : (done : List Said) (item : Said) (mid : AdminSeen) (replies : List Answer) → is_request item ≡ true → AreDoneBeside shapes opening before done old mid replies → AreDoneBeside shapes opening before (done ++ item ∷ []) old mid replies
+    pub beside_asked : (done : List Said) (item : Said) (mid : AdminSeen) (replies : List PrintedAnswer) → is_request item ≡ true → AreDoneBeside shapes opening before done old mid replies → AreDoneBeside shapes opening before (done ++ item ∷ []) old mid replies
     beside_asked done item mid replies asks so = record {
       replies_are = replies_asked before done replies item asks so.replies_are;
       behind = subst (λ (items : List Said). IsAdminBehind shapes opening items mid) (append_assoc before done (item ∷ [])) (asked_behind (before ++ done) item mid asks so.behind);

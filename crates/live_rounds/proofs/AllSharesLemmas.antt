@@ -4,7 +4,7 @@ use Rattle.std.specs.Prelude.{sum_by}
 use Rattle.std.specs.List.{AllByRecursion, AllZip}
 use Rattle.std.proofs.lemmas.List.{drop-drop, drop_all, take-append-drop}
 use Rattle.std.proofs.lemmas.List.Sums.{sum_by-append}
-use Rattle.answer_lines.specs.declared.answer.Answer.{Answer}
+use Rattle.answer_lines.specs.declared.printed.PrintedAnswer.{PrintedAnswer}
 use Rattle.live_pair.specs.Admins.{AdminSeen}
 use Rattle.live_pair.specs.Seats.{SeatSeen, version_of}
 use Rattle.live_rounds.proofs.EntryLemmas.{entered}
@@ -50,7 +50,7 @@ same_refusals before [] others = refl
 same_refusals before (pattern ∷ some) others = same_refusals (after_refusal before pattern) some others
 
 -- the first requests are answered, and so are those behind
-answered_both : (model : ModelParts) (shapes : Shapes) (opening : Policy) (before round : List Said) (some others : List ℕ) (refused more : List (List (List ℕ))) (replies rest : List Answer) (front back : List Reading) → AreAnsweredAt model shapes opening before round some refused replies front
+answered_both : (model : ModelParts) (shapes : Shapes) (opening : Policy) (before round : List Said) (some others : List ℕ) (refused more : List (List (List ℕ))) (replies rest : List PrintedAnswer) (front back : List Reading) → AreAnsweredAt model shapes opening before round some refused replies front
     → length replies ≡ length front → AreAnsweredAt model shapes opening before round others more rest back → AreAnsweredAt model shapes opening before round (some ++ others) (refused ++ more) (replies ++ rest) (front ++ back)
 answered_both model shapes opening before round [] others [] more [] rest [] back are all behind = behind
 answered_both model shapes opening before round [] others [] more [] rest (reading ∷ front) back are all behind = absurd (omega (arith, all))
@@ -60,18 +60,18 @@ answered_both model shapes opening before round _ others _ more _ rest _ back ar
 
 -- ---- a round that the administrator has done
 
-module _ (model : ModelParts) (shapes : Shapes) (opening : Policy) (before round : List Said) (old new : AdminSeen) (others : List Answer) (done : AreDoneBeside shapes opening before round old new others) (script : List Said) where
+module _ (model : ModelParts) (shapes : Shapes) (opening : Policy) (before round : List Said) (old new : AdminSeen) (others : List PrintedAnswer) (done : AreDoneBeside shapes opening before round old new others) (script : List Said) where
   abbrev end : ℕ
   end = at_end model shapes opening before round old new others done
 
   -- the replies to the requests of a part
-  abbrev pub HasReplies : List Said → List Answer → Type 0
+  abbrev pub HasReplies : List Said → List PrintedAnswer → Type 0
   HasReplies part replies = length replies ≡ length (requests part)
 
   -- all requests of items are answered behind others, in parts of these sizes; by workers at these seats and by these finders, and at
   -- the desk by another finder
-  pub record AreAnswered (items : List Said) (sizes : List ℕ) (firsts finals : List SeatSeen) (befores nows : List Refusals) (from until : Refusals) (was now : List Answer) : Type 0 where
-    pub replies : List (List Answer)
+  pub record AreAnswered (items : List Said) (sizes : List ℕ) (firsts finals : List SeatSeen) (befores nows : List Refusals) (from until : Refusals) (was now : List PrintedAnswer) : Type 0 where
+    pub replies : List (List PrintedAnswer)
     pub added : now ≡ was ++ in_turn replies
     pub seen : List (List ℕ)
     pub refused : List (List (List ℕ))
@@ -100,12 +100,12 @@ module _ (model : ModelParts) (shapes : Shapes) (opening : Policy) (before round
   calm_weighed weight [] = refl
   calm_weighed weight (r ∷ list) = calm_weighed weight list
 
-  none_entered : (replies : List (List Answer)) (firsts finals : List SeatSeen) → firsts ≡ [] → EachHasEntered end replies firsts finals
+  none_entered : (replies : List (List PrintedAnswer)) (firsts finals : List SeatSeen) → firsts ≡ [] → EachHasEntered end replies firsts finals
   none_entered [] firsts finals none = tt
   none_entered (share ∷ replies) firsts finals none = subst (λ (l : List SeatSeen). EachHasEntered end (share ∷ replies) l finals) (sym none) tt
 
   -- the last part and nothing behind it
-  none_answered : (items : List Said) (firsts finals : List SeatSeen) (befores nows : List Refusals) (from until : Refusals) (was now : List Answer) → requests items ≡ [] → until ≡ from → now ≡ was → nows ≡ befores → AreAnswered items [] firsts finals befores nows from until was now
+  none_answered : (items : List Said) (firsts finals : List SeatSeen) (befores nows : List Refusals) (from until : Refusals) (was now : List PrintedAnswer) → requests items ≡ [] → until ≡ from → now ≡ was → nows ≡ befores → AreAnswered items [] firsts finals befores nows from until was now
   none_answered items firsts finals befores nows from until was now none calm_desk same calm_finders = record {
     replies = [];
     added = same ∙ sym (append-nil was);
@@ -125,11 +125,11 @@ module _ (model : ModelParts) (shapes : Shapes) (opening : Policy) (before round
   }
 
   -- what the parts behind the first hold, and the first
-  module _ (items rest : List Said) (size : ℕ) (sizes : List ℕ) (rest-is : drop size items ≡ rest) (from mid until : Refusals) (was more now kept : List Answer) (worker : List (List ℕ)) (share : IsShareDone model shapes opening before round old new others done (take size items) kept worker from mid was more) where
+  module _ (items rest : List Said) (size : ℕ) (sizes : List ℕ) (rest-is : drop size items ≡ rest) (from mid until : Refusals) (was more now kept : List PrintedAnswer) (worker : List (List ℕ)) (share : IsShareDone model shapes opening before round old new others done (take size items) kept worker from mid was more) where
     whole : requests items ≡ requests (take size items) ++ requests rest
     whole = ap requests (sym (take-append-drop size items)) ∙ requests_both (take size items) (drop size items) ∙ ap (λ (l : List Said). requests (take size items) ++ requests l) rest-is
 
-    abbrev first_replies : List Answer
+    abbrev first_replies : List PrintedAnswer
     first_replies = kept ++ share.at_desk
 
     answered_more : (firsts finals others_firsts others_finals : List SeatSeen) (befores nows others_befores others_nows : List Refusals) (is : AreAnswered rest sizes others_firsts others_finals others_befores others_nows mid until more now) (told_more : List (List (List ℕ)))
@@ -137,7 +137,7 @@ module _ (model : ModelParts) (shapes : Shapes) (opening : Policy) (before round
         → AreAnswered items (size ∷ sizes) firsts finals befores nows from until was now
     answered_more firsts finals others_firsts others_finals befores nows others_befores others_nows is told_more used weighed entered_all = record {
       replies = first_replies ∷ is.replies;
-      added = is.added ∙ ap (λ (l : List Answer). l ++ in_turn is.replies) share.added ∙ append_assoc was first_replies (in_turn is.replies);
+      added = is.added ∙ ap (λ (l : List PrintedAnswer). l ++ in_turn is.replies) share.added ∙ append_assoc was first_replies (in_turn is.replies);
       seen = share.seen ∷ is.seen;
       refused = share.refused ++ is.refused;
       answered = subst (AreAnsweredAt model shapes opening before round (share.seen ++ in_turn is.seen) (share.refused ++ is.refused) (first_replies ++ in_turn is.replies)) (sym whole)
@@ -165,18 +165,18 @@ module _ (model : ModelParts) (shapes : Shapes) (opening : Policy) (before round
   kept_none place (size ∷ sizes) news befores nows none same = (none, same)
 
   -- where there are no more parts
-  kept_end : (place : ℕ) (olds news : List SeatSeen) (befores nows : List Refusals) (kepts : List (List Answer)) → AreKept model shapes opening script end place [] olds news befores nows kepts → nows ≡ befores
+  kept_end : (place : ℕ) (olds news : List SeatSeen) (befores nows : List Refusals) (kepts : List (List PrintedAnswer)) → AreKept model shapes opening script end place [] olds news befores nows kepts → nows ≡ befores
   kept_end place olds news befores nows [] kept = kept.1
   kept_end place olds news befores nows (k ∷ kepts) kept = absurd kept
 
   -- what is done with the parts behind the first
-  abbrev GoesOn : ℕ → List Said → List ℕ → (until : Refusals) (now : List Answer) → Type 0
-  GoesOn place items sizes until now = (firsts olds news finals : List SeatSeen) (befores nows : List Refusals) (kepts : List (List Answer)) (mid : Refusals) (more : List Answer) → AllZip (HasLearned old.list) firsts olds → AllZip (HasLearned new.list) news finals
+  abbrev GoesOn : ℕ → List Said → List ℕ → (until : Refusals) (now : List PrintedAnswer) → Type 0
+  GoesOn place items sizes until now = (firsts olds news finals : List SeatSeen) (befores nows : List Refusals) (kepts : List (List PrintedAnswer)) (mid : Refusals) (more : List PrintedAnswer) → AllZip (HasLearned old.list) firsts olds → AllZip (HasLearned new.list) news finals
       → AreKept model shapes opening script end place sizes olds news befores nows kepts → AreShared model new.desk.state items sizes kepts mid until more now → AreAnswered items sizes firsts finals befores nows mid until more now
 
-  module _ (place size : ℕ) (items : List Said) (sizes : List ℕ) (from until : Refusals) (was now : List Answer) (part-is : take size items ≡ take size (drop place script)) (go : GoesOn (place + size) (drop size items) sizes until now) where
+  module _ (place size : ℕ) (items : List Said) (sizes : List ℕ) (from until : Refusals) (was now : List PrintedAnswer) (part-is : take size items ≡ take size (drop place script)) (go : GoesOn (place + size) (drop size items) sizes until now) where
     -- the first part, for which there is a seat or none
-    pub one_part : (firsts olds news finals : List SeatSeen) (befores nows : List Refusals) (kepts : List (List Answer)) → AllZip (HasLearned old.list) firsts olds → AllZip (HasLearned new.list) news finals
+    pub one_part : (firsts olds news finals : List SeatSeen) (befores nows : List Refusals) (kepts : List (List PrintedAnswer)) → AllZip (HasLearned old.list) firsts olds → AllZip (HasLearned new.list) news finals
         → AreKept model shapes opening script end place (size ∷ sizes) olds news befores nows kepts → AreShared model new.desk.state items (size ∷ sizes) kepts from until was now → AreAnswered items (size ∷ sizes) firsts finals befores nows from until was now
     one_part [] [] news finals befores nows [] learned ended kept shared =
         let mid = shared.0 in
@@ -200,7 +200,7 @@ module _ (model : ModelParts) (shapes : Shapes) (opening : Policy) (before round
     one_part (f ∷ firsts) (o ∷ olds) (w ∷ news) [] befores nows kepts learned ended kept shared = absurd ended
     one_part (f ∷ firsts) (o ∷ olds) _ _ _ _ _ learned ended kept shared = absurd kept
 
-  pub all_answered : (n place left : ℕ) (items : List Said) (sizes : List ℕ) (firsts olds news finals : List SeatSeen) (befores nows : List Refusals) (kepts : List (List Answer)) (from until : Refusals) (was now : List Answer) → AreSizes n items sizes → items ≡ take left (drop place script) → total sizes ≤ left
+  pub all_answered : (n place left : ℕ) (items : List Said) (sizes : List ℕ) (firsts olds news finals : List SeatSeen) (befores nows : List Refusals) (kepts : List (List PrintedAnswer)) (from until : Refusals) (was now : List PrintedAnswer) → AreSizes n items sizes → items ≡ take left (drop place script) → total sizes ≤ left
       → AllZip (HasLearned old.list) firsts olds → AllZip (HasLearned new.list) news finals → AreKept model shapes opening script end place sizes olds news befores nows kepts → AreShared model new.desk.state items sizes kepts from until was now → AreAnswered items sizes firsts finals befores nows from until was now
   all_answered zero place left items (size ∷ []) firsts olds news finals befores nows kepts from until was now sized is within learned ended kept shared =
       one_part place size items [] from until was now (ap (take size) is ∙ take_take size left (drop place script) (omega (arith, within)))

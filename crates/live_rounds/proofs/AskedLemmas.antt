@@ -1,12 +1,14 @@
 -- Requests that are answered at the desk, behind those that were answered at a seat.
 use Rattle.std.proofs.Common.{◌≡◌, ℕ, zero, suc, ◌+◌, ◌-◌, ◌<◌, ◌≤◌, false, List, [], ◌∷◌, ◌++◌, append_assoc, append-nil, drop, get_or, length, length-append, map, take, take_all, refl, sym, ap, subst, ◌∙◌, arith}
+use Rattle.answer_lines.specs.Printed.{printed_answer}
 use Rattle.answer_lines.specs.declared.answer.Answer.{Answer}
-use Rattle.answer_lines.specs.declared.answer.Answer.TheVariants.{Published}
+use Rattle.answer_lines.specs.declared.printed.PrintedAnswer.{PrintedAnswer}
 use Rattle.desk_session.proofs.CallerLemmas.{logged_more}
 use Rattle.desk_session.specs.Requests.{IsAnsweredBy, Refuses}
 use Rattle.live_rounds.specs.Answered.{AreAnsweredAt}
 use Rattle.live_rounds.specs.Helps.Asked.{AddsAnswered, AreAnsweredOver, IsAnsweredOver}
 use Rattle.desk_session.specs.Steps.{is_request}
+use Rattle.live_rounds.specs.Printed.{IsPrinted}
 use Rattle.live_rounds.specs.Requests.{requests}
 use Rattle.live_rounds.proofs.ItemLemmas.{none_requested, one_more, requests_both}
 use Rattle.model_conf.specs.ModelText.{ModelParts}
@@ -35,19 +37,19 @@ drop_within (suc n) [] ys within = absurd (omega (arith, within))
 drop_within (suc n) (x ∷ xs) ys within = drop_within n xs ys (omega (arith, within))
 
 module _ (model : ModelParts) (state : State) where
-  answered_more : (refused : List (List (List ℕ))) (replies : List Answer) (readings : List Reading) → AreAnsweredOver model state.shapes (versions state.log) (tables state) refused replies readings
-      → (more : List (List ℕ)) (reply : Answer) (reading : Reading) → IsAnsweredOver model state.shapes (versions state.log) (tables state) more reply reading
+  answered_more : (refused : List (List (List ℕ))) (replies : List PrintedAnswer) (readings : List Reading) → AreAnsweredOver model state.shapes (versions state.log) (tables state) refused replies readings
+      → (more : List (List ℕ)) (reply : PrintedAnswer) (reading : Reading) → IsAnsweredOver model state.shapes (versions state.log) (tables state) more reply reading
       → AreAnsweredOver model state.shapes (versions state.log) (tables state) (refused ++ more ∷ []) (replies ++ reply ∷ []) (readings ++ reading ∷ [])
   answered_more [] [] [] are more reply reading is = (is, tt)
   answered_more (patterns ∷ refused) (first ∷ replies) (asked ∷ readings) are more reply reading is = (are.0, answered_more refused replies readings are.1 more reply reading is)
   answered_more _ _ _ are more reply reading is = absurd are
 
   -- of the requests among these items all but the first ones that are skipped are answered; so many are still to be skipped
-  pub record IsAsking (before now : Refusals) (skipped left : ℕ) (done : List Said) (old new : List Answer) : Type 0 where
+  pub record IsAsking (before now : Refusals) (skipped left : ℕ) (done : List Said) (old new : List PrintedAnswer) : Type 0 where
     pub added : AddsAnswered model state before now (drop skipped (requests done)) old new
     pub left_are : left ≡ skipped - length (requests done)
 
-  pub asking_none : (refusals : Refusals) (skipped : ℕ) (old : List Answer) → IsAsking refusals refusals skipped skipped [] old old
+  pub asking_none : (refusals : Refusals) (skipped : ℕ) (old : List PrintedAnswer) → IsAsking refusals refusals skipped skipped [] old old
   asking_none refusals skipped old = record {
     added = record {
       refused = [];
@@ -60,25 +62,25 @@ module _ (model : ModelParts) (state : State) where
   }
 
   -- the finder was used so far, and for an item more
-  pub asking_used : (before now : Refusals) (skipped left : ℕ) (done : List Said) (old new : List Answer) → IsAsking before now skipped left done old new → IsUsed before now
+  pub asking_used : (before now : Refusals) (skipped left : ℕ) (done : List Said) (old new : List PrintedAnswer) → IsAsking before now skipped left done old new → IsUsed before now
   asking_used before now skipped left done old new so = record { more = all_refused so.added.refused; refused = so.added.logged }
 
-  pub asking_used_then : (before now later : Refusals) (skipped left : ℕ) (done : List Said) (old new : List Answer) (item : Said) → IsAsking before now skipped left done old new → Refuses model now later item → IsUsed before later
+  pub asking_used_then : (before now later : Refusals) (skipped left : ℕ) (done : List Said) (old new : List PrintedAnswer) (item : Said) → IsAsking before now skipped left done old new → Refuses model now later item → IsUsed before later
   asking_used_then before now later skipped left done old new item so more = used_then before now later (asking_used before now skipped left done old new so) (record { more = more.refused; refused = more.logged })
 
   -- the same requests
-  asking_same : (before now : Refusals) (skipped left : ℕ) (done more : List Said) (old new : List Answer) → requests more ≡ requests done → IsAsking before now skipped left done old new → IsAsking before now skipped left more old new
+  asking_same : (before now : Refusals) (skipped left : ℕ) (done more : List Said) (old new : List PrintedAnswer) → requests more ≡ requests done → IsAsking before now skipped left done old new → IsAsking before now skipped left more old new
   asking_same before now skipped left done more old new same so = record {
     added = subst (λ (l : List Reading). AddsAnswered model state before now (drop skipped l) old new) (sym same) so.added;
     left_are = so.left_are ∙ ap (λ (l : List Reading). skipped - length l) (sym same);
   }
 
   -- an item that is no request
-  pub asking_other : (before now : Refusals) (skipped left : ℕ) (done : List Said) (item : Said) (old new : List Answer) → is_request item ≡ false → IsAsking before now skipped left done old new → IsAsking before now skipped left (done ++ item ∷ []) old new
+  pub asking_other : (before now : Refusals) (skipped left : ℕ) (done : List Said) (item : Said) (old new : List PrintedAnswer) → is_request item ≡ false → IsAsking before now skipped left done old new → IsAsking before now skipped left (done ++ item ∷ []) old new
   asking_other before now skipped left done item old new other so =
       asking_same before now skipped left done (done ++ item ∷ []) old new (requests_both done (item ∷ []) ∙ ap (λ (l : List Reading). requests done ++ l) (none_requested item other) ∙ append-nil (requests done)) so
 
-  module _ (before now later : Refusals) (skipped left : ℕ) (done : List Said) (item : Said) (reading : Reading) (old new more : List Answer) (reply : Answer) (is : item ≡ asks reading) (so : IsAsking before now skipped left done old new) where
+  module _ (before now later : Refusals) (skipped left : ℕ) (done : List Said) (item : Said) (reading : Reading) (old new : List PrintedAnswer) (is : item ≡ asks reading) (so : IsAsking before now skipped left done old new) where
     one : requests (done ++ item ∷ []) ≡ requests done ++ reading ∷ []
     one = requests_both done (item ∷ []) ∙ ap (λ (i : Said). requests done ++ requests (i ∷ [])) is
 
@@ -97,8 +99,8 @@ module _ (model : ModelParts) (state : State) where
         }
 
     -- one that is answered
-    pub asking_more : left ≡ 0 → IsAnsweredBy model state now later reading reply → more ≡ new ++ reply ∷ [] → IsAsking before later skipped left (done ++ item ∷ []) old more
-    asking_more none answered more-is =
+    pub asking_more : (more : List PrintedAnswer) (answer : Answer) (reply : PrintedAnswer) → left ≡ 0 → IsAnsweredBy model state now later reading answer → reply ≡ printed_answer answer → more ≡ new ++ reply ∷ [] → IsAsking before later skipped left (done ++ item ∷ []) old more
+    asking_more more answer reply none answered told more-is =
         let within : skipped ≤ length (requests done) = omega (arith, so.left_are, none) in
         let all : drop skipped (requests (done ++ item ∷ [])) ≡ drop skipped (requests done) ++ reading ∷ []
         = ap (drop skipped) one ∙ drop_within skipped (requests done) (reading ∷ []) within in
@@ -106,23 +108,23 @@ module _ (model : ModelParts) (state : State) where
           added = record {
             refused = so.added.refused ++ answered.asked.refused ∷ [];
             replies = so.added.replies ++ reply ∷ [];
-            added = more-is ∙ ap (λ (l : List Answer). l ++ reply ∷ []) so.added.added ∙ append_assoc old so.added.replies (reply ∷ []);
+            added = more-is ∙ ap (λ (l : List PrintedAnswer). l ++ reply ∷ []) so.added.added ∙ append_assoc old so.added.replies (reply ∷ []);
             logged = logged_more before now later so.added.refused answered.asked.refused so.added.logged answered.asked.logged;
             answered = subst (AreAnsweredOver model state.shapes (versions state.log) (tables state) (so.added.refused ++ answered.asked.refused ∷ []) (so.added.replies ++ reply ∷ [])) (sym all)
-                (answered_more so.added.refused so.added.replies (drop skipped (requests done)) so.added.answered answered.asked.refused reply reading (record { answers = answered.answers; unasked = answered.asked.unasked }));
+                (answered_more so.added.refused so.added.replies (drop skipped (requests done)) so.added.answered answered.asked.refused reply reading (record { answers = record { answer = answer; holds = answered.answers; told = told }; unasked = answered.asked.unasked }));
           };
           left_are = omega (arith, so.left_are, counted, none);
         }
 
 -- ---- the requests among the items of a slice
 
-module _ (model : ModelParts) (state : State) (items : List Item) (before : Refusals) (skipped : ℕ) (old : List Answer) where
+module _ (model : ModelParts) (state : State) (items : List Item) (before : Refusals) (skipped : ℕ) (old : List PrintedAnswer) where
   -- so many of the items are done
-  abbrev pub IsAskingUpTo : ℕ → Refusals → ℕ → List Answer → Type 0
+  abbrev pub IsAskingUpTo : ℕ → Refusals → ℕ → List PrintedAnswer → Type 0
   IsAskingUpTo n now left new = IsAsking model state before now skipped left (map seen (take n items)) old new
 
-  module _ (n : ℕ) (item : Item) (now : Refusals) (left : ℕ) (new : List Answer) (within : n < length items) (is : item ≡ get_or items n item) (so : IsAskingUpTo n now left new) where
-    step : (later : Refusals) (next : ℕ) (more : List Answer) → IsAsking model state before later skipped next (map seen (take n items) ++ seen item ∷ []) old more → IsAskingUpTo (n + 1) later next more
+  module _ (n : ℕ) (item : Item) (now : Refusals) (left : ℕ) (new : List PrintedAnswer) (within : n < length items) (is : item ≡ get_or items n item) (so : IsAskingUpTo n now left new) where
+    step : (later : Refusals) (next : ℕ) (more : List PrintedAnswer) → IsAsking model state before later skipped next (map seen (take n items) ++ seen item ∷ []) old more → IsAskingUpTo (n + 1) later next more
     step later next more = subst (λ (done : List Said). IsAsking model state before later skipped next done old more) (sym (one_more items n item within is))
 
     pub asking_past : is_request (seen item) ≡ false → IsAskingUpTo (n + 1) now left new
@@ -130,42 +132,42 @@ module _ (model : ModelParts) (state : State) (items : List Item) (before : Refu
 
     pub asking_skip : (reading : Reading) (next : ℕ) → seen item ≡ asks reading → 0 < left → next ≡ left - 1 → IsAskingUpTo (n + 1) now next new
     asking_skip reading next is_asked some next-is =
-        subst (λ (k : ℕ). IsAskingUpTo (n + 1) now k new) (sym next-is) (step now (left - 1) new (asking_skipped model state before now now skipped left (map seen (take n items)) (seen item) reading old new new (Published 0) is_asked so some))
+        subst (λ (k : ℕ). IsAskingUpTo (n + 1) now k new) (sym next-is) (step now (left - 1) new (asking_skipped model state before now now skipped left (map seen (take n items)) (seen item) reading old new is_asked so some))
 
-    pub asking_next : (reading : Reading) (later : Refusals) (more : List Answer) (reply : Answer) → seen item ≡ asks reading → left ≡ 0 → IsAnsweredBy model state now later reading reply → more ≡ new ++ reply ∷ [] → IsAskingUpTo (n + 1) later left more
-    asking_next reading later more reply is_asked none answered more-is =
-        step later left more (asking_more model state before now later skipped left (map seen (take n items)) (seen item) reading old new more reply is_asked so none answered more-is)
+    pub asking_next : (reading : Reading) (later : Refusals) (more : List PrintedAnswer) (answer : Answer) (reply : PrintedAnswer) → seen item ≡ asks reading → left ≡ 0 → IsAnsweredBy model state now later reading answer → reply ≡ printed_answer answer → more ≡ new ++ reply ∷ [] → IsAskingUpTo (n + 1) later left more
+    asking_next reading later more answer reply is_asked none answered told more-is =
+        step later left more (asking_more model state before now later skipped left (map seen (take n items)) (seen item) reading old new is_asked so more answer reply none answered told more-is)
 
-  pub asking_all : (n : ℕ) (now : Refusals) (left : ℕ) (new : List Answer) → length items ≤ n → IsAskingUpTo n now left new → AddsAnswered model state before now (drop skipped (requests (map seen items))) old new
+  pub asking_all : (n : ℕ) (now : Refusals) (left : ℕ) (new : List PrintedAnswer) → length items ≤ n → IsAskingUpTo n now left new → AddsAnswered model state before now (drop skipped (requests (map seen items))) old new
   asking_all n now left new past so = subst (λ (l : List Item). AddsAnswered model state before now (drop skipped (requests (map seen l))) old new) (take_all n items past) so.added
 
 -- ---- those of a seat, and then those of the desk
 
 module _ (model : ModelParts) (shapes : Shapes) (opening : Policy) (before round : List Said) (version : ℕ) (policy : Policy) (cut : IsCut shapes opening before round version) (policy-is : policy ≡ tables_at shapes opening (before ++ round) version) where
   -- a version for each of these
-  abbrev pub same_for : List Answer → List ℕ
-  same_for replies = map (λ (reply : Answer). version) replies
+  abbrev pub same_for : List PrintedAnswer → List ℕ
+  same_for replies = map (λ (reply : PrintedAnswer). version) replies
 
-  all_over : (refused : List (List (List ℕ))) (replies : List Answer) (readings : List Reading) → AreAnsweredOver model shapes version policy refused replies readings → AreAnsweredAt model shapes opening before round (same_for replies) refused replies readings
+  all_over : (refused : List (List (List ℕ))) (replies : List PrintedAnswer) (readings : List Reading) → AreAnsweredOver model shapes version policy refused replies readings → AreAnsweredAt model shapes opening before round (same_for replies) refused replies readings
   all_over [] [] [] are = tt
   all_over (patterns ∷ refused) (reply ∷ replies) (reading ∷ readings) are = (
-    record { cut = cut; answers = subst (λ (p : Policy). IsAnswerTo model shapes patterns version p reading reply) policy-is are.0.answers; unasked = are.0.unasked },
+    record { cut = cut; answers = subst (λ (p : Policy). IsPrinted (IsAnswerTo model shapes patterns version p reading) reply) policy-is are.0.answers; unasked = are.0.unasked },
     all_over refused replies readings are.1,
   )
   all_over _ _ _ are = absurd are
 
-  over_long : (refused : List (List (List ℕ))) (replies : List Answer) (readings : List Reading) → AreAnsweredOver model shapes version policy refused replies readings → length replies ≡ length readings
+  over_long : (refused : List (List (List ℕ))) (replies : List PrintedAnswer) (readings : List Reading) → AreAnsweredOver model shapes version policy refused replies readings → length replies ≡ length readings
   over_long [] [] [] are = refl
   over_long (patterns ∷ refused) (reply ∷ replies) (reading ∷ readings) are = ap (λ (n : ℕ). suc n) (over_long refused replies readings are.1)
   over_long _ _ _ are = absurd are
 
-  pub completed : (seen : List ℕ) (refused others : List (List (List ℕ))) (kept replies : List Answer) (readings : List Reading) → AreAnsweredAt model shapes opening before round seen refused kept readings
+  pub completed : (seen : List ℕ) (refused others : List (List (List ℕ))) (kept replies : List PrintedAnswer) (readings : List Reading) → AreAnsweredAt model shapes opening before round seen refused kept readings
       → AreAnsweredOver model shapes version policy others replies (drop (length kept) readings) → AreAnsweredAt model shapes opening before round (seen ++ same_for replies) (refused ++ others) (kept ++ replies) readings
   completed [] [] others [] replies readings are over = all_over others replies readings over
   completed (v ∷ seen) (patterns ∷ refused) others (reply ∷ kept) replies (reading ∷ readings) are over = (are.0, completed seen refused others kept replies readings are.1 over)
   completed _ _ others _ replies _ are over = absurd are
 
-  pub completed_long : (seen : List ℕ) (refused others : List (List (List ℕ))) (kept replies : List Answer) (readings : List Reading) → AreAnsweredAt model shapes opening before round seen refused kept readings
+  pub completed_long : (seen : List ℕ) (refused others : List (List (List ℕ))) (kept replies : List PrintedAnswer) (readings : List Reading) → AreAnsweredAt model shapes opening before round seen refused kept readings
       → AreAnsweredOver model shapes version policy others replies (drop (length kept) readings) → length (kept ++ replies) ≡ length readings
   completed_long [] [] others [] replies readings are over = over_long others replies readings over
   completed_long (v ∷ seen) (patterns ∷ refused) others (reply ∷ kept) replies (reading ∷ readings) are over = ap (λ (n : ℕ). suc n) (completed_long seen refused others kept replies readings are.1 over)

@@ -3,13 +3,14 @@ use Rattle.std.proofs.Common.{◌≡◌, ℕ, zero, suc, ◌≤◌, leb, Bool, t
 use Rattle.std.specs.Prelude.{MatchBool}
 use Rattle.std.proofs.lemmas.Bool.{leb-false, leb-true}
 use mathlib.Core.List.{IsPrefix}
-use Rattle.answer_lines.specs.declared.answer.Answer.{Answer}
+use Rattle.answer_lines.specs.declared.printed.PrintedAnswer.{PrintedAnswer}
 use Rattle.live_pair.proofs.CallerLemmas.{edits_both, prefix_self, prefix_shorter, prefix_trans}
 use Rattle.live_pair.specs.Seats.{IsEntered, SeatSeen, version_of}
 use Rattle.live_pair.specs.Story.{edits_in}
 use Rattle.live_rounds.specs.Administrators.{AreAt}
 use Rattle.live_rounds.specs.Answered.{AreAnsweredAt, Rise}
 use Rattle.live_rounds.specs.Lists.{last_from}
+use Rattle.live_rounds.specs.Printed.{IsPrinted}
 use Rattle.live_rounds.specs.Served.{AreServed, IsServed}
 use Rattle.live_seat.specs.Decided.{tables_behind}
 use Rattle.model_conf.specs.ModelText.{ModelParts}
@@ -42,21 +43,21 @@ version_begins front whole p =
 
 module _ (shapes : Shapes) (opening : Policy) (model : ModelParts) where
   -- a request that is answered leaves the seat with all that it knew of
-  pub begins : (reading : Reading) (refused : List (List ℕ)) (old new : SeatSeen) (reply : Answer) → IsServed model shapes opening reading refused old new reply → IsPrefix old.front new.front
+  pub begins : (reading : Reading) (refused : List (List ℕ)) (old new : SeatSeen) (reply : PrintedAnswer) → IsServed model shapes opening reading refused old new reply → IsPrefix old.front new.front
   begins reading refused old new reply is = by (is_decided model (asks reading)) is.seat
     where
       by : (test : Bool) → MatchBool test (IsEntered old new) (new ≡ old) → IsPrefix old.front new.front
       by true entered = entered.begun
       by false same = subst (λ (s : SeatSeen). IsPrefix old.front s.front) (sym same) (prefix_self old.front)
 
-  pub all_begin : (old : SeatSeen) (seats : List SeatSeen) (refused : List (List (List ℕ))) (replies : List Answer) (readings : List Reading) → AreServed model shapes opening old seats refused replies readings → IsPrefix old.front (last_from old seats).front
+  pub all_begin : (old : SeatSeen) (seats : List SeatSeen) (refused : List (List (List ℕ))) (replies : List PrintedAnswer) (readings : List Reading) → AreServed model shapes opening old seats refused replies readings → IsPrefix old.front (last_from old seats).front
   all_begin old [] refused replies readings are = prefix_self old.front
   all_begin old (next ∷ seats) (patterns ∷ refused) (reply ∷ replies) (reading ∷ readings) are =
       prefix_trans old.front next.front (last_from next seats).front (begins reading patterns old next reply are.0) (all_begin next seats refused replies readings are.1)
   all_begin old (next ∷ seats) _ _ _ are = absurd are
 
   -- and the versions do not fall
-  pub served_rise : (old : SeatSeen) (seats : List SeatSeen) (refused : List (List (List ℕ))) (replies : List Answer) (readings : List Reading) → AreServed model shapes opening old seats refused replies readings → Rise (version_of old.front) (map (λ (s : SeatSeen). version_of s.front) seats)
+  pub served_rise : (old : SeatSeen) (seats : List SeatSeen) (refused : List (List (List ℕ))) (replies : List PrintedAnswer) (readings : List Reading) → AreServed model shapes opening old seats refused replies readings → Rise (version_of old.front) (map (λ (s : SeatSeen). version_of s.front) seats)
   served_rise old [] refused replies readings are = tt
   served_rise old (next ∷ seats) (patterns ∷ refused) (reply ∷ replies) (reading ∷ readings) are =
       (version_begins old.front next.front (begins reading patterns old next reply are.0), served_rise next seats refused replies readings are.1)
@@ -105,7 +106,7 @@ module _ (shapes : Shapes) (opening : Policy) (before round : List Said) where
 
     module _ (model : ModelParts) where
       -- all that was served is answered at cuts
-      pub served_at : (old : SeatSeen) (seats : List SeatSeen) (refused : List (List (List ℕ))) (replies : List Answer) (readings : List Reading) → IsPrefix first old.front → IsPrefix (last_from old seats).front learned
+      pub served_at : (old : SeatSeen) (seats : List SeatSeen) (refused : List (List (List ℕ))) (replies : List PrintedAnswer) (readings : List Reading) → IsPrefix first old.front → IsPrefix (last_from old seats).front learned
           → AreServed model shapes opening old seats refused replies readings → AreAnsweredAt model shapes opening before round (map (λ (s : SeatSeen). version_of s.front) seats) refused replies readings
       served_at old [] [] [] readings from until are = tt
       served_at old (next ∷ seats) (patterns ∷ refused) (reply ∷ replies) (reading ∷ readings) from until are =
@@ -114,7 +115,7 @@ module _ (shapes : Shapes) (opening : Policy) (before round : List Said) where
           let at = seen_at next.front onto (prefix_trans next.front (last_from next seats).front learned rest until) in (
             record {
               cut = cut_at next.front at;
-              answers = subst (λ (policy : Policy). IsAnswerTo model shapes patterns (version_of next.front) policy reading reply) (tables_are next.front at) are.0.answers;
+              answers = subst (λ (policy : Policy). IsPrinted (IsAnswerTo model shapes patterns (version_of next.front) policy reading) reply) (tables_are next.front at) are.0.answers;
               unasked = are.0.unasked;
             },
             served_at next seats refused replies readings onto until are.1,

@@ -15,6 +15,7 @@ pub mod EntryLemmas
 pub mod ShareLemmas
 pub mod AllSharesLemmas
 pub mod EndLemmas
+pub mod TakingLemmas
 pub mod RoundsLemmas
 pub mod ScriptLemmas
 pub mod LearningLemmas

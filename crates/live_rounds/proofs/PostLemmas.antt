@@ -5,7 +5,7 @@ use Rattle.std.specs.List.{AllByRecursion, AllZip}
 use Rattle.std.proofs.lemmas.Bool.{leb-false, leb-true}
 use Rattle.std.proofs.lemmas.List.{drop-take, get_or_default, map-append}
 use Rattle.std.proofs.lemmas.List.Elements.{All-from_recursion}
-use Rattle.answer_lines.specs.declared.answer.Answer.{Answer}
+use Rattle.answer_lines.specs.declared.printed.PrintedAnswer.{PrintedAnswer}
 use Rattle.live_pair.specs.Seats.{SeatSeen, version_of}
 use Rattle.live_rounds.proofs.SharesLemmas.{map_drop, map_long, map_take}
 use Rattle.live_rounds.specs.Helps.Posts.{AreAll, AreKept, AreSpans, kept_at}
@@ -126,23 +126,23 @@ kept_by true low high replies is = inl (leb-true low high is, refl)
 kept_by false low high replies is = inr (leb-false low high is, refl)
 
 -- where the seat's version is not above that one, and where it is
-pub kept_whole : (seat : SeatSeen) (reached version : ℕ) (replies : List Answer) → reached ≡ version_of seat.front → reached ≤ version → replies ≡ kept_at version seat replies
+pub kept_whole : (seat : SeatSeen) (reached version : ℕ) (replies : List PrintedAnswer) → reached ≡ version_of seat.front → reached ≤ version → replies ≡ kept_at version seat replies
 kept_whole seat reached version replies is within = by (kept_by (leb (version_of seat.front) version) (version_of seat.front) version replies refl)
   where
     by : ((version_of seat.front ≤ version) × (kept_at version seat replies ≡ replies)) ⊎ ((version < version_of seat.front) × (kept_at version seat replies ≡ [])) → replies ≡ kept_at version seat replies
     by (inl fits) = sym fits.1
     by (inr beyond) = absurd (omega (arith, is, within, beyond.0))
 
-pub kept_none : (seat : SeatSeen) (reached version : ℕ) (replies none : List Answer) → reached ≡ version_of seat.front → version < reached → none ≡ [] → none ≡ kept_at version seat replies
+pub kept_none : (seat : SeatSeen) (reached version : ℕ) (replies none : List PrintedAnswer) → reached ≡ version_of seat.front → version < reached → none ≡ [] → none ≡ kept_at version seat replies
 kept_none seat reached version replies none is beyond none-is = by (kept_by (leb (version_of seat.front) version) (version_of seat.front) version replies refl)
   where
     by : ((version_of seat.front ≤ version) × (kept_at version seat replies ≡ replies)) ⊎ ((version < version_of seat.front) × (kept_at version seat replies ≡ [])) → none ≡ kept_at version seat replies
     by (inl fits) = absurd (omega (arith, is, beyond, fits.0))
     by (inr above) = none-is ∙ sym above.1
 
-module _ {X : Type 0} (seat : X → SeatSeen) (from until : X → ℕ) (refusals : X → Refusals) (replies : X → List Answer) (ran_out : X → Bool) where
+module _ {X : Type 0} (seat : X → SeatSeen) (from until : X → ℕ) (refusals : X → Refusals) (replies : X → List PrintedAnswer) (ran_out : X → Bool) where
   -- what is kept of the replies at posts
-  abbrev pub all_kept : ℕ → List X → List (List Answer)
+  abbrev pub all_kept : ℕ → List X → List (List PrintedAnswer)
   all_kept version posts = map (λ (post : X). kept_at version (seat post) (replies post)) posts
 
   abbrev pub AreUsedAt : List X → List X → Type 0

@@ -1,10 +1,12 @@
 -- The lines of a round, out of the replies to the requests of its parts and of those to its other items.
-use Rattle.std.proofs.Common.{◌≡◌, ℕ, zero, suc, List, [], ◌∷◌, ◌++◌, length, length-append, take, drop, refl, sym, ap, subst, ◌∙◌, arith}
+use Rattle.std.proofs.Common.{◌≡◌, ℕ, zero, suc, List, [], ◌∷◌, ◌++◌, length, length-append, map, take, drop, refl, sym, ap, subst, ◌∙◌, arith}
 use Rattle.std.specs.Prelude.{All}
 use Rattle.std.specs.List.{AllByRecursion, AllZip}
 use Rattle.std.specs.List.Sorted.{IsNonDecreasing}
 use Rattle.std.proofs.lemmas.List.Elements.{All-from_recursion}
-use Rattle.answer_lines.specs.declared.answer.Answer.{Answer}
+use Rattle.answer_lines.specs.Printed.{printed_line}
+use Rattle.answer_lines.specs.declared.printed.PrintedAnswer.{PrintedAnswer}
+use Rattle.answer_lines.specs.declared.printed.PrintedLine.{PrintedLine}
 use Rattle.answer_lines.specs.declared.answer.Line.{Line}
 use Rattle.live_rounds.proofs.ItemLemmas.{requests_both}
 use Rattle.live_rounds.proofs.MergedLemmas.{merged_are}
@@ -72,8 +74,10 @@ module _ {X : Type 0} where
 
 -- ---- the lines of a round
 
-module _ (model : ModelParts) (shapes : Shapes) (opening : Policy) (before round : List Said) (others : ℕ) (parts : List (List Said)) (lists : List (List ℕ)) (refused : List (List (List ℕ))) (asked replies : List Answer) (low : ℕ) where
-  pub record AreLinesFor (lines : List Line) : Type 0 where
+module _ (model : ModelParts) (shapes : Shapes) (opening : Policy) (before round : List Said) (others : ℕ) (parts : List (List Said)) (lists : List (List ℕ)) (refused : List (List (List ℕ))) (asked replies : List PrintedAnswer) (low : ℕ) where
+  pub record AreLinesFor (printed : List PrintedLine) : Type 0 where
+    pub lines : List Line
+    pub told : printed ≡ map printed_line lines
     pub of_items : List (List (List ℕ))
     pub lines_are : AreOfRound model shapes opening (suc others) before round of_items lines
     pub refused_are : all_refused of_items ≡ all_refused refused
@@ -87,6 +91,8 @@ module _ (model : ModelParts) (shapes : Shapes) (opening : Policy) (before round
   lines_for are each rise answered all told =
       let is = merged_are model shapes opening before round before round (in_turn lists) refused asked replies answered all told in
       record {
+        lines = is.lines;
+        told = is.told;
         of_items = is.of_items;
         lines_are = record {
           versions = is.chosen;

@@ -1,21 +1,21 @@
 -- Rounds one after the other.
-use Rattle.std.proofs.Common.{◌≡◌, inl, inr, ℕ, zero, suc, ◌+◌, ◌<◌, ◌≤◌, Bool, true, false, List, [], ◌∷◌, ◌++◌, append_assoc, append-nil, drop, length, length-append, take, refl, sym, ap, subst, ◌∙◌, arith}
-use Rattle.std.specs.Prelude.{All, if◌then◌else◌, sum_by}
-use Rattle.std.specs.List.{AllByRecursion, AllZip}
-use Rattle.std.proofs.lemmas.List.Elements.{All-from_recursion, recursion_from_All}
-use Rattle.script_read.specs.Named.{is_named}
+use Rattle.std.proofs.Common.{◌≡◌, inl, ℕ, zero, suc, ◌+◌, ◌<◌, ◌≤◌, Bool, true, false, List, [], ◌∷◌, ◌++◌, append_assoc, append-nil, drop, length, length-append, take, refl, sym, ap, subst, ◌∙◌, arith}
+use Rattle.std.specs.Prelude.{if◌then◌else◌, sum_by}
+use Rattle.std.specs.List.{AllZip}
 use Rattle.std.proofs.lemmas.List.Sums.{sum_by-append}
 use Rattle.answer_lines.specs.declared.answer.Line.{Line}
+use Rattle.answer_lines.specs.declared.printed.PrintedLine.{PrintedLine}
 use Rattle.live_pair.specs.Admins.{AdminSeen}
 use Rattle.live_pair.specs.Seats.{SeatSeen}
 use Rattle.live_rounds.proofs.RoundLemmas.{drop_front, take_front}
 use Rattle.live_rounds.proofs.ShareLemmas.{all_weighed}
+use Rattle.live_rounds.proofs.TakingLemmas.{all_assoc, in_turn_both, taken_both}
 use Rattle.live_rounds.proofs.AllSharesLemmas.{same_refusals}
 use Rattle.live_rounds.specs.Administrators.{IsAdminBehind}
 use Rattle.live_rounds.specs.Done.{AreLinesOf, HaveRefused, IsRun}
 use Rattle.live_rounds.specs.Scripts.{AreAllShared, AreSharedLines, AreSomeShared, BeginsWithRound, IsFirstRound, round_size}
 use Rattle.live_rounds.specs.Shares.{in_turn}
-use Rattle.live_rounds.specs.Taken.{AreAllTaken, AreTaken}
+use Rattle.live_rounds.specs.Taken.{AreAllTaken, AreSomeTaken}
 use Rattle.live_rounds.specs.declared.taker.TakeStop.{TakeStop}
 use Rattle.live_rounds.specs.declared.taker.TakeStop.TheVariants.{NoMemory}
 use Rattle.model_conf.specs.ModelText.{ModelParts}
@@ -103,16 +103,6 @@ used_alike (r ∷ list) = (used_none r, used_alike list)
 -- each script has lines with any number of workers
 abbrev pub SharesPlain : Type 0
 SharesPlain = (model : ModelParts) (shapes : Shapes) (opening : Policy) (workers : ℕ) (items : List Said) → (lines : List Line) × IsShared model shapes opening workers items (none_refused items) lines
-
--- ---- lists that are taken in turn
-
-pub in_turn_more : {X : Type 0} (lists : List (List X)) (more : List X) → in_turn (lists ++ more ∷ []) ≡ in_turn lists ++ more
-in_turn_more [] more = append-nil more
-in_turn_more {X = X} (xs ∷ lists) more = ap (λ (l : List X). xs ++ l) (in_turn_more lists more) ∙ sym (append_assoc xs (in_turn lists) more)
-
-pub taken_more : {X : Type 0} (took : X → List Line → X → Type 0) (old mid new : X) (lists : List (List Line)) (lines : List Line) → AreTaken took old lists mid → took mid lines new → AreTaken took old (lists ++ lines ∷ []) new
-taken_more {X = X} took old mid new [] lines taken more = (new, subst (λ (x : X). took x lines new) taken more, refl)
-taken_more took old mid new (first ∷ lists) lines taken more = (taken.0, taken.1, taken_more took taken.0 mid new lists lines taken.2 more)
 
 -- ---- rounds one after the other
 
@@ -329,11 +319,12 @@ module _ (model : ModelParts) (shapes : Shapes) (opening : Policy) where
       }
 
       -- one round more
-      pub done_next : (json : Bool) (at : ℕ) (rest : List ℕ) (count : ℕ) (nows : List Refusals) (admin : AdminSeen) (to : X) (round : List Said) (next : ℕ) (behind : List ℕ) (sum : ℕ) (laters : List Refusals) (new : AdminSeen) (olds seats : List SeatSeen) (told : List Line) (later : X)
-          → (so : AreDoneTo json at rest count nows admin to) → BeginsWithRound json at rest round next behind → 0 < length round → sum ≡ count + length round → IsRun model shapes opening workers so.front round new olds seats nows laters told → took to told later
+      pub done_next : (json : Bool) (at : ℕ) (rest : List ℕ) (count : ℕ) (nows : List Refusals) (admin : AdminSeen) (to : X) (round : List Said) (next : ℕ) (behind : List ℕ) (sum : ℕ) (laters : List Refusals) (new : AdminSeen) (olds seats : List SeatSeen) (printed : List PrintedLine) (later : X)
+          → (so : AreDoneTo json at rest count nows admin to) → BeginsWithRound json at rest round next behind → 0 < length round → sum ≡ count + length round → (run : IsRun model shapes opening workers so.front round new olds seats nows laters printed) → AreAllTaken took to run.lines later
           → AreDoneTo json next behind sum laters new later
-      done_next json at rest count nows admin to round next behind sum laters new olds seats told later so begins some sum-is run taken =
+      done_next json at rest count nows admin to round next behind sum laters new olds seats printed later so begins some sum-is run taken =
           let first = begins so.left so.says in
+          let told = run.lines in
           record {
             front = so.front ++ round;
             left = first.left;
@@ -344,9 +335,9 @@ module _ (model : ModelParts) (shapes : Shapes) (opening : Policy) where
             rounds = rounds_next so.front so.left round first.left nows laters so.lines told (so.lines ++ told) first.parts first.size some so.rounds run.lines_are refl;
             behind = run.behind;
             taken = record {
-              lists = so.taken.lists ++ told ∷ [];
-              taken = taken_more took old to later so.taken.lists told so.taken.taken taken;
-              are = ap (λ (l : List Line). l ++ told) so.taken.are ∙ sym (in_turn_more so.taken.lists told);
+              lists = so.taken.lists ++ taken.lists;
+              taken = taken_both took old to later so.taken.lists taken.lists so.taken.taken taken.taken;
+              are = (λ j. so.taken.are j ++ taken.are j) ∙ sym (in_turn_both so.taken.lists taken.lists);
             };
           }
 
@@ -383,38 +374,29 @@ module _ (model : ModelParts) (shapes : Shapes) (opening : Policy) where
           record { lines = all.more; are = all.are; taken = record { lists = []; mid = old; next = []; more = all.more; taken = refl; parts = refl; ends = inl (refl, refl) } }
 
       -- the lines of a round were not taken to their end
-      pub done_some : SharesPlain → (stopped : X → List Line → X → TakeStop → Type 0) (json : Bool) (at : ℕ) (rest : List ℕ) (count : ℕ) (nows laters : List Refusals) (admin new : AdminSeen) (to later : X) (round : List Said) (next : ℕ) (behind : List ℕ) (olds seats : List SeatSeen) (told : List Line) (stop : TakeStop)
-          → (so : AreDoneTo json at rest count nows admin to) → BeginsWithRound json at rest round next behind → 0 < length round → IsRun model shapes opening workers so.front round new olds seats nows laters told → stopped to told later stop
+      pub done_some : SharesPlain → (stopped : X → List Line → X → TakeStop → Type 0) (json : Bool) (at : ℕ) (rest : List ℕ) (count : ℕ) (nows laters : List Refusals) (admin new : AdminSeen) (to later : X) (round : List Said) (next : ℕ) (behind : List ℕ) (olds seats : List SeatSeen) (printed : List PrintedLine) (stop : TakeStop)
+          → (so : AreDoneTo json at rest count nows admin to) → BeginsWithRound json at rest round next behind → 0 < length round → (run : IsRun model shapes opening workers so.front round new olds seats nows laters printed) → AreSomeTaken took stopped to run.lines later stop
           → AreSomeShared took model shapes opening workers befores laters items stopped old later stop
-      done_some law stopped json at rest count nows laters admin new to later round next behind olds seats told stop so begins some run amid =
+      done_some law stopped json at rest count nows laters admin new to later round next behind olds seats printed stop so begins some run amid =
           let first = begins so.left so.says in
+          let told = run.lines in
           let rounds = rounds_next so.front so.left round first.left nows laters so.lines told (so.lines ++ told) first.parts first.size some so.rounds run.lines_are refl in
           let all = more_lines law (so.front ++ round) first.left laters laters (so.lines ++ told) rounds (used_alike laters) in
           record {
             lines = (so.lines ++ told) ++ all.more;
             are = all.are;
             taken = record {
-              lists = so.taken.lists;
-              mid = to;
-              next = told;
-              more = all.more;
-              taken = so.taken.taken;
-              parts = append_assoc so.lines told all.more ∙ ap (λ (l : List Line). l ++ (told ++ all.more)) so.taken.are;
-              ends = inr amid;
+              lists = so.taken.lists ++ amid.lists;
+              mid = amid.mid;
+              next = amid.next;
+              more = amid.more ++ all.more;
+              taken = taken_both took old to amid.mid so.taken.lists amid.lists so.taken.taken amid.taken;
+              parts =
+                  (λ j. (so.taken.are j ++ amid.parts j) ++ all.more)
+                  ∙ all_assoc (in_turn so.taken.lists) (in_turn amid.lists) amid.next amid.more all.more ∙ ap (λ (l : List Line). l ++ (amid.next ++ (amid.more ++ all.more))) (sym (in_turn_both so.taken.lists amid.lists));
+              ends = amid.ends;
             };
           }
-
--- the items of the next round are among those that have names
-pub round_named : (items front left round others : List Said) → items ≡ front ++ left → left ≡ round ++ others → All (λ (item : Said). is_named item ≡ true) items → All (λ (item : Said). is_named item ≡ true) round
-round_named items front left round others parts begins all = All-from_recursion (λ (item : Said). is_named item ≡ true) round (in_front round others (subst (AllByRecursion (λ (item : Said). is_named item ≡ true)) begins (behind_front front left (recursion_from_All (λ (item : Said). is_named item ≡ true) (front ++ left) (subst (All (λ (item : Said). is_named item ≡ true)) parts all)))))
-  where
-    behind_front : (front left : List Said) → AllByRecursion (λ (item : Said). is_named item ≡ true) (front ++ left) → AllByRecursion (λ (item : Said). is_named item ≡ true) left
-    behind_front [] left all = all
-    behind_front (item ∷ front) left all = behind_front front left all.1
-
-    in_front : (front left : List Said) → AllByRecursion (λ (item : Said). is_named item ≡ true) (front ++ left) → AllByRecursion (λ (item : Said). is_named item ≡ true) front
-    in_front [] left all = tt
-    in_front (item ∷ front) left all = (all.0, in_front front left all.1)
 
 -- where the finders were used in one round and in the next, they were in both
 pub used_both : (befores nows laters : List Refusals) → AllZip IsUsed befores nows → AllZip IsUsed nows laters → AllZip IsUsed befores laters

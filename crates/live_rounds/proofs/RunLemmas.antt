@@ -2,7 +2,9 @@
 use Rattle.std.proofs.Common.{◌≡◌, ⊎_elim, ℕ, zero, suc, ◌+◌, ◌<◌, ◌≤◌, List, [], ◌∷◌, drop, get_or, length, map, slice_set, take, take_all, refl, sym, ap, subst, ◌∙◌, arith}
 use Rattle.std.specs.List.{AllZip}
 use mathlib.Core.List.{IsPrefix}
-use Rattle.answer_lines.specs.declared.answer.Answer.{Answer}
+use Rattle.answer_lines.specs.Printed.{printed_line}
+use Rattle.answer_lines.specs.declared.printed.PrintedAnswer.{PrintedAnswer}
+use Rattle.answer_lines.specs.declared.printed.PrintedLine.{PrintedLine}
 use Rattle.answer_lines.specs.declared.answer.Line.{Line}
 use Rattle.live_pair.proofs.CallerLemmas.{prefix_self, prefix_trans}
 use Rattle.live_pair.specs.Admins.{AdminSeen}
@@ -47,7 +49,7 @@ all_learned first last (z ∷ zeros) (o ∷ olds) [] finals one grown two = absu
 all_learned first last [] [] [] (f ∷ finals) one grown two = absurd two
 all_learned first last (z ∷ zeros) (o ∷ olds) (n ∷ news) [] one grown two = absurd two
 
-module _ (model : ModelParts) (shapes : Shapes) (opening : Policy) (before round : List Said) (n : ℕ) (old new : AdminSeen) (others : List Answer) (done : AreDoneBeside shapes opening before round old new others) (sizes : List ℕ) (added : AddsParts n round [] sizes) where
+module _ (model : ModelParts) (shapes : Shapes) (opening : Policy) (before round : List Said) (n : ℕ) (old new : AdminSeen) (others : List PrintedAnswer) (done : AreDoneBeside shapes opening before round old new others) (sizes : List ℕ) (added : AddsParts n round [] sizes) where
   abbrev end : ℕ
   end = at_end model shapes opening before round old new others done
 
@@ -60,12 +62,12 @@ module _ (model : ModelParts) (shapes : Shapes) (opening : Policy) (before round
   whole : round ≡ take (length round) (drop 0 round)
   whole = sym (take_all (length round) round (omega arith))
 
-  module _ (firsts olds news finals : List SeatSeen) (befores nows : List Refusals) (kepts : List (List Answer)) (first last : Refusals) (asked : List Answer)
+  module _ (firsts olds news finals : List SeatSeen) (befores nows : List Refusals) (kepts : List (List PrintedAnswer)) (first last : Refusals) (asked : List PrintedAnswer)
       (one : AllZip (HasLearned old.list) firsts olds) (two : AllZip (HasLearned new.list) news finals) (kept : AreKept model shapes opening round end 0 sizes olds news befores nows kepts) (shared : AreShared model new.desk.state round sizes kepts first last [] asked) where
     answered : AreAnswered model shapes opening before round old new others done round round sizes firsts finals befores nows first last [] asked
     answered = all_answered model shapes opening before round old new others done round n 0 (length round) round sizes firsts olds news finals befores nows kepts first last [] asked sized_as whole few one two kept shared
 
-    pub run_lines : (count : ℕ) → count ≡ length before → AreLinesOf model shapes opening (suc n) before round (first ∷ befores) (last ∷ nows) (merged count round asked others)
+    pub run_lines : (count : ℕ) → count ≡ length before → (lines : List Line) × (merged count round asked others ≡ map printed_line lines) × AreLinesOf model shapes opening (suc n) before round (first ∷ befores) (last ∷ nows) lines
     run_lines count count-is = round_lines model shapes opening before round round old new others done n sizes sized_as firsts finals first last befores nows asked answered count count-is
 
     pub run_entered : (count : ℕ) → AreEntered (suc n) round new firsts finals (merged count round asked others)
@@ -74,7 +76,7 @@ module _ (model : ModelParts) (shapes : Shapes) (opening : Policy) (before round
 -- ---- what seats know of behind the work
 
 -- a seat at which a part was answered knows of all that it knew of
-kept_begins : (model : ModelParts) (shapes : Shapes) (opening : Policy) (version : ℕ) (part : List Said) (earlier now : Refusals) (old new : SeatSeen) (kept : List Answer) → IsPartKept model shapes opening version part earlier now old new kept → IsPrefix old.front new.front
+kept_begins : (model : ModelParts) (shapes : Shapes) (opening : Policy) (version : ℕ) (part : List Said) (earlier now : Refusals) (old new : SeatSeen) (kept : List PrintedAnswer) → IsPartKept model shapes opening version part earlier now old new kept → IsPrefix old.front new.front
 kept_begins model shapes opening version part earlier now old new kept is =
     let front_is : new.front ≡ (last_from old is.served.seats).front = ⊎_elim (λ whole. ap (λ (s : SeatSeen). s.front) whole.0) (λ shut. shut.front_is) is.served.ends in
     subst (IsPrefix old.front) (sym front_is) (all_begin shapes opening model old is.served.seats is.served.refused is.replies (requests part) is.served.served)
@@ -83,7 +85,7 @@ same_begins : (list : List SeatSeen) → AllZip (λ (s t : SeatSeen). IsPrefix s
 same_begins [] = tt
 same_begins (s ∷ list) = (prefix_self s.front, same_begins list)
 
-pub kept_grown : (model : ModelParts) (shapes : Shapes) (opening : Policy) (script : List Said) (version place : ℕ) (sizes : List ℕ) (olds news : List SeatSeen) (befores nows : List Refusals) (kepts : List (List Answer)) → AreKept model shapes opening script version place sizes olds news befores nows kepts
+pub kept_grown : (model : ModelParts) (shapes : Shapes) (opening : Policy) (script : List Said) (version place : ℕ) (sizes : List ℕ) (olds news : List SeatSeen) (befores nows : List Refusals) (kepts : List (List PrintedAnswer)) → AreKept model shapes opening script version place sizes olds news befores nows kepts
     → AllZip (λ (s t : SeatSeen). IsPrefix s.front t.front) olds news
 kept_grown model shapes opening script version place [] olds news befores nows [] kept = subst (AllZip (λ (s t : SeatSeen). IsPrefix s.front t.front) olds) (sym kept.0) (same_begins olds)
 kept_grown model shapes opening script version place (size ∷ sizes) [] news befores nows [] kept = subst (AllZip (λ (s t : SeatSeen). IsPrefix s.front t.front) []) (sym kept.0) tt
@@ -115,11 +117,11 @@ lines_with model shapes opening workers before round befores all nows now lines 
 
 -- ---- all of it, by what the steps say
 
-module _ {P : Type 0} (refusals : P → Refusals) (model : ModelParts) (shapes : Shapes) (opening : Policy) (before round : List Said) (count workers n : ℕ) (count-is : count ≡ length before) (workers-is : workers ≡ suc n) (old new : AdminSeen) (others asked : List Answer) (lines : List Line)
-    (sizes : List ℕ) (s0 s1 s2 s3 : List SeatSeen) (f0 f1 : List P) (d first last : P) (kepts : List (List Answer)) (state : State) (front_old front_new : List (List (List Change))) where
+module _ {P : Type 0} (refusals : P → Refusals) (model : ModelParts) (shapes : Shapes) (opening : Policy) (before round : List Said) (count workers n : ℕ) (count-is : count ≡ length before) (workers-is : workers ≡ suc n) (old new : AdminSeen) (others asked : List PrintedAnswer) (printed : List PrintedLine)
+    (sizes : List ℕ) (s0 s1 s2 s3 : List SeatSeen) (f0 f1 : List P) (d first last : P) (kepts : List (List PrintedAnswer)) (state : State) (front_old front_new : List (List (List Change))) where
   run_items : AreDoneBeside shapes opening before round old new others → AddsParts n round [] sizes → front_old ≡ old.list → AllZip (HasLearned front_old) s0 s1 → front_new ≡ new.list → AllZip (HasLearned front_new) s2 s3
       → AreKept model shapes opening round (versions new.desk.state.log) 0 sizes s1 s2 (drop 1 (map refusals f0)) (drop 1 (map refusals f1)) kepts → state ≡ new.desk.state → AreShared model state round sizes kepts (refusals first) (refusals last) [] asked
-      → take 1 f1 ≡ take 1 f0 → 0 < length f0 → first ≡ get_or f1 0 d → lines ≡ merged count round asked others → IsRun model shapes opening workers before round new s0 s3 (map refusals f0) (map refusals (slice_set f1 0 last)) lines
+      → take 1 f1 ≡ take 1 f0 → 0 < length f0 → first ≡ get_or f1 0 d → printed ≡ merged count round asked others → IsRun model shapes opening workers before round new s0 s3 (map refusals f0) (map refusals (slice_set f1 0 last)) printed
   run_items done added old-is learned_old new-is learned_new kept state-is shared same some first-is lines-is =
       let one : AllZip (HasLearned old.list) s0 s1 = subst (λ (l : List (List (List Change))). AllZip (HasLearned l) s0 s1) old-is learned_old in
       let two : AllZip (HasLearned new.list) s2 s3 = subst (λ (l : List (List (List Change))). AllZip (HasLearned l) s2 s3) new-is learned_new in
@@ -131,30 +133,31 @@ module _ {P : Type 0} (refusals : P → Refusals) (model : ModelParts) (shapes :
       let told = run_lines model shapes opening before round n old new others done sizes added s0 s1 s2 s3 (drop 1 (map refusals f0)) (drop 1 (map refusals f1)) kepts (refusals first) (refusals last) asked one two kept shared_here count count-is in
       let entered = run_entered model shapes opening before round n old new others done sizes added s0 s1 s2 s3 (drop 1 (map refusals f0)) (drop 1 (map refusals f1)) kepts (refusals first) (refusals last) asked one two kept shared_here count in
       record {
+        lines = told.0;
+        told = lines-is ∙ told.1;
         lines_are =
-            subst (λ (w : ℕ). AreLinesOf model shapes opening w before round (map refusals f0) (map refusals (slice_set f1 0 last)) lines) (sym workers-is)
-            (subst (AreLinesOf model shapes opening (suc n) before round (map refusals f0) (map refusals (slice_set f1 0 last))) (sym lines-is)
-            (lines_with model shapes opening (suc n) before round _ (map refusals f0) _ (map refusals (slice_set f1 0 last)) _ first_old last_new told));
+            subst (λ (w : ℕ). AreLinesOf model shapes opening w before round (map refusals f0) (map refusals (slice_set f1 0 last)) told.0) (sym workers-is)
+            (lines_with model shapes opening (suc n) before round _ (map refusals f0) _ (map refusals (slice_set f1 0 last)) told.0 first_old last_new told.2);
         behind = done.behind;
-        entered = subst (λ (w : ℕ). AreEntered w round new s0 s3 lines) (sym workers-is) (subst (AreEntered (suc n) round new s0 s3) (sym lines-is) entered);
+        entered = subst (λ (w : ℕ). AreEntered w round new s0 s3 printed) (sym workers-is) (subst (AreEntered (suc n) round new s0 s3) (sym lines-is) entered);
         learned = all_learned old.list new.list s0 s1 s2 s3 one (kept_grown model shapes opening round (versions new.desk.state.log) 0 sizes s1 s2 (drop 1 (map refusals f0)) (drop 1 (map refusals f1)) kepts kept) two;
       }
 
 -- the same where the items are those of a script
-module _ {P : Type 0} (refusals : P → Refusals) (model : ModelParts) (shapes : Shapes) (opening : Policy) (before : List Said) (script items : List Item) (items-is : items ≡ script) (count workers n : ℕ) (count-is : count ≡ length before) (workers-is : workers ≡ suc n) (old new : AdminSeen) (others asked : List Answer) (lines : List Line)
-    (sizes : List ℕ) (s0 s1 s2 s3 : List SeatSeen) (f0 f1 : List P) (d first last : P) (kepts : List (List Answer)) (state : State) (front_old front_new : List (List (List Change))) where
+module _ {P : Type 0} (refusals : P → Refusals) (model : ModelParts) (shapes : Shapes) (opening : Policy) (before : List Said) (script items : List Item) (items-is : items ≡ script) (count workers n : ℕ) (count-is : count ≡ length before) (workers-is : workers ≡ suc n) (old new : AdminSeen) (others asked : List PrintedAnswer) (printed : List PrintedLine)
+    (sizes : List ℕ) (s0 s1 s2 s3 : List SeatSeen) (f0 f1 : List P) (d first last : P) (kepts : List (List PrintedAnswer)) (state : State) (front_old front_new : List (List (List Change))) where
   abbrev Kept : List Item → Type 0
   Kept l = AreKept model shapes opening (map seen l) (versions new.desk.state.log) 0 sizes s1 s2 (drop 1 (map refusals f0)) (drop 1 (map refusals f1)) kepts
 
   abbrev Run : List Item → Type 0
-  Run l = IsRun model shapes opening workers before (map seen l) new s0 s3 (map refusals f0) (map refusals (slice_set f1 0 last)) lines
+  Run l = IsRun model shapes opening workers before (map seen l) new s0 s3 (map refusals f0) (map refusals (slice_set f1 0 last)) printed
 
   pub run_all : AreDoneBeside shapes opening before (map seen items) old new others → AddsParts n (map seen items) [] sizes → front_old ≡ old.list → AllZip (HasLearned front_old) s0 s1 → front_new ≡ new.list → AllZip (HasLearned front_new) s2 s3
       → AreKept model shapes opening (map seen script) (versions new.desk.state.log) 0 sizes s1 s2 (drop 1 (map refusals f0)) (drop 1 (map refusals f1)) kepts → state ≡ new.desk.state → AreShared model state (map seen items) sizes kepts (refusals first) (refusals last) [] asked
-      → take 1 f1 ≡ take 1 f0 → 0 < length f0 → first ≡ get_or f1 0 d → lines ≡ merged count (map seen items) asked others → IsRun model shapes opening workers before (map seen script) new s0 s3 (map refusals f0) (map refusals (slice_set f1 0 last)) lines
+      → take 1 f1 ≡ take 1 f0 → 0 < length f0 → first ≡ get_or f1 0 d → printed ≡ merged count (map seen items) asked others → IsRun model shapes opening workers before (map seen script) new s0 s3 (map refusals f0) (map refusals (slice_set f1 0 last)) printed
   run_all done added old-is learned_old new-is learned_new kept state-is shared same some first-is lines-is =
       subst (λ (l : List Item). Kept l → Run l) items-is
-      (λ here. run_items refusals model shapes opening before (map seen items) count workers n count-is workers-is old new others asked lines sizes s0 s1 s2 s3 f0 f1 d first last kepts state front_old front_new done added old-is learned_old new-is learned_new here state-is shared same some first-is lines-is)
+      (λ here. run_items refusals model shapes opening before (map seen items) count workers n count-is workers-is old new others asked printed sizes s0 s1 s2 s3 f0 f1 d first last kepts state front_old front_new done added old-is learned_old new-is learned_new here state-is shared same some first-is lines-is)
       kept
 
 -- ---- what the steps want

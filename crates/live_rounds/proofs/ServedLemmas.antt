@@ -4,8 +4,10 @@ use Rattle.std.specs.Prelude.{MatchBool}
 use Rattle.live_rounds.specs.Lists.{last_from}
 use Rattle.std.proofs.lemmas.Bool.{eq-eqb, ne_eqb}
 use Rattle.std.proofs.lemmas.List.{length-map}
+use Rattle.answer_lines.specs.Printed.{printed_answer}
 use Rattle.answer_lines.specs.declared.answer.Answer.{Answer}
 use Rattle.answer_lines.specs.declared.answer.Answer.TheVariants as answer
+use Rattle.answer_lines.specs.declared.printed.PrintedAnswer.{PrintedAnswer}
 use Rattle.live_pair.specs.Seats.{IsEntered, IsShut, SeatSeen, version_of}
 use Rattle.desk_session.proofs.CallerLemmas.{judged_in, logged_more}
 use Rattle.live_rounds.proofs.ItemLemmas.{none_requested, one_more, parted, requests_both}
@@ -31,17 +33,25 @@ module _ (model : ModelParts) (shapes : Shapes) (opening : Policy) where
   -- ---- one request
 
   -- why a line is no request
-  pub served_fault : (refusals : Refusals) (seat : SeatSeen) (fault : RequestFault) → IsServedBy model shapes opening (Err fault) refusals refusals seat seat (answer.Request fault)
-  served_fault refusals seat fault = record { refused = []; logged = refl; served = record { answers = refl; unasked = λ calm. refl; seat = refl } }
+  pub served_fault : (refusals : Refusals) (seat : SeatSeen) (fault : RequestFault) (reply : PrintedAnswer) → reply ≡ printed_answer (answer.Request fault) → IsServedBy model shapes opening (Err fault) refusals refusals seat seat reply
+  served_fault refusals seat fault reply told = record {
+    refused = [];
+    logged = refl;
+    served = record { answers = record { answer = answer.Request fault; holds = refl; told = told }; unasked = λ calm. refl; seat = refl };
+  }
 
   -- a request with another number of values
-  pub served_arity : (refusals : Refusals) (seat : SeatSeen) (values : List Value) (got want : ℕ) → (length values ≡ length model.request → ⊥) → got ≡ length values → want ≡ length model.request
-      → IsServedBy model shapes opening (Ok (map datum values)) refusals refusals seat seat (answer.Arity got want)
-  served_arity refusals seat values got want others is_got is_want = record {
+  pub served_arity : (refusals : Refusals) (seat : SeatSeen) (values : List Value) (got want : ℕ) (reply : PrintedAnswer) → (length values ≡ length model.request → ⊥) → got ≡ length values → want ≡ length model.request
+      → reply ≡ printed_answer (answer.Arity got want) → IsServedBy model shapes opening (Ok (map datum values)) refusals refusals seat seat reply
+  served_arity refusals seat values got want reply others is_got is_want told = record {
     refused = [];
     logged = refl;
     served = record {
-      answers = subst (λ (b : Bool). MatchBool b (IsDecided model shapes [] (version_of seat.front) (tables_behind opening seat.front) (map datum values) (answer.Arity got want)) (answer.Arity got want ≡ answer.Arity (length (map datum values)) (length model.request))) (sym unequal) same;
+      answers = record {
+        answer = answer.Arity got want;
+        holds = subst (λ (b : Bool). MatchBool b (IsDecided model shapes [] (version_of seat.front) (tables_behind opening seat.front) (map datum values) (answer.Arity got want)) (answer.Arity got want ≡ answer.Arity (length (map datum values)) (length model.request))) (sym unequal) same;
+        told = told;
+      };
       unasked = λ calm. refl;
       seat = subst (λ (b : Bool). MatchBool b (IsEntered seat seat) (seat ≡ seat)) (sym unequal) refl;
     };
@@ -57,13 +67,17 @@ module _ (model : ModelParts) (shapes : Shapes) (opening : Policy) where
       same = ap (λ (n : ℕ). answer.Arity n want) (is_got ∙ sym size) ∙ ap (answer.Arity (length (map datum values))) is_want
 
   -- a verdict, with its rule
-  pub served_decided : (before now : Refusals) (old new : SeatSeen) (values : List Value) (told : Answered × Option Fields) → length values ≡ length model.request → IsUsed before now
-      → IsExplainedAt model shapes opening (map datum values) before now old new told → IsServedBy model shapes opening (Ok (map datum values)) before now old new (answer.Decided told.0.version told.0.verdict told.1)
-  served_decided before now old new values told equal used explained = record {
+  pub served_decided : (before now : Refusals) (old new : SeatSeen) (values : List Value) (told : Answered × Option Fields) (printed : PrintedAnswer) → length values ≡ length model.request → IsUsed before now
+      → IsExplainedAt model shapes opening (map datum values) before now old new told → printed ≡ printed_answer (answer.Decided told.0.version told.0.verdict told.1) → IsServedBy model shapes opening (Ok (map datum values)) before now old new printed
+  served_decided before now old new values told printed equal used explained same = record {
     refused = used.more;
     logged = used.refused;
     served = record {
-      answers = subst (λ (b : Bool). MatchBool b (IsDecided model shapes used.more (version_of new.front) (tables_behind opening new.front) (map datum values) reply) (reply ≡ answer.Arity (length (map datum values)) (length model.request))) (sym fits) decided;
+      answers = record {
+        answer = reply;
+        holds = subst (λ (b : Bool). MatchBool b (IsDecided model shapes used.more (version_of new.front) (tables_behind opening new.front) (map datum values) reply) (reply ≡ answer.Arity (length (map datum values)) (length model.request))) (sym fits) decided;
+        told = same;
+      };
       unasked = λ calm. let both : true ≡ false = sym fits ∙ calm in absurd cc;
       seat = subst (λ (b : Bool). MatchBool b (IsEntered old new) (new ≡ old)) (sym fits) explained.decided.entered;
     };
@@ -87,8 +101,8 @@ module _ (model : ModelParts) (shapes : Shapes) (opening : Policy) where
 
   -- ---- requests one after the other
 
-  served_more : (old : SeatSeen) (seats : List SeatSeen) (refused : List (List (List ℕ))) (replies : List Answer) (done : List Reading) → AreServed model shapes opening old seats refused replies done → length replies ≡ length done
-      → (reading : Reading) (more : List (List ℕ)) (next : SeatSeen) (reply : Answer) → IsServed model shapes opening reading more (last_from old seats) next reply
+  served_more : (old : SeatSeen) (seats : List SeatSeen) (refused : List (List (List ℕ))) (replies : List PrintedAnswer) (done : List Reading) → AreServed model shapes opening old seats refused replies done → length replies ≡ length done
+      → (reading : Reading) (more : List (List ℕ)) (next : SeatSeen) (reply : PrintedAnswer) → IsServed model shapes opening reading more (last_from old seats) next reply
       → AreServed model shapes opening old (seats ++ next ∷ []) (refused ++ more ∷ []) (replies ++ reply ∷ []) (done ++ reading ∷ [])
   served_more old [] [] [] [] are all reading more next reply is = (is, tt)
   served_more old [] [] [] (asked ∷ done) are all reading more next reply is = absurd (omega (arith, all))
@@ -96,13 +110,13 @@ module _ (model : ModelParts) (shapes : Shapes) (opening : Policy) where
       (are.0, served_more seat seats refused replies done are.1 (omega (arith, all)) reading more next reply is)
   served_more old _ _ _ _ are all reading more next reply is = absurd are
 
-  served_front : (old : SeatSeen) (seats : List SeatSeen) (refused : List (List (List ℕ))) (replies : List Answer) (done others : List Reading) → AreServed model shapes opening old seats refused replies done → AreServed model shapes opening old seats refused replies (done ++ others)
+  served_front : (old : SeatSeen) (seats : List SeatSeen) (refused : List (List (List ℕ))) (replies : List PrintedAnswer) (done others : List Reading) → AreServed model shapes opening old seats refused replies done → AreServed model shapes opening old seats refused replies (done ++ others)
   served_front old [] [] [] done others are = tt
   served_front old (seat ∷ seats) (patterns ∷ refused) (first ∷ replies) (asked ∷ done) others are = (are.0, served_front seat seats refused replies done others are.1)
   served_front old _ _ _ _ others are = absurd are
 
   -- the requests among these items are answered, each in its turn
-  pub record IsServing (done : List Said) (before now : Refusals) (old new : SeatSeen) (replies : List Answer) : Type 0 where
+  pub record IsServing (done : List Said) (before now : Refusals) (old new : SeatSeen) (replies : List PrintedAnswer) : Type 0 where
     pub seats : List SeatSeen
     pub refused : List (List (List ℕ))
     pub served : AreServed model shapes opening old seats refused replies (requests done)
@@ -111,14 +125,14 @@ module _ (model : ModelParts) (shapes : Shapes) (opening : Policy) where
     pub all : length replies ≡ length (requests done)
 
   -- the finder was used so far
-  pub serving_used : (done : List Said) (before now : Refusals) (old new : SeatSeen) (replies : List Answer) → IsServing done before now old new replies → IsUsed before now
+  pub serving_used : (done : List Said) (before now : Refusals) (old new : SeatSeen) (replies : List PrintedAnswer) → IsServing done before now old new replies → IsUsed before now
   serving_used done before now old new replies so = record { more = all_refused so.refused; refused = so.logged }
 
   pub serving_none : (refusals : Refusals) (seat : SeatSeen) → IsServing [] refusals refusals seat seat []
   serving_none refusals seat = record { seats = []; refused = []; served = tt; logged = refl; seat = refl; all = refl }
 
   -- an item that is no request
-  pub serving_other : (done : List Said) (item : Said) (before now : Refusals) (old new : SeatSeen) (replies : List Answer) → is_request item ≡ false → IsServing done before now old new replies → IsServing (done ++ item ∷ []) before now old new replies
+  pub serving_other : (done : List Said) (item : Said) (before now : Refusals) (old new : SeatSeen) (replies : List PrintedAnswer) → is_request item ≡ false → IsServing done before now old new replies → IsServing (done ++ item ∷ []) before now old new replies
   serving_other done item before now old new replies other so =
       let same : requests done ≡ requests (done ++ item ∷ [])
       = sym (requests_both done (item ∷ []) ∙ ap (λ (l : List Reading). requests done ++ l) (none_requested item other) ∙ append-nil (requests done)) in
@@ -132,17 +146,17 @@ module _ (model : ModelParts) (shapes : Shapes) (opening : Policy) where
       }
 
   -- a request
-  pub serving_more : (done : List Said) (item : Said) (reading : Reading) (before now later : Refusals) (old new next : SeatSeen) (replies more : List Answer) (reply : Answer) → item ≡ said.asks reading → IsServing done before now old new replies
+  pub serving_more : (done : List Said) (item : Said) (reading : Reading) (before now later : Refusals) (old new next : SeatSeen) (replies more : List PrintedAnswer) (reply : PrintedAnswer) → item ≡ said.asks reading → IsServing done before now old new replies
       → IsServedBy model shapes opening reading now later new next reply → more ≡ replies ++ reply ∷ [] → IsServing (done ++ item ∷ []) before later old next more
   serving_more done item reading before now later old new next replies more reply asks so is more-is = record {
     seats = so.seats ++ next ∷ [];
     refused = so.refused ++ is.refused ∷ [];
-    served = subst (λ (l : List Answer). AreServed model shapes opening old (so.seats ++ next ∷ []) (so.refused ++ is.refused ∷ []) l (requests (done ++ item ∷ []))) (sym more-is)
+    served = subst (λ (l : List PrintedAnswer). AreServed model shapes opening old (so.seats ++ next ∷ []) (so.refused ++ is.refused ∷ []) l (requests (done ++ item ∷ []))) (sym more-is)
         (subst (AreServed model shapes opening old (so.seats ++ next ∷ []) (so.refused ++ is.refused ∷ []) (replies ++ reply ∷ [])) (sym one)
         (served_more old so.seats so.refused replies (requests done) so.served so.all reading is.refused next reply (subst (λ (s : SeatSeen). IsServed model shapes opening reading is.refused s next reply) so.seat is.served)));
     logged = logged_more before now later so.refused is.refused so.logged is.logged;
     seat = sym (last_more old so.seats next);
-    all = omega (arith, so.all, ap (λ (l : List Answer). length l) more-is, length-append replies (reply ∷ []), ap (λ (l : List Reading). length l) one, length-append (requests done) (reading ∷ []));
+    all = omega (arith, so.all, ap (λ (l : List PrintedAnswer). length l) more-is, length-append replies (reply ∷ []), ap (λ (l : List Reading). length l) one, length-append (requests done) (reading ∷ []));
   }
     where
       one : requests (done ++ item ∷ []) ≡ requests done ++ reading ∷ []
@@ -153,7 +167,7 @@ module _ (model : ModelParts) (shapes : Shapes) (opening : Policy) where
       last_more first (seat ∷ seats) last = last_more seat seats last
 
   -- all items are done
-  pub part_served : (part done : List Said) (before now : Refusals) (old new : SeatSeen) (replies : List Answer) → done ≡ part → IsServing done before now old new replies → IsPartServed model shapes opening part before now old new replies
+  pub part_served : (part done : List Said) (before now : Refusals) (old new : SeatSeen) (replies : List PrintedAnswer) → done ≡ part → IsServing done before now old new replies → IsPartServed model shapes opening part before now old new replies
   part_served part done before now old new replies same so = subst (λ (p : List Said). IsPartServed model shapes opening p before now old new replies) same (record {
     seats = so.seats;
     refused = so.refused;
@@ -163,7 +177,7 @@ module _ (model : ModelParts) (shapes : Shapes) (opening : Policy) where
   })
 
   -- an entry was refused
-  pub part_shut : (part done rest : List Said) (before now later : Refusals) (old new after : SeatSeen) (replies : List Answer) → part ≡ done ++ rest → later ≡ now → IsShut new after → IsServing done before now old new replies
+  pub part_shut : (part done rest : List Said) (before now later : Refusals) (old new after : SeatSeen) (replies : List PrintedAnswer) → part ≡ done ++ rest → later ≡ now → IsShut new after → IsServing done before now old new replies
       → IsPartServed model shapes opening part before later old after replies
   part_shut part done rest before now later old new after replies parts same shut so = record {
     seats = so.seats;
@@ -177,22 +191,22 @@ module _ (model : ModelParts) (shapes : Shapes) (opening : Policy) where
 
   module _ (items : List Item) (before : Refusals) (old : SeatSeen) where
     -- so many of the items are done
-    abbrev pub IsServingUpTo : ℕ → Refusals → SeatSeen → List Answer → Type 0
+    abbrev pub IsServingUpTo : ℕ → Refusals → SeatSeen → List PrintedAnswer → Type 0
     IsServingUpTo n now new replies = IsServing (map seen (take n items)) before now old new replies
 
-    pub serving_first : (replies : List Answer) → replies ≡ [] → IsServingUpTo 0 before old replies
+    pub serving_first : (replies : List PrintedAnswer) → replies ≡ [] → IsServingUpTo 0 before old replies
     serving_first replies none = subst (IsServing [] before before old old) (sym none) (serving_none before old)
 
-    module _ (n : ℕ) (item : Item) (now : Refusals) (new : SeatSeen) (replies : List Answer) (within : n < length items) (is : item ≡ get_or items n item) (so : IsServingUpTo n now new replies) where
+    module _ (n : ℕ) (item : Item) (now : Refusals) (new : SeatSeen) (replies : List PrintedAnswer) (within : n < length items) (is : item ≡ get_or items n item) (so : IsServingUpTo n now new replies) where
       pub serving_past : is_request (seen item) ≡ false → IsServingUpTo (n + 1) now new replies
       serving_past other = subst (λ (done : List Said). IsServing done before now old new replies) (sym (one_more items n item within is)) (serving_other (map seen (take n items)) (seen item) before now old new replies other so)
 
-      pub serving_next : (reading : Reading) (later : Refusals) (next : SeatSeen) (more : List Answer) (reply : Answer) → seen item ≡ said.asks reading → IsServedBy model shapes opening reading now later new next reply → more ≡ replies ++ reply ∷ [] → IsServingUpTo (n + 1) later next more
+      pub serving_next : (reading : Reading) (later : Refusals) (next : SeatSeen) (more : List PrintedAnswer) (reply : PrintedAnswer) → seen item ≡ said.asks reading → IsServedBy model shapes opening reading now later new next reply → more ≡ replies ++ reply ∷ [] → IsServingUpTo (n + 1) later next more
       serving_next reading later next more reply asks served more-is =
           subst (λ (done : List Said). IsServing done before later old next more) (sym (one_more items n item within is)) (serving_more (map seen (take n items)) (seen item) reading before now later old new next replies more reply asks so served more-is)
 
-    pub serving_all : (n : ℕ) (now : Refusals) (new : SeatSeen) (replies : List Answer) → length items ≤ n → IsServingUpTo n now new replies → IsPartServed model shapes opening (map seen items) before now old new replies
+    pub serving_all : (n : ℕ) (now : Refusals) (new : SeatSeen) (replies : List PrintedAnswer) → length items ≤ n → IsServingUpTo n now new replies → IsPartServed model shapes opening (map seen items) before now old new replies
     serving_all n now new replies past so = part_served (map seen items) (map seen (take n items)) before now old new replies (ap (map seen) (take_all n items past)) so
 
-    pub serving_shut : (n : ℕ) (now later : Refusals) (new after : SeatSeen) (replies : List Answer) → later ≡ now → IsShut new after → IsServingUpTo n now new replies → IsPartServed model shapes opening (map seen items) before later old after replies
+    pub serving_shut : (n : ℕ) (now later : Refusals) (new after : SeatSeen) (replies : List PrintedAnswer) → later ≡ now → IsShut new after → IsServingUpTo n now new replies → IsPartServed model shapes opening (map seen items) before later old after replies
     serving_shut n now later new after replies same shut so = part_shut (map seen items) (map seen (take n items)) (map seen (drop n items)) before now later old new after replies (parted items n) same shut so

@@ -4,7 +4,7 @@ use Rattle.std.specs.Prelude.{sum_by}
 use Rattle.std.proofs.lemmas.Grind.{flat_map-append}
 use Rattle.std.proofs.lemmas.List.Sums.{sum_by-append}
 use mathlib.Core.List.{IsPrefix}
-use Rattle.answer_lines.specs.declared.answer.Answer.{Answer}
+use Rattle.answer_lines.specs.declared.printed.PrintedAnswer.{PrintedAnswer}
 use Rattle.live_pair.specs.Admins.{AdminSeen}
 use Rattle.live_pair.specs.Seats.{SeatSeen, version_of}
 use Rattle.live_rounds.proofs.AskedLemmas.{completed, completed_long}
@@ -35,7 +35,7 @@ use Rattle.version_log.specs.Log.{versions}
 -- ---- lists
 
 -- there is a version for each reply
-answered_long : (model : ModelParts) (shapes : Shapes) (opening : Policy) (before round : List Said) (seen : List ℕ) (refused : List (List (List ℕ))) (replies : List Answer) (readings : List Reading) → AreAnsweredAt model shapes opening before round seen refused replies readings → length seen ≡ length replies
+answered_long : (model : ModelParts) (shapes : Shapes) (opening : Policy) (before round : List Said) (seen : List ℕ) (refused : List (List (List ℕ))) (replies : List PrintedAnswer) (readings : List Reading) → AreAnsweredAt model shapes opening before round seen refused replies readings → length seen ≡ length replies
 answered_long model shapes opening before round [] [] [] readings are = refl
 answered_long model shapes opening before round (v ∷ seen) (patterns ∷ refused) (reply ∷ replies) (reading ∷ readings) are = ap (λ (n : ℕ). suc n) (answered_long model shapes opening before round seen refused replies readings are.1)
 answered_long model shapes opening before round _ _ _ _ are = absurd are
@@ -58,7 +58,7 @@ last_lower low high most (v ∷ versions) below last = last
 
 -- ---- a round that the administrator has done
 
-module _ (model : ModelParts) (shapes : Shapes) (opening : Policy) (before round : List Said) (old new : AdminSeen) (others : List Answer) (done : AreDoneBeside shapes opening before round old new others) where
+module _ (model : ModelParts) (shapes : Shapes) (opening : Policy) (before round : List Said) (old new : AdminSeen) (others : List PrintedAnswer) (done : AreDoneBeside shapes opening before round old new others) where
   behind : IsBehind shapes opening (before ++ round) new.desk.state.log (tables new.desk.state) new.desk.pending new.desk.kept
   behind = subst (λ (s : Shapes). IsBehind s opening (before ++ round) new.desk.state.log (tables new.desk.state) new.desk.pending new.desk.kept) done.behind.shapes_are done.behind.desk.edits
 
@@ -87,8 +87,8 @@ module _ (model : ModelParts) (shapes : Shapes) (opening : Policy) (before round
   -- ---- one part
 
   -- its requests are answered behind others, by a worker whose finder refused these patterns, and at the desk
-  pub record IsShareDone (part : List Said) (kept : List Answer) (worker : List (List ℕ)) (from until : Refusals) (was now : List Answer) : Type 0 where
-    pub at_desk : List Answer
+  pub record IsShareDone (part : List Said) (kept : List PrintedAnswer) (worker : List (List ℕ)) (from until : Refusals) (was now : List PrintedAnswer) : Type 0 where
+    pub at_desk : List PrintedAnswer
     pub added : now ≡ was ++ (kept ++ at_desk)
     pub seen : List ℕ
     pub refused : List (List (List ℕ))
@@ -100,9 +100,9 @@ module _ (model : ModelParts) (shapes : Shapes) (opening : Policy) (before round
     pub logged : until ≡ after_refusals from patterns
     pub told : (weight : List ℕ → ℕ) → sum_by weight (all_refused refused) ≤ sum_by weight worker + sum_by weight patterns
 
-  module _ (part : List Said) (from until : Refusals) (was now : List Answer) where
+  module _ (part : List Said) (from until : Refusals) (was now : List PrintedAnswer) where
     -- what was answered at a seat, and then at the desk
-    share_done : (worker : List (List ℕ)) (seen : List ℕ) (refused : List (List (List ℕ))) (kept : List Answer) → AreAnsweredAt model shapes opening before round seen refused kept (requests part) → Rise (version_of old.list) seen → last_from (version_of old.list) seen ≤ at_end
+    share_done : (worker : List (List ℕ)) (seen : List ℕ) (refused : List (List (List ℕ))) (kept : List PrintedAnswer) → AreAnsweredAt model shapes opening before round seen refused kept (requests part) → Rise (version_of old.list) seen → last_from (version_of old.list) seen ≤ at_end
         → ((weight : List ℕ → ℕ) → sum_by weight (all_refused refused) ≤ sum_by weight worker) → IsShared model new.desk.state part kept from until was now → IsShareDone part kept worker from until was now
     share_done worker seen refused kept answered rise most told shared =
         let adds = shared.adds in
@@ -113,11 +113,11 @@ module _ (model : ModelParts) (shapes : Shapes) (opening : Policy) (before round
         record {
           at_desk = adds.replies;
           added = adds.added ∙ append_assoc was kept adds.replies;
-          seen = seen ++ map (λ (reply : Answer). at_end) adds.replies;
+          seen = seen ++ map (λ (reply : PrintedAnswer). at_end) adds.replies;
           refused = refused ++ adds.refused;
           answered = both;
           all = all;
-          each = answered_long model shapes opening before round (seen ++ map (λ (reply : Answer). at_end) adds.replies) (refused ++ adds.refused) (kept ++ adds.replies) (requests part) both ∙ all;
+          each = answered_long model shapes opening before round (seen ++ map (λ (reply : PrintedAnswer). at_end) adds.replies) (refused ++ adds.refused) (kept ++ adds.replies) (requests part) both ∙ all;
           rise = rise_then (version_of old.list) at_end seen adds.replies rise most;
           patterns = all_refused adds.refused;
           logged = adds.logged;
@@ -129,7 +129,7 @@ module _ (model : ModelParts) (shapes : Shapes) (opening : Policy) (before round
     share_left shared = share_done [] [] [] [] tt tt end_least (λ weight. omega arith) shared
 
     -- one that a worker had
-    pub share_kept : (seat left final : SeatSeen) (first last : Refusals) (kept : List Answer) → IsPrefix old.list seat.front → HasLearned new.list left final → (is : IsPartKept model shapes opening at_end part first last seat left kept)
+    pub share_kept : (seat left final : SeatSeen) (first last : Refusals) (kept : List PrintedAnswer) → IsPrefix old.list seat.front → HasLearned new.list left final → (is : IsPartKept model shapes opening at_end part first last seat left kept)
         → IsShared model new.desk.state part kept from until was now → IsShareDone part kept (all_refused is.served.refused) from until was now
     share_kept seat left final first last kept known end is shared = ⊎_elim of_seat of_none is.kept_is
       where
@@ -141,8 +141,8 @@ module _ (model : ModelParts) (shapes : Shapes) (opening : Policy) (before round
 
         of_none : (at_end < version_of left.front) × (kept ≡ []) → IsShareDone part kept (all_refused is.served.refused) from until was now
         of_none above =
-            subst (λ (k : List Answer). IsShareDone part k (all_refused is.served.refused) from until was now) (sym above.1)
-            (share_done (all_refused is.served.refused) [] [] [] tt tt end_least (λ weight. omega arith) (subst (λ (k : List Answer). IsShared model new.desk.state part k from until was now) above.1 shared))
+            subst (λ (k : List PrintedAnswer). IsShareDone part k (all_refused is.served.refused) from until was now) (sym above.1)
+            (share_done (all_refused is.served.refused) [] [] [] tt tt end_least (λ weight. omega arith) (subst (λ (k : List PrintedAnswer). IsShared model new.desk.state part k from until was now) above.1 shared))
 
         -- the seat behind its last request is not above the end
         front_is : left.front ≡ (last_from seat is.served.seats).front
@@ -156,7 +156,7 @@ module _ (model : ModelParts) (shapes : Shapes) (opening : Policy) (before round
             let answered : AreAnsweredAt model shapes opening before round versions_seen is.served.refused is.replies (requests part)
             = served_at shapes opening before round old.list new.list final.front done.grown done.cuts end.that above model seat is.served.seats is.served.refused is.replies (requests part) known
             (subst (λ (l : List (List (List Change))). IsPrefix l final.front) front_is end.this) is.served.served in
-            share_done (all_refused is.served.refused) versions_seen is.served.refused kept (subst (λ (k : List Answer). AreAnsweredAt model shapes opening before round versions_seen is.served.refused k (requests part)) (sym within.1) answered)
+            share_done (all_refused is.served.refused) versions_seen is.served.refused kept (subst (λ (k : List PrintedAnswer). AreAnsweredAt model shapes opening before round versions_seen is.served.refused k (requests part)) (sym within.1) answered)
             (rise_lower (version_of old.list) (version_of seat.front) versions_seen low (served_rise shapes opening model seat is.served.seats is.served.refused is.replies (requests part) is.served.served))
             (last_lower (version_of old.list) (version_of seat.front) at_end versions_seen end_least (omega (arith, most, last_version seat is.served.seats)))
             (λ weight. omega arith) shared

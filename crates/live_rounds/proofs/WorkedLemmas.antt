@@ -4,7 +4,7 @@ use Rattle.std.specs.Prelude.{All}
 use Rattle.std.specs.List.{AllByRecursion, AllZip}
 use Rattle.std.proofs.lemmas.List.Elements.{recursion_from_All}
 use Rattle.std.proofs.lemmas.List.{map-append}
-use Rattle.answer_lines.specs.declared.answer.Answer.{Answer}
+use Rattle.answer_lines.specs.declared.printed.PrintedAnswer.{PrintedAnswer}
 use Rattle.live_pair.specs.Admins.{AdminSeen}
 use Rattle.live_pair.specs.Seats.{SeatSeen}
 use Rattle.live_rounds.proofs.RoundLemmas.{take_front}
@@ -20,7 +20,7 @@ use Rattle.script_read.specs.Said.{Said, seen}
 use Rattle.script_read.specs.declared.item.Item.{Item}
 
 -- an administrator that has done a whole round stands amid it
-pub amid_all : (shapes : Shapes) (opening : Policy) (before round : List Said) (old new : AdminSeen) (others : List Answer) → AreDoneBeside shapes opening before round old new others → IsAdminAmid shapes opening before round new
+pub amid_all : (shapes : Shapes) (opening : Policy) (before round : List Said) (old new : AdminSeen) (others : List PrintedAnswer) → AreDoneBeside shapes opening before round old new others → IsAdminAmid shapes opening before round new
 amid_all shapes opening before round old new others done = record { front = round; back = []; parts = sym (append-nil round); edits = done.behind.desk.edits; published = done.behind.published }
 
 -- what stands behind nothing is all
@@ -68,7 +68,7 @@ module _ {X P : Type 0} (seat : X → SeatSeen) (finder : X → P) (from until :
       (used_at seat from until (λ (post : X). refusals (finder post)) (λ (post : X). []) (λ (post : X). false) olds news (map refusals idle) as_long
       (subst (λ (l : List X). AreUsedAt seat from until (λ (post : X). refusals (finder post)) (λ (post : X). []) (λ (post : X). false) l news) lent-is used))))
 
-  module _ (replies : X → List Answer) (ran_out : X → Bool) (model : ModelParts) (shapes : Shapes) (opening : Policy) (script : List Item) (version place : ℕ) (sizes : List ℕ) (old_seats new_seats : List SeatSeen) (kept : List (List Answer)) where
+  module _ (replies : X → List PrintedAnswer) (ran_out : X → Bool) (model : ModelParts) (shapes : Shapes) (opening : Policy) (script : List Item) (version place : ℕ) (sizes : List ℕ) (old_seats new_seats : List SeatSeen) (kept : List (List PrintedAnswer)) where
     pub worked_kept : old_seats ≡ map seat olds ++ idle_seats → new_seats ≡ map seat back ++ idle_seats → AreSpans place sizes (map from olds) (map until olds) → AreAll sizes olds idle_seats → All (λ (post : X). ran_out post ≡ false) back
         → AreServedAt seat from until (λ (post : X). refusals (finder post)) replies ran_out model shapes opening script version lent news → kept ≡ all_kept seat from until (λ (post : X). refusals (finder post)) replies ran_out version back
         → AreKept model shapes opening (map seen script) version place sizes old_seats new_seats (drop 1 (map refusals old_finders)) (drop 1 (map refusals new_finders)) kept

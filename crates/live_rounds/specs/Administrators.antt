@@ -2,10 +2,12 @@
 use Rattle.std.specs.Prelude.{◌≡◌, ⊤, List, [], ◌∷◌, ◌++◌}
 use mathlib.Core.List.{IsPrefix}
 use Rattle.answer_lines.specs.declared.answer.Answer.{Answer}
+use Rattle.answer_lines.specs.declared.printed.PrintedAnswer.{PrintedAnswer}
 use Rattle.live_pair.specs.Admins.{AdminSeen}
 use Rattle.live_pair.specs.Story.{edits_in}
 use Rattle.desk_session.specs.Desks.{HasEditsOf, StandsBehind}
 use Rattle.desk_session.specs.Steps.{IsPlainStep, IsStopped}
+use Rattle.live_rounds.specs.Printed.{IsPrinted}
 use Rattle.model_conf.specs.ModelText.{ModelParts}
 use Rattle.perm_base.specs.declared.shapes.Shapes.{Shapes}
 use Rattle.policy_table.specs.Tables.{Policy}
@@ -51,10 +53,10 @@ module _ (shapes : Shapes) (opening : Policy) where
     pub published : edits_in admin.list ≡ history shapes opening (before ++ front)
 
   -- the replies to those items of a round that are no requests, behind others
-  abbrev pub AreReplies : List Said → List Said → List Answer → Type 0
+  abbrev pub AreReplies : List Said → List Said → List PrintedAnswer → Type 0
   AreReplies before [] [] = ⊤
   AreReplies before (said.asks reading ∷ items) replies = AreReplies (before ++ said.asks reading ∷ []) items replies
-  AreReplies before (item ∷ items) (reply ∷ replies) = ((model : ModelParts) → IsReply model shapes opening [] before item reply) × AreReplies (before ++ item ∷ []) items replies
+  AreReplies before (item ∷ items) (reply ∷ replies) = IsPrinted (λ (answer : Answer). (model : ModelParts) → IsReply model shapes opening [] before item answer) reply × AreReplies (before ++ item ∷ []) items replies
   AreReplies before _ _ = ⊥
 
   -- these publishes are those behind some of the first items of a round
@@ -66,7 +68,7 @@ module _ (shapes : Shapes) (opening : Policy) where
 
   -- the items of a round that are no requests are answered and done behind others: each beginning of the publishes that goes as
   -- far as those before it is one behind some of the first items
-  pub record AreDoneBeside (before round : List Said) (old new : AdminSeen) (replies : List Answer) : Type 0 where
+  pub record AreDoneBeside (before round : List Said) (old new : AdminSeen) (replies : List PrintedAnswer) : Type 0 where
     pub replies_are : AreReplies before round replies
     pub behind : IsAdminBehind (before ++ round) new
     pub grown : IsPrefix old.list new.list

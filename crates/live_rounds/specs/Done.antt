@@ -2,8 +2,11 @@
 use Rattle.std.specs.Prelude.{◌≡◌, ◌≤◌, ◌+◌, ℕ, ⊤, min, List, [], ◌∷◌, ◌++◌, Option, Some, None, length, map, sum_by}
 use Rattle.std.specs.List.{AllZip}
 use mathlib.Core.List.{IsPrefix}
-use Rattle.answer_lines.specs.declared.answer.Answer.{Answer}
-use Rattle.answer_lines.specs.declared.answer.Answer.TheVariants.{Decided}
+use Rattle.answer_lines.specs.declared.printed.PrintedAnswer.{PrintedAnswer}
+use Rattle.answer_lines.specs.declared.printed.PrintedLine.{PrintedLine}
+use Rattle.answer_lines.specs.declared.printed.Shown.{Shown}
+use Rattle.answer_lines.specs.declared.printed.Shown.TheVariants as shown
+use Rattle.answer_lines.specs.Printed.{printed_line}
 use Rattle.answer_lines.specs.declared.answer.Line.{Line}
 use Rattle.live_pair.specs.Admins.{AdminSeen}
 use Rattle.live_pair.specs.Seats.{SeatSeen, version_of}
@@ -39,8 +42,10 @@ pub record AreLinesOf (model : ModelParts) (shapes : Shapes) (opening : Policy) 
 -- ---- seats
 
 -- the version that an answer shows where it is a verdict
-abbrev pub version_shown : Answer → Option ℕ
-version_shown (Decided version verdict rule) = Some version
+abbrev pub version_shown : Shown → Option ℕ
+version_shown (shown.Allow version) = Some version
+version_shown (shown.Deny version) = Some version
+version_shown (shown.Fault version) = Some version
 version_shown _ = None
 
 -- a version in front of others, where there is one
@@ -49,25 +54,25 @@ onto_shown None versions = versions
 onto_shown (Some version) versions = version ∷ versions
 
 -- the versions of verdicts
-abbrev pub versions_shown : List Answer → List ℕ
+abbrev pub versions_shown : List PrintedAnswer → List ℕ
 versions_shown [] = []
-versions_shown (reply ∷ replies) = onto_shown (version_shown reply) (versions_shown replies)
+versions_shown (reply ∷ replies) = onto_shown (version_shown reply.shown) (versions_shown replies)
 
 -- where no entry of a seat was refused, and its version is not above this one, it made at least as many entries as its share has
 -- verdicts, and the last of these shows the version of its last entry
-abbrev pub HasEntered : (version : ℕ) (share : List Answer) (old new : SeatSeen) → Type 0
+abbrev pub HasEntered : (version : ℕ) (share : List PrintedAnswer) (old new : SeatSeen) → Type 0
 HasEntered version share old new =
     (¬ Rose old.refused new.refused) → version_of new.front ≤ version
     → (min (old.entries + length (versions_shown share)) most_faults ≤ new.entries) × (last_from new.last (versions_shown share) ≡ new.last)
 
 -- seats and their shares, as far as there are both
-abbrev pub EachHasEntered : (version : ℕ) → List (List Answer) → (olds news : List SeatSeen) → Type 0
+abbrev pub EachHasEntered : (version : ℕ) → List (List PrintedAnswer) → (olds news : List SeatSeen) → Type 0
 EachHasEntered version (share ∷ shares) (old ∷ olds) (new ∷ news) = HasEntered version share old new × EachHasEntered version shares olds news
 EachHasEntered version _ _ _ = ⊤
 
 -- so it is for the seats and the shares of the requests of a round
-abbrev pub AreEntered : (workers : ℕ) → List Said → AdminSeen → (olds news : List SeatSeen) → List Line → Type 0
-AreEntered workers round admin olds news lines = EachHasEntered (version_of admin.list) (shares workers (map (λ (line : Line). line.answer) (at_each_request round lines))) olds news
+abbrev pub AreEntered : (workers : ℕ) → List Said → AdminSeen → (olds news : List SeatSeen) → List PrintedLine → Type 0
+AreEntered workers round admin olds news printed = EachHasEntered (version_of admin.list) (shares workers (map (λ (line : PrintedLine). line.answer) (at_each_request round printed))) olds news
 
 -- each seat knows of all that it knew of, and of the administrator's publishes
 abbrev pub HaveLearned : AdminSeen → (olds news : List SeatSeen) → Type 0
@@ -75,9 +80,11 @@ HaveLearned admin olds news = AllZip (λ (old new : SeatSeen). IsPrefix old.fron
 
 -- ---- a round
 
--- what a round behind others leaves: its lines, the administrator behind it, and its seats
-pub record IsRun (model : ModelParts) (shapes : Shapes) (opening : Policy) (workers : ℕ) (before round : List Said) (new : AdminSeen) (olds news : List SeatSeen) (finders now : List Refusals) (lines : List Line) : Type 0 where
+-- what a round behind others leaves: its lines as they are printed, the administrator behind it, and its seats
+pub record IsRun (model : ModelParts) (shapes : Shapes) (opening : Policy) (workers : ℕ) (before round : List Said) (new : AdminSeen) (olds news : List SeatSeen) (finders now : List Refusals) (printed : List PrintedLine) : Type 0 where
+  pub lines : List Line
+  pub told : printed ≡ map printed_line lines
   pub lines_are : AreLinesOf model shapes opening workers before round finders now lines
   pub behind : IsAdminBehind shapes opening (before ++ round) new
-  pub entered : AreEntered workers round new olds news lines
+  pub entered : AreEntered workers round new olds news printed
   pub learned : HaveLearned new olds news

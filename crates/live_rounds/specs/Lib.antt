@@ -1,4 +1,5 @@
 pub mod Lists
+pub mod Printed
 pub mod Requests
 pub mod Shares
 pub mod Taken

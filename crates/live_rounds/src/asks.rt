@@ -5,8 +5,9 @@ ghost use Rattle.live_rounds.specs.Requests.{requests};
 ghost use Rattle.regex_gate.specs.Refusals.{IsUsed};
 ghost use Rattle.script_read.specs.Said.{seen};
 
+use answer_lines::{PrintedAnswer, print_answer};
 use decision::{Program, Scratch};
-use desk_session::{Answer, answer_text, asked_in};
+use desk_session::{answer_text, asked_in};
 use outside::NoMemory;
 use policy_state::PolicyState;
 use regex_gate::Finder;
@@ -22,9 +23,9 @@ pub(crate) fn answer_asks<P: Finder>(
     program: &Program,
     items: &[Item],
     sizes: &[usize],
-    kept: Vec<Vec<Answer>>,
+    kept: Vec<Vec<PrintedAnswer>>,
     finder: &mut P,
-) -> Result<Vec<Answer>, NoMemory>
+) -> Result<Vec<PrintedAnswer>, NoMemory>
     requires suits { Suits program.now state.now.shapes }
     ensures shared { IfOk result (λ asked. AreShared program.now state.now
         (map seen items.now) sizes.now (map (λ v. v.items) kept.items)
@@ -46,9 +47,9 @@ fn answer_parts<P: Finder>(
     program: &Program,
     items: &[Item],
     sizes: &[usize],
-    kept: &mut IntoIter<Vec<Answer>>,
+    kept: &mut IntoIter<Vec<PrintedAnswer>>,
     finder: &mut P,
-    asked: &mut Vec<Answer>,
+    asked: &mut Vec<PrintedAnswer>,
 ) -> Result<(), NoMemory>
     requires suits { Suits program.now state.now.shapes }
     ensures shared { OnOk result (AreShared program.now state.now
@@ -66,7 +67,7 @@ fn answer_parts<P: Finder>(
 }
 
 // What is kept for the next part: nothing where there is none.
-fn next_kept(alloc: Global, kept: &mut IntoIter<Vec<Answer>>) -> Vec<Answer>
+fn next_kept(alloc: Global, kept: &mut IntoIter<Vec<PrintedAnswer>>) -> Vec<PrintedAnswer>
     ensures first { result.items ≡ first_kept (map (λ v. v.items) kept.old.rest.items) }
     ensures others { map (λ v. v.items) kept.new.rest.items
         ≡ others_kept (map (λ v. v.items) kept.old.rest.items) }
@@ -83,9 +84,9 @@ fn answer_part<P: Finder>(
     state: &PolicyState,
     program: &Program,
     part: &[Item],
-    kept: Vec<Answer>,
+    kept: Vec<PrintedAnswer>,
     finder: &mut P,
-    asked: &mut Vec<Answer>,
+    asked: &mut Vec<PrintedAnswer>,
 ) -> Result<(), NoMemory>
     requires suits { Suits program.now state.now.shapes }
     ensures shared { OnOk result (IsShared program.now state.now
@@ -99,7 +100,7 @@ fn answer_part<P: Finder>(
 }
 
 // Puts replies behind others; those of the first part are not copied.
-fn put_behind(asked: &mut Vec<Answer>, kept: Vec<Answer>) -> Result<(), NoMemory>
+fn put_behind(asked: &mut Vec<PrintedAnswer>, kept: Vec<PrintedAnswer>) -> Result<(), NoMemory>
     ensures { OnOk result (asked.new.items ≡ asked.old.items ++ kept.items) }
 {
     if asked.is_empty() {
@@ -119,7 +120,7 @@ fn answer_left<P: Finder>(
     items: &[Item],
     skipped: usize,
     finder: &mut P,
-    asked: &mut Vec<Answer>,
+    asked: &mut Vec<PrintedAnswer>,
 ) -> Result<(), NoMemory>
     requires suits { Suits program.now state.now.shapes }
     ensures added { OnOk result (AddsAnswered program.now state.now
@@ -128,6 +129,7 @@ fn answer_left<P: Finder>(
     ensures used { IsUsed (P.refusals finder.old) (P.refusals finder.new) }
 {
     let mut scratch = Scratch::for_program(alloc, program);
+    let mut printed = String::new(alloc);
     let mut left = skipped;
     for item in items {
         let Some(request) = asked_in(item) else {
@@ -138,7 +140,7 @@ fn answer_left<P: Finder>(
             continue;
         }
         let reply = answer_text(alloc, state, program, request, finder, &mut scratch)?;
-        asked.push(reply)?;
+        asked.push(print_answer(alloc, &mut printed, &reply)?)?;
     }
     Ok(())
 }

@@ -1,10 +1,11 @@
-ghost use Rattle.std.specs.Prelude.{◌≡◌, ◌++◌, IfOk, List, OnErr, false, map};
+ghost use Rattle.std.specs.Prelude.{◌≡◌, IfOk, List, OnErr, false, map};
 ghost use Rattle.live_rounds.specs.Administrators.{AreDoneBeside, IsAdminAmid, IsAdminBehind, IsAdminStep, IsAdminStopped};
 ghost use Rattle.desk_session.specs.Steps.{is_request};
 ghost use Rattle.script_read.specs.Said.{Said, seen};
 
 use crate::gate::Gate;
 use crate::requests::is_request;
+use answer_lines::{PrintedAnswer, print_answer};
 use desk_session::{Answer, answer_other};
 use live_pair::{Admin, Naming};
 use outside::NoMemory;
@@ -19,7 +20,7 @@ pub(crate) fn answer_others<J: Naming, R: Wait, G: Gate>(
     items: &[Item],
     gate: &G,
     admin: &mut Admin<J>,
-) -> Result<Vec<Answer>, NoMemory>
+) -> Result<Vec<PrintedAnswer>, NoMemory>
     ensures done { IfOk result (λ replies. (before : List Said)
         → IsAdminBehind J.shapes J.opening before admin.old
         → AreDoneBeside J.shapes J.opening before (map seen items.now)
@@ -28,13 +29,18 @@ pub(crate) fn answer_others<J: Naming, R: Wait, G: Gate>(
         → IsAdminBehind J.shapes J.opening before admin.old
         → IsAdminAmid J.shapes J.opening before (map seen items.now) admin.new) }
 {
+    let mut printed = String::new(alloc);
     let mut replies = Vec::new(alloc);
     for item in items {
         if is_request(item) {
             continue;
         }
         let reply = answer_at(rt, alloc, admin, item, gate)?;
-        replies.push(reply)?;
+        // The items of a script that was read name tables that have names, so that all answers can be printed.
+        if !reply.is_printable() {
+            return Err(NoMemory);
+        }
+        replies.push(print_answer(alloc, &mut printed, &reply)?)?;
     }
     Ok(replies)
 }

@@ -3,7 +3,7 @@ ghost use Rattle.live_rounds.specs.Helps.Posts.{kept_at};
 
 use crate::crew::Crew;
 use crate::posts::Post;
-use desk_session::Answer;
+use answer_lines::PrintedAnswer;
 use live_pair::{Naming, Seat};
 use regex_gate::Finder;
 use std::alloc::Global;
@@ -17,7 +17,7 @@ pub(crate) fn dismiss<J: Naming, P: Finder>(
     version: u32,
     seats: &mut Vec<Seat<J>>,
     finders: &mut Vec<P>,
-    kept: &mut Vec<Vec<Answer>>,
+    kept: &mut Vec<Vec<PrintedAnswer>>,
 ) -> bool
     requires seat_room { vec_len seats.old + (length crew.posts.items
         + length crew.seats.rest.items) ≤ vec_capacity seats.old }
@@ -50,7 +50,7 @@ fn unpost<J: Naming, P: Finder>(
     version: u32,
     seats: &mut Vec<Seat<J>>,
     finders: &mut Vec<P>,
-    kept: &mut Vec<Vec<Answer>>,
+    kept: &mut Vec<Vec<PrintedAnswer>>,
 ) -> bool
     requires seat_room { vec_len seats.old + length posts.items ≤ vec_capacity seats.old }
     requires finder_room { vec_len finders.old + length posts.items ≤ vec_capacity finders.old }
@@ -93,9 +93,9 @@ fn is_whole(whole: bool, ran_out: bool) -> bool
 fn kept_of<J: Naming>(
     alloc: Global,
     seat: &Seat<J>,
-    replies: Vec<Answer>,
+    replies: Vec<PrintedAnswer>,
     version: u32,
-) -> Vec<Answer>
+) -> Vec<PrintedAnswer>
     ensures { result.items ≡ kept_at version seat.now replies.items }
 {
     let reached = seat.version();

@@ -1,7 +1,9 @@
 ghost use Rattle.std.specs.Prelude.{◌≡◌, ◌≤◌, ℕ, List, length, map, suc};
 ghost use Rattle.std.specs.List.{AllByRecursion, AllZip};
 ghost use mathlib.Core.List.{IsPrefix};
-ghost use Rattle.answer_lines.specs.declared.answer.Answer as answer;
+ghost use Rattle.answer_lines.specs.Printed.{printed_line};
+ghost use Rattle.answer_lines.specs.declared.answer.Line as line;
+ghost use Rattle.answer_lines.specs.declared.printed.PrintedAnswer as printed;
 ghost use Rattle.live_pair.specs.Admins.{AdminSeen};
 ghost use Rattle.live_pair.specs.Seats.{SeatSeen, version_of};
 ghost use Rattle.live_rounds.specs.Administrators.{AreDoneBeside, AreReplies};
@@ -24,9 +26,9 @@ ghost use Rattle.session_meaning.specs.Rounds.{AreOfRound};
 /// learned of them.
 pub fn seats_answer_at_cuts()
     ensures cuts { (model : ModelParts) (shapes : Shapes) (opening : Policy)
-        (before round : List Said) (old new : AdminSeen) (others : List answer.Answer)
+        (before round : List Said) (old new : AdminSeen) (others : List printed.PrintedAnswer)
         (seat : SeatSeen) (seats : List SeatSeen) (refused : List (List (List ℕ)))
-        (replies : List answer.Answer) (readings : List Reading)
+        (replies : List printed.PrintedAnswer) (readings : List Reading)
         (learned : List (List (List Change)))
         → AreDoneBeside shapes opening before round old new others
         → IsPrefix old.list seat.front
@@ -37,7 +39,7 @@ pub fn seats_answer_at_cuts()
         → AreAnsweredAt model shapes opening before round
         (map (λ (s : SeatSeen). version_of s.front) seats) refused replies readings }
     ensures rise { (model : ModelParts) (shapes : Shapes) (opening : Policy) (seat : SeatSeen)
-        (seats : List SeatSeen) (refused : List (List (List ℕ))) (replies : List answer.Answer)
+        (seats : List SeatSeen) (refused : List (List (List ℕ))) (replies : List printed.PrintedAnswer)
         (readings : List Reading)
         → AreServed model shapes opening seat seats refused replies readings
         → Rise (version_of seat.front) (map (λ (s : SeatSeen). version_of s.front) seats) }
@@ -49,7 +51,7 @@ pub fn replies_are_the_lines_of_a_round()
     ensures { (model : ModelParts) (shapes : Shapes) (opening : Policy)
         (before round : List Said) (others low : ℕ) (parts : List (List Said))
         (lists : List (List ℕ)) (refused : List (List (List ℕ)))
-        (asked replies : List answer.Answer)
+        (asked replies : List printed.PrintedAnswer)
         → AreParts others round parts
         → AllZip HasEach parts lists
         → AllByRecursion (Rise low) lists
@@ -57,8 +59,8 @@ pub fn replies_are_the_lines_of_a_round()
         (requests round)
         → length asked ≡ length (requests round)
         → AreReplies shapes opening before round replies
-        → (of_items : List (List (List ℕ)))
-        × AreOfRound model shapes opening (suc others) before round of_items
-        (merged (length before) round asked replies)
+        → (of_items : List (List (List ℕ))) × (lines : List line.Line)
+        × AreOfRound model shapes opening (suc others) before round of_items lines
+        × (merged (length before) round asked replies ≡ map printed_line lines)
         × (all_refused of_items ≡ all_refused refused) }
 {}

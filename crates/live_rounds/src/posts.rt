@@ -8,8 +8,8 @@ ghost use Rattle.live_rounds.specs.Helps.Posts.{AreServedPosts, IsServedPost};
 use crate::gate::Gate;
 use crate::items::items_of;
 use crate::seat_answers::answer_part;
+use answer_lines::PrintedAnswer;
 use decision::Program;
-use desk_session::Answer;
 use live_pair::{Naming, Seat};
 use regex_gate::Finder;
 use script_read::Script;
@@ -26,7 +26,7 @@ pub(crate) struct Post<J: Naming, P: Finder> {
     pub from: usize,
     pub until: usize,
     pub behind: u32,
-    pub replies: Vec<Answer>,
+    pub replies: Vec<PrintedAnswer>,
     pub ran_out: bool,
 }
 

@@ -12,8 +12,8 @@ use crate::crew::muster;
 use crate::dismissal::dismiss;
 use crate::gate::Gate;
 use crate::together::work_together;
+use answer_lines::PrintedAnswer;
 use decision::Program;
-use desk_session::Answer;
 use live_pair::{Admin, Naming, Seat};
 use outside::NoMemory;
 use regex_gate::Finder;
@@ -26,8 +26,8 @@ use std::thread::Threads;
 /// items that are no requests.
 #[derive(Drop)]
 pub(crate) struct Worked {
-    pub kept: Vec<Vec<Answer>>,
-    pub others: Vec<Answer>,
+    pub kept: Vec<Vec<PrintedAnswer>>,
+    pub others: Vec<PrintedAnswer>,
 }
 
 /// Workers answer the parts of a round, behind so many other items, at their seats, beside the administrator; seats and finders are

@@ -1,8 +1,11 @@
 ghost use Rattle.std.specs.Prelude.{◌≡◌, ◌+◌, ◌<◌, ◌≤◌, ◌^◌, [], IfErr, IfNone, IfOk, IfSome, List, OnOk, length, map};
 ghost use Rattle.std.specs.List.{AllZip};
+ghost use Rattle.answer_lines.specs.Printed.{printed_line};
+ghost use Rattle.answer_lines.specs.declared.answer.Line as line;
 ghost use Rattle.decision.specs.Programs.{Suits};
 ghost use Rattle.live_rounds.specs.Administrators.{IsAdminBehind};
 ghost use Rattle.live_rounds.specs.Scripts.{AreAllShared, AreSomeShared, BeginsWithRound};
+ghost use Rattle.live_rounds.specs.Taken.{AreAllTaken, AreSomeTaken};
 ghost use Rattle.regex_gate.specs.Refusals.{IsUsed};
 ghost use Rattle.script_read.specs.Said.{Said, seen};
 ghost use Rattle.script_read.specs.Script.{IsScript, SaysFrom};
@@ -10,12 +13,13 @@ ghost use Rattle.session_meaning.specs.Rounds.{is_sync};
 
 use crate::gate::Gate;
 use crate::round::run_round;
+use crate::round_lines::RoundLines;
 use crate::taker::{TakeStop, Taker};
 use decision::Program;
 use live_pair::{Admin, Naming, Seat};
 use outside::NoMemory;
 use regex_gate::Finder;
-use script_read::{Item, Script, items_are_named, next_item};
+use script_read::{Item, Script, next_item};
 use session_meaning::plain_lines_are_shared;
 use std::alloc::Global;
 use std::sync::Wait;
@@ -63,7 +67,6 @@ pub(crate) fn run_rounds<
     ensures used { AllZip IsUsed (map P.refusals finders.old.items)
         (map P.refusals finders.new.items) }
 {
-    items_are_named();
     plain_lines_are_shared();
     let mut count: u32 = 0;
     let mut at = 1;
@@ -72,13 +75,34 @@ pub(crate) fn run_rounds<
         let Some(sum) = sum_of(count, round.len()) else {
             return Err(TakeStop::NoMemory);
         };
-        let told = run_round(
+        let mut told = run_round(
             rt, alloc, admin, seats, finders, workers, program, &round, count, gate,
         )?;
-        taker.take(alloc, to, told.as_slice())?;
+        take_lines(alloc, taker, to, &mut told)?;
         count = sum;
         at = next;
         rest = behind;
+    }
+    Ok(())
+}
+
+// Takes the lines of a round, some after the other.
+fn take_lines<X, T: Taker<X>>(
+    alloc: Global,
+    taker: &T,
+    to: &mut X,
+    told: &mut RoundLines<'_>,
+) -> Result<(), TakeStop>
+    ensures taken { OnOk result ((lines : List line.Line) → told.old ≡ map printed_line lines
+        → AreAllTaken T.took to.old lines to.new) }
+    ensures amid { IfErr result (λ stop. (lines : List line.Line)
+        → told.old ≡ map printed_line lines
+        → AreSomeTaken T.took T.stopped to.old lines to.new stop) }
+{
+    let mut lines = told.take_some(alloc)?;
+    'some: while !lines.is_empty() {
+        taker.take(alloc, to, lines.as_slice())?;
+        lines = told.take_some(alloc)?;
     }
     Ok(())
 }

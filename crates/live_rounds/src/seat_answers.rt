@@ -1,16 +1,20 @@
-ghost use Rattle.std.specs.Prelude.{◌≡◌, IfErr, IfOk, IsErrOf, Ok, map};
+ghost use Rattle.std.specs.Prelude.{◌≡◌, IfErr, IfOk, IsErrOf, Ok, map, true};
+ghost use Rattle.answer_lines.specs.Printed.{printed_answer};
+ghost use Rattle.answer_lines.specs.Told.{is_printable};
 ghost use Rattle.decision.specs.Programs.{Suits};
 ghost use Rattle.live_rounds.specs.Served.{IsPartServed, IsServedBy};
 ghost use Rattle.live_seat.specs.Decided.{IsStoppedAt};
 ghost use Rattle.perm_value.specs.Seen.{datum};
 ghost use Rattle.regex_gate.specs.Refusals.{IsUsed};
-ghost use Rattle.script_read.specs.Said.{reading, reading_of, seen};
+ghost use Rattle.script_read.specs.Named.{is_named};
+ghost use Rattle.script_read.specs.Said.{asks, reading, reading_of, seen};
 
 use crate::gate::Gate;
+use answer_lines::{PrintedAnswer, print_answer};
 use decision::{Program, Scratch};
 use desk_session::{Answer, asked_in};
 use live_pair::{Naming, Seat};
-use live_seat::{SeatStop, explain_seat};
+use live_seat::{SeatStop, print_seat};
 use outside::NoMemory;
 use perm_value::{Request, Value};
 use regex_gate::Finder;
@@ -29,7 +33,7 @@ pub(crate) fn answer_part<J: Naming, P: Finder, G: Gate>(
     worker: u32,
     others: u32,
     gate: &G,
-) -> Result<Vec<Answer>, NoMemory>
+) -> Result<Vec<PrintedAnswer>, NoMemory>
     requires suits { Suits program.now J.shapes }
     ensures served { IfOk result (λ replies. IsPartServed program.now J.shapes J.opening
         (map seen items.now) (P.refusals finder.old) (P.refusals finder.new)
@@ -38,6 +42,7 @@ pub(crate) fn answer_part<J: Naming, P: Finder, G: Gate>(
 {
     let mut scratch = Scratch::for_program(alloc, program);
     let mut values = Vec::new(alloc);
+    let mut printed = String::new(alloc);
     let mut replies = Vec::with_capacity(alloc, items.len())?;
     let mut number = others;
     for item in items {
@@ -54,6 +59,7 @@ pub(crate) fn answer_part<J: Naming, P: Finder, G: Gate>(
             finder,
             &mut scratch,
             &mut values,
+            &mut printed,
         ) {
             Ok(reply) => replies.push(reply)?,
             Err(SeatStop::Shut) => return Ok(replies),
@@ -63,7 +69,8 @@ pub(crate) fn answer_part<J: Naming, P: Finder, G: Gate>(
     Ok(replies)
 }
 
-// Answers a request at a seat, by one entry where it is decided. Its values take the place of others.
+// Answers a request at a seat, by one entry where it is decided. Its values take the place of others, and `printed` is what answers
+// are printed by.
 fn answer_asked<J: Naming, P: Finder>(
     alloc: Global,
     seat: &mut Seat<J>,
@@ -72,7 +79,8 @@ fn answer_asked<J: Naming, P: Finder>(
     finder: &mut P,
     scratch: &mut Scratch,
     values: &mut Vec<Value>,
-) -> Result<Answer, SeatStop>
+    printed: &mut String,
+) -> Result<PrintedAnswer, SeatStop>
     requires suits { Suits program.now J.shapes }
     ensures served { IfOk result (IsServedBy program.now J.shapes J.opening
         (reading_of text.now) (P.refusals finder.old) (P.refusals finder.new)
@@ -85,7 +93,7 @@ fn answer_asked<J: Naming, P: Finder>(
     let Ok(asked) = read_text(alloc, others, text) else {
         return Err(SeatStop::NoMemory);
     };
-    let reply = answer_read(alloc, seat, program, &asked, finder, scratch);
+    let reply = answer_read(alloc, seat, program, &asked, finder, scratch, printed);
     *values = values_of(alloc, asked);
     reply
 }
@@ -98,18 +106,22 @@ fn answer_read<J: Naming, P: Finder>(
     asked: &RequestLine,
     finder: &mut P,
     scratch: &mut Scratch,
-) -> Result<Answer, SeatStop>
+    printed: &mut String,
+) -> Result<PrintedAnswer, SeatStop>
     requires suits { Suits program.now J.shapes }
+    requires named { is_named (asks (reading asked.now)) ≡ true }
     ensures served { IfOk result (IsServedBy program.now J.shapes J.opening
         (reading asked.now) (P.refusals finder.old) (P.refusals finder.new)
         seat.old seat.new) }
-    ensures stopped { IfErr result (IsStoppedAt
-        (P.refusals finder.old) (P.refusals finder.new) seat.old seat.new) }
+    ensures shut { IsErrOf result SeatStop.Shut → IsStoppedAt
+        (P.refusals finder.old) (P.refusals finder.new) seat.old seat.new SeatStop.Shut }
     ensures used { IsUsed (P.refusals finder.old) (P.refusals finder.new) }
 {
     match asked {
-        RequestLine::Request(request) => judge(alloc, seat, program, request, finder, scratch),
-        RequestLine::Refused(fault) => Ok(Answer::Request(*fault)),
+        RequestLine::Request(request) => {
+            judge(alloc, seat, program, request, finder, scratch, printed)
+        }
+        RequestLine::Refused(fault) => print(alloc, printed, &Answer::Request(*fault)),
     }
 }
 
@@ -121,25 +133,28 @@ fn judge<J: Naming, P: Finder>(
     request: &Request,
     finder: &mut P,
     scratch: &mut Scratch,
-) -> Result<Answer, SeatStop>
+    printed: &mut String,
+) -> Result<PrintedAnswer, SeatStop>
     requires suits { Suits program.now J.shapes }
     ensures served { IfOk result (IsServedBy program.now J.shapes J.opening
         (Ok (map datum request.now)) (P.refusals finder.old) (P.refusals finder.new)
         seat.old seat.new) }
-    ensures stopped { IfErr result (IsStoppedAt
-        (P.refusals finder.old) (P.refusals finder.new) seat.old seat.new) }
+    ensures shut { IsErrOf result SeatStop.Shut → IsStoppedAt
+        (P.refusals finder.old) (P.refusals finder.new) seat.old seat.new SeatStop.Shut }
     ensures used { IsUsed (P.refusals finder.old) (P.refusals finder.new) }
 {
     if let Err(arity) = program.takes(request) {
         let (got, want) = (arity.got, arity.want);
-        return Ok(Answer::Arity { got, want });
+        return print(alloc, printed, &Answer::Arity { got, want });
     }
-    let told = explain_seat(alloc, seat, program, request, finder, scratch)?;
-    let (answered, rule) = told;
-    let (version, verdict) = (answered.version, answered.verdict);
-    Ok(Answer::Decided {
-        version,
-        verdict,
-        rule,
-    })
+    print_seat(alloc, seat, program, request, finder, scratch, printed)
+}
+
+// Prints an answer.
+fn print(alloc: Global, printed: &mut String, answer: &Answer) -> Result<PrintedAnswer, SeatStop>
+    requires printable { is_printable answer.now ≡ true }
+    ensures printed { IfOk result (λ reply. reply ≡ printed_answer answer.now) }
+    ensures no_memory { IfErr result (λ stop. stop ≡ SeatStop.NoMemory) }
+{
+    Ok(print_answer(alloc, printed, answer)?)
 }

@@ -1,9 +1,9 @@
-ghost use Rattle.std.specs.Prelude.{◌≡◌, All, IfErr, List, OnOk, true};
-ghost use Rattle.answer_lines.specs.Told.{is_printable};
+ghost use Rattle.std.specs.Prelude.{◌≡◌, IfErr, List, OnOk, map};
+ghost use Rattle.answer_lines.specs.Printed.{printed_line};
 ghost use Rattle.answer_lines.specs.declared.answer.Line as line;
 ghost use Rattle.live_rounds.specs.declared.taker.TakeStop as declared;
 
-use desk_session::Line;
+use answer_lines::PrintedLine;
 use outside::NoMemory;
 use std::alloc::Global;
 
@@ -35,9 +35,10 @@ pub trait Taker<X> {
     /// What lines make of it that are not taken to their end.
     ghost stopped: { X → List line.Line → X → declared.TakeStop → Type 0 };
 
-    /// Takes lines.
-    fn take(&self, alloc: Global, to: &mut X, lines: &[Line]) -> Result<(), TakeStop>
-        requires { All (λ line. is_printable line.answer ≡ true) lines.now }
-        ensures took { OnOk result (took to.old lines.now to.new) }
-        ensures stopped { IfErr result (stopped to.old lines.now to.new) };
+    /// Takes lines, which are told as they are printed.
+    fn take(&self, alloc: Global, to: &mut X, lines: &[PrintedLine]) -> Result<(), TakeStop>
+        ensures took { OnOk result ((told : List line.Line) → lines.now ≡ map printed_line told
+            → took to.old told to.new) }
+        ensures stopped { IfErr result (λ stop. (told : List line.Line)
+            → lines.now ≡ map printed_line told → stopped to.old told to.new stop) };
 }

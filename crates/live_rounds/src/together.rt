@@ -8,8 +8,8 @@ use crate::beside::answer_others;
 use crate::gate::Gate;
 use crate::posts::{Post, serve_all, share_program, share_script};
 use crate::requests::count_requests;
+use answer_lines::PrintedAnswer;
 use decision::Program;
-use desk_session::Answer;
 use live_pair::{Admin, Naming};
 use outside::NoMemory;
 use regex_gate::Finder;
@@ -29,7 +29,7 @@ pub(crate) fn work_together<J: Naming + Send + Sync, R: Threads + Wait + Sync, P
     gate: &G,
     admin: &mut Admin<J>,
     posts: &mut Vec<Post<J, P>>,
-) -> Result<Vec<Answer>, NoMemory>
+) -> Result<Vec<PrintedAnswer>, NoMemory>
     requires suits { Suits program.now J.shapes }
     ensures done { IfOk result (λ replies. (before : List Said)
         → IsAdminBehind J.shapes J.opening before admin.old
@@ -65,7 +65,7 @@ fn in_turn<
     R: Threads + Wait + Sync,
     P: Finder,
     G: Gate,
-    F: FnMut() -> Result<Vec<Answer>, NoMemory>,
+    F: FnMut() -> Result<Vec<PrintedAnswer>, NoMemory>,
 >(
     rt: &R,
     alloc: Global,
@@ -74,7 +74,7 @@ fn in_turn<
     gate: &G,
     posts: &mut Vec<Post<J, P>>,
     beside: &mut F,
-) -> Result<Vec<Answer>, NoMemory>
+) -> Result<Vec<PrintedAnswer>, NoMemory>
     requires suits { Suits program.now J.shapes }
     requires called { F.pre beside.old }
     ensures called { F.step beside.old result beside.new }
@@ -92,7 +92,7 @@ fn with_workers<
     R: Threads + Wait + Sync,
     P: Finder,
     G: Gate,
-    F: FnMut() -> Result<Vec<Answer>, NoMemory>,
+    F: FnMut() -> Result<Vec<PrintedAnswer>, NoMemory>,
 >(
     rt: &R,
     alloc: Global,
@@ -102,7 +102,7 @@ fn with_workers<
     posts: &mut Vec<Post<J, P>>,
     alone: bool,
     beside: &mut F,
-) -> Result<Vec<Answer>, NoMemory>
+) -> Result<Vec<PrintedAnswer>, NoMemory>
     requires suits { Suits program.now J.shapes }
     requires called { F.pre beside.old }
     ensures called { F.step beside.old result beside.new }

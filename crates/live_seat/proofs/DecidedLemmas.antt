@@ -1,10 +1,13 @@
 -- What is judged over a state that stands for the edits of publishes, is judged over the tables behind them.
-use Rattle.std.proofs.Common.{◌≡◌, ℕ, List, Option, sym, subst, ◌∙◌}
+use Rattle.std.proofs.Common.{◌≡◌, ℕ, List, Option, refl, sym, subst, ◌∙◌}
+use Rattle.answer_lines.specs.Printed.{printed_answer}
+use Rattle.answer_lines.specs.declared.answer.Answer.TheVariants.{Decided}
+use Rattle.answer_lines.specs.declared.printed.PrintedAnswer.{PrintedAnswer}
 use Rattle.decision.specs.Decisions.{IsJudgedWith, RefusedIn}
 use Rattle.effect_fold.specs.declared.verdict.Verdict.{Verdict}
 use Rattle.live_pair.specs.Seats.{IsEntered, SeatSeen, version_of}
 use Rattle.live_pair.specs.Story.{edits_in}
-use Rattle.live_seat.specs.Decided.{IsDecidedAt, IsExplainedAt, tables_behind}
+use Rattle.live_seat.specs.Decided.{IsDecidedAt, IsExplainedAt, IsPrintedAt, tables_behind}
 use Rattle.matcher_meaning.specs.Verdicts.{IsJudged}
 use Rattle.model_conf.specs.ModelText.{ModelParts}
 use Rattle.perm_base.specs.declared.shapes.Shapes.{Shapes}
@@ -42,4 +45,14 @@ module _ (model : ModelParts) (shapes : Shapes) (opening : Policy) (values : Lis
     decided = decided_at version verdict version-is judged refused;
     rule_is = subst (λ (seat : SeatSeen). rule ≡ rule_of (tables_behind opening seat.front) verdict) (sym left)
         (at_front shapes opening inside.front state shapes-is stands (λ (s : Shapes) (policy : Policy). rule ≡ rule_of policy verdict) rule-is);
+  }
+
+  -- as it is printed
+  pub printed_at : (version : ℕ) (verdict : Verdict) (printed : PrintedAnswer) → version ≡ version_of inside.front → IsJudged model state.shapes (tables state) values (IsRefused before now) verdict
+      → IsJudgedWith model state.shapes (tables state) values (RefusedIn model.effect before now) verdict → printed ≡ printed_answer (Decided version verdict (rule_of (tables state) verdict))
+      → IsPrintedAt model shapes opening values before now old new printed
+  printed_at version verdict printed version-is judged refused printed-is = record {
+    told = (record { version = version; verdict = verdict }, rule_of (tables state) verdict);
+    explained = explained_at version verdict (rule_of (tables state) verdict) version-is judged refused refl;
+    printed_is = printed-is;
   }

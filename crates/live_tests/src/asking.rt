@@ -5,8 +5,9 @@ ghost use Rattle.live_seat.specs.Caches.{ServesAt};
 use answer_cache::Cache;
 use decision::{Program, Scratch};
 use live_pair::{Naming, Seat};
-use live_seat::{Answered, SeatAnswer, decide_seat, decide_seat_cached};
+use live_seat::{Answered, SeatAnswer, decide_seat, decide_seat_cached, explain_seat};
 use outside::NoMemory;
+use perm_base::Rule;
 use perm_value::{Request, request_of_fields};
 use regex_gate::RegexFinder;
 use std::alloc::Global;
@@ -45,6 +46,32 @@ impl Asking {
             return Err(Fail::new("another number of values"));
         };
         let told = decide_seat(
+            seat,
+            program,
+            &self.request,
+            &mut self.finder,
+            &mut self.scratch,
+        );
+        let Ok(told) = told else {
+            return Err(Fail::new("no verdict"));
+        };
+        Ok(told)
+    }
+
+    /// The verdict at a seat, and the rule that it names.
+    pub(crate) fn explained<J: Naming>(
+        &mut self,
+        alloc: Global,
+        seat: &mut Seat<J>,
+        program: &Program,
+    ) -> Result<(Answered, Option<Rule>), Fail>
+        requires suits { Suits program.now J.shapes }
+    {
+        let Ok(()) = program.takes(&self.request) else {
+            return Err(Fail::new("another number of values"));
+        };
+        let told = explain_seat(
+            alloc,
             seat,
             program,
             &self.request,

@@ -60,7 +60,7 @@ fn new_cache(alloc: Global, state: &PolicyState) -> Result<Cache, NoMemory>
     Cache::open(alloc, state, 10)
 }
 
-// The seat answers before the publish of a rule and twice after it, and then decides without the cache.
+// The seat answers before the publish of a rule and twice after it, and then decides without the cache, and names the rule.
 fn answers<J: Naming, R: Wait + Abort>(
     rt: &R,
     alloc: Global,
@@ -84,6 +84,13 @@ fn answers<J: Naming, R: Wait + Abort>(
     let told = asking.verdict(seat, program)?;
     assert_eq!(rt; told.version, 1);
     assert_eq!(rt; told.verdict, Verdict::Allow(Some(1)));
+    let (explained, rule) = asking.explained(alloc, seat, program)?;
+    assert_eq!(rt; explained, told);
+    let Some(rule) = rule else {
+        return Err(Fail::new("no rule"));
+    };
+    assert_eq!(rt; rule.place_of(b"user0"), Some(0));
+    assert_eq!(rt; rule.place_of(b"data1"), Some(1));
     Ok(())
 }
 

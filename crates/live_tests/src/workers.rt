@@ -7,12 +7,11 @@ ghost use Rattle.script_read.specs.Script.{IsScript};
 
 use crate::desks::{desk, program};
 use crate::meeting::Meeting;
+use answer_lines::PrintedLine;
 use decision::Program;
-use desk_session::{Answer, Line};
-use effect_fold::Verdict;
 use live_pair::{PairPlaces, Places};
 use live_rounds::{Gate, TakeStop, Taker, run_shared};
-use outside::NoMemory;
+use outside::{NoMemory, Text};
 use perm_base::Shapes;
 use regex_gate::RegexFinder;
 use script_read::check_script;
@@ -33,42 +32,29 @@ remove p, alice, data1, read
 publish
 ";
 
-// At each line the version and the verdict that it shows, where it shows one.
+// The answer of each line.
 #[derive(Drop)]
-struct Shown {
-    lines: Vec<Option<(u32, Verdict)>>,
+struct Answers {
+    texts: Vec<Text>,
 }
 
-// Keeps what lines show.
+// Keeps the answers of lines.
 #[derive(Clone, Copy)]
 struct Keeping;
 
-impl Taker<Shown> for Keeping {
+impl Taker<Answers> for Keeping {
     ghost use Rattle.std.specs.Prelude.{⊤};
 
     ghost took = { λ _ _ _. ⊤ };
 
     ghost stopped = { λ _ _ _ _. ⊤ };
 
-    fn take(&self, _alloc: Global, to: &mut Shown, lines: &[Line]) -> Result<(), TakeStop> {
+    fn take(&self, alloc: Global, to: &mut Answers, lines: &[PrintedLine]) -> Result<(), TakeStop> {
         for line in lines {
-            to.lines
-                .push(shown_by(&line.answer))
-                .map_err(NoMemory::from)?;
+            let text = Text::from_str(alloc, line.answer.text.as_str())?;
+            to.texts.push(text).map_err(NoMemory::from)?;
         }
         Ok(())
-    }
-}
-
-// What an answer shows.
-fn shown_by(answer: &Answer) -> Option<(u32, Verdict)> {
-    match answer {
-        Answer::Decided {
-            version,
-            verdict,
-            ..
-        } => Some((*version, *verdict)),
-        _ => None,
     }
 }
 
@@ -77,11 +63,11 @@ fn workers_and_the_administrator_wait_for_each_other(rt: HostRuntime) -> Result<
     let alloc = rt.alloc();
     let gate = Meeting::new();
     let mut places = PairPlaces::new();
-    let lines = lines_of(&rt, alloc, &gate, &mut places)?;
+    let answers = lines_of(&rt, alloc, &gate, &mut places)?;
     assert_eq!(rt; gate.late.load(Ordering::SeqCst), false);
     assert_eq!(rt; places.refusals(), 0);
-    assert!(rt; is_beside(&lines, 2));
-    assert!(rt; is_beside(&lines, 4));
+    assert!(rt; is_beside(&answers, 2));
+    assert!(rt; is_beside(&answers, 4));
     Ok(())
 }
 
@@ -91,7 +77,7 @@ fn lines_of<R: Threads + Wait + Sync, G: Gate, H: Places>(
     alloc: Global,
     gate: &G,
     places: &mut H,
-) -> Result<Shown, NoMemory> {
+) -> Result<Answers, NoMemory> {
     let Ok(()) = check_script(alloc, TURNS.as_bytes(), false) else {
         return Err(NoMemory);
     };
@@ -105,7 +91,7 @@ fn lines_by<R: Threads + Wait + Sync, G: Gate, H: Places>(
     script: &str,
     gate: &G,
     places: &mut H,
-) -> Result<Shown, NoMemory>
+) -> Result<Answers, NoMemory>
     requires checked { (items : List Said) × IsScript false script.now items }
 {
     let mut finders = Vec::with_capacity(alloc, 3)?;
@@ -126,7 +112,7 @@ fn lines_with<R: Threads + Wait + Sync, G: Gate, H: Places>(
     finders: &mut Vec<RegexFinder>,
     gate: &G,
     places: &mut H,
-) -> Result<Shown, NoMemory>
+) -> Result<Answers, NoMemory>
     requires finders { 2 < length finders.old.items }
     requires checked { (items : List Said) × IsScript false script.now items }
 {
@@ -144,7 +130,7 @@ fn lines_over<R: Threads + Wait + Sync, G: Gate, H: Places>(
     finders: &mut Vec<RegexFinder>,
     gate: &G,
     places: &mut H,
-) -> Result<Shown, NoMemory>
+) -> Result<Answers, NoMemory>
     requires suits { Suits program.now shapes }
     requires valid { AreValid shapes }
     requires finders { 2 < length finders.old.items }
@@ -152,22 +138,32 @@ fn lines_over<R: Threads + Wait + Sync, G: Gate, H: Places>(
 {
     let desk = desk(alloc, shapes)?;
     let keeping = Keeping;
-    let mut shown = Shown {
-        lines: Vec::new(alloc),
+    let mut answers = Answers {
+        texts: Vec::new(alloc),
     };
     match run_shared(
-        rt, alloc, desk, program, false, script, 2, finders, gate, places, &keeping, &mut shown,
+        rt,
+        alloc,
+        desk,
+        program,
+        false,
+        script,
+        2,
+        finders,
+        gate,
+        places,
+        &keeping,
+        &mut answers,
     ) {
-        Ok(()) => Ok(shown),
+        Ok(()) => Ok(answers),
         Err(_) => Err(NoMemory),
     }
 }
 
-// Whether the line at a place shows the verdict before the first publish, or the one behind it.
-fn is_beside(lines: &Shown, place: usize) -> bool {
-    let Some(Some((version, verdict))) = lines.lines.get(place) else {
+// Whether the answer at a place is that before the first publish, or the one behind it.
+fn is_beside(answers: &Answers, place: usize) -> bool {
+    let Some(text) = answers.texts.get(place) else {
         return false;
     };
-    (*version == 0 && *verdict == Verdict::Deny(None))
-        || (*version == 1 && *verdict == Verdict::Allow(Some(1)))
+    text.as_str() == "deny @0 -" || text.as_str() == "allow @1 p#1 alice, data1, read"
 }

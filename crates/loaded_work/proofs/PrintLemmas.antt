@@ -1,9 +1,12 @@
 -- How far the requests of an input are answered and their lines printed.
-use Rattle.std.proofs.Common.{◌≡◌, ℕ, ◌+◌, ◌≤◌, Bool, List, [], ◌∷◌, ◌++◌, append_assoc, append-nil, take, refl, sym, ap, subst, ◌∙◌, arith}
+use Rattle.std.proofs.Common.{◌≡◌, ℕ, zero, suc, ◌+◌, ◌<◌, ◌≤◌, Bool, List, [], ◌∷◌, ◌++◌, append_assoc, append-nil, drop, get_or, length, map, take, refl, sym, ap, subst, ◌∙◌, arith}
 use Rattle.std.specs.Prelude.{Option, IsUtf8, String, min, string_bytes}
 use Rattle.std.specs.declared.alloc.Global.{Global}
-use Rattle.answer_lines.specs.LineText.{line_text}
+use Rattle.std.proofs.lemmas.List.{drop_all, length-map}
+use Rattle.answer_lines.specs.LineText.{line_text, numbered}
+use Rattle.answer_lines.specs.Printed.{printed_line}
 use Rattle.answer_lines.specs.declared.answer.Line.{Line}
+use Rattle.answer_lines.specs.declared.printed.PrintedLine.{PrintedLine}
 use Rattle.desk_session.proofs.CallerLemmas.{IsUnderWay, alone, alone_before, logged_more, request_step, under_way_more, under_way_none, way_used}
 use Rattle.desk_session.specs.Requests.{Refuses}
 use Rattle.model_conf.specs.ModelText.{ModelParts}
@@ -215,3 +218,25 @@ lines_first before now gathered all left a b so =
 pub lines_stopped : (before mid now : Option (List ℕ)) (gathered : List ℕ) (all left : List Line) (a b c : ℕ) → IsMidway before mid gathered all left a b → TookFront mid now gathered → Rose b c → TookFront before now (text_of_lines all) × Rose a c
 lines_stopped before mid now gathered all left a b c so front rose =
     (subst (λ (lines : List Line). TookFront before now (text_of_lines lines)) (sym so.parts) (stopped_front before mid now gathered so.so_far left a b so.told front), omega (arith, so.told.counted, rose))
+
+-- ---- lines that are printed already
+
+-- the next of the lines that are told
+told_next : (printed : List PrintedLine) (told : List Line) (n : ℕ) (item : PrintedLine) → printed ≡ map printed_line told → n < length printed → item ≡ get_or printed n item → (line : Line) × (item ≡ printed_line line) × (drop n told ≡ line ∷ drop (n + 1) told)
+told_next [] told n item same within is = absurd (omega (arith, within))
+told_next (p ∷ printed) [] n item same within is = absurd (omega (arith, ap (λ (l : List PrintedLine). length l) same))
+told_next (p ∷ printed) (line ∷ told) zero item same within is = (line, is ∙ ap (λ (l : List PrintedLine). get_or l 0 item) same, refl)
+told_next (p ∷ printed) (line ∷ told) (suc n) item same within is =
+    let next = told_next printed told n item (ap (λ (l : List PrintedLine). drop 1 l) same) (omega (arith, within)) is in
+    let place : suc n + 1 ≡ suc (n + 1) = omega arith in
+    (next.0, next.1, next.2 ∙ ap (λ (k : ℕ). next.0 ∷ drop k (line ∷ told)) (sym place))
+
+pub printed_line_more : (before now : Option (List ℕ)) (gathered more : List ℕ) (printed : List PrintedLine) (told : List Line) (n : ℕ) (item : PrintedLine) (a b : ℕ) → printed ≡ map printed_line told → n < length printed → item ≡ get_or printed n item
+    → IsMidway before now gathered told (drop n told) a b → more ≡ gathered ++ numbered item.number item.answer.text → IsMidway before now more told (drop (n + 1) told) a b
+printed_line_more before now gathered more printed told n item a b same within is so more-is =
+    let next = told_next printed told n item same within is in
+    lines_more before now gathered more told (drop n told) (drop (n + 1) told) next.0 a b so next.2 (more-is ∙ ap (λ (p : PrintedLine). gathered ++ numbered p.number p.answer.text) next.1)
+
+pub printed_all_lines : (before mid now : Option (List ℕ)) (gathered : List ℕ) (printed : List PrintedLine) (told : List Line) (n a b : ℕ) → printed ≡ map printed_line told → length printed ≤ n → IsMidway before mid gathered told (drop n told) a b → now ≡ with_back mid gathered → now ≡ with_back before (text_of_lines told)
+printed_all_lines before mid now gathered printed told n a b same past so took =
+    lines_all before mid now gathered told (drop n told) a b so (drop_all n told (omega (arith, past, ap (λ (l : List PrintedLine). length l) same, length-map told printed_line))) took

@@ -18,11 +18,11 @@ use decision::{Program, Scratch};
 use desk_session::push_request;
 use matcher_meaning::case_verdict_is_there;
 use outside::{NoMemory, Sink, push_all};
-use perm_value::{RequestFault, Value};
+use perm_value::Value;
 use policy_state::PolicyState;
 use regex_gate::Finder;
 use run_status::Stop;
-use script_read::{RequestLine, next_request, read_request_over, values_of};
+use script_read::{RequestLine, next_request, read_line_over, values_of};
 use std::alloc::Global;
 use std::mem;
 
@@ -129,7 +129,7 @@ fn push_answer<P: Finder>(
         court.now.json (P.refusals finder.old) (P.refusals finder.new) line.now) }
 {
     let others = mem::replace(values, Vec::new(alloc));
-    let asked = ask_over(alloc, others, court.json, line)?;
+    let asked = read_line_over(alloc, others, court.json, line)?;
     let told = push_request(
         text,
         number,
@@ -148,22 +148,5 @@ pub fn ask(alloc: Global, json: bool, line: &str) -> Result<RequestLine, NoMemor
     ensures says { IfOk result (λ asked. Says json line.now (reading asked)) }
     ensures named { IfOk result (λ asked. is_named (asks (reading asked)) ≡ true) }
 {
-    ask_over(alloc, Vec::new(alloc), json, line)
-}
-
-// The same, with values that take the place of others.
-fn ask_over(
-    alloc: Global,
-    others: Vec<Value>,
-    json: bool,
-    line: &str,
-) -> Result<RequestLine, NoMemory>
-    ensures says { IfOk result (λ asked. Says json line.now (reading asked)) }
-    ensures named { IfOk result (λ asked. is_named (asks (reading asked)) ≡ true) }
-{
-    match read_request_over(alloc, others, json, line) {
-        Ok(request) => Ok(RequestLine::Request(request)),
-        Err(RequestFault::NoMemory) => Err(NoMemory),
-        Err(fault) => Ok(RequestLine::Refused(fault)),
-    }
+    read_line_over(alloc, Vec::new(alloc), json, line)
 }

@@ -1,5 +1,6 @@
-ghost use Rattle.std.specs.Prelude.{◌≡◌, ◌≤◌, All, IfErr, List, None, OnErr, OnOk, [], false, true};
-ghost use Rattle.answer_lines.specs.Told.{is_printable};
+ghost use Rattle.std.specs.Prelude.{◌≡◌, ◌≤◌, IfErr, List, None, OnErr, OnOk, [], false, map, true};
+ghost use Rattle.answer_lines.specs.Printed.{printed_line};
+ghost use Rattle.answer_lines.specs.declared.answer.Line as line;
 ghost use Rattle.outside.specs.Faults.{Rose};
 ghost use Rattle.outside.specs.Told.{with_back};
 ghost use Rattle.script_read.specs.Named.{is_named};
@@ -23,7 +24,7 @@ use crate::court::next_number;
 use crate::gather::push_full;
 use crate::loaded::Loaded;
 use crate::opened::open_loaded;
-use answer_lines::push_line;
+use answer_lines::{PrintedLine, push_line, push_printed};
 use decision::{Program, Scratch};
 use desk_session::{Line, answer_other, asked_in, push_asked};
 use matcher_meaning::case_verdict_is_there;
@@ -159,18 +160,18 @@ fn push_other(
     push_line(text, &Line { number, answer })
 }
 
-/// Prints lines.
-pub fn print_lines<K: Sink>(alloc: Global, out: &mut K, lines: &[Line]) -> Result<(), Stop>
-    requires { All (λ line. is_printable line.answer ≡ true) lines.now }
-    ensures printed { OnOk result
-        (K.taken out.new ≡ with_back (K.taken out.old) (text_of_lines lines.now)) }
-    ensures stopped { IfErr result (LinesStop (K.taken out.old) (K.taken out.new)
-        lines.now (Rose (K.faults out.old) (K.faults out.new))) }
+/// Pushes lines that were printed.
+pub fn print_lines<K: Sink>(alloc: Global, out: &mut K, lines: &[PrintedLine]) -> Result<(), Stop>
+    ensures printed { OnOk result ((told : List line.Line) → lines.now ≡ map printed_line told
+        → K.taken out.new ≡ with_back (K.taken out.old) (text_of_lines told)) }
+    ensures stopped { IfErr result (λ stop. (told : List line.Line)
+        → lines.now ≡ map printed_line told → LinesStop (K.taken out.old) (K.taken out.new)
+        told (Rose (K.faults out.old) (K.faults out.new)) stop) }
     ensures counted { K.faults out.old ≤ K.faults out.new }
 {
     let mut text = String::new(alloc);
     for line in lines {
-        push_line(&mut text, line)?;
+        push_printed(&mut text, line)?;
         push_full(out, &mut text)?;
     }
     push_all(out, text.as_bytes())?;

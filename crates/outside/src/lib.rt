@@ -3,6 +3,7 @@
 
 mod fault;
 mod fetch_log;
+mod line_text;
 mod memory;
 mod share;
 mod shelf;
@@ -12,6 +13,7 @@ mod text;
 
 pub use fault::{Failed, NoMemory};
 pub use fetch_log::{FetchCall, FetchLog};
+pub use line_text::LineText;
 pub use memory::{ListShelf, ListSink, ListSource, SureShelf, SureSink, SureSource};
 pub use share::Share;
 pub use shelf::{Fetch, Shelf};

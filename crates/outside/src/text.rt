@@ -49,23 +49,23 @@ impl Text {
         Ok(Text { held })
     }
 
-    /// Puts another text in the place of this one. One of at most 24 bytes that takes the place of such a one is copied there. Where
-    /// memory runs out the text stays as it was.
+    /// Puts another text in the place of this one, which is copied there. Memory is taken for one of more than 24 bytes that is longer
+    /// than each that stood here before. Where memory runs out the text stays as it was.
     pub fn set(&mut self, alloc: Global, text: &str) -> Result<(), NoMemory>
         ensures set { OnOk result (self.new ≡ text.now) }
         ensures same { OnErr result (self.new ≡ self.old) }
     {
-        if text.len() > SHORT {
-            *self = Text::from_str(alloc, text)?;
-            return Ok(());
-        }
         match &mut self.held {
+            Held::Long(long) => return replace(long, text),
             Held::Short(short) => {
-                short.clear();
-                short.push_str(text);
+                if text.len() <= SHORT {
+                    short.clear();
+                    short.push_str(text);
+                    return Ok(());
+                }
             }
-            Held::Long(_) => *self = Text::from_str(alloc, text)?,
         }
+        *self = Text::from_str(alloc, text)?;
         Ok(())
     }
 
@@ -95,6 +95,17 @@ impl Text {
             Held::Long(text) => text.as_str(),
         }
     }
+}
+
+// Puts another text in the place of one, and into its memory where it has room there.
+fn replace(long: &mut String, text: &str) -> Result<(), NoMemory>
+    ensures set { OnOk result (string_bytes long.new ≡ text.now) }
+    ensures same { OnErr result (string_bytes long.new ≡ string_bytes long.old) }
+{
+    long.reserve(text.len().saturating_sub(long.len()))?;
+    long.clear();
+    long.push_str(text)?;
+    Ok(())
 }
 
 impl Share for Text {}

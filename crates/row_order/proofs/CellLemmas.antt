@@ -1,5 +1,5 @@
 -- what stands in a row of cells, by places
-use Rattle.std.proofs.Common.{◌≡◌, ◌≢◌, ℕ, zero, suc, ◌+◌, ◌<◌, ◌≤◌, ◌==◌, List, [], ◌∷◌, ◌++◌, length, get_or, set, take, drop, Option, Some, None, not, cond, nat_lt, refl, sym, ap, arith, filter, position, slice_get, is_some, Bool, add-one}
+use Rattle.std.proofs.Common.{◌≡◌, ◌≢◌, ℕ, zero, suc, ◌+◌, ◌<◌, ◌≤◌, ◌==◌, List, [], ◌∷◌, ◌++◌, length, get_or, set, take, drop, Option, Some, None, not, cond, nat_lt, refl, sym, ap, arith, filter, position, slice_get, is_some, Bool, IsTrue, add-one}
 use Rattle.std.proofs.lemmas.Bool.Decides.{nat_tests}
 use Rattle.std.specs.List.{position_or_len}
 use Rattle.std.specs.Int.{from_bool}
@@ -31,6 +31,13 @@ count_some (None ∷ xs) zero x h = absurd cc
 count_some (Some y ∷ xs) zero x h = refl
 count_some (None ∷ xs) (suc c) x h = count_some xs c x h
 count_some (Some y ∷ xs) (suc c) x h = omega (arith, count_some xs c x h)
+
+pub count_here : (cells : List (Option ℕ)) (c : ℕ) → IsTrue (is_some (get_or cells c None)) → length (live (take (suc c) cells)) ≡ length (live (take c cells)) + 1
+count_here [] c h = absurd cc
+count_here (None ∷ xs) zero h = absurd cc
+count_here (Some y ∷ xs) zero h = refl
+count_here (None ∷ xs) (suc c) h = count_here xs c h
+count_here (Some y ∷ xs) (suc c) h = omega (arith, count_here xs c h)
 
 pub count_none : (cells : List (Option ℕ)) (c : ℕ) → get_or cells c None ≡ None → live (take (suc c) cells) ≡ live (take c cells)
 count_none [] zero h = refl

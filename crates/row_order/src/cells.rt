@@ -9,6 +9,7 @@ ghost use Rattle.std.specs.Prelude.{
   ◌≤◌,
   length,
   take,
+  IsTrue,
   MatchOption,
   Some,
   None,
@@ -64,6 +65,9 @@ pub(crate) fn cell_at(
     let mut high = tail;
     // Where no id was taken out or put between others since the cells were packed, it stands here.
     let guess = low + GAP * (low / LOADED);
+    if guess < tail && stands_at(cells, rank, before, tail, guess, place) {
+        return guess;
+    }
     while high - low > 1 {
         let middle = tested_next(low, high, guess);
         if number_at(rank, before, middle) <= place {
@@ -73,6 +77,23 @@ pub(crate) fn cell_at(
         }
     }
     low
+}
+
+// Whether the id at a place stands in a cell.
+fn stands_at(
+    cells: &[Option<u32>],
+    rank: &[u32],
+    before: &[u32],
+    tail: usize,
+    cell: usize,
+    place: u32,
+) -> bool
+    requires counted { IsCounted cells.now rank.now before.now tail }
+    requires within { cell < tail }
+    ensures before { IsTrue result → length (live (take cell cells.now)) ≡ place }
+    ensures one { IsTrue result → length (live (take (cell + 1) cells.now)) ≡ place + 1 }
+{
+    number_at(rank, before, cell) == place && cells[cell].is_some()
 }
 
 // The cell that is tested next between two, where an id is looked for that is guessed to stand in a third.

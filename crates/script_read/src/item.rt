@@ -1,5 +1,5 @@
 use edit_calls::Call;
-use outside::{Share, Text};
+use outside::{LineText, Share, Text};
 use perm_base::{Rule, TableId};
 use perm_value::{Request, RequestFault};
 
@@ -16,7 +16,7 @@ pub struct RequestText {
     /// It is JSON.
     pub json: bool,
     /// What stands behind `ask`.
-    pub line: Text,
+    pub line: LineText,
 }
 
 /// What one line of a script says, or one block of lines.

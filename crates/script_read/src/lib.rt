@@ -24,7 +24,9 @@ pub use laws::{
     text_has_one_script_fault, text_says_one_script, texts_are_read_in_one_way,
 };
 pub use reader::read_script;
-pub use requests::{next_request, read_request, read_request_over, read_text, values_of};
+pub use requests::{
+    next_request, read_line_over, read_request, read_request_over, read_text, values_of,
+};
 pub use script::Script;
 pub use walk::{check_script, next_item};
 pub use word::{begins_block, ends_block};

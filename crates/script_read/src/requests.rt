@@ -1,13 +1,14 @@
-ghost use Rattle.std.specs.Prelude.{◌≡◌, ◌≢◌, ◌<◌, ◌∷◌, [], Ok, Err, IfErr, IfNone, IfOk, IfSome, length, map};
+ghost use Rattle.std.specs.Prelude.{◌≡◌, ◌≢◌, ◌<◌, ◌∷◌, [], Ok, Err, IfErr, IfNone, IfOk, IfSome, length, map, true};
 ghost use Rattle.perm_value.specs.Seen.{datum};
 ghost use Rattle.perm_value.specs.declared.request.RequestFault.TheVariants as fault;
 ghost use Rattle.script_read.specs.Readings.{request_read};
 ghost use Rattle.script_read.specs.Lines.{requests_of};
 ghost use Rattle.script_read.specs.Reads.{Says};
-ghost use Rattle.script_read.specs.Said.{reading, reading_of};
+ghost use Rattle.script_read.specs.Named.{is_named};
+ghost use Rattle.script_read.specs.Said.{asks, reading, reading_of};
 
 use crate::item::{RequestLine, RequestText};
-use outside::{NoMemory, Text};
+use outside::{LineText, NoMemory};
 use perm_value::{Request, RequestFault, Value, request_of_json, request_over_fields};
 use std::alloc::Global;
 use text_parts::{is_passed, next_text_line};
@@ -58,7 +59,7 @@ pub fn read_request_over(
 pub(crate) fn ask(alloc: Global, json: bool, line: &str) -> Result<RequestText, NoMemory>
     ensures { IfOk result (λ text. request_read json line.now ≡ reading_of text) }
 {
-    let line = Text::from_str(alloc, line)?;
+    let line = LineText::from_str(alloc, line)?;
     Ok(RequestText { json, line })
 }
 
@@ -69,9 +70,23 @@ pub fn read_text(
     others: Vec<Value>,
     text: &RequestText,
 ) -> Result<RequestLine, NoMemory>
-    ensures { IfOk result (λ asked. reading asked ≡ reading_of text.now) }
+    ensures read { IfOk result (λ asked. reading asked ≡ reading_of text.now) }
+    ensures named { IfOk result (λ asked. is_named (asks (reading asked)) ≡ true) }
 {
-    match read_request_over(alloc, others, text.json, text.line.as_str()) {
+    read_line_over(alloc, others, text.json, text.line.as_str())
+}
+
+/// What the line of a request asks, or why it is none. Its values take the place of others, where they are fields.
+pub fn read_line_over(
+    alloc: Global,
+    others: Vec<Value>,
+    json: bool,
+    line: &str,
+) -> Result<RequestLine, NoMemory>
+    ensures says { IfOk result (λ asked. Says json line.now (reading asked)) }
+    ensures named { IfOk result (λ asked. is_named (asks (reading asked)) ≡ true) }
+{
+    match read_request_over(alloc, others, json, line) {
         Ok(request) => Ok(RequestLine::Request(request)),
         Err(RequestFault::NoMemory) => Err(NoMemory),
         Err(fault) => Ok(RequestLine::Refused(fault)),

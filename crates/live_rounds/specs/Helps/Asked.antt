@@ -1,11 +1,12 @@
 -- Requests that are answered over one policy.
 use Rattle.std.specs.Prelude.{◌≡◌, ℕ, ⊤, false, List, [], ◌∷◌, ◌++◌, drop, length, take}
-use Rattle.answer_lines.specs.declared.answer.Answer.{Answer}
+use Rattle.answer_lines.specs.declared.printed.PrintedAnswer.{PrintedAnswer}
 use Rattle.model_conf.specs.ModelText.{ModelParts}
 use Rattle.perm_base.specs.declared.shapes.Shapes.{Shapes}
 use Rattle.policy_state.specs.States.{State, tables}
 use Rattle.policy_table.specs.Tables.{Policy}
 use Rattle.regex_gate.specs.Refusals.{Refusals, after_refusals}
+use Rattle.live_rounds.specs.Printed.{IsPrinted}
 use Rattle.live_rounds.specs.Requests.{requests}
 use Rattle.script_read.specs.Said.{Reading, Said, asks}
 use Rattle.session_meaning.specs.Plain.{all_refused}
@@ -14,20 +15,20 @@ use Rattle.version_log.specs.Log.{versions}
 
 module _ (model : ModelParts) (shapes : Shapes) (version : ℕ) (policy : Policy) where
   -- one request, for which these patterns were refused
-  pub record IsAnsweredOver (refused : List (List ℕ)) (reply : Answer) (reading : Reading) : Type 0 where
-    pub answers : IsAnswerTo model shapes refused version policy reading reply
+  pub record IsAnsweredOver (refused : List (List ℕ)) (reply : PrintedAnswer) (reading : Reading) : Type 0 where
+    pub answers : IsPrinted (IsAnswerTo model shapes refused version policy reading) reply
     pub unasked : is_decided model (asks reading) ≡ false → refused ≡ []
 
   -- requests, one each
-  abbrev pub AreAnsweredOver : List (List (List ℕ)) → List Answer → List Reading → Type 0
+  abbrev pub AreAnsweredOver : List (List (List ℕ)) → List PrintedAnswer → List Reading → Type 0
   AreAnsweredOver [] [] [] = ⊤
   AreAnsweredOver (refused ∷ others) (reply ∷ replies) (reading ∷ readings) = IsAnsweredOver refused reply reading × AreAnsweredOver others replies readings
   AreAnsweredOver _ _ _ = ⊥
 
 -- behind other replies stand those to these requests over a policy
-pub record AddsAnswered (model : ModelParts) (state : State) (before now : Refusals) (readings : List Reading) (old new : List Answer) : Type 0 where
+pub record AddsAnswered (model : ModelParts) (state : State) (before now : Refusals) (readings : List Reading) (old new : List PrintedAnswer) : Type 0 where
   pub refused : List (List (List ℕ))
-  pub replies : List Answer
+  pub replies : List PrintedAnswer
   pub added : new ≡ old ++ replies
   pub logged : now ≡ after_refusals before (all_refused refused)
   pub answered : AreAnsweredOver model state.shapes (versions state.log) (tables state) refused replies readings
@@ -35,22 +36,22 @@ pub record AddsAnswered (model : ModelParts) (state : State) (before now : Refus
 -- ---- parts one after the other
 
 -- what is kept for the first part, and for the others: nothing where there is none
-abbrev pub first_kept : List (List Answer) → List Answer
+abbrev pub first_kept : List (List PrintedAnswer) → List PrintedAnswer
 first_kept [] = []
 first_kept (kept ∷ others) = kept
 
-abbrev pub others_kept : List (List Answer) → List (List Answer)
+abbrev pub others_kept : List (List PrintedAnswer) → List (List PrintedAnswer)
 others_kept [] = []
 others_kept (kept ∷ others) = others
 
 module _ (model : ModelParts) (state : State) where
   -- behind other replies stand those to the requests of a part: what is kept, and for the others what they are answered over a policy
-  pub record IsShared (part : List Said) (kept : List Answer) (before now : Refusals) (old new : List Answer) : Type 0 where
+  pub record IsShared (part : List Said) (kept : List PrintedAnswer) (before now : Refusals) (old new : List PrintedAnswer) : Type 0 where
     pub adds : AddsAnswered model state before now (drop (length kept) (requests part)) (old ++ kept) new
 
   -- the same for parts of these sizes
-  abbrev pub AreShared : List Said → List ℕ → List (List Answer) → (before now : Refusals) → (old new : List Answer) → Type 0
+  abbrev pub AreShared : List Said → List ℕ → List (List PrintedAnswer) → (before now : Refusals) → (old new : List PrintedAnswer) → Type 0
   AreShared items [] kept before now old new = (now ≡ before) × (new ≡ old)
   AreShared items (size ∷ sizes) kept before now old new =
-      (mid : Refusals) × (more : List Answer) × IsShared (take size items) (first_kept kept) before mid old more
+      (mid : Refusals) × (more : List PrintedAnswer) × IsShared (take size items) (first_kept kept) before mid old more
       × AreShared (drop size items) sizes (others_kept kept) mid now more new

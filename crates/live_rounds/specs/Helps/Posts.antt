@@ -1,6 +1,6 @@
 -- The posts of a round: where they stand, and what is kept of what was answered at them.
 use Rattle.std.specs.Prelude.{◌≡◌, ◌⊎◌, ◌+◌, ◌<◌, ℕ, ⊤, false, List, [], ◌∷◌, drop, if◌then◌else◌, length, map, nat_le, slice_index_or, take}
-use Rattle.answer_lines.specs.declared.answer.Answer.{Answer}
+use Rattle.answer_lines.specs.declared.printed.PrintedAnswer.{PrintedAnswer}
 use Rattle.live_pair.specs.Seats.{SeatSeen, version_of}
 use Rattle.live_rounds.specs.Served.{IsPartKept, IsPartServed}
 use Rattle.model_conf.specs.ModelText.{ModelParts}
@@ -22,7 +22,7 @@ abbrev pub AreAll : {X Y : Type 0} → List ℕ → List X → List Y → Type 0
 AreAll sizes posts left = (length posts ≡ length sizes) ⊎ (left ≡ [])
 
 -- what is kept of replies: all where the seat's version is not above that one, and else none
-abbrev pub kept_at : (version : ℕ) → SeatSeen → List Answer → List Answer
+abbrev pub kept_at : (version : ℕ) → SeatSeen → List PrintedAnswer → List PrintedAnswer
 kept_at version seat replies = if nat_le (version_of seat.front) version then replies else []
 
 module _ {J P : Type 0} (refusals : P → Refusals) (model : ModelParts) (shapes : Shapes) (opening : Policy) (script : List Item) where
@@ -41,7 +41,7 @@ module _ {J P : Type 0} (refusals : P → Refusals) (model : ModelParts) (shapes
 module _ (model : ModelParts) (shapes : Shapes) (opening : Policy) (script : List Said) (version : ℕ) where
   -- each worker answered the requests of its part of a script, the parts having these sizes from this place on, at its seat and by its
   -- finder, and so is kept of its replies; a part that has no seat is left, and so are seats and finders that have no part
-  abbrev pub AreKept : ℕ → List ℕ → (olds news : List SeatSeen) → (befores nows : List Refusals) → List (List Answer) → Type 0
+  abbrev pub AreKept : ℕ → List ℕ → (olds news : List SeatSeen) → (befores nows : List Refusals) → List (List PrintedAnswer) → Type 0
   AreKept place [] olds news befores nows [] = (news ≡ olds) × (nows ≡ befores)
   AreKept place (size ∷ sizes) [] news befores nows [] = (news ≡ []) × (nows ≡ befores)
   AreKept place (size ∷ sizes) (old ∷ olds) (new ∷ news) (before ∷ befores) (now ∷ nows) (kept ∷ others) =

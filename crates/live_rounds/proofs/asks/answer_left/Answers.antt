@@ -21,9 +21,9 @@ loop-item-preserved-then-left-gt0 g c =
 -- one that is answered
 pub loop-item-preserved : goal.loop-item-preserved
 loop-item-preserved g c =
-    let more : c.push.new.self.items ≡ c.loop-item.asked.items ++ c.in_ok-reply.reply ∷ [] = search rules in
+    let more : c.push.new.self.items ≡ c.loop-item.asked.items ++ c.in_ok-print_answer.field-0 ∷ [] = search rules in
     asking_next c.args.program.now c.args.state.now c.args.items.now (g.P.Finder.refusals c.args.finder.now) c.args.skipped c.args.asked.now.items c.loop-item.item-index c.item-item.result (g.P.Finder.refusals c.loop-item.finder) c.loop-item.left
-    c.loop-item.asked.items c.loop-item-test.true c.item-item.is c.loop-item.invariant _ (g.P.Finder.refusals c.answer_text.new.finder) c.push.new.self.items c.in_ok-reply.reply c.in-Some.ensures (omega (arith, c.if-left-gt0.false)) c.in_ok-reply.ensures.answer more
+    c.loop-item.asked.items c.loop-item-test.true c.item-item.is c.loop-item.invariant _ (g.P.Finder.refusals c.answer_text.new.finder) c.push.new.self.items c.in_ok-reply.reply _ c.in-Some.ensures (omega (arith, c.if-left-gt0.false)) c.in_ok-reply.ensures.answer c.in_ok-print_answer.ensures.printed more
 
 pub returns-clause-added : goal.returns-clause-added
 returns-clause-added g c =
@@ -36,6 +36,11 @@ pub returns-in_err-reply-clause-used : goal.returns-in_err-reply-clause-used
 returns-in_err-reply-clause-used g c =
     asking_used_then c.args.program.now c.args.state.now (g.P.Finder.refusals c.args.finder.now) (g.P.Finder.refusals c.loop-item.finder) (g.P.Finder.refusals c.answer_text.new.finder) c.args.skipped c.loop-item.left
     (map seen (take c.loop-item.item-index c.args.items.now)) c.args.asked.now.items c.loop-item.asked.items _ c.loop-item.invariant c.in_err-reply.ensures.stopped
+
+pub returns-in_err-print_answer-clause-used : goal.returns-in_err-print_answer-clause-used
+returns-in_err-print_answer-clause-used g c =
+    asking_used_then c.args.program.now c.args.state.now (g.P.Finder.refusals c.args.finder.now) (g.P.Finder.refusals c.loop-item.finder) (g.P.Finder.refusals c.answer_text.new.finder) c.args.skipped c.loop-item.left
+    (map seen (take c.loop-item.item-index c.args.items.now)) c.args.asked.now.items c.loop-item.asked.items _ c.loop-item.invariant c.in_ok-reply.ensures.answer.asked
 
 pub returns-in_err-push-clause-used : goal.returns-in_err-push-clause-used
 returns-in_err-push-clause-used g c =

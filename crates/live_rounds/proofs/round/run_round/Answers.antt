@@ -7,7 +7,6 @@ use Rattle.script_read.specs.Said.{seen}
 use Rattle.script_read.specs.declared.item.Item.{Item}
 use Rattle.desk_session.proofs.CallerLemmas.{on_err_of}
 use Rattle.live_rounds.proofs.AdminLemmas.{amid_first}
-use Rattle.live_rounds.proofs.EndLemmas.{round_printable}
 use Rattle.live_rounds.proofs.RoundsLemmas.{used_alike}
 use Rattle.live_rounds.proofs.RunLemmas.{added_in, added_long, added_within, run_all, used_first}
 use Rattle.live_rounds.proofs.WorkedLemmas.{amid_all}
@@ -29,22 +28,13 @@ returns-in_err-asked-clause-stopped g c = on_err_of c.from_residual-in_err-asked
     subst (λ (l : List Item). IsAdminAmid g.J.Naming.shapes g.J.Naming.opening before (map seen l) c.work_round-worked.new.admin) c.as_slice-items.ensures
     (amid_all g.J.Naming.shapes g.J.Naming.opening before (map seen c.as_slice-items.result.now) c.args.admin.now c.work_round-worked.new.admin c.in_ok-worked.worked.others.items (c.in_ok-worked.ensures.done before is)))
 
-pub returns-in_err-lines-clause-stopped : goal.returns-in_err-lines-clause-stopped
-returns-in_err-lines-clause-stopped g c = on_err_of c.from_residual-in_err-lines.result (λ before is.
-    subst (λ (l : List Item). IsAdminAmid g.J.Naming.shapes g.J.Naming.opening before (map seen l) c.work_round-worked.new.admin) c.as_slice-items.ensures
-    (amid_all g.J.Naming.shapes g.J.Naming.opening before (map seen c.as_slice-items.result.now) c.args.admin.now c.work_round-worked.new.admin c.in_ok-worked.worked.others.items (c.in_ok-worked.ensures.done before is)))
-
 -- behind Ok, at what the steps say
 pub returns-clause-run : goal.returns-clause-run
 returns-clause-run g c = λ before long is.
     run_all g.P.Finder.refusals c.args.program.now g.J.Naming.shapes g.J.Naming.opening before c.args.round.now c.as_slice-items.result.now c.as_slice-items.ensures c.args.behind c.args.workers (c.args.workers - 1) long (omega (arith, c.requires.some))
-    c.args.admin.now c.work_round-worked.new.admin c.in_ok-worked.worked.others.items c.in_ok-asked.asked.items c.from_vec.result c.as_slice-sizes.result.now c.args.seats.now.items c.learn_seats.new.seats.items c.work_round-worked.new.seats.items c.learn_seats-2.new.seats.items
+    c.args.admin.now c.work_round-worked.new.admin c.in_ok-worked.worked.others.items c.in_ok-asked.asked.items c.new.result c.as_slice-sizes.result.now c.args.seats.now.items c.learn_seats.new.seats.items c.work_round-worked.new.seats.items c.learn_seats-2.new.seats.items
     c.args.finders.now.items c.work_round-worked.new.finders.items _ _ c.answer_asks.new.finder _ c.state-state.result.now c.front.result c.front-2.result (c.in_ok-worked.ensures.done before is) (added_in (c.args.workers - 1) (map seen c.as_slice-items.result.now) c.new-sizes.result.items c.push_parts.new.sizes.items c.as_slice-sizes.result.now c.new-sizes.ensures.items c.as_slice-sizes.ensures.value c.in_ok-push_parts.ensures.parts) c.front.ensures.front c.learn_seats.ensures.learned c.front-2.ensures.front c.learn_seats-2.ensures.learned c.in_ok-worked.ensures.kept
-    (c.state-state.ensures.state ∙ ap (λ (desk : Work). desk.state) c.desk.ensures.desk) c.in_ok-asked.ensures.shared c.work_round-worked.ensures.first (omega (arith, c.requires.finders)) c.index_mut.ensures.value (c.from_vec.ensures ∙ c.in_ok-lines.ensures)
-
-pub returns-clause-printable : goal.returns-clause-printable
-returns-clause-printable g c named =
-    round_printable c.order_of_rows_is_one.ensures.moved c.args.program.now _ _ c.args.workers _ _ _ _ c.from_vec.result (returns-clause-run g c c.requires.stands.0 c.requires.stands.1 c.requires.stands.2).lines_are named
+    (c.state-state.ensures.state ∙ ap (λ (desk : Work). desk.state) c.desk.ensures.desk) c.in_ok-asked.ensures.shared c.work_round-worked.ensures.first (omega (arith, c.requires.finders)) c.index_mut.ensures.value c.new.ensures
 
 -- what the steps want
 pub answer_asks-requires-clause-suits : goal.answer_asks-requires-clause-suits
@@ -64,9 +54,6 @@ returns-in_err-push_parts-clause-used g c = used_alike _
 
 pub returns-in_err-asked-clause-used : goal.returns-in_err-asked-clause-used
 returns-in_err-asked-clause-used g c = used_first g.P.Finder.refusals c.args.finders.now.items c.work_round-worked.new.finders.items _ _ c.answer_asks.new.finder c.work_round-worked.ensures.used c.index_mut.ensures.value c.answer_asks.ensures.used
-
-pub returns-in_err-lines-clause-used : goal.returns-in_err-lines-clause-used
-returns-in_err-lines-clause-used g c = used_first g.P.Finder.refusals c.args.finders.now.items c.work_round-worked.new.finders.items _ _ c.answer_asks.new.finder c.work_round-worked.ensures.used c.index_mut.ensures.value c.answer_asks.ensures.used
 
 pub returns-clause-used : goal.returns-clause-used
 returns-clause-used g c = used_first g.P.Finder.refusals c.args.finders.now.items c.work_round-worked.new.finders.items _ _ c.answer_asks.new.finder c.work_round-worked.ensures.used c.index_mut.ensures.value c.answer_asks.ensures.used

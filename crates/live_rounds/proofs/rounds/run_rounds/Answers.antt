@@ -3,7 +3,7 @@ use Rattle.std.proofs.lemmas.List.Elements.{length_all_zip}
 use Rattle.std.proofs.lemmas.Result.{err_from_is_err_and}
 use Rattle.regex_gate.specs.Refusals.{IsUsed}
 use Rattle.script_read.specs.Said.{seen}
-use Rattle.live_rounds.proofs.RoundsLemmas.{done_all, done_behind, done_early, done_next, done_none, done_some, round_named, used_alike, used_both}
+use Rattle.live_rounds.proofs.RoundsLemmas.{done_all, done_behind, done_early, done_next, done_none, done_some, used_alike, used_both}
 use Rattle.live_rounds.proofs.SharesLemmas.{map_long}
 use Rattle.live_rounds.specs.Scripts.{BeginsWithRound}
 use Rattle.live_rounds.proofs.rounds.run_rounds.Goals as goal
@@ -57,28 +57,20 @@ returns-in_err-told-clause-amid g c =
 pub returns-in_err-told-clause-used : goal.returns-in_err-told-clause-used
 returns-in_err-told-clause-used g c = used_both _ _ _ c.loop-round.invariant.used c.run_round.ensures.used
 
--- its lines can be printed
-pub take-requires : goal.take-requires
-take-requires g c =
-    let begins : BeginsWithRound c.args.json c.loop-round.at c.loop-round.rest.now (map seen c.in-Some.round) c.in-Some.next c.in-Some.behind.now = rw c.in-Some.is at c.in_ok-round.ensures.first in
-    let so = c.loop-round.invariant.done c.requires.checked.0 c.requires.checked.1 in
-    let first = begins so.left so.says in
-    rw c.as_slice.ensures
-    (c.in_ok-told.ensures.printable (round_named c.requires.checked.0 so.front so.left (map seen c.in-Some.round) first.left so.parts first.parts (c.items_are_named.ensures.script c.args.json c.args.script.now c.requires.checked.0 c.requires.checked.1)))
-
 -- they were not taken to their end
-pub returns-in_err-take-clause-amid : goal.returns-in_err-take-clause-amid
-returns-in_err-take-clause-amid g c =
-    let stop : c.from_residual-in_err-take.result ≡ Err c.in_err-take.field-0.0 = search rules in
+pub returns-in_err-take_lines-clause-amid : goal.returns-in_err-take_lines-clause-amid
+returns-in_err-take_lines-clause-amid g c =
+    let stop : c.from_residual-in_err-take_lines.result ≡ Err c.in_err-take_lines.field-0.0 = search rules in
     let begins : BeginsWithRound c.args.json c.loop-round.at c.loop-round.rest.now (map seen c.in-Some.round) c.in-Some.next c.in-Some.behind.now = rw c.in-Some.is at c.in_ok-round.ensures.first in
     let some = rw c.in-Some.is at c.in_ok-round.ensures.some in
     rw stop (λ items is.
     let so = c.loop-round.invariant.done items is in
+    let run = c.in_ok-told.ensures.run so.front so.long so.behind in
     done_some c.args.program.now _ _ c.args.workers items _ g.T.Taker.took c.args.to.now c.plain_lines_are_shared.ensures.there g.T.Taker.stopped c.args.json c.loop-round.at c.loop-round.rest.now c.loop-round.count _ _ _ _ _ _ (map seen c.in-Some.round) c.in-Some.next c.in-Some.behind.now _ _ c.in_ok-told.told _
-    so begins some (c.in_ok-told.ensures.run so.front so.long so.behind) (rw c.as_slice.ensures at c.in_err-take.ensures.stopped))
+    so begins some run (c.in_err-take_lines.ensures.amid run.lines run.told))
 
-pub returns-in_err-take-clause-used : goal.returns-in_err-take-clause-used
-returns-in_err-take-clause-used g c = used_both _ _ _ c.loop-round.invariant.used c.run_round.ensures.used
+pub returns-in_err-take_lines-clause-used : goal.returns-in_err-take_lines-clause-used
+returns-in_err-take_lines-clause-used g c = used_both _ _ _ c.loop-round.invariant.used c.run_round.ensures.used
 
 -- one round more
 pub loop-round-preserved : goal.loop-round-preserved
@@ -91,8 +83,9 @@ loop-round-preserved g c =
     record {
       done = λ items is.
           let so = inv.done items is in
+          let run = c.in_ok-told.ensures.run so.front so.long so.behind in
           done_next c.args.program.now _ _ c.args.workers items _ g.T.Taker.took c.args.to.now c.args.json c.loop-round.at c.loop-round.rest.now c.loop-round.count _ _ _ (map seen c.in-Some.round) c.in-Some.next c.in-Some.behind.now c.in-Some-sum_of.sum _ _ _ _ c.in_ok-told.told _
-          so begins some sum (c.in_ok-told.ensures.run so.front so.long so.behind) (rw c.as_slice.ensures at c.in_ok-take.ensures.took);
+          so begins some sum run (c.in_ok-take_lines.ensures.taken run.lines run.told);
       used = used_both _ _ _ inv.used c.run_round.ensures.used;
       within = omega (arith, within, inv.within);
       utf8 = search rules;

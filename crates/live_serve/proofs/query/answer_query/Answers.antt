@@ -4,7 +4,7 @@ use Rattle.live_serve.proofs.QueryLemmas.{asked_reply, not_refused, on_err_any, 
 use Rattle.live_serve.proofs.query.answer_query.Goals as goal
 
 pub returns-in_ok-reply-in-Ask-clause-asked : goal.returns-in_ok-reply-in-Ask-clause-asked
-returns-in_ok-reply-in-Ask-clause-asked g c = rw c.in-Ask.is (asked_reply c.args.program.now c.args.state.now _ _ _ c.in_ok-reply-in-Ask.reply c.in_ok-reply-in-Ask.ensures.answer (c.in_ok-reply-in-Ask.ensures.printable (rw c.in-Ask.is at c.requires.has_name)))
+returns-in_ok-reply-in-Ask-clause-asked g c = rw c.in-Ask.is (asked_reply c.args.program.now c.args.state.now _ _ _ c.in_ok-reply-in-Ask.reply c.in_ok-reply-in-Ask.ensures.answer c.in_ok-reply-in-Ask.ensures.printable)
 
 pub returns-in_ok-reply-in-Ask-clause-unasked : goal.returns-in_ok-reply-in-Ask-clause-unasked
 returns-in_ok-reply-in-Ask-clause-unasked g c = rw c.in-Ask.is refl

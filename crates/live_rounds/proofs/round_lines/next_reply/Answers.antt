@@ -1,5 +1,5 @@
 use Rattle.live_rounds.proofs.MergingLemmas.{asked_left, asked_next, others_left, others_next}
-use Rattle.live_rounds.proofs.merger.next_reply.Goals as goal
+use Rattle.live_rounds.proofs.round_lines.next_reply.Goals as goal
 
 -- a request
 pub returns-then-asks-clause-none : goal.returns-then-asks-clause-none

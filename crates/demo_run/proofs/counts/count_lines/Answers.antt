@@ -1,0 +1,12 @@
+use Rattle.std.proofs.Common.{ap, refl, ◌∙◌}
+use Rattle.answer_lines.specs.Printed.{shown_by}
+use Rattle.demo_run.proofs.CountLemmas.{counted_more}
+use Rattle.demo_run.specs.Summary.{with_shown}
+use Rattle.demo_run.proofs.counts.count_lines.Goals as goal
+
+pub loop-line-init : goal.loop-line-init
+loop-line-init c = refl
+
+pub loop-line-preserved : goal.loop-line-preserved
+loop-line-preserved c =
+    counted_more (λ line. shown_by line.answer) c.args.lines.now c.loop-line.line-index c.line-item.result c.args.tally.now.counts c.loop-line.counts c.in_ok-counts.counts c.loop-line-test.true c.line-item.is c.loop-line.invariant (c.in_ok-counts.ensures ∙ ap (with_shown c.loop-line.counts) c.shown_by.ensures)
