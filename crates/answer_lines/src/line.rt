@@ -57,6 +57,7 @@ pub fn push_decided(
 }
 
 // Puts the number by which a line begins into an empty front.
+#[inline(always)]
 fn push_start(front: &mut Front, number: u32)
     requires { front.old ≡ [] }
     ensures text { front.new ≡ decimal number ++ codes " " }

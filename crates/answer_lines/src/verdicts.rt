@@ -10,6 +10,7 @@ use outside::NoMemory;
 use perm_base::{Rule, push_fields};
 
 /// Appends a front and a verdict.
+#[inline(always)]
 pub(crate) fn push_verdict(
     text: &mut String,
     front: &mut Front,
@@ -30,6 +31,7 @@ pub(crate) fn push_verdict(
 }
 
 // Appends a front, a word, a version, and the place of a row with its rule, or that there is none.
+#[inline(always)]
 fn push_judged(
     text: &mut String,
     front: &mut Front,

@@ -53,6 +53,7 @@ pub(crate) fn gather(
 }
 
 // Those of the rows that have the request's texts, and whose pattern a text may fit.
+#[inline(always)]
 fn gather_texts(
     request: &Request,
     pairs: &[EqualColumns],
@@ -74,6 +75,7 @@ fn gather_texts(
 }
 
 // The hash of the texts that a request has in the columns that are compared.
+#[inline(always)]
 fn hash_of(request: &Request, pairs: &[EqualColumns]) -> Sought
     ensures { HaveTexts (map datum request.now) (map pair_seen pairs.now) result }
 {

@@ -44,6 +44,7 @@ pub(crate) fn plain_parts_of<'a>(
 }
 
 /// What a row says to parts; none where the request lacks a text that is asked about.
+#[inline(always)]
 pub(crate) fn told_by(asking: &Asking, row: &Rule, parts: PlainParts<'_>) -> Option<bool>
     requires { KnowsName asking.now }
     ensures { IfSome result (IsToldBy (case_in asking.now) row.now parts.entry) }
@@ -58,6 +59,7 @@ pub(crate) fn told_by(asking: &Asking, row: &Rule, parts: PlainParts<'_>) -> Opt
 }
 
 // Whether a row has the texts of a request in the columns that are compared.
+#[inline(always)]
 fn have_same_texts(request: &Request, row: &Rule, pairs: &[EqualColumns]) -> bool
     ensures { result ≡ have_same_texts (map datum request.now) row.now pairs.now }
 {
@@ -65,6 +67,7 @@ fn have_same_texts(request: &Request, row: &Rule, pairs: &[EqualColumns]) -> boo
 }
 
 // Whether it has that of one pair.
+#[inline(always)]
 fn has_same_text(request: &Request, row: &Rule, pair: EqualColumns) -> bool
     ensures { result ≡ has_same_text (map datum request.now) row.now (pair_seen pair) }
 {

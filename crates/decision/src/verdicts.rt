@@ -27,6 +27,7 @@ use perm_base::TableId;
 use perm_value::Request;
 use policy_state::PolicyState;
 use regex_gate::Finder;
+use role_domain::Room;
 
 /// The greatest height of code that runs on the small stack.
 const NARROW: u32 = 8;
@@ -64,7 +65,31 @@ pub fn decide<P: Finder>(
     if let Some(verdict) = verdict_at_once(&asking, looked, parts) {
         return Ok(verdict);
     }
-    let name = name_asked(&asking, looked, &mut scratch.room);
+    verdict_by_code(&asking, looked, parts, finder, &mut scratch.room)
+}
+
+// The verdict by the code of the matcher, whose locals no request is to pay for that is judged at once. Where many rows ask about a
+// name, what it reaches is found first, and stands in `room`.
+#[inline(never)]
+fn verdict_by_code<P: Finder>(
+    asking: &Asking<'_>,
+    looked: Looked<'_>,
+    parts: Option<PlainParts<'_>>,
+    finder: &mut P,
+    room: &mut Room,
+) -> Result<Verdict, NoMemory>
+    requires asked { IsAsked asking.now }
+    requires parts { IfSome parts (DecideAlone asking.now) }
+    requires leaves { LeavesOut (case_in asking.now) (rows_of asking.now) looked }
+    ensures judged { IfOk result (IsJudgedWith asking.now.model.now asking.now.state.now.shapes
+        (tables asking.now.state.now) (map datum asking.now.request.now)
+        (RefusedIn asking.now.model.now.effect
+        (P.refusals finder.old) (P.refusals finder.new))) }
+    ensures no_memory { IfErr result (λ e. takes_memory asking.now.model.now.matcher ≡ true) }
+    ensures used { IsUsed (P.refusals finder.old) (P.refusals finder.new) }
+{
+    let asking = *asking;
+    let name = name_asked(&asking, looked, room);
     let known = with_known(&asking, name.as_ref(), parts);
     if known.code.height() <= NARROW {
         return on_narrow_stack(&known, looked, finder);

@@ -10,11 +10,12 @@ use answer_lines::{Answer, Line, push_decided, push_line};
 use decision::{Program, Scratch, decide};
 use matcher_meaning::order_of_rows_is_one;
 use outside::NoMemory;
-use perm_value::Request;
+use perm_value::{Request, Value};
 use policy_state::PolicyState;
 use regex_gate::Finder;
-use script_read::{RequestLine, RequestText, read_text};
+use script_read::{RequestLine, RequestText, read_text, values_of};
 use std::alloc::Global;
+use std::mem;
 
 /// Appends the line that tells what a line of requests is answered over a policy: the answer that `answer_request` gives, as
 /// `push_line` tells it, with a rule that is not copied. It takes memory for the text, and for `regexMatch` and `eval` alone;
@@ -48,6 +49,7 @@ pub fn push_request<P: Finder>(
 }
 
 /// Appends the line that tells what a request of a script, which is read here, is answered over a policy, as `push_request` says it.
+/// Its values take the place of others, and stand there afterwards.
 pub fn push_asked<P: Finder>(
     alloc: Global,
     text: &mut String,
@@ -57,6 +59,7 @@ pub fn push_asked<P: Finder>(
     asked: &RequestText,
     finder: &mut P,
     scratch: &mut Scratch,
+    values: &mut Vec<Value>,
 ) -> Result<(), NoMemory>
     requires suits { Suits program.now state.now.shapes }
     requires named { is_named (asks (reading_of asked.now)) ≡ true }
@@ -66,8 +69,11 @@ pub fn push_asked<P: Finder>(
     ensures stopped { OnErr result (Refuses program.now
         (P.refusals finder.old) (P.refusals finder.new) (asks (reading_of asked.now))) }
 {
-    let line = read_text(alloc, Vec::new(alloc), asked)?;
-    push_request(text, number, state, program, &line, finder, scratch)
+    let others = mem::replace(values, Vec::new(alloc));
+    let line = read_text(alloc, others, asked)?;
+    let told = push_request(text, number, state, program, &line, finder, scratch);
+    *values = values_of(alloc, line);
+    told
 }
 
 // Appends the line of what a request is answered.

@@ -20,6 +20,7 @@ use Rattle.live_rounds.specs.Requests.{requests}
 use Rattle.live_rounds.specs.Served.{IsPartKept}
 use Rattle.live_rounds.specs.Shares.{AreSizes, HasEach, in_turn, parts_by, total}
 use Rattle.model_conf.specs.ModelText.{ModelParts}
+use Rattle.perm_base.proofs.CallerLemmas.{take_take}
 use Rattle.perm_base.specs.declared.shapes.Shapes.{Shapes}
 use Rattle.policy_table.specs.Tables.{Policy}
 use Rattle.regex_gate.specs.Refusals.{Refusals, after_refusal, after_refusals}
@@ -27,12 +28,6 @@ use Rattle.script_read.specs.Said.{Reading, Said}
 use Rattle.session_meaning.specs.Plain.{all_refused}
 
 -- ---- lists
-
-take_take : {X : Type 0} (n m : ℕ) (xs : List X) → n ≤ m → take n (take m xs) ≡ take n xs
-take_take zero m xs within = refl
-take_take (suc n) zero xs within = absurd (omega (arith, within))
-take_take (suc n) (suc m) [] within = refl
-take_take {X = X} (suc n) (suc m) (x ∷ xs) within = ap (λ (l : List X). x ∷ l) (take_take n m xs (omega (arith, within)))
 
 taken_none : {X : Type 0} (xs : List X) (k : ℕ) → length xs ≤ 0 → take k xs ≡ []
 taken_none [] zero none = refl

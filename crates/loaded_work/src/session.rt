@@ -29,6 +29,7 @@ use decision::{Program, Scratch};
 use desk_session::{Line, answer_other, asked_in, push_asked};
 use matcher_meaning::case_verdict_is_there;
 use outside::{NoMemory, Sink, push_all};
+use perm_value::Value;
 use policy_desk::{Desk, open_desk};
 use regex_gate::Finder;
 use run_status::Stop;
@@ -87,6 +88,7 @@ fn print_items<K: Sink, P: Finder>(
     items_are_named();
     let mut scratch = Scratch::for_program(alloc, program);
     let mut text = String::new(alloc);
+    let mut values = Vec::new(alloc);
     let mut number = 0;
     let mut at = 1;
     let mut rest = script;
@@ -101,6 +103,7 @@ fn print_items<K: Sink, P: Finder>(
             &item,
             finder,
             &mut scratch,
+            &mut values,
         )?;
         push_full(out, &mut text)?;
         drop(item);
@@ -111,7 +114,8 @@ fn print_items<K: Sink, P: Finder>(
     Ok(())
 }
 
-// Answers an item, does what it says, and appends its line; the rule that a line of a request names is not copied.
+// Answers an item, does what it says, and appends its line; the rule that a line of a request names is not copied, and its values
+// take the place of others.
 fn push_item<P: Finder>(
     alloc: Global,
     text: &mut String,
@@ -121,6 +125,7 @@ fn push_item<P: Finder>(
     item: &Item,
     finder: &mut P,
     scratch: &mut Scratch,
+    values: &mut Vec<Value>,
 ) -> Result<(), NoMemory>
     requires suits { Suits program.now desk.old.state.shapes }
     requires stands { (opening : Policy) × (before : List Said) × StandsBehind opening before desk.old }
@@ -136,7 +141,9 @@ fn push_item<P: Finder>(
         return push_other(alloc, text, number, desk, item);
     };
     let state = desk.state();
-    push_asked(alloc, text, number, state, program, asked, finder, scratch)
+    push_asked(
+        alloc, text, number, state, program, asked, finder, scratch, values,
+    )
 }
 
 // The same for an item that is no request.

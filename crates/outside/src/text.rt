@@ -51,6 +51,7 @@ impl Text {
 
     /// Puts another text in the place of this one, which is copied there. Memory is taken for one of more than 24 bytes that is longer
     /// than each that stood here before. Where memory runs out the text stays as it was.
+    #[inline(always)]
     pub fn set(&mut self, alloc: Global, text: &str) -> Result<(), NoMemory>
         ensures set { OnOk result (self.new ≡ text.now) }
         ensures same { OnErr result (self.new ≡ self.old) }

@@ -1,6 +1,7 @@
 -- What callers cite.
 pub use Rattle.perm_base.proofs.FieldLineLemmas.{LineIs, fields_of-fault, fields_of-is, line_is}
 pub use Rattle.perm_base.proofs.LastLemmas.{front_of, last_before, last_here}
+pub use Rattle.perm_base.proofs.PlainLemmas.{take_take}
 pub use Rattle.perm_base.proofs.PrintLemmas.{printed_is}
 pub use Rattle.perm_base.proofs.QuotedLemmas.{begin_fields, fault_passes, field_fault, field_last, field_more, no_room}
 pub use Rattle.perm_base.proofs.RoleLemmas.{found_number}

@@ -1,12 +1,13 @@
 -- Commas and quotes, looked for in groups of bytes.
-use Rattle.std.proofs.Common.{◌≡◌, ℕ, zero, suc, ◌+◌, ◌-◌, ◌*◌, ◌%◌, ◌^◌, ◌≤◌, ◌||◌, Bool, true, false, not, cond, List, [], ◌∷◌, length, eqb, map, replicate, take, drop, take-append-drop, refl, sym, ap, ◌∙◌, arith, w8}
-use Rattle.std.specs.List.{list_any}
+use Rattle.std.proofs.Common.{◌≡◌, ◌≢◌, ℕ, zero, suc, ◌+◌, ◌-◌, ◌*◌, ◌%◌, ◌^◌, ◌≤◌, ◌||◌, Bool, true, false, not, cond, List, [], ◌∷◌, length, eqb, map, replicate, take, drop, take-append-drop, refl, sym, ap, ◌∙◌, arith, w8}
+use Rattle.std.specs.Int.Count.{count_trailing_zeros}
+use Rattle.std.specs.List.{list_any, prefix_len}
 use Rattle.std.proofs.lemmas.List.Folds.{list_any-append}
 use Rattle.perm_base.proofs.PlainLemmas.{or_left, or_right}
 use Rattle.std.proofs.lemmas.Bool.{ne_eqb, or_parts}
 use Rattle.std.proofs.lemmas.List.{take_rest}
 use Rattle.std.proofs.Math.Seq.{take-add}
-use Rattle.std.proofs.lemmas.Simd.{bitmask_splat, length-chunk}
+use Rattle.std.proofs.lemmas.Simd.{bitmask_splat, first_set_mask_l, length-chunk}
 use lib.Lanes.{chunk, mask_l, top, zip2}
 
 -- a mask is not 0 where a lane passes
@@ -24,6 +25,16 @@ pub group_any : (test : ℕ → ℕ → Bool) (byte at n : ℕ) (bytes : List �
     → not (eqb (mask_l (map (top 7) (zip2 (λ (a b : ℕ). cond (test a b) 255 0) (chunk at n bytes) (replicate n byte))) % 2 ^ 64) 0) ≡ list_any (λ (b : ℕ). test b byte) (chunk at n bytes)
 group_any test byte at n bytes few room =
     ap (λ (mask : ℕ). not (eqb mask 0)) (bitmask_splat w8 test (chunk at n bytes) n byte (length-chunk at n bytes room) few) ∙ mask_any (λ (b : ℕ). test b byte) (chunk at n bytes)
+
+-- how many of a group of bytes stand before the first that passes a test beside this one
+pub group_front : (test : ℕ → ℕ → Bool) (byte at n : ℕ) (bytes : List ℕ) (mask front : ℕ) → n ≤ 64 → at + n ≤ length bytes
+    → mask ≡ mask_l (map (top 7) (zip2 (λ (a b : ℕ). cond (test a b) 255 0) (chunk at n bytes) (replicate n byte))) % 2 ^ 64
+    → mask ≢ 0 → front ≡ count_trailing_zeros 64 mask → front ≡ prefix_len (λ (b : ℕ). not (test b byte)) (chunk at n bytes)
+group_front test byte at n bytes mask front few room is some first =
+    first
+    ∙ ap (λ (b : Bool). cond b n (count_trailing_zeros 64 mask)) (sym (ne_eqb mask 0 some))
+    ∙ ap (λ (m : ℕ). cond (eqb m 0) n (count_trailing_zeros 64 m)) (is ∙ bitmask_splat w8 test (chunk at n bytes) n byte (length-chunk at n bytes room) few)
+    ∙ first_set_mask_l (λ (b : ℕ). test b byte) (chunk at n bytes) n (length-chunk at n bytes room) few
 
 -- what a part holds, the whole holds
 pub any_by_parts : (p : ℕ → Bool) (at : ℕ) (xs : List ℕ) → list_any p xs ≡ (list_any p (take at xs) || list_any p (drop at xs))

@@ -1,11 +1,14 @@
 -- Fields without quotes, which are looked through once: for the comma that ends one, and for the CR or LF that makes it bad.
-use Rattle.std.proofs.Common.{◌≡◌, ℕ, ◌+◌, ◌-◌, ◌<◌, ◌≤◌, ◌||◌, Bool, true, false, cond, ltb, length, List, [], ◌∷◌, ◌++◌, eqb, get_or, take, drop, take-append-drop, Option, Some, None, refl, sym, ap, ◌∙◌, arith}
-use Rattle.std.specs.List.{list_any, position_from}
+use Rattle.std.proofs.Common.{◌≡◌, ℕ, zero, suc, ◌+◌, ◌-◌, ◌<◌, ◌≤◌, ◌||◌, Bool, true, false, not, cond, ltb, length, List, [], ◌∷◌, ◌++◌, eqb, get_or, take, drop, take-append-drop, Option, Some, None, refl, sym, ap, ◌∙◌, arith}
+use Rattle.std.specs.List.{list_any, position_from, prefix_len}
+use Rattle.std.specs.Simd.Lanes.{chunk}
 use Rattle.std.specs.Prelude.{option_map, position}
 use Rattle.std.specs.Str.{IsCharBoundary, IsUtf8}
 use Rattle.std.proofs.lemmas.Bool.{or_parts}
 use Rattle.std.proofs.lemmas.Bool.Decides.{nat_tests}
 use Rattle.std.proofs.lemmas.List.{drop_more, length-take-le, take_rest}
+use Rattle.std.proofs.lemmas.List.Sums.{prefix_len-le-length}
+use Rattle.std.proofs.lemmas.Simd.{length-chunk}
 use Rattle.std.proofs.lemmas.Iterator.Adapters.{position_from-zero}
 use Rattle.std.proofs.lemmas.List.Quantifiers.{position-Some}
 use Rattle.std.proofs.lemmas.Str.{IsCharBoundary-after_ascii, IsCharBoundary-before_ascii}
@@ -70,11 +73,33 @@ plain_whole text place =
 none_above : (byte : ℕ) → ltb byte 45 ≡ false → ends_plain byte ≡ false
 none_above byte above = grind (arith, nat_tests)
 
-pub none_low : (text : List ℕ) → list_any (λ (byte : ℕ). ltb byte 45) text ≡ false → list_any ends_plain text ≡ false
-none_low [] none = refl
-none_low (byte ∷ text) none =
-    let here = or_parts (ltb byte 45) (list_any (λ (b : ℕ). ltb b 45) text) none in
-    or_none (ends_plain byte) (list_any ends_plain text) (none_above byte here.0) (none_low text here.1)
+-- so many of them stand before the first that is a comma or below
+abbrev above_len : List ℕ → ℕ
+above_len text = prefix_len (λ (byte : ℕ). not (ltb byte 45)) text
+
+above_more : (byte : ℕ) (text : List ℕ) (low : Bool) → ltb byte 45 ≡ low → list_any ends_plain (take (above_len text) text) ≡ false → list_any ends_plain (take (cond (not low) (1 + above_len text) 0) (byte ∷ text)) ≡ false
+above_more byte text true is rest = refl
+above_more byte text false is rest =
+    let more : 1 + above_len text ≡ suc (above_len text) = omega arith in
+    ap (λ (k : ℕ). list_any ends_plain (take k (byte ∷ text))) more ∙ or_none (ends_plain byte) (list_any ends_plain (take (above_len text) text)) (none_above byte is) rest
+
+front_above : (text : List ℕ) → list_any ends_plain (take (above_len text) text) ≡ false
+front_above [] = refl
+front_above (byte ∷ text) = above_more byte text (ltb byte 45) refl (front_above text)
+
+-- a front of a front
+pub take_take : {X : Type 0} (n m : ℕ) (xs : List X) → n ≤ m → take n (take m xs) ≡ take n xs
+take_take zero m xs within = refl
+take_take (suc n) zero xs within = absurd (omega (arith, within))
+take_take (suc n) (suc m) [] within = refl
+take_take {X = X} (suc n) (suc m) (x ∷ xs) within = ap (λ (l : List X). x ∷ l) (take_take n m xs (omega (arith, within)))
+
+-- the same of a group in a text
+pub group_above : (at n : ℕ) (text : List ℕ) (above : ℕ) → at + n ≤ length text → above ≡ above_len (chunk at n text) → (above ≤ n) × (list_any ends_plain (chunk at above text) ≡ false)
+group_above at n text above room is =
+    let group = chunk at n text in
+    let few : above ≤ n = omega (arith, is, prefix_len-le-length (λ (byte : ℕ). not (ltb byte 45)) group, length-chunk at n text room) in
+    (few, ap (list_any ends_plain) (sym (take_take above n (drop at text) few)) ∙ ap (λ (k : ℕ). list_any ends_plain (take k group)) is ∙ front_above group)
 
 -- places counted from a later byte
 shifted : {X : Type 0} (p : X → Bool) (xs : List X) (at n : ℕ) → position_from p (n + at) xs ≡ option_map (λ (k : ℕ). n + k) (position_from p at xs)

@@ -1,4 +1,4 @@
-ghost use Rattle.std.specs.Prelude.{◌≡◌, ◌+◌, ◌≤◌, false, length, nat_lt, position, take};
+ghost use Rattle.std.specs.Prelude.{◌≡◌, ◌+◌, ◌≤◌, false, length, position, take};
 ghost use Rattle.std.specs.List.{list_any};
 ghost use Rattle.std.specs.Simd.Lanes.{chunk};
 ghost use Rattle.perm_base.specs.LineEnds.{has_line_end, is_line_end};
@@ -21,6 +21,7 @@ pub(crate) fn first_line_end(text: &str) -> Option<usize>
 }
 
 /// The place of the first comma, CR or LF.
+#[inline(always)]
 pub(crate) fn plain_end(text: &str) -> Option<usize>
     ensures { result ≡ position ends_plain text.now }
 {
@@ -32,29 +33,36 @@ pub(crate) fn plain_end(text: &str) -> Option<usize>
     }
 }
 
-// So many bytes in front are above a comma: they are looked at in groups of eight.
+// So many bytes in front are none of these: groups of eight are looked at, up to one where a comma stands, or a byte below it.
+#[inline(always)]
 fn plain_front(bytes: &[u8]) -> usize
     ensures within { result ≤ length bytes.now }
     ensures none { list_any ends_plain (take result bytes.now) ≡ false }
 {
     let mut at = 0;
     while bytes.len() - at >= 8 {
-        if has_low(bytes, at) {
+        let above = above_comma(bytes, at);
+        at += above;
+        if above < 8 {
             return at;
         }
-        at += 8;
     }
     at
 }
 
-// One of the eight bytes from a place on is a comma or below it.
+// How many of the eight bytes from a place on stand before the first that is a comma or below it.
 #[inline(always)]
-fn has_low(bytes: &[u8], at: usize) -> bool
+fn above_comma(bytes: &[u8], at: usize) -> usize
     requires { at + 8 ≤ length bytes.now }
-    ensures { result ≡ list_any (λ byte. nat_lt byte 45) (chunk at 8 bytes.now) }
+    ensures few { result ≤ 8 }
+    ensures none { list_any ends_plain (chunk at result bytes.now) ≡ false }
 {
     let group = u8x8::from_slice(&bytes[at..]);
-    group.simd_lt(u8x8::splat(45)).to_bitmask() != 0
+    let low = group.simd_lt(u8x8::splat(45)).to_bitmask();
+    if low == 0 {
+        return 8;
+    }
+    low.trailing_zeros() as usize
 }
 
 fn first_end(bytes: &[u8]) -> Option<usize>

@@ -63,6 +63,7 @@ impl<'a> LineField<'a> {
     }
 
     /// Puts the field in the place of a text. One of at most 24 bytes takes no memory.
+    #[inline(always)]
     pub fn put_in(self, alloc: Global, text: &mut Text) -> Result<(), NoMemory>
         ensures { OnOk result (text.new ≡ self.entry) }
     {

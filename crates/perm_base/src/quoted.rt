@@ -104,6 +104,7 @@ fn fields_of(alloc: Global, line: &str) -> Result<Vec<Text>, FieldFault>
 
 /// The field at the front of the last bytes of a line of this size, and what stands behind its comma: what `read_fields` reads
 /// 34 times at most, for a caller that wants no list of the fields. It takes memory for a long field in quotes alone.
+#[inline(always)]
 pub fn first_field(
     alloc: Global,
     size: usize,
@@ -119,6 +120,7 @@ pub fn first_field(
 }
 
 // A field that does not begin with a quote.
+#[inline(always)]
 fn plain_field(size: usize, field: &str) -> Result<(LineField<'_>, Option<&str>), FieldFault>
     ensures { Gives seen result (plain_field size field.now) }
 {
@@ -129,7 +131,8 @@ fn plain_field(size: usize, field: &str) -> Result<(LineField<'_>, Option<&str>)
     Ok((LineField::part(before_blanks(text)), behind))
 }
 
-// A field that begins with a quote, behind that quote.
+// A field that begins with a quote, behind that quote. Few do, and their code stays out of the loop over the others.
+#[inline(never)]
 fn quoted_field(
     alloc: Global,
     size: usize,
@@ -186,6 +189,7 @@ fn quoted_text(alloc: Global, inside: &str) -> Result<Option<(Text, &str)>, NoMe
 }
 
 // What stands before the first comma, or all, and what stands behind that comma; none where CR or LF stands before it.
+#[inline(always)]
 fn clean_parts(text: &str) -> Option<(&str, Option<&str>)>
     ensures none { IfNone result (has_line_end (before_comma text.now) ≡ true) }
     ensures clean { IfSome result (λ parts. has_line_end parts.0.now ≡ false) }

@@ -22,6 +22,8 @@ const MOST_VALUES: usize = 34;
 const MOST_LEVELS: u32 = 15;
 
 /// The request that a JSON array is. `null` is nothing, and the last of equal names counts.
+// What it keeps is large, and stays out of the frame of those who read lines.
+#[inline(never)]
 pub fn request_of_json(alloc: Global, line: &str) -> Result<Request, RequestFault>
     ensures found { IfOk result (λ request. values_of (read line.now) ≡ Ok (map datum request)) }
     ensures fault { IfErr result (λ e. e ≢ fault.NoMemory → values_of (read line.now) ≡ Err e) }

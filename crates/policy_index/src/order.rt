@@ -24,6 +24,7 @@ pub fn put_in_order(tables: &Tables, found: &mut Vec<u32>)
 }
 
 /// The same for slots of any table.
+#[inline(always)]
 pub(crate) fn put_rows_in_order(tables: &Tables, table: TableId, found: &mut Vec<u32>)
     requires { All (λ slot. slot < length (slots tables.now table)) found.old.items }
     ensures { ArePlacesOf (slots tables.now table) (rows tables.now.policy table)

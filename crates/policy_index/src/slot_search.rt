@@ -17,6 +17,7 @@ impl Index {
     /// Puts the slots of rows behind others: those of all rows that have the texts of a hash in the columns of the key and whose
     /// pattern, where the key has one, a text may fit; a few further rows may be among them, since rows that do not agree can
     /// have one hash. Its time grows with what it finds, and with the length of the text.
+    #[inline(always)]
     pub fn gather(&self, hash: u64, asked: &[u8], slots: &mut Vec<u32>) -> Result<(), NoMemory>
         ensures { OnOk result ((by_slot : List Fields) (texts : List (List ℕ))
             → IsIndexOf self.now by_slot → IsKeyOf hash texts
@@ -73,6 +74,7 @@ impl Index {
     }
 
     // Those of the rows under a hash.
+    #[inline(always)]
     fn push_slots(&self, hash: u64, slots: &mut Vec<u32>) -> Result<(), NoMemory>
         ensures { OnOk result (AddsMarks (has_hash hash)
             self.now.marks slots.old.items slots.new.items) }

@@ -3,6 +3,7 @@ mod CountLemmas
 mod Across
 mod WalkLemmas
 mod TallyLemmas
+mod FirstLemmas
 mod FitLemmas
 mod MoveLemmas
 mod ChangeLemmas

@@ -77,10 +77,15 @@ impl Domains {
         (text.as_slice(), domain)
     }
 
-    /// The domain of a text.
+    /// The domain of a text. The first one, which is the only one where the relation has none, is found without a hash.
     pub(crate) fn get(&self, text: &[u8]) -> Option<&Domain>
         ensures { option_copied result ≡ found self.now.entries text.now }
     {
+        if let Some((first, domain)) = self.entries.get_index(0) {
+            if text == first.as_slice() {
+                return Some(domain);
+            }
+        }
         self.entries.get(text)
     }
 

@@ -35,5 +35,6 @@ mod ResizeLemmas
 mod SeekLemmas
 mod ShortLists
 mod Tallies
+mod UserLemmas
 mod WalkLemmas
 pub mod CallerLemmas

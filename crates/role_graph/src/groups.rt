@@ -59,6 +59,7 @@ impl Groups {
     }
 
     /// The place of the group of a user.
+    #[inline(always)]
     pub(crate) fn place_of(&self, user: &[u8]) -> Option<usize>
         ensures found { IfSome result (λ at. (at < length self.now.groups)
             × ((get_or self.now.groups at no_group).user ≡ user.now)

@@ -201,6 +201,9 @@ impl LinkGroups {
         ensures first { (other : ℕ) → from ≤ other → other < length self.now.plain.groups
             → FitsAt (linked_of self.now) name.now other → result ≡ Some other }
     {
+        if self.is_behind(name, from) {
+            return None;
+        }
         let Some(at) = self.plain.place_of(name) else {
             return None;
         };
@@ -208,6 +211,17 @@ impl LinkGroups {
             return None;
         }
         Some(at)
+    }
+
+    // Whether a name is the user of the group before a place, so that it is that of none from there on: no hash is asked then.
+    fn is_behind(&self, name: &[u8], from: usize) -> bool
+        ensures { IsTrue result → (other : ℕ) → from ≤ other
+            → other < length self.now.plain.groups → FitsAt (linked_of self.now) name.now other → ⊥ }
+    {
+        if from == 0 || from > self.plain.len() {
+            return false;
+        }
+        name == self.plain.user_at(from - 1)
     }
 
     // The first group from a place on whose user is a pattern that a name fits.

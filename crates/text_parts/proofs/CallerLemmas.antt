@@ -1,6 +1,6 @@
 -- What proofs here and in the crates above cite of bytes, lines, lines that are passed over, and identifiers.
-use Rattle.std.proofs.Common.{◌≡◌, ◌≢◌, ℕ, zero, suc, ◌+◌, ◌-◌, ◌<◌, ◌≤◌, ◌||◌, ◌&&◌, Bool, true, false, cond, List, [], ◌∷◌, ◌++◌, length, take, drop, get_or, eqb, Option, Some, None, Bor, IsUtf8, refl, sym, ap, ◌∙◌, subst, arith, rules, tests}
-use Rattle.std.specs.Prelude.{IfNone, IfSome, position}
+use Rattle.std.proofs.Common.{◌≡◌, ◌≢◌, ℕ, zero, suc, ◌+◌, ◌-◌, ◌<◌, ◌≤◌, ◌||◌, ◌&&◌, Bool, true, false, cond, List, [], ◌∷◌, ◌++◌, length, take, drop, get_or, eqb, Some, None, IsUtf8, refl, sym, ap, ◌∙◌, subst, arith, rules, tests}
+use Rattle.std.specs.Prelude.{position}
 use Rattle.std.specs.Char.{is_ascii_digit}
 use Rattle.std.specs.List.{onto_first, list_any, list_all, position_from, prefix_len, AllByRecursion}
 use Rattle.std.specs.Str.{IsCharBoundary}
@@ -12,12 +12,12 @@ use Rattle.std.proofs.lemmas.List.Folds.{list_any-append, list_any_none}
 use Rattle.std.proofs.lemmas.List.Quantifiers.{position-Some}
 use Rattle.std.proofs.lemmas.List.Sums.{list_all-from_AllPass, prefix_len-le-length, prefix_len_passes}
 use Rattle.std.proofs.lemmas.Str.{IsCharBoundary-start, IsCharBoundary-after_ascii, IsUtf8-append, IsUtf8-from_ascii, IsUtf8-nil}
-use Rattle.std.proofs.lemmas.Str.Pattern.{IsSplitOnceResult, split_parts}
 use Rattle.text_parts.specs.Blanks.{is_blank, behind_blanks}
 use Rattle.text_parts.specs.Lines.{has_byte, lines_of, with_ends, without_cr}
 use Rattle.text_parts.specs.Names.{is_identifier, is_letter, is_word}
 use Rattle.text_parts.specs.Numbered.{text_lines}
 use Rattle.text_parts.specs.Passed.{is_passed_by}
+use Rattle.memchr.specs.Find.{NoneBefore, Nowhere, Passes, is_byte}
 
 -- ---- the first place that passes a test
 
@@ -81,18 +81,25 @@ pub lacks_byte : (byte : ℕ) (text : List ℕ) → ((i : ℕ) → i < length te
 lacks_byte byte [] lacks = refl
 lacks_byte byte (b ∷ text) lacks = rw (ne_eqb b byte (lacks 0 (omega arith))) (lacks_byte byte text (λ i within. lacks (suc i) (omega arith)))
 
--- what `split_once` gives at a byte of ASCII
-pub byte_lacks : (sign byte : ℕ) (text : List ℕ) (r : Option (Bor (List ℕ) × Bor (List ℕ))) → IsSplitOnceResult sign text r → sign ≡ byte → byte < 128 → IfNone r (has_byte byte text ≡ false)
-byte_lacks sign byte text None split same low = lacks_byte byte text (λ i within e. split_parts sign text None split (omega arith) i within (e ∙ sym same))
-byte_lacks sign byte text (Some cut) split same low = tt
+-- where it stands nowhere
+pub nowhere_lacks : (byte : ℕ) (text bytes : List ℕ) → Nowhere (Passes (is_byte byte) bytes) 0 (length bytes) → bytes ≡ text → has_byte byte text ≡ false
+nowhere_lacks byte text bytes nowhere same =
+    lacks_byte byte text (subst (λ (t : List ℕ). (i : ℕ) → i < length t → get_or t i 0 ≢ byte) same (λ i within e. nowhere i (omega arith) within (eqb-yes e)))
+  where
+    eqb-yes : {a b : ℕ} → a ≡ b → eqb a b ≡ true
+    eqb-yes e = grind (arith, nat_tests)
 
-pub byte_cuts : (sign byte : ℕ) (text : List ℕ) (r : Option (Bor (List ℕ) × Bor (List ℕ))) → IsSplitOnceResult sign text r → sign ≡ byte → byte < 128 → IfSome r (λ cut. text ≡ cut.0.now ++ byte ∷ cut.1.now)
-byte_cuts sign byte text None split same low = tt
-byte_cuts sign byte text (Some cut) split same low = (split_parts sign text (Some cut) split (omega arith)).0 ∙ ap (λ (b : ℕ). cut.0.now ++ b ∷ cut.1.now) same
+-- at a place that passes it stands
+pub held_there : (byte : ℕ) (text bytes : List ℕ) (at : ℕ) → NoneBefore (Passes (is_byte byte) bytes) 0 (length bytes) at → Passes (is_byte byte) bytes at → bytes ≡ text → (at < length text) × (get_or text at 0 ≡ byte)
+held_there byte text bytes at none passes same =
+    (omega (arith, none.high, ap (λ (t : List ℕ). length t) same), ap (λ (t : List ℕ). get_or t at 0) (sym same) ∙ eqb-true (get_or bytes at 0) byte passes)
 
-pub byte_first : (sign byte : ℕ) (text : List ℕ) (r : Option (Bor (List ℕ) × Bor (List ℕ))) → IsSplitOnceResult sign text r → sign ≡ byte → byte < 128 → IfSome r (λ cut. has_byte byte cut.0.now ≡ false)
-byte_first sign byte text None split same low = tt
-byte_first sign byte text (Some cut) split same low = lacks_byte byte cut.0.now (λ i within e. (split_parts sign text (Some cut) split (omega arith)).1 i within (e ∙ sym same))
+-- what stands before its first place
+pub front_lacks : (byte : ℕ) (text bytes : List ℕ) (at : ℕ) → NoneBefore (Passes (is_byte byte) bytes) 0 (length bytes) at → bytes ≡ text → has_byte byte (take at text) ≡ false
+front_lacks byte text bytes at none same =
+    lacks_byte byte (take at text) (λ i within e.
+    let before : i < at = omega (arith, within, length-take at text) in
+    none.before i (omega arith) before (grind (arith, nat_tests, get_or-take at text i 0 before, e, same)))
 
 -- a byte stands where it is put
 pub has_byte-here : (byte : ℕ) (front back : List ℕ) → has_byte byte (front ++ byte ∷ back) ≡ true

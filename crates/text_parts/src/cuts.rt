@@ -1,6 +1,8 @@
 ghost use Rattle.std.specs.Prelude.{◌≡◌, ◌<◌, ◌∷◌, ◌++◌, ℕ, List, false, IfNone, IfSome, MatchOption};
 ghost use Rattle.text_parts.specs.Lines.{has_byte};
 
+use memchr::memchr;
+
 /// What stands before the first such byte of ASCII in a text, and what stands behind it.
 pub fn cut_at(text: &str, byte: u8) -> Option<(&str, &str)>
     requires { byte < 128 }
@@ -8,7 +10,10 @@ pub fn cut_at(text: &str, byte: u8) -> Option<(&str, &str)>
     ensures parts { IfSome result (λ cut. text.now ≡ cut.0.now ++ byte ∷ cut.1.now) }
     ensures first { IfSome result (λ cut. has_byte byte cut.0.now ≡ false) }
 {
-    text.split_once(char::from(byte))
+    match memchr(byte, text.as_bytes()) {
+        Some(at) => Some((&text[..at], &text[at + 1..])),
+        None => None,
+    }
 }
 
 /// What stands behind this byte of ASCII, if the text begins with it.

@@ -8,13 +8,13 @@ use Rattle.loaded_work.proofs.ItemLemmas.{AreServedOf}
 use Rattle.loaded_work.proofs.PrintLemmas.{seen_between}
 use Rattle.loaded_work.proofs.session.print_items.Given as goal
 
-abbrev pub invariant-loop-text : goal.invariant-loop-text
-invariant-loop-text g l = record {
+abbrev pub invariant-loop-values : goal.invariant-loop-values
+invariant-loop-values g l = record {
   served : (items : List Said) → IsScript l.json l.script items → AreServedOf l.program l.initial.desk.state.shapes (tables l.initial.desk.state) l.json items l.at l.rest l.desk l.number (string_bytes l.text)
       (seen_between (g.K.Sink.taken l.initial.out) (g.K.Sink.taken l.out) (g.K.Sink.faults l.initial.out) (g.K.Sink.faults l.out) (g.P.Finder.refusals l.initial.finder) (g.P.Finder.refusals l.finder));
   within : l.at + length l.rest ≤ 1 + length l.script;
   utf8 : IsUtf8 l.rest;
 }
 
-abbrev pub decreases-loop-text : goal.decreases-loop-text
-decreases-loop-text g l = length l.rest
+abbrev pub decreases-loop-values : goal.decreases-loop-values
+decreases-loop-values g l = length l.rest
