@@ -131,6 +131,19 @@ pub far_by_rows : (linked : Linked) (x y : List ℕ) (found : ℕ) → (x ≡ y 
 far_by_rows linked x y found differ least =
     least_alike farthest (λ links. ReachesByGroup linked x y (length linked.groups) links) (λ links. ReachesIn linked links x y) found (λ links. from_groups linked x y (length linked.groups) links) (λ links. by_groups linked x y links differ) least
 
+-- a name that fits no group reaches no other
+pub far_unfitted : (linked : Linked) (x y : List ℕ) → ((other : ℕ) → 0 ≤ other → FitsAt linked x other → ⊥) → (x ≡ y → ⊥) → IsFar (shape_of linked.names) (rows_of linked.groups) None x y 255
+far_unfitted linked x y none differ = far_by_rows linked x y 255 differ (least_by_groups linked x y 0 255 none (least_by_no_group linked x y 255 refl))
+
+-- a role of a group that a name fits is linked to it
+pub link_by : (linked : Linked) (x y : List ℕ) (at : ℕ) (roles : List (List ℕ)) → FitsAt linked x at → roles ≡ (get_or linked.groups at no_group).roles → Contains roles y → IsLink linked x y
+link_by linked x y at roles fits is stands = record { at = at; fits = fits; stands = record { within = fits.within; stands = subst (λ (l : List (List ℕ)). Contains l y) is stands } }
+
+-- the first group that a name fits
+pub least_by_first : (linked : Linked) (x y : List ℕ) (first : ℕ) (roles : List (List ℕ)) (one : ℕ) → roles ≡ (get_or linked.groups first no_group).roles → FitsAt linked x first → ((other : ℕ) → 0 ≤ other → other < first → FitsAt linked x other → ⊥) → IsLeast farthest (λ links. ReachesBySome linked roles y links) one → IsLeast farthest (λ links. ReachesByGroup linked x y (first + 1) links) one
+least_by_first linked x y first roles one is fits none least =
+    least_by_group linked x y 0 first roles 255 one one is (omega arith) fits none (least_by_no_group linked x y 255 refl) least (let low : one ≤ 255 = least.within in omega (arith, low))
+
 -- a name is at no distance from itself, and reaches none that is no role
 pub far_itself : (linked : Linked) (x y : List ℕ) → x ≡ y → IsFar (shape_of linked.names) (rows_of linked.groups) None x y 0
 far_itself linked x y same = record {

@@ -1,6 +1,6 @@
 //! What is asked of a graph whose distances are kept.
 
-ghost use Rattle.std.specs.Prelude.{◌≡◌, ◌+◌, ◌<◌, ◌≤◌, ℕ, List, None, length};
+ghost use Rattle.std.specs.Prelude.{◌≡◌, ◌+◌, ◌<◌, ◌≤◌, ℕ, IfSome, List, None, length};
 ghost use Rattle.std.specs.List.{Contains};
 ghost use Rattle.dist_rows.specs.Squares.{most_nodes};
 ghost use Rattle.role_meaning.specs.Distances.{IsFar, farthest};
@@ -11,9 +11,11 @@ ghost use Rattle.role_graph.specs.Helps.Distances.{ReachesBy, ReachesByGroup, Re
 ghost use Rattle.role_graph.specs.Helps.Kept.{AreLinks, linked_of};
 ghost use Rattle.role_graph.specs.Helps.Roles.{nodes_of};
 ghost use Rattle.role_graph.specs.Helps.Squares.{AreNodes, IsExact, name_at};
+ghost use Rattle.role_graph.specs.Helps.Walks.{FitsAt};
 
 use crate::link_groups::LinkGroups;
 use crate::roles::Roles;
+use crate::walk::holds;
 use dist_rows::{DistRows, Steps};
 use outside::Text;
 use std::sync::ledger::Ledger;
@@ -25,8 +27,8 @@ pub(crate) const FARTHEST: u8 = 254;
 pub(crate) const TOO_FAR: u8 = 255;
 
 /// The least number of links by which the one name reaches the other, or 255 where it is above 254
-/// or there is none: one cell, or one for each row of a name that is no role, and none where a row
-/// links the two.
+/// or there is none: none where a row of the name has the other as its role, one cell where the name
+/// has several rows and is a role, and else one cell for each of its rows.
 pub(crate) fn nearest<L: Ledger>(
     links: &LinkGroups,
     roles: &Roles,
@@ -47,24 +49,41 @@ pub(crate) fn nearest<L: Ledger>(
     if x == y {
         return 0;
     }
-    if links.has_row(x, y) {
+    let Some(first) = links.next_fitting(x, 0) else {
+        return TOO_FAR;
+    };
+    if holds(links.roles_at(first), y) {
         return 1;
     }
     let Some(to) = roles.place_of(y) else {
         return TOO_FAR;
     };
-    match roles.place_of(x) {
+    match place_of_many(links, roles, x, first) {
         Some(from) => square.cell(from as u32, to as u32, steps),
-        None => nearest_by_rows(links, roles, square, x, to, steps),
+        None => nearest_by_rows(links, roles, square, x, first, to, steps),
     }
 }
 
-// The same for another name, by its rows.
+// The place of a name that is a role, where the first group that it fits has several roles: one cell
+// tells what else takes one for each.
+fn place_of_many(links: &LinkGroups, roles: &Roles, x: &[u8], first: usize) -> Option<usize>
+    requires { first < length (linked_of links.now).groups }
+    ensures { IfSome result (λ node. (node < length (nodes_of roles.now))
+        × (name_at (nodes_of roles.now) node ≡ x.now)) }
+{
+    if links.roles_at(first).len() == 1 {
+        return None;
+    }
+    roles.place_of(x)
+}
+
+// The same by the rows of a name, of which a group is the first.
 fn nearest_by_rows<L: Ledger>(
     links: &LinkGroups,
     roles: &Roles,
     square: &DistRows,
     x: &[u8],
+    first: usize,
     to: usize,
     steps: &mut Steps<L>,
 ) -> u8
@@ -72,6 +91,9 @@ fn nearest_by_rows<L: Ledger>(
     requires exact { IsExact (linked_of links.now) (nodes_of roles.now) square.now.cells }
     requires few { length (nodes_of roles.now) ≤ most_nodes }
     requires to { to < length (nodes_of roles.now) }
+    requires fits { FitsAt (linked_of links.now) x.now first }
+    requires first { (other : ℕ) → 0 ≤ other → other < first
+        → FitsAt (linked_of links.now) x.now other → ⊥ }
     ensures far { IsLeast farthest (λ far. ReachesByGroup (linked_of links.now) x.now
         (name_at (nodes_of roles.now) to) (length (linked_of links.now).groups) far) result }
     ensures steps { steps.old ≤ steps.new }
@@ -79,8 +101,8 @@ fn nearest_by_rows<L: Ledger>(
         + asked_rows links.now.names x.now (rows_of (linked_of links.now).groups) }
 {
     let _few = links.len();
-    let mut least = TOO_FAR;
-    let mut place = 0;
+    let mut least = nearest_by_roles(links, roles, square, links.roles_at(first), to, steps);
+    let mut place = first + 1;
     while let Some(at) = links.next_fitting(x, place) {
         least = least.min(nearest_by_roles(links, roles, square, links.roles_at(at), to, steps));
         place = at + 1;

@@ -7,13 +7,12 @@ ghost use Rattle.role_graph.specs.Groups.{after, row, rows_of, times};
 ghost use Rattle.role_graph.specs.Helps.Kept.{AreApart, AreLinks, HasRoom, linked_of, roles_in};
 ghost use Rattle.role_graph.specs.Helps.Lists.{Lists};
 ghost use Rattle.role_graph.specs.Helps.Marks.{Extends, IsSet};
-ghost use Rattle.role_graph.specs.Helps.Walks.{FitsAt, IsLink, no_group};
+ghost use Rattle.role_graph.specs.Helps.Walks.{FitsAt, no_group};
 
 use crate::edits::Edits;
 use crate::groups::Groups;
 use crate::marks::{Marks, reach};
 use crate::short::{Listed, list_one};
-use crate::walk::holds;
 use outside::{NoMemory, Share, Text};
 use perm_base::{Fit, is_pattern};
 use role_meaning::fits;
@@ -241,16 +240,6 @@ impl LinkGroups {
             }
         }
         None
-    }
-
-    /// Whether a row of the one name itself has the other as its role.
-    pub(crate) fn has_row(&self, x: &[u8], y: &[u8]) -> bool
-        ensures { IsTrue result → IsLink (linked_of self.now) x.now y.now }
-    {
-        match self.text_from(x, 0) {
-            Some(at) => holds(self.roles_at(at), y),
-            None => false,
-        }
     }
 
     /// Marks the groups whose users a name fits, and notes as new those that were not marked.
