@@ -4,13 +4,15 @@
 # updated; role rows that are removed and added again among users and roles that stand, in one domain and in as many as there are
 # roles, and links among roles that are all linked, whose number grows with the rows, or stays and stands in more domains; calls that take five rows out, by a name, by a filter of one or two columns and
 # as a batch, behind the first of their kind, which goes over the rows; and what a row costs of a batch that removes 100 rows and of
-# one that removes 10,000, by a filter and as those of one user. Usage: bench/edits.sh [EDITS].
+# one that removes 10,000, by a filter and as those of one user. With the word `instructions` it counts these in place of time, as
+# callgrind does: they are the same however busy the machine is, and tell nothing of how far away memory is. That needs valgrind,
+# and takes a quarter of an hour. Usage: bench/edits.sh [EDITS [instructions]].
 source "$(dirname "${BASH_SOURCE[0]}")/timing.sh"
 build "$root"
-python3 - "$root/crates/casbin_cli/out/casbin_cli" "$work" "${1:-2000}" <<'PYTHON'
-import math, resource, subprocess, sys
+python3 - "$root/crates/casbin_cli/out/casbin_cli" "$work" "${1:-2000}" "${2:-}" <<'PYTHON'
+import math, re, resource, subprocess, sys
 
-program, work, most = sys.argv[1], sys.argv[2], int(sys.argv[3])
+program, work, most, counted = sys.argv[1], sys.argv[2], int(sys.argv[3]), sys.argv[4] == "instructions"
 FEW, MANY = 1_000, 200_000
 # The links among 45 roles that are all linked.
 ISLAND = 990
@@ -58,10 +60,17 @@ def policy(kind, n):
         file.writelines(row(kind, i, n) + "\n" for i in range(n))
 
 
+# The millions of instructions of a session over the policy and these lines.
+def instructions(kind):
+    command = ["valgrind", "--tool=callgrind", f"--callgrind-out-file={work}/counts", program]
+    with open(f"{work}/script") as script, open(f"{work}/answers", "w") as answers, open(f"{work}/errors", "w") as errors:
+        subprocess.run([*command, "session", f"{work}/{kind}.conf", f"{work}/policy.csv"], stdin=script, stdout=answers, stderr=errors, check=True)
+    with open(f"{work}/counts") as counts:
+        return int(re.search(r"^(?:summary|totals): (\d+)", counts.read(), re.M).group(1)) / 1e6
+
+
 # The least seconds of processor time of three sessions over the policy and these lines.
-def took(kind, lines):
-    with open(f"{work}/script", "w") as file:
-        file.writelines(line + "\n" for line in lines)
+def seconds(kind):
     least = None
     for _ in range(3):
         before = resource.getrusage(resource.RUSAGE_CHILDREN)
@@ -70,14 +79,27 @@ def took(kind, lines):
         after = resource.getrusage(resource.RUSAGE_CHILDREN)
         spent = after.ru_utime + after.ru_stime - before.ru_utime - before.ru_stime
         least = spent if least is None else min(least, spent)
+    return least
+
+
+# What a session over the policy and these lines takes; none of them is refused.
+def took(kind, lines):
+    with open(f"{work}/script", "w") as file:
+        file.writelines(line + "\n" for line in lines)
+    spent = instructions(kind) if counted else seconds(kind)
     with open(f"{work}/answers") as answers:
         for answer in answers:
             if "refused" in answer or " false" in answer:
                 sys.exit(f"{kind}: {answer}")
-    return least
+    return spent
 
 
-# The seconds of one of so many edits, each published.
+# A cost as it is printed.
+def told(cost):
+    return f"{cost * 1e6:.0f} instructions" if counted else f"{cost * 1e6:.1f} us"
+
+
+# What one of so many edits takes, each published.
 def edit_cost(kind, way, n):
     policy(kind, n)
     lines = []
@@ -103,7 +125,7 @@ for kind, way, what in [
     ("islands", "remove", "a link among 45 roles that are all linked, in one of many such domains, removed or added"),
 ]:
     few, many = edit_cost(kind, way, FEW), edit_cost(kind, way, MANY)
-    print(f"{what}, with its publish: over {FEW} rows {few * 1e6:.1f} us, over {MANY} {many * 1e6:.1f} us, ratio {many / few:.2f}", flush=True)
+    print(f"{what}, with its publish: over {FEW} rows {told(few)}, over {MANY} {told(many)}, ratio {many / few:.2f}", flush=True)
 
 
 # The rows of a name, of which there are so many, and each has five.
@@ -116,7 +138,7 @@ def rows_of_name(kind, name, names):
     return [f"p, user{name:06d}, data{i}, read" for i in range(FIVE)]
 
 
-# The seconds of a call that takes the rows of a name out, with the call that adds them again, each published. The first call of the
+# What a call takes that takes the rows of a name out, with the call that adds them again, each published. The first call of the
 # session, which makes what finds rows, is not counted.
 def call_cost(kind, call, n):
     names = n // FIVE
@@ -140,10 +162,10 @@ for kind, call, what in [
     ("plain", "remove-all", "five rules removed as a batch"),
 ]:
     few, many = call_cost(kind, call, FEW), call_cost(kind, call, MANY)
-    print(f"{what} and added again, published: over {FEW} rows {few * 1e6:.1f} us, over {MANY} {many * 1e6:.1f} us, ratio {many / few:.2f}", flush=True)
+    print(f"{what} and added again, published: over {FEW} rows {told(few)}, over {MANY} {told(many)}, ratio {many / few:.2f}", flush=True)
 
 
-# The seconds of one of the rows that one call removes of 200,000, of which so many are its own.
+# What one of the rows takes that one call removes of 200,000, of which so many are its own.
 def batch_cost(call, count):
     kind = "roles" if call.startswith("delete-user") else "plain"
     with open(f"{work}/policy.csv", "w") as file:
@@ -158,5 +180,5 @@ def batch_cost(call, count):
 
 for call, what in [("remove-filtered p, 0, user", "a row that a filter removes"), ("delete-user user", "a role row of a user that is deleted")]:
     few, many = batch_cost(call, 100), batch_cost(call, 10_000)
-    print(f"{what} of {MANY}: of 100 {few * 1e6:.1f} us, of 10000 {many * 1e6:.1f} us, ratio {many / few:.2f}", flush=True)
+    print(f"{what} of {MANY}: of 100 {told(few)}, of 10000 {told(many)}, ratio {many / few:.2f}", flush=True)
 PYTHON
