@@ -1,1 +1,2 @@
 mod PushLemmas
+pub mod MarkLemmas

@@ -1,3 +1,4 @@
 -- What only private functions and proofs say.
 pub mod Signs
 pub mod Heads
+pub mod Marked

@@ -9,14 +9,16 @@ mod line_text;
 mod lines;
 mod pieces;
 mod printed;
+mod printed_lines;
 mod refusals;
 mod rows;
 mod verdicts;
+mod waiting;
 
 pub use answer::{Answer, Line};
 pub use laws::edits_are_told_line_by_line;
 pub use line::{print_line, push_decided, push_line};
 pub use lines::Lines;
-pub use printed::{
-    PrintedAnswer, PrintedLine, Shown, print_answer, print_verdict, push_printed, shown_by,
-};
+pub use printed::{PrintedAnswer, Shown, print_answer, print_verdict, shown_by};
+pub use printed_lines::PrintedLines;
+pub use waiting::WaitingAnswers;

@@ -1,5 +1,4 @@
-ghost use Rattle.std.specs.Prelude.{◌≡◌, IfOk, OnOk, option_copied, true};
-ghost use Rattle.answer_lines.specs.LineText.{Appends, numbered};
+ghost use Rattle.std.specs.Prelude.{◌≡◌, IfOk, option_copied, true};
 ghost use Rattle.answer_lines.specs.Printed.{printed_answer, shown_by, shown_by_verdict};
 ghost use Rattle.answer_lines.specs.Told.{comes_with_rule, is_printable};
 ghost use Rattle.answer_lines.specs.declared.answer.Answer.TheVariants.{Decided};
@@ -7,7 +6,6 @@ ghost use Rattle.answer_lines.specs.declared.answer.Answer.TheVariants.{Decided}
 use crate::answer::Answer;
 use crate::front::Front;
 use crate::line_text::push_answer;
-use crate::pieces::push_number;
 use crate::verdicts::push_verdict;
 use effect_fold::Verdict;
 use outside::{LineText, NoMemory, Share};
@@ -33,16 +31,7 @@ pub struct PrintedAnswer {
     pub shown: Shown,
 }
 
-/// A printed answer, and the number of its line.
-#[derive(Drop)]
-pub struct PrintedLine {
-    pub number: u32,
-    pub answer: PrintedAnswer,
-}
-
 impl Share for PrintedAnswer {}
-
-impl Share for PrintedLine {}
 
 /// Prints an answer, by way of a text whose bytes it takes the place of. Refused is want of memory alone.
 pub fn print_answer(
@@ -80,18 +69,6 @@ pub fn print_verdict(
         text: LineText::from_str(alloc, text.as_str())?,
         shown: shown_by_verdict(version, verdict),
     })
-}
-
-/// Appends the line of a printed answer: its number, a blank, the answer, and LF. Refused is want of memory alone.
-pub fn push_printed(text: &mut String, line: &PrintedLine) -> Result<(), NoMemory>
-    ensures appended { OnOk result (Appends text.old text.new
-        (numbered line.now.number line.now.answer.text)) }
-{
-    push_number(text, line.number)?;
-    text.push_str(" ")?;
-    text.push_str(line.answer.text.as_str())?;
-    text.push_str("\n")?;
-    Ok(())
 }
 
 /// What an answer shows.

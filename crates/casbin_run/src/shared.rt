@@ -13,7 +13,7 @@ ghost use Rattle.loaded_work.specs.Sinks.{taken};
 ghost use Rattle.casbin_run.specs.declared.job.Task.TheVariants.{Share};
 
 use crate::input::read_checked;
-use answer_lines::PrintedLine;
+use answer_lines::PrintedLines;
 use live_pair::Places;
 use live_rounds::{Gate, TakeStop, Taker, run_shared};
 use loaded_work::{Loaded, open_loaded, print_lines};
@@ -124,8 +124,8 @@ impl<K: Sink> Taker<K> for Printing {
 
     ghost stopped = { λ old lines new stop. PrintedAmid (K.taken old) (K.taken new) (K.faults old) (K.faults new) lines stop };
 
-    fn take(&self, alloc: Global, to: &mut K, lines: &[PrintedLine]) -> Result<(), TakeStop> {
-        match print_lines(alloc, to, lines) {
+    fn take(&self, _alloc: Global, to: &mut K, lines: &PrintedLines) -> Result<(), TakeStop> {
+        match print_lines(to, lines) {
             Ok(()) => Ok(()),
             Err(stop) => Err(take_stop_of(stop)),
         }

@@ -1,11 +1,11 @@
 ghost use Rattle.std.specs.Prelude.{◌≡◌, ◌+◌, ◌++◌, IfOk, List, OnOk, decimal, map, string_bytes};
 ghost use Rattle.answer_lines.specs.LineText.{Appends};
-ghost use Rattle.answer_lines.specs.Printed.{printed_line};
+ghost use Rattle.answer_lines.specs.Printed.{ArePrinted, printed_line, shown_of};
 ghost use Rattle.answer_lines.specs.declared.answer.Line as line;
 ghost use Rattle.demo_run.specs.Helps.Tallies.{IsTallied};
 ghost use Rattle.demo_run.specs.Summary.{head_text, none_counted, tally_text, truths_text, verdicts_text, with_shown, with_truth};
 
-use answer_lines::{Line, PrintedLine, Shown, shown_by};
+use answer_lines::{Line, PrintedLines, Shown, shown_by};
 use itoa::Buffer;
 use outside::NoMemory;
 use std::alloc::Global;
@@ -60,15 +60,23 @@ pub(crate) fn count_lines(tally: &mut Tally, lines: &[Line]) -> Result<(), NoMem
 }
 
 /// The same of lines that were printed.
-pub(crate) fn count_printed(tally: &mut Tally, lines: &[PrintedLine]) -> Result<(), NoMemory>
-    ensures { OnOk result ((told : List line.Line) → lines.now ≡ map printed_line told
-        → IsTallied tally.old told tally.new) }
+pub(crate) fn count_printed(tally: &mut Tally, lines: &PrintedLines) -> Result<(), NoMemory>
+    ensures { OnOk result ((told : List line.Line)
+        → ArePrinted (map printed_line told) lines.now → IsTallied tally.old told tally.new) }
+{
+    count_shown(tally, &lines.shown)
+}
+
+// The same of what lines show.
+fn count_shown(tally: &mut Tally, shown: &[Shown]) -> Result<(), NoMemory>
+    ensures { OnOk result ((told : List line.Line)
+        → shown.now ≡ shown_of (map printed_line told) → IsTallied tally.old told tally.new) }
 {
     let mut counts = tally.counts;
-    for line in lines {
-        counts = with_shown(counts, line.answer.shown)?;
+    for one in shown {
+        counts = with_shown(counts, *one)?;
     }
-    set_tally(tally, lines.len(), counts)
+    set_tally(tally, shown.len(), counts)
 }
 
 // So many lines more, with which these are the counts.

@@ -17,7 +17,7 @@ ghost use Rattle.version_log.specs.Log.{versions};
 
 use crate::counts::{Tally, count_lines, count_printed, summary};
 use crate::texts::{MODEL, policy_text, script_text};
-use answer_lines::PrintedLine;
+use answer_lines::PrintedLines;
 use decision::{Program, make_program};
 use desk_session::run_plain;
 use live_pair::Places;
@@ -126,7 +126,7 @@ impl Taker<Tally> for Counting {
 
     ghost stopped = { λ _ _ _ _. ⊤ };
 
-    fn take(&self, _alloc: Global, to: &mut Tally, lines: &[PrintedLine]) -> Result<(), TakeStop> {
+    fn take(&self, _alloc: Global, to: &mut Tally, lines: &PrintedLines) -> Result<(), TakeStop> {
         count_printed(to, lines)?;
         Ok(())
     }

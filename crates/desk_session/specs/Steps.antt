@@ -1,11 +1,12 @@
 -- One item of a script at a desk.
-use Rattle.std.specs.Prelude.{◌≡◌, Bool, true, false, List, [], ◌∷◌, ◌++◌}
+use Rattle.std.specs.Prelude.{◌≡◌, List, [], ◌∷◌, ◌++◌}
 use Rattle.answer_lines.specs.declared.answer.Answer.{Answer}
 use Rattle.model_conf.specs.ModelText.{ModelParts}
 use Rattle.policy_desk.specs.Desks.{Work}
 use Rattle.policy_table.specs.Tables.{Policy}
 use Rattle.regex_gate.specs.Refusals.{Refusals}
 use Rattle.script_read.specs.Said.{Said}
+pub use Rattle.script_read.specs.Said.{is_request}
 use Rattle.script_read.specs.Said as said
 use Rattle.session_meaning.specs.Replies.{IsReply}
 use Rattle.desk_session.specs.Desks.{HasEditsOf, StandsBehind}
@@ -27,10 +28,6 @@ abbrev pub IsStopped : Work → Work → Type 0
 IsStopped old new = (opening : Policy) (items : List Said) → StandsBehind opening items old → HasEditsOf opening items new
 
 -- ---- kinds of items
-
-abbrev pub is_request : Said → Bool
-is_request (said.asks reading) = true
-is_request _ = false
 
 -- what an item leaves beside a desk: a publish adds to it, and all else leaves it
 abbrev pub LeavesBeside : (stays grows : Type 0) → Said → Type 0

@@ -1,7 +1,8 @@
 ghost use Rattle.std.specs.Prelude.{◌≡◌, Ok, OnErr, OnOk, map, true};
 ghost use Rattle.perm_value.specs.Seen.{datum};
 ghost use Rattle.script_read.specs.Named.{is_named};
-ghost use Rattle.script_read.specs.Said.{asks, reading, reading_of};
+ghost use Rattle.script_read.specs.Readings.{request_read};
+ghost use Rattle.script_read.specs.Said.{asks, reading};
 ghost use Rattle.decision.specs.Programs.{Suits};
 ghost use Rattle.desk_session.specs.Requests.{Refuses, TellsAnswer};
 
@@ -13,7 +14,7 @@ use outside::NoMemory;
 use perm_value::{Request, Value};
 use policy_state::PolicyState;
 use regex_gate::Finder;
-use script_read::{RequestLine, RequestText, read_text, values_of};
+use script_read::{AskedLine, RequestLine, read_asked, values_of};
 use std::alloc::Global;
 use std::mem;
 
@@ -56,21 +57,21 @@ pub fn push_asked<P: Finder>(
     number: u32,
     state: &PolicyState,
     program: &Program,
-    asked: &RequestText,
+    asked: AskedLine<'_>,
     finder: &mut P,
     scratch: &mut Scratch,
     values: &mut Vec<Value>,
 ) -> Result<(), NoMemory>
     requires suits { Suits program.now state.now.shapes }
-    requires named { is_named (asks (reading_of asked.now)) ≡ true }
     ensures told { OnOk result (TellsAnswer program.now state.now
-        (P.refusals finder.old) (P.refusals finder.new) (reading_of asked.now) number
-        text.old text.new) }
+        (P.refusals finder.old) (P.refusals finder.new)
+        (request_read asked.entry.json asked.entry.line.now) number text.old text.new) }
     ensures stopped { OnErr result (Refuses program.now
-        (P.refusals finder.old) (P.refusals finder.new) (asks (reading_of asked.now))) }
+        (P.refusals finder.old) (P.refusals finder.new)
+        (asks (request_read asked.entry.json asked.entry.line.now))) }
 {
     let others = mem::replace(values, Vec::new(alloc));
-    let line = read_text(alloc, others, asked)?;
+    let line = read_asked(alloc, others, asked)?;
     let told = push_request(text, number, state, program, &line, finder, scratch);
     *values = values_of(alloc, line);
     told

@@ -19,4 +19,4 @@ pub use named::named_rule;
 pub use other::answer_other;
 pub use plain::run_plain;
 pub use queries::{bytes_of, refusal_answer};
-pub use request::{answer_request, answer_text};
+pub use request::{answer_line, answer_request, answer_text};

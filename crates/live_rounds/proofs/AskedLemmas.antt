@@ -1,5 +1,5 @@
 -- Requests that are answered at the desk, behind those that were answered at a seat.
-use Rattle.std.proofs.Common.{◌≡◌, ℕ, zero, suc, ◌+◌, ◌-◌, ◌<◌, ◌≤◌, false, List, [], ◌∷◌, ◌++◌, append_assoc, append-nil, drop, get_or, length, length-append, map, take, take_all, refl, sym, ap, subst, ◌∙◌, arith}
+use Rattle.std.proofs.Common.{◌≡◌, ℕ, zero, suc, ◌+◌, ◌-◌, ◌<◌, ◌≤◌, false, List, [], ◌∷◌, ◌++◌, append_assoc, append-nil, drop, length, length-append, map, refl, sym, ap, subst, ◌∙◌, arith}
 use Rattle.answer_lines.specs.Printed.{printed_answer}
 use Rattle.answer_lines.specs.declared.answer.Answer.{Answer}
 use Rattle.answer_lines.specs.declared.printed.PrintedAnswer.{PrintedAnswer}
@@ -10,15 +10,14 @@ use Rattle.live_rounds.specs.Helps.Asked.{AddsAnswered, AreAnsweredOver, IsAnswe
 use Rattle.desk_session.specs.Steps.{is_request}
 use Rattle.live_rounds.specs.Printed.{IsPrinted}
 use Rattle.live_rounds.specs.Requests.{requests}
-use Rattle.live_rounds.proofs.ItemLemmas.{none_requested, one_more, requests_both}
+use Rattle.live_rounds.proofs.ItemLemmas.{none_requested, parts_all, parts_more, requests_both}
 use Rattle.model_conf.specs.ModelText.{ModelParts}
 use Rattle.perm_base.specs.declared.shapes.Shapes.{Shapes}
 use Rattle.policy_state.specs.States.{State, tables}
 use Rattle.policy_table.specs.Tables.{Policy}
 use Rattle.regex_gate.proofs.CallerLemmas.{used_then}
 use Rattle.regex_gate.specs.Refusals.{IsUsed, Refusals}
-use Rattle.script_read.specs.Said.{Reading, Said, asks, seen}
-use Rattle.script_read.specs.declared.item.Item.{Item}
+use Rattle.script_read.specs.Said.{Reading, Said, asks}
 use Rattle.session_meaning.specs.Plain.{all_refused}
 use Rattle.session_meaning.specs.Replies.{IsAnswerTo}
 use Rattle.session_meaning.specs.Rounds.{IsCut}
@@ -116,30 +115,48 @@ module _ (model : ModelParts) (state : State) where
           left_are = omega (arith, so.left_are, counted, none);
         }
 
--- ---- the requests among the items of a slice
+-- ---- the requests among the items of a part
 
-module _ (model : ModelParts) (state : State) (items : List Item) (before : Refusals) (skipped : ℕ) (old : List PrintedAnswer) where
-  -- so many of the items are done
-  abbrev pub IsAskingUpTo : ℕ → Refusals → ℕ → List PrintedAnswer → Type 0
-  IsAskingUpTo n now left new = IsAsking model state before now skipped left (map seen (take n items)) old new
+module _ (model : ModelParts) (state : State) (items : List Said) (before : Refusals) (skipped : ℕ) (old : List PrintedAnswer) where
+  -- these are left of the items, and the others are done
+  pub record IsAskingUpTo (rest : List Said) (now : Refusals) (left : ℕ) (new : List PrintedAnswer) : Type 0 where
+    pub done : List Said
+    pub parts : items ≡ done ++ rest
+    pub asking : IsAsking model state before now skipped left done old new
 
-  module _ (n : ℕ) (item : Item) (now : Refusals) (left : ℕ) (new : List PrintedAnswer) (within : n < length items) (is : item ≡ get_or items n item) (so : IsAskingUpTo n now left new) where
-    step : (later : Refusals) (next : ℕ) (more : List PrintedAnswer) → IsAsking model state before later skipped next (map seen (take n items) ++ seen item ∷ []) old more → IsAskingUpTo (n + 1) later next more
-    step later next more = subst (λ (done : List Said). IsAsking model state before later skipped next done old more) (sym (one_more items n item within is))
+  pub asking_first : (rest : List Said) → rest ≡ items → IsAskingUpTo rest before skipped old
+  asking_first rest same = record { done = []; parts = sym same; asking = asking_none model state before skipped old }
 
-    pub asking_past : is_request (seen item) ≡ false → IsAskingUpTo (n + 1) now left new
-    asking_past other = step now left new (asking_other model state before now skipped left (map seen (take n items)) (seen item) old new other so)
+  module _ (rest next : List Said) (item : Said) (now : Refusals) (left : ℕ) (new : List PrintedAnswer) (first_is : rest ≡ item ∷ next) (so : IsAskingUpTo rest now left new) where
+    parts_on : items ≡ (so.done ++ item ∷ []) ++ next
+    parts_on = parts_more items so.done rest next item so.parts first_is
 
-    pub asking_skip : (reading : Reading) (next : ℕ) → seen item ≡ asks reading → 0 < left → next ≡ left - 1 → IsAskingUpTo (n + 1) now next new
-    asking_skip reading next is_asked some next-is =
-        subst (λ (k : ℕ). IsAskingUpTo (n + 1) now k new) (sym next-is) (step now (left - 1) new (asking_skipped model state before now now skipped left (map seen (take n items)) (seen item) reading old new is_asked so some))
+    pub asking_past : is_request item ≡ false → IsAskingUpTo next now left new
+    asking_past other = record { done = so.done ++ item ∷ []; parts = parts_on; asking = asking_other model state before now skipped left so.done item old new other so.asking }
 
-    pub asking_next : (reading : Reading) (later : Refusals) (more : List PrintedAnswer) (answer : Answer) (reply : PrintedAnswer) → seen item ≡ asks reading → left ≡ 0 → IsAnsweredBy model state now later reading answer → reply ≡ printed_answer answer → more ≡ new ++ reply ∷ [] → IsAskingUpTo (n + 1) later left more
-    asking_next reading later more answer reply is_asked none answered told more-is =
-        step later left more (asking_more model state before now later skipped left (map seen (take n items)) (seen item) reading old new is_asked so more answer reply none answered told more-is)
+    pub asking_skip : (reading : Reading) (fewer : ℕ) → item ≡ asks reading → 0 < left → fewer ≡ left - 1 → IsAskingUpTo next now fewer new
+    asking_skip reading fewer is_asked some fewer-is = subst (λ (k : ℕ). IsAskingUpTo next now k new) (sym fewer-is) (record {
+      done = so.done ++ item ∷ [];
+      parts = parts_on;
+      asking = asking_skipped model state before now now skipped left so.done item reading old new is_asked so.asking some;
+    })
 
-  pub asking_all : (n : ℕ) (now : Refusals) (left : ℕ) (new : List PrintedAnswer) → length items ≤ n → IsAskingUpTo n now left new → AddsAnswered model state before now (drop skipped (requests (map seen items))) old new
-  asking_all n now left new past so = subst (λ (l : List Item). AddsAnswered model state before now (drop skipped (requests (map seen l))) old new) (take_all n items past) so.added
+    pub asking_next : (reading : Reading) (later : Refusals) (more : List PrintedAnswer) (answer : Answer) (reply : PrintedAnswer) → item ≡ asks reading → left ≡ 0 → IsAnsweredBy model state now later reading answer → reply ≡ printed_answer answer → more ≡ new ++ reply ∷ [] → IsAskingUpTo next later left more
+    asking_next reading later more answer reply is_asked none answered told more-is = record {
+      done = so.done ++ item ∷ [];
+      parts = parts_on;
+      asking = asking_more model state before now later skipped left so.done item reading old new is_asked so.asking more answer reply none answered told more-is;
+    }
+
+  pub asking_all : (rest : List Said) (now : Refusals) (left : ℕ) (new : List PrintedAnswer) → rest ≡ [] → IsAskingUpTo rest now left new → AddsAnswered model state before now (drop skipped (requests items)) old new
+  asking_all rest now left new none so = subst (λ (l : List Said). AddsAnswered model state before now (drop skipped (requests l)) old new) (parts_all items so.done rest so.parts none) so.asking.added
+
+  -- the finder was used so far, and for an item more
+  pub asking_uses : (rest : List Said) (now : Refusals) (left : ℕ) (new : List PrintedAnswer) → IsAskingUpTo rest now left new → IsUsed before now
+  asking_uses rest now left new so = asking_used model state before now skipped left so.done old new so.asking
+
+  pub asking_uses_then : (rest : List Said) (now later : Refusals) (left : ℕ) (new : List PrintedAnswer) (item : Said) → IsAskingUpTo rest now left new → Refuses model now later item → IsUsed before later
+  asking_uses_then rest now later left new item so more = asking_used_then model state before now later skipped left so.done old new item so.asking more
 
 -- ---- those of a seat, and then those of the desk
 
@@ -172,3 +189,13 @@ module _ (model : ModelParts) (shapes : Shapes) (opening : Policy) (before round
   completed_long [] [] others [] replies readings are over = over_long others replies readings over
   completed_long (v ∷ seen) (patterns ∷ refused) others (reply ∷ kept) replies (reading ∷ readings) are over = ap (λ (n : ℕ). suc n) (completed_long seen refused others kept replies readings are.1 over)
   completed_long _ _ others _ replies _ are over = absurd are
+
+-- where as many are kept as there are requests, all are
+pub all_kept_are : (model : ModelParts) (state : State) (refusals : Refusals) (readings : List Reading) (kept : List PrintedAnswer) → length readings ≤ length kept → AddsAnswered model state refusals refusals (drop (length kept) readings) kept kept
+all_kept_are model state refusals readings kept enough = record {
+  refused = [];
+  replies = [];
+  added = sym (append-nil kept);
+  logged = refl;
+  answered = subst (AreAnsweredOver model state.shapes (versions state.log) (tables state) [] []) (sym (drop_past (length kept) readings enough)) tt;
+}

@@ -4,19 +4,18 @@ use Rattle.std.specs.Prelude.{sum_by}
 use Rattle.std.proofs.lemmas.List.Sums.{sum_by-append}
 use Rattle.answer_lines.specs.Printed.{printed_line}
 use Rattle.answer_lines.specs.declared.printed.PrintedAnswer.{PrintedAnswer}
-use Rattle.answer_lines.specs.declared.printed.PrintedLine.{PrintedLine}
+use Rattle.answer_lines.specs.Printed.{PrintedLine}
 use Rattle.answer_lines.specs.declared.answer.Line.{Line}
 use Rattle.live_pair.specs.Admins.{AdminSeen}
 use Rattle.live_pair.specs.Seats.{SeatSeen, version_of}
 use Rattle.live_rounds.proofs.AllSharesLemmas.{AreAnswered}
 use Rattle.live_rounds.proofs.RoundLemmas.{lines_for, shared}
 use Rattle.live_rounds.proofs.ShareLemmas.{at_end, end_version}
-use Rattle.live_rounds.proofs.SharesLemmas.{sized}
 use Rattle.live_rounds.specs.Administrators.{AreDoneBeside, AreReplies}
 use Rattle.live_rounds.specs.Done.{AreEntered, AreLinesOf, EachHasEntered}
 use Rattle.live_rounds.specs.Merged.{merged}
-use Rattle.live_rounds.specs.Requests.{at_each_request, requests}
-use Rattle.live_rounds.specs.Shares.{AreSizes, in_turn, parts_by}
+use Rattle.live_rounds.specs.Requests.{AreParts, at_each_request, requests}
+use Rattle.live_rounds.specs.Shares.{in_turn}
 use Rattle.model_conf.specs.ModelText.{ModelParts}
 use Rattle.perm_base.specs.declared.shapes.Shapes.{Shapes}
 use Rattle.policy_table.specs.Tables.{Policy}
@@ -37,17 +36,14 @@ asked_in_lines shapes opening behind (said.asks reading ∷ items) count (reply 
 asked_in_lines shapes opening behind (item ∷ items) count asked [] replies long = absurd replies
 asked_in_lines shapes opening behind (item ∷ items) count asked (reply ∷ others) replies long = asked_in_lines shapes opening (behind ++ item ∷ []) items (suc count) asked others replies.1 long
 
-module _ (model : ModelParts) (shapes : Shapes) (opening : Policy) (before round script : List Said) (old new : AdminSeen) (others : List PrintedAnswer) (done : AreDoneBeside shapes opening before round old new others)
-    (n : ℕ) (sizes : List ℕ) (sized_as : AreSizes n round sizes) (firsts finals : List SeatSeen) (from until : Refusals) (befores nows : List Refusals) (asked : List PrintedAnswer)
-    (is : AreAnswered model shapes opening before round old new others done script round sizes firsts finals befores nows from until [] asked) where
-  whole : in_turn is.replies ≡ asked
-  whole = sym is.added
-
+module _ (model : ModelParts) (shapes : Shapes) (opening : Policy) (before round : List Said) (old new : AdminSeen) (others : List PrintedAnswer) (done : AreDoneBeside shapes opening before round old new others)
+    (n : ℕ) (parts : List (List Said)) (parted : AreParts n round parts) (firsts finals : List SeatSeen) (from until : Refusals) (befores nows : List Refusals) (replies : List (List PrintedAnswer))
+    (is : AreAnswered model shapes opening before round old new others done round parts firsts finals befores nows from until replies) where
   -- its lines
-  pub round_lines : (count : ℕ) → count ≡ length before → (lines : List Line) × (merged count round asked others ≡ map printed_line lines) × AreLinesOf model shapes opening (suc n) before round (from ∷ befores) (until ∷ nows) lines
+  pub round_lines : (count : ℕ) → count ≡ length before → (lines : List Line) × (merged count round (in_turn replies) others ≡ map printed_line lines) × AreLinesOf model shapes opening (suc n) before round (from ∷ befores) (until ∷ nows) lines
   round_lines count count-is =
-      let lines = lines_for model shapes opening before round n (parts_by sizes round) is.seen is.refused (in_turn is.replies) others (version_of old.list) (sized n round sizes sized_as) is.each is.rise is.answered is.all done.replies_are in
-      let same : merged (length before) round (in_turn is.replies) others ≡ merged count round asked others = λ j. merged (sym count-is j) round (whole j) others in (
+      let lines = lines_for model shapes opening before round n parts is.seen is.refused (in_turn replies) others (version_of old.list) parted is.each is.rise is.answered is.all done.replies_are in
+      let same : merged (length before) round (in_turn replies) others ≡ merged count round (in_turn replies) others = ap (λ (k : ℕ). merged k round (in_turn replies) others) (sym count-is) in (
         lines.lines,
         sym same ∙ lines.told,
         record {
@@ -63,11 +59,10 @@ module _ (model : ModelParts) (shapes : Shapes) (opening : Policy) (before round
       )
 
   -- and the entries of its seats
-  pub round_entered : (count : ℕ) → AreEntered (suc n) round new firsts finals (merged count round asked others)
+  pub round_entered : (count : ℕ) → AreEntered (suc n) round new firsts finals (merged count round (in_turn replies) others)
   round_entered count =
-      let answers : map (λ (line : PrintedLine). line.answer) (at_each_request round (merged count round asked others)) ≡ in_turn is.replies
-      = asked_in_lines shapes opening before round count asked others done.replies_are (ap (λ (l : List PrintedAnswer). length l) (sym whole) ∙ is.all) ∙ sym whole in
-      let parts : shares (suc n) (in_turn is.replies) ≡ is.replies = shared n round (parts_by sizes round) is.replies (sized n round sizes sized_as) is.each_reply in
-      let all : is.replies ≡ shares (suc n) (map (λ (line : PrintedLine). line.answer) (at_each_request round (merged count round asked others))) = sym (ap (shares (suc n)) answers ∙ parts) in
-      subst (λ (v : ℕ). EachHasEntered v (shares (suc n) (map (λ (line : PrintedLine). line.answer) (at_each_request round (merged count round asked others)))) firsts finals) (sym (end_version model shapes opening before round old new others done))
+      let answers : map (λ (line : PrintedLine). line.answer) (at_each_request round (merged count round (in_turn replies) others)) ≡ in_turn replies
+      = asked_in_lines shapes opening before round count (in_turn replies) others done.replies_are is.all in
+      let all : replies ≡ shares (suc n) (map (λ (line : PrintedLine). line.answer) (at_each_request round (merged count round (in_turn replies) others))) = sym (ap (shares (suc n)) answers ∙ shared n round parts replies parted is.each_reply) in
+      subst (λ (v : ℕ). EachHasEntered v (shares (suc n) (map (λ (line : PrintedLine). line.answer) (at_each_request round (merged count round (in_turn replies) others)))) firsts finals) (sym (end_version model shapes opening before round old new others done))
       (subst (λ (l : List (List PrintedAnswer)). EachHasEntered (at_end model shapes opening before round old new others done) l firsts finals) all is.entered)

@@ -22,3 +22,4 @@ pub mod LearningLemmas
 pub mod WorkedLemmas
 pub mod RunLemmas
 pub mod SharingLemmas
+pub mod PassingLemmas

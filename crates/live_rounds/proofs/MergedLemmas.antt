@@ -4,7 +4,7 @@ use Rattle.std.specs.List.{AllByRecursion}
 use Rattle.answer_lines.specs.Printed.{printed_line}
 use Rattle.answer_lines.specs.declared.printed.PrintedAnswer.{PrintedAnswer}
 use Rattle.answer_lines.specs.declared.answer.Line.{Line}
-use Rattle.answer_lines.specs.declared.printed.PrintedLine.{PrintedLine}
+use Rattle.answer_lines.specs.Printed.{PrintedLine}
 use Rattle.live_rounds.specs.Administrators.{AreReplies}
 use Rattle.live_rounds.specs.Answered.{AreAnsweredAt}
 use Rattle.live_rounds.specs.Merged.{merged}

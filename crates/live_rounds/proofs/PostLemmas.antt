@@ -1,66 +1,23 @@
 -- Posts: how they are manned, and what is kept of what was answered at them.
-use Rattle.std.proofs.Common.{◌≡◌, ◌⊎◌, ◌&&◌, inl, inr, ⊎_elim, ℕ, zero, suc, ◌+◌, ◌<◌, ◌≤◌, ◌^◌, leb, Bool, true, false, List, [], ◌∷◌, ◌++◌, append_assoc, append-nil, get_or, length, length-append, map, take, drop, refl, sym, ap, subst, ◌∙◌, arith}
+use Rattle.std.proofs.Common.{◌≡◌, ◌⊎◌, ◌&&◌, inl, inr, ⊎_elim, ℕ, zero, suc, ◌+◌, ◌<◌, ◌≤◌, leb, Bool, true, false, List, [], ◌∷◌, ◌++◌, append_assoc, append-nil, length, length-append, map, refl, sym, ap, subst, ◌∙◌, arith}
 use Rattle.std.specs.Prelude.{All, IsTrue, if◌then◌else◌, not, slice_index_or}
 use Rattle.std.specs.List.{AllByRecursion, AllZip}
 use Rattle.std.proofs.lemmas.Bool.{leb-false, leb-true}
-use Rattle.std.proofs.lemmas.List.{drop-take, get_or_default, map-append}
+use Rattle.std.proofs.lemmas.List.{map-append}
 use Rattle.std.proofs.lemmas.List.Elements.{All-from_recursion}
 use Rattle.answer_lines.specs.declared.printed.PrintedAnswer.{PrintedAnswer}
 use Rattle.live_pair.specs.Seats.{SeatSeen, version_of}
-use Rattle.live_rounds.proofs.SharesLemmas.{map_drop, map_long, map_take}
-use Rattle.live_rounds.specs.Helps.Posts.{AreAll, AreKept, AreSpans, kept_at}
+use Rattle.live_rounds.proofs.SharesLemmas.{map_long}
+use Rattle.live_rounds.specs.Helps.Posts.{AreAll, AreKept, kept_at}
 use Rattle.live_rounds.specs.Served.{IsPartKept, IsPartServed}
-use Rattle.live_rounds.specs.Shares.{total}
+use Rattle.live_rounds.specs.Stretches.{items_of}
+use Rattle.live_rounds.specs.declared.stretch.Stretch.{Stretch}
 use Rattle.model_conf.specs.ModelText.{ModelParts}
 use Rattle.perm_base.specs.declared.shapes.Shapes.{Shapes}
 use Rattle.policy_table.specs.Tables.{Policy}
 use Rattle.regex_gate.proofs.CallerLemmas.{used_none}
 use Rattle.regex_gate.specs.Refusals.{IsUsed, Refusals}
-use Rattle.script_read.specs.Said.{Said, seen}
-use Rattle.script_read.specs.declared.item.Item.{Item}
-
--- ---- places
-
-pub total_within : (sizes : List ℕ) (n size : ℕ) → n < length sizes → size ≡ get_or sizes n size → total (take n sizes) + size ≤ total sizes
-total_within [] n size within is = absurd (omega (arith, within))
-total_within (s ∷ sizes) zero size within is = omega (arith, is)
-total_within (s ∷ sizes) (suc n) size within is = let rest = total_within sizes n size (omega (arith, within)) is in omega (arith, rest)
-
-total_next : (sizes : List ℕ) (n size : ℕ) → n < length sizes → size ≡ get_or sizes n size → total (take (n + 1) sizes) ≡ total (take n sizes) + size
-total_next [] n size within is = absurd (omega (arith, within))
-total_next (s ∷ sizes) zero size within is = omega (arith, is)
-total_next (s ∷ sizes) (suc n) size within is =
-    let e : suc n + 1 ≡ suc (n + 1) = omega arith in
-    let rest = total_next sizes n size (omega (arith, within)) is in
-    rw e (omega (arith, rest))
-
--- a part ends within all of them
-pub until_fits : (start place : ℕ) (sizes : List ℕ) (n d : ℕ) → n < length sizes → place ≡ start + total (take n sizes) → start + total sizes < 2 ^ 64 → place + get_or sizes n d < 2 ^ 64
-until_fits start place sizes n d within here all =
-    let fits = total_within sizes n (get_or sizes n d) within (get_or_default sizes n d (get_or sizes n d) within) in
-    omega (arith, fits, here, all)
-
-spans_more : (place : ℕ) (sizes froms untils : List ℕ) (n size from until : ℕ) → AreSpans place sizes froms untils → length froms ≡ n → n < length sizes → size ≡ get_or sizes n size → from ≡ place + total (take n sizes) → until ≡ from + size
-    → AreSpans place sizes (froms ++ from ∷ []) (untils ++ until ∷ [])
-spans_more place (s ∷ sizes) [] [] zero size from until are long within is here end = (omega (arith, here), omega (arith, here, end, is), tt)
-spans_more place (s ∷ sizes) (f ∷ froms) (u ∷ untils) (suc n) size from until are long within is here end =
-    let there : from ≡ place + (s + total (take n sizes)) = here in
-    (are.0, are.1, spans_more (place + s) sizes froms untils n size from until are.2 (omega (arith, long)) (omega (arith, within)) is (omega (arith, there)) end)
-spans_more place [] froms untils n size from until are long within is here end = absurd (omega (arith, within))
-spans_more place (s ∷ sizes) [] [] (suc n) size from until are long within is here end = absurd (omega (arith, long))
-spans_more place (s ∷ sizes) [] (u ∷ untils) n size from until are long within is here end = absurd are
-spans_more place (s ∷ sizes) (f ∷ froms) [] n size from until are long within is here end = absurd are
-spans_more place (s ∷ sizes) (f ∷ froms) (u ∷ untils) zero size from until are long within is here end = absurd (omega (arith, long))
-
--- there are no more places than sizes
-spans_few : (place : ℕ) (sizes froms untils : List ℕ) → AreSpans place sizes froms untils → length froms ≤ length sizes
-spans_few place sizes [] [] are = omega arith
-spans_few place (size ∷ sizes) (from ∷ froms) (until ∷ untils) are = let rest = spans_few (place + size) sizes froms untils are.2 in omega (arith, rest)
-spans_few place [] [] (until ∷ untils) are = absurd are
-spans_few place (size ∷ sizes) [] (until ∷ untils) are = absurd are
-spans_few place [] (from ∷ froms) [] are = absurd are
-spans_few place [] (from ∷ froms) (until ∷ untils) are = absurd are
-spans_few place (size ∷ sizes) (from ∷ froms) [] are = absurd are
+use Rattle.script_read.specs.Said.{Said}
 
 -- ---- room for all to come back
 
@@ -80,44 +37,22 @@ left_over {Y = Y} f posts left whole n most is long within enough = omega (arith
 
 -- ---- posts that are manned one after the other
 
-module _ {S F X : Type 0} (seat : X → S) (finder : X → F) (from until : X → ℕ) (place : ℕ) (sizes : List ℕ) (seats : List S) (finders : List F) where
-  -- so many posts are manned, these seats and finders are left, and the next part begins here
-  pub record IsManned (n : ℕ) (left_seats : List S) (left_finders : List F) (next : ℕ) (posts : List X) : Type 0 where
+module _ {S F X : Type 0} (seat : X → S) (finder : X → F) (seats : List S) (finders : List F) where
+  -- so many posts are manned, and these seats and finders are left
+  pub record IsManned (n : ℕ) (left_seats : List S) (left_finders : List F) (posts : List X) : Type 0 where
     pub seats_are : seats ≡ map seat posts ++ left_seats
     pub finders_are : finders ≡ map finder posts ++ left_finders
-    pub spans : AreSpans place sizes (map from posts) (map until posts)
     pub long : length posts ≡ n
-    pub next_is : next ≡ place + total (take n sizes)
 
-  pub manned_none : (posts : List X) (next : ℕ) → posts ≡ [] → next ≡ place → IsManned 0 seats finders next posts
-  manned_none posts next none next-is = subst (IsManned 0 seats finders next) (sym none) (record { seats_are = refl; finders_are = refl; spans = tt; long = refl; next_is = omega (arith, next-is) })
+  pub manned_none : (posts : List X) → posts ≡ [] → IsManned 0 seats finders posts
+  manned_none posts none = subst (IsManned 0 seats finders) (sym none) (record { seats_are = refl; finders_are = refl; long = refl })
 
-  -- there are no more posts than sizes, and as many where all sizes have one
-  pub manned_few : (n : ℕ) (left_seats : List S) (left_finders : List F) (next : ℕ) (posts : List X) → IsManned n left_seats left_finders next posts → length posts ≤ length sizes
-  manned_few n left_seats left_finders next posts so = let few = spans_few place sizes (map from posts) (map until posts) so.spans in omega (arith, few, map_long from posts)
-
-  pub manned_all : (n : ℕ) (left_seats : List S) (left_finders : List F) (next : ℕ) (posts : List X) → length sizes ≤ n → IsManned n left_seats left_finders next posts → length posts ≡ length sizes
-  manned_all n left_seats left_finders next posts past so = let few = manned_few n left_seats left_finders next posts so in omega (arith, few, past, so.long)
-
-  module _ (n : ℕ) (d : ℕ) (left_seats more_seats : List S) (left_finders more_finders : List F) (next after : ℕ) (posts more : List X) (post : X) (within : n < length sizes) where
-    abbrev size : ℕ
-    size = get_or sizes n d
-
-    is : size ≡ get_or sizes n size
-    is = get_or_default sizes n d size within
-
-    pub manned_more : IsManned n left_seats left_finders next posts → left_seats ≡ seat post ∷ more_seats → left_finders ≡ finder post ∷ more_finders → from post ≡ next → until post ≡ after → after ≡ next + get_or sizes n d
-        → more ≡ posts ++ post ∷ [] → IsManned (n + 1) more_seats more_finders after more
-    manned_more so took_seat took_finder from-is until-is after-is more-is = subst (IsManned (n + 1) more_seats more_finders after) (sym more-is) (record {
-      seats_are = so.seats_are ∙ ap (λ (l : List S). map seat posts ++ l) took_seat ∙ sym (append_assoc (map seat posts) (seat post ∷ []) more_seats) ∙ ap (λ (l : List S). l ++ more_seats) (sym (map-append seat posts (post ∷ [])));
-      finders_are = so.finders_are ∙ ap (λ (l : List F). map finder posts ++ l) took_finder ∙ sym (append_assoc (map finder posts) (finder post ∷ []) more_finders) ∙ ap (λ (l : List F). l ++ more_finders) (sym (map-append finder posts (post ∷ [])));
-      spans =
-          subst (λ (l : List ℕ). AreSpans place sizes l (map until (posts ++ post ∷ []))) (sym (map-append from posts (post ∷ [])))
-          (subst (AreSpans place sizes (map from posts ++ from post ∷ [])) (sym (map-append until posts (post ∷ [])))
-          (spans_more place sizes (map from posts) (map until posts) n size (from post) (until post) so.spans (map_long from posts ∙ so.long) within is (from-is ∙ so.next_is) (until-is ∙ after-is ∙ ap (λ (k : ℕ). k + size) (sym from-is))));
-      long = omega (arith, so.long, length-append posts (post ∷ []));
-      next_is = omega (arith, after-is, so.next_is, total_next sizes n size within is);
-    })
+  pub manned_more : (n : ℕ) (left_seats more_seats : List S) (left_finders more_finders : List F) (posts more : List X) (post : X) → IsManned n left_seats left_finders posts → left_seats ≡ seat post ∷ more_seats → left_finders ≡ finder post ∷ more_finders → more ≡ posts ++ post ∷ [] → IsManned (n + 1) more_seats more_finders more
+  manned_more n left_seats more_seats left_finders more_finders posts more post so took_seat took_finder more-is = subst (IsManned (n + 1) more_seats more_finders) (sym more-is) (record {
+    seats_are = so.seats_are ∙ ap (λ (l : List S). map seat posts ++ l) took_seat ∙ sym (append_assoc (map seat posts) (seat post ∷ []) more_seats) ∙ ap (λ (l : List S). l ++ more_seats) (sym (map-append seat posts (post ∷ [])));
+    finders_are = so.finders_are ∙ ap (λ (l : List F). map finder posts ++ l) took_finder ∙ sym (append_assoc (map finder posts) (finder post ∷ []) more_finders) ∙ ap (λ (l : List F). l ++ more_finders) (sym (map-append finder posts (post ∷ [])));
+    long = omega (arith, so.long, length-append posts (post ∷ []));
+  })
 
 -- ---- what is kept
 
@@ -140,15 +75,11 @@ kept_none seat reached version replies none is beyond none-is = by (kept_by (leb
     by (inl fits) = absurd (omega (arith, is, beyond, fits.0))
     by (inr above) = none-is ∙ sym above.1
 
-module _ {X : Type 0} (seat : X → SeatSeen) (from until : X → ℕ) (refusals : X → Refusals) (replies : X → List PrintedAnswer) (ran_out : X → Bool) where
-  -- what is kept of the replies at posts
-  abbrev pub all_kept : ℕ → List X → List (List PrintedAnswer)
-  all_kept version posts = map (λ (post : X). kept_at version (seat post) (replies post)) posts
-
+-- the finders at posts were used
+module _ {X : Type 0} (refusals : X → Refusals) where
   abbrev pub AreUsedAt : List X → List X → Type 0
   AreUsedAt olds news = (i : ℕ) (d : X) → i < length olds → IsUsed (refusals (slice_index_or olds i d)) (refusals (slice_index_or news i d))
 
-  -- the finders were used
   pub used_at : (olds news : List X) (idle : List Refusals) → length news ≡ length olds → AreUsedAt olds news → AllZip IsUsed (map refusals olds ++ idle) (map refusals news ++ idle)
   used_at [] [] idle long used = all_same idle
     where
@@ -159,41 +90,37 @@ module _ {X : Type 0} (seat : X → SeatSeen) (from until : X → ℕ) (refusals
   used_at [] (new ∷ news) idle long used = absurd (omega (arith, long))
   used_at (old ∷ olds) [] idle long used = absurd (omega (arith, long))
 
-  module _ (model : ModelParts) (shapes : Shapes) (opening : Policy) (script : List Item) (version : ℕ) where
-    -- a post of which no memory ran out was served
-    abbrev pub IsServedAt : X → X → Type 0
-    IsServedAt old new = IsPartServed model shapes opening (map seen (drop (from old) (take (until old) script))) (refusals old) (refusals new) (seat old) (seat new) (replies new)
+module _ {X : Type 0} (seat : X → SeatSeen) (refusals : X → Refusals) (replies : X → List PrintedAnswer) (ran_out : X → Bool) where
+  -- what is kept of the replies at posts
+  abbrev pub all_kept : ℕ → List X → List (List PrintedAnswer)
+  all_kept version posts = map (λ (post : X). kept_at version (seat post) (replies post)) posts
 
-    abbrev pub AreServedAt : List X → List X → Type 0
-    AreServedAt olds news = (i : ℕ) (d : X) → i < length olds → ran_out (slice_index_or news i d) ≡ false → IsServedAt (slice_index_or olds i d) (slice_index_or news i d)
+  module _ (model : ModelParts) (shapes : Shapes) (opening : Policy) (version : ℕ) where
+    -- the posts of which no memory ran out were served, each for the part that stands at its place
+    abbrev pub AreServedAt : List Stretch → List X → List X → Type 0
+    AreServedAt parts olds news = (i : ℕ) (d : X) → i < length olds → ran_out (slice_index_or news i d) ≡ false → (e : Stretch)
+        → IsPartServed model shapes opening (items_of (slice_index_or parts i e)) (refusals (slice_index_or olds i d)) (refusals (slice_index_or news i d)) (seat (slice_index_or olds i d)) (seat (slice_index_or news i d)) (replies (slice_index_or news i d))
 
-    part_is : (place size start end : ℕ) → start ≡ place → end ≡ place + size → map seen (drop start (take end script)) ≡ take size (drop place (map seen script))
-    part_is place size start end start-is end-is =
-        (λ j. map seen (drop (start-is j) (take (end-is j) script)))
-        ∙ ap (map seen) (drop-take place size script) ∙ map_take seen size (drop place script) ∙ ap (take size) (map_drop seen place script)
-
-    one_kept : (place size : ℕ) (old new : X) → from old ≡ place → until old ≡ place + size → IsServedAt old new
-        → IsPartKept model shapes opening version (take size (drop place (map seen script))) (refusals old) (refusals new) (seat old) (seat new) (kept_at version (seat new) (replies new))
-    one_kept place size old new from-is until-is served = record {
+    one_kept : (part : List Said) (old new : X) → IsPartServed model shapes opening part (refusals old) (refusals new) (seat old) (seat new) (replies new) → IsPartKept model shapes opening version part (refusals old) (refusals new) (seat old) (seat new) (kept_at version (seat new) (replies new))
+    one_kept part old new served = record {
       replies = replies new;
-      served = subst (λ (part : List Said). IsPartServed model shapes opening part (refusals old) (refusals new) (seat old) (seat new) (replies new)) (part_is place size (from old) (until old) from-is until-is) served;
+      served = served;
       kept_is = kept_by (leb (version_of (seat new).front) version) (version_of (seat new).front) version (replies new) refl;
     }
 
-    pub kept_posts : (place : ℕ) (sizes : List ℕ) (olds news : List X) (left : List SeatSeen) (idle : List Refusals) → length news ≡ length olds → AreSpans place sizes (map from olds) (map until olds) → AreAll sizes olds left
-        → AllByRecursion (λ (post : X). ran_out post ≡ false) news → AreServedAt olds news
-        → AreKept model shapes opening (map seen script) version place sizes (map seat olds ++ left) (map seat news ++ left) (map refusals olds ++ idle) (map refusals news ++ idle) (all_kept version news)
-    kept_posts place [] [] [] left idle long spans all whole served = (refl, refl)
-    kept_posts place (size ∷ sizes) [] [] left idle long spans all whole served =
+    pub kept_posts : (parts : List Stretch) (olds news : List X) (left : List SeatSeen) (idle : List Refusals) → length news ≡ length olds → length olds ≤ length parts → AreAll parts olds left → AllByRecursion (λ (post : X). ran_out post ≡ false) news → AreServedAt parts olds news
+        → AreKept model shapes opening version (map items_of parts) (map seat olds ++ left) (map seat news ++ left) (map refusals olds ++ idle) (map refusals news ++ idle) (all_kept version news)
+    kept_posts [] [] [] left idle long few all whole served = (refl, refl)
+    kept_posts (part ∷ parts) [] [] left idle long few all whole served =
         ⊎_elim (λ more. absurd (omega (arith, more)))
-        (λ none. subst (λ (l : List SeatSeen). AreKept model shapes opening (map seen script) version place (size ∷ sizes) l l idle idle []) (sym none) (refl, refl)) all
-    kept_posts place (size ∷ sizes) (old ∷ olds) (new ∷ news) left idle long spans all whole served = (
-      one_kept place size old new spans.0 spans.1 (served zero old (omega arith) whole.0),
-      kept_posts (place + size) sizes olds news left idle (omega (arith, long)) spans.2 (⊎_elim (λ more. inl (omega (arith, more))) (λ none. inr none) all) whole.1 (λ i d within. served (suc i) d (omega (arith, within))),
+        (λ none. subst (λ (l : List SeatSeen). AreKept model shapes opening version (map items_of (part ∷ parts)) l l idle idle []) (sym none) (refl, refl)) all
+    kept_posts (part ∷ parts) (old ∷ olds) (new ∷ news) left idle long few all whole served = (
+      one_kept (items_of part) old new (served zero old (omega arith) whole.0 part),
+      kept_posts parts olds news left idle (omega (arith, long)) (omega (arith, few)) (⊎_elim (λ more. inl (omega (arith, more))) (λ none. inr none) all) whole.1 (λ i d within. served (suc i) d (omega (arith, within))),
     )
-    kept_posts place [] (old ∷ olds) news left idle long spans all whole served = absurd spans
-    kept_posts place sizes [] (new ∷ news) left idle long spans all whole served = absurd (omega (arith, long))
-    kept_posts place (size ∷ sizes) (old ∷ olds) [] left idle long spans all whole served = absurd (omega (arith, long))
+    kept_posts [] (old ∷ olds) news left idle long few all whole served = absurd (omega (arith, few))
+    kept_posts parts [] (new ∷ news) left idle long few all whole served = absurd (omega (arith, long))
+    kept_posts (part ∷ parts) (old ∷ olds) [] left idle long few all whole served = absurd (omega (arith, long))
 
 -- ---- posts that are taken apart, one after the other
 

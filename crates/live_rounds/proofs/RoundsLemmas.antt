@@ -4,7 +4,7 @@ use Rattle.std.specs.Prelude.{if◌then◌else◌, sum_by}
 use Rattle.std.specs.List.{AllZip}
 use Rattle.std.proofs.lemmas.List.Sums.{sum_by-append}
 use Rattle.answer_lines.specs.declared.answer.Line.{Line}
-use Rattle.answer_lines.specs.declared.printed.PrintedLine.{PrintedLine}
+use Rattle.answer_lines.specs.Printed.{PrintedLine}
 use Rattle.live_pair.specs.Admins.{AdminSeen}
 use Rattle.live_pair.specs.Seats.{SeatSeen}
 use Rattle.live_rounds.proofs.RoundLemmas.{drop_front, take_front}
@@ -13,7 +13,7 @@ use Rattle.live_rounds.proofs.TakingLemmas.{all_assoc, in_turn_both, taken_both}
 use Rattle.live_rounds.proofs.AllSharesLemmas.{same_refusals}
 use Rattle.live_rounds.specs.Administrators.{IsAdminBehind}
 use Rattle.live_rounds.specs.Done.{AreLinesOf, HaveRefused, IsRun}
-use Rattle.live_rounds.specs.Scripts.{AreAllShared, AreSharedLines, AreSomeShared, BeginsWithRound, IsFirstRound, round_size}
+use Rattle.live_rounds.specs.Scripts.{AreAllShared, AreSharedLines, AreSomeShared, IsFirstRound, round_size}
 use Rattle.live_rounds.specs.Shares.{in_turn}
 use Rattle.live_rounds.specs.Taken.{AreAllTaken, AreSomeTaken}
 use Rattle.live_rounds.specs.declared.taker.TakeStop.{TakeStop}
@@ -24,7 +24,6 @@ use Rattle.policy_table.specs.Tables.{Policy}
 use Rattle.regex_gate.proofs.CallerLemmas.{used_none, used_then}
 use Rattle.regex_gate.specs.Refusals.{IsUsed, Refusals, after_refusals}
 use Rattle.script_read.specs.Said.{Said}
-use Rattle.script_read.specs.Script.{BeginsWith, IsScript, SaysFrom}
 use Rattle.session_meaning.specs.Plain.{all_refused, none_refused}
 use Rattle.session_meaning.specs.Rounds.{AreLinesAt, AreOfRound, AreOfRounds, IsShared, is_sync, onto_first, rounds_of}
 
@@ -44,56 +43,6 @@ first_round_is item (next ∷ items) = by (is_sync item) (first_round_is next it
         ≡ take (if test then 1 else suc (round_size (next ∷ items))) (item ∷ next ∷ items) ∷ rounds_of (drop (if test then 1 else suc (round_size (next ∷ items))) (item ∷ next ∷ items))
     by true rest = refl
     by false rest = ap (onto_first item) rest
-
--- how far it goes: items that end no round stand in front of what is left
-pub record IsFront (json : Bool) (all front : List Said) (at : ℕ) (rest : List ℕ) : Type 0 where
-  pub left : List Said
-  pub parts : all ≡ front ++ left
-  pub size : round_size all ≡ length front + round_size left
-  pub says : SaysFrom json at rest left
-
-pub front_none : (json : Bool) (all front : List Said) (at : ℕ) (rest : List ℕ) → front ≡ [] → SaysFrom json at rest all → IsFront json all front at rest
-front_none json all front at rest none says = subst (λ (l : List Said). IsFront json all l at rest) (sym none) (record { left = all; parts = refl; size = omega arith; says = says })
-
-module _ (json : Bool) (all front whole : List Said) (item : Said) (at : ℕ) (rest : List ℕ) (next : ℕ) (behind : List ℕ) (is : IsFront json all front at rest) (begins : BeginsWith json at rest item next behind) (whole-is : whole ≡ front ++ item ∷ []) where
-  abbrev left_on : List Said
-  left_on = (begins is.left is.says).0
-
-  left-is : is.left ≡ item ∷ left_on
-  left-is = (begins is.left is.says).1
-
-  says_on : SaysFrom json next behind left_on
-  says_on = (begins is.left is.says).2
-
-  parts_on : all ≡ whole ++ left_on
-  parts_on = is.parts ∙ ap (λ (l : List Said). front ++ l) left-is ∙ sym (append_assoc front (item ∷ []) left_on) ∙ ap (λ (l : List Said). l ++ left_on) (sym whole-is)
-
-  longer : length whole ≡ length front + 1
-  longer = omega (arith, ap (λ (l : List Said). length l) whole-is, length-append front (item ∷ []))
-
-  size_by : round_size is.left ≡ (if is_sync item then 1 else suc (round_size left_on))
-  size_by = ap round_size left-is
-
-  -- an item that ends no round
-  pub front_more : is_sync item ≡ false → IsFront json all whole next behind
-  front_more other =
-      let on : round_size is.left ≡ suc (round_size left_on) = size_by ∙ ap (λ (test : Bool). if test then 1 else suc (round_size left_on)) other in
-      record { left = left_on; parts = parts_on; size = omega (arith, is.size, longer, on); says = says_on }
-
-  -- one that ends it
-  pub front_last : is_sync item ≡ true → IsFirstRound json all whole next behind
-  front_last last =
-      let one : round_size is.left ≡ 1 = size_by ∙ ap (λ (test : Bool). if test then 1 else suc (round_size left_on)) last in
-      record { left = left_on; parts = parts_on; size = omega (arith, is.size, longer, one); says = says_on }
-
--- no item is left
-pub front_end : (json : Bool) (all front : List Said) (at : ℕ) (rest : List ℕ) (is : IsFront json all front at rest) → is.left ≡ [] → IsFirstRound json all front at rest
-front_end json all front at rest is none =
-    let size : round_size is.left ≡ 0 = ap round_size none in
-    record { left = is.left; parts = is.parts; size = omega (arith, is.size, size); says = is.says }
-
-pub front_whole : (json : Bool) (all front : List Said) (at : ℕ) (rest : List ℕ) (is : IsFront json all front at rest) → front ≡ [] → is.left ≡ [] → all ≡ []
-front_whole json all front at rest is none nothing = is.parts ∙ ap (λ (l : List Said). l ++ is.left) none ∙ nothing
 
 -- each finder was used by itself
 pub used_alike : (list : List Refusals) → AllZip IsUsed list list
@@ -293,46 +242,39 @@ module _ (model : ModelParts) (shapes : Shapes) (opening : Policy) where
     -- ---- lines that are taken round by round
 
     module _ {X : Type 0} (took : X → List Line → X → Type 0) (old : X) where
-      -- the rounds of the first items are done at a pair and their lines taken, and the rest of the text says what is left
-      pub record AreDoneTo (json : Bool) (at : ℕ) (rest : List ℕ) (count : ℕ) (nows : List Refusals) (admin : AdminSeen) (to : X) : Type 0 where
+      -- the rounds of the first items are done at a pair and their lines taken, and these are left
+      pub record AreDoneTo (left : List Said) (count : ℕ) (nows : List Refusals) (admin : AdminSeen) (to : X) : Type 0 where
         pub front : List Said
-        pub left : List Said
         pub lines : List Line
         pub parts : items ≡ front ++ left
         pub long : count ≡ length front
-        pub says : SaysFrom json at rest left
         pub rounds : AreRoundsSoFar front left nows lines
         pub behind : IsAdminBehind shapes opening front admin
         pub taken : AreAllTaken took old lines to
 
-      pub done_none : (json : Bool) (script : List ℕ) (admin : AdminSeen) → IsScript json script items → IsAdminBehind shapes opening [] admin → AreDoneTo json 1 script 0 befores admin old
-      done_none json script admin is behind = record {
+      pub done_none : (left : List Said) (admin : AdminSeen) → left ≡ items → IsAdminBehind shapes opening [] admin → AreDoneTo left 0 befores admin old
+      done_none left admin same behind = subst (λ (l : List Said). AreDoneTo l 0 befores admin old) (sym same) (record {
         front = [];
-        left = items;
         lines = [];
         parts = refl;
         long = refl;
-        says = record { reader = is.reader; says = is.says };
         rounds = rounds_none [] refl;
         behind = behind;
         taken = record { lists = []; taken = refl; are = refl };
-      }
+      })
 
       -- one round more
-      pub done_next : (json : Bool) (at : ℕ) (rest : List ℕ) (count : ℕ) (nows : List Refusals) (admin : AdminSeen) (to : X) (round : List Said) (next : ℕ) (behind : List ℕ) (sum : ℕ) (laters : List Refusals) (new : AdminSeen) (olds seats : List SeatSeen) (printed : List PrintedLine) (later : X)
-          → (so : AreDoneTo json at rest count nows admin to) → BeginsWithRound json at rest round next behind → 0 < length round → sum ≡ count + length round → (run : IsRun model shapes opening workers so.front round new olds seats nows laters printed) → AreAllTaken took to run.lines later
-          → AreDoneTo json next behind sum laters new later
-      done_next json at rest count nows admin to round next behind sum laters new olds seats printed later so begins some sum-is run taken =
-          let first = begins so.left so.says in
+      pub done_next : (left : List Said) (count : ℕ) (nows : List Refusals) (admin : AdminSeen) (to : X) (round next : List Said) (sum : ℕ) (laters : List Refusals) (new : AdminSeen) (olds seats : List SeatSeen) (printed : List PrintedLine) (later : X)
+          → (so : AreDoneTo left count nows admin to) → IsFirstRound left round next → 0 < length round → sum ≡ count + length round → (run : IsRun model shapes opening workers so.front round new olds seats nows laters printed) → AreAllTaken took to run.lines later
+          → AreDoneTo next sum laters new later
+      done_next left count nows admin to round next sum laters new olds seats printed later so first some sum-is run taken =
           let told = run.lines in
           record {
             front = so.front ++ round;
-            left = first.left;
             lines = so.lines ++ told;
-            parts = so.parts ∙ ap (λ (l : List Said). so.front ++ l) first.parts ∙ sym (append_assoc so.front round first.left);
+            parts = so.parts ∙ ap (λ (l : List Said). so.front ++ l) first.parts ∙ sym (append_assoc so.front round next);
             long = omega (arith, sum-is, so.long, length-append so.front round);
-            says = first.says;
-            rounds = rounds_next so.front so.left round first.left nows laters so.lines told (so.lines ++ told) first.parts first.size some so.rounds run.lines_are refl;
+            rounds = rounds_next so.front left round next nows laters so.lines told (so.lines ++ told) first.parts first.size some so.rounds run.lines_are refl;
             behind = run.behind;
             taken = record {
               lists = so.taken.lists ++ taken.lists;
@@ -341,18 +283,18 @@ module _ (model : ModelParts) (shapes : Shapes) (opening : Policy) where
             };
           }
 
-      pub done_all : (json : Bool) (at : ℕ) (rest : List ℕ) (count : ℕ) (nows : List Refusals) (admin : AdminSeen) (to : X) (so : AreDoneTo json at rest count nows admin to) → so.left ≡ [] → AreAllShared took model shapes opening workers befores nows items old to
-      done_all json at rest count nows admin to so none = record { lines = so.lines; are = rounds_all so.front so.left nows so.lines none so.rounds; taken = so.taken }
+      pub done_all : (left : List Said) (count : ℕ) (nows : List Refusals) (admin : AdminSeen) (to : X) → AreDoneTo left count nows admin to → left ≡ [] → AreAllShared took model shapes opening workers befores nows items old to
+      done_all left count nows admin to so none = record { lines = so.lines; are = rounds_all so.front left nows so.lines none so.rounds; taken = so.taken }
 
-      pub done_behind : (json : Bool) (at : ℕ) (rest : List ℕ) (count : ℕ) (nows : List Refusals) (admin : AdminSeen) (to : X) (so : AreDoneTo json at rest count nows admin to) → so.left ≡ [] → IsAdminBehind shapes opening items admin
-      done_behind json at rest count nows admin to so none =
+      pub done_behind : (left : List Said) (count : ℕ) (nows : List Refusals) (admin : AdminSeen) (to : X) → AreDoneTo left count nows admin to → left ≡ [] → IsAdminBehind shapes opening items admin
+      done_behind left count nows admin to so none =
           subst (λ (l : List Said). IsAdminBehind shapes opening l admin) (sym (so.parts ∙ ap (λ (l : List Said). so.front ++ l) none ∙ append-nil so.front)) so.behind
 
       -- memory ran out between the lines of one round and those of the next
-      pub done_early : SharesPlain → (stopped : X → List Line → X → TakeStop → Type 0) (json : Bool) (at : ℕ) (rest : List ℕ) (count : ℕ) (nows laters : List Refusals) (admin : AdminSeen) (to : X) → AreDoneTo json at rest count nows admin to → AllZip IsUsed nows laters
+      pub done_early : SharesPlain → (stopped : X → List Line → X → TakeStop → Type 0) (left : List Said) (count : ℕ) (nows laters : List Refusals) (admin : AdminSeen) (to : X) → AreDoneTo left count nows admin to → AllZip IsUsed nows laters
           → AreSomeShared took model shapes opening workers befores laters items stopped old to NoMemory
-      done_early law stopped json at rest count nows laters admin to so used =
-          let all = more_lines law so.front so.left nows laters so.lines so.rounds used in
+      done_early law stopped left count nows laters admin to so used =
+          let all = more_lines law so.front left nows laters so.lines so.rounds used in
           record {
             lines = so.lines ++ all.more;
             are = all.are;
@@ -374,14 +316,13 @@ module _ (model : ModelParts) (shapes : Shapes) (opening : Policy) where
           record { lines = all.more; are = all.are; taken = record { lists = []; mid = old; next = []; more = all.more; taken = refl; parts = refl; ends = inl (refl, refl) } }
 
       -- the lines of a round were not taken to their end
-      pub done_some : SharesPlain → (stopped : X → List Line → X → TakeStop → Type 0) (json : Bool) (at : ℕ) (rest : List ℕ) (count : ℕ) (nows laters : List Refusals) (admin new : AdminSeen) (to later : X) (round : List Said) (next : ℕ) (behind : List ℕ) (olds seats : List SeatSeen) (printed : List PrintedLine) (stop : TakeStop)
-          → (so : AreDoneTo json at rest count nows admin to) → BeginsWithRound json at rest round next behind → 0 < length round → (run : IsRun model shapes opening workers so.front round new olds seats nows laters printed) → AreSomeTaken took stopped to run.lines later stop
+      pub done_some : SharesPlain → (stopped : X → List Line → X → TakeStop → Type 0) (left : List Said) (count : ℕ) (nows laters : List Refusals) (admin new : AdminSeen) (to later : X) (round next : List Said) (olds seats : List SeatSeen) (printed : List PrintedLine) (stop : TakeStop)
+          → (so : AreDoneTo left count nows admin to) → IsFirstRound left round next → 0 < length round → (run : IsRun model shapes opening workers so.front round new olds seats nows laters printed) → AreSomeTaken took stopped to run.lines later stop
           → AreSomeShared took model shapes opening workers befores laters items stopped old later stop
-      done_some law stopped json at rest count nows laters admin new to later round next behind olds seats printed stop so begins some run amid =
-          let first = begins so.left so.says in
+      done_some law stopped left count nows laters admin new to later round next olds seats printed stop so first some run amid =
           let told = run.lines in
-          let rounds = rounds_next so.front so.left round first.left nows laters so.lines told (so.lines ++ told) first.parts first.size some so.rounds run.lines_are refl in
-          let all = more_lines law (so.front ++ round) first.left laters laters (so.lines ++ told) rounds (used_alike laters) in
+          let rounds = rounds_next so.front left round next nows laters so.lines told (so.lines ++ told) first.parts first.size some so.rounds run.lines_are refl in
+          let all = more_lines law (so.front ++ round) next laters laters (so.lines ++ told) rounds (used_alike laters) in
           record {
             lines = (so.lines ++ told) ++ all.more;
             are = all.are;

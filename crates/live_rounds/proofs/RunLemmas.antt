@@ -1,10 +1,10 @@
 -- A whole round, out of its steps.
-use Rattle.std.proofs.Common.{◌≡◌, ⊎_elim, ℕ, zero, suc, ◌+◌, ◌<◌, ◌≤◌, List, [], ◌∷◌, drop, get_or, length, map, slice_set, take, take_all, refl, sym, ap, subst, ◌∙◌, arith}
-use Rattle.std.specs.List.{AllZip}
+use Rattle.std.proofs.Common.{◌≡◌, ⊎_elim, ℕ, suc, ◌<◌, List, [], ◌∷◌, drop, get_or, length, map, slice_set, take, refl, sym, ap, subst, ◌∙◌, arith}
+use Rattle.std.specs.List.{AllByRecursion, AllZip}
 use mathlib.Core.List.{IsPrefix}
 use Rattle.answer_lines.specs.Printed.{printed_line}
 use Rattle.answer_lines.specs.declared.printed.PrintedAnswer.{PrintedAnswer}
-use Rattle.answer_lines.specs.declared.printed.PrintedLine.{PrintedLine}
+use Rattle.answer_lines.specs.Printed.{PrintedLine}
 use Rattle.answer_lines.specs.declared.answer.Line.{Line}
 use Rattle.live_pair.proofs.CallerLemmas.{prefix_self, prefix_trans}
 use Rattle.live_pair.specs.Admins.{AdminSeen}
@@ -20,9 +20,12 @@ use Rattle.live_rounds.specs.Helps.Learned.{HasLearned}
 use Rattle.live_rounds.specs.Helps.Posts.{AreKept}
 use Rattle.live_rounds.specs.Lists.{last_from}
 use Rattle.live_rounds.specs.Merged.{merged}
-use Rattle.live_rounds.specs.Requests.{requests}
+use Rattle.live_rounds.specs.Requests.{AreParts, requests}
 use Rattle.live_rounds.specs.Served.{IsPartKept}
-use Rattle.live_rounds.specs.Shares.{AddsParts, AreSizes, total}
+use Rattle.live_rounds.specs.Shares.{AddsParts, in_turn}
+use Rattle.live_rounds.specs.Stretches.{IsCounted, items_of}
+use Rattle.live_rounds.specs.declared.stretch.Stretch.{Stretch}
+use Rattle.live_rounds.proofs.SharesLemmas.{map_long, parts_long}
 use Rattle.model_conf.specs.ModelText.{ModelParts}
 use Rattle.perm_base.specs.declared.shapes.Shapes.{Shapes}
 use Rattle.policy_state.specs.States.{State}
@@ -30,8 +33,7 @@ use Rattle.policy_table.specs.Tables.{Policy}
 use Rattle.policy_table.specs.declared.change.Change.{Change}
 use Rattle.regex_gate.proofs.CallerLemmas.{used_then}
 use Rattle.regex_gate.specs.Refusals.{IsUsed, Refusals}
-use Rattle.script_read.specs.Said.{Said, seen}
-use Rattle.script_read.specs.declared.item.Item.{Item}
+use Rattle.script_read.specs.Said.{Said}
 use Rattle.version_log.specs.Log.{versions}
 
 -- a seat that learned twice knows of what it knew of, and of the last front
@@ -49,29 +51,20 @@ all_learned first last (z ∷ zeros) (o ∷ olds) [] finals one grown two = absu
 all_learned first last [] [] [] (f ∷ finals) one grown two = absurd two
 all_learned first last (z ∷ zeros) (o ∷ olds) (n ∷ news) [] one grown two = absurd two
 
-module _ (model : ModelParts) (shapes : Shapes) (opening : Policy) (before round : List Said) (n : ℕ) (old new : AdminSeen) (others : List PrintedAnswer) (done : AreDoneBeside shapes opening before round old new others) (sizes : List ℕ) (added : AddsParts n round [] sizes) where
+module _ (model : ModelParts) (shapes : Shapes) (opening : Policy) (before round : List Said) (n : ℕ) (old new : AdminSeen) (others : List PrintedAnswer) (done : AreDoneBeside shapes opening before round old new others) (parts : List (List Said)) (parted : AreParts n round parts) where
   abbrev end : ℕ
   end = at_end model shapes opening before round old new others done
 
-  sized_as : AreSizes n round sizes
-  sized_as = subst (AreSizes n round) (sym added.added) added.sizes
+  module _ (firsts olds news finals : List SeatSeen) (befores nows : List Refusals) (kepts : List (List PrintedAnswer)) (first last : Refusals) (replies : List (List PrintedAnswer))
+      (one : AllZip (HasLearned old.list) firsts olds) (two : AllZip (HasLearned new.list) news finals) (kept : AreKept model shapes opening end parts olds news befores nows kepts) (shared : AreShared model new.desk.state parts kepts first last replies) where
+    answered : AreAnswered model shapes opening before round old new others done round parts firsts finals befores nows first last replies
+    answered = all_answered model shapes opening before round old new others done n round parts firsts olds news finals befores nows kepts first last replies parted one two kept shared
 
-  few : total sizes ≤ length round
-  few = subst (λ (l : List ℕ). total l ≤ length round) (sym added.added) added.few
+    pub run_lines : (count : ℕ) → count ≡ length before → (lines : List Line) × (merged count round (in_turn replies) others ≡ map printed_line lines) × AreLinesOf model shapes opening (suc n) before round (first ∷ befores) (last ∷ nows) lines
+    run_lines count count-is = round_lines model shapes opening before round old new others done n parts parted firsts finals first last befores nows replies answered count count-is
 
-  whole : round ≡ take (length round) (drop 0 round)
-  whole = sym (take_all (length round) round (omega arith))
-
-  module _ (firsts olds news finals : List SeatSeen) (befores nows : List Refusals) (kepts : List (List PrintedAnswer)) (first last : Refusals) (asked : List PrintedAnswer)
-      (one : AllZip (HasLearned old.list) firsts olds) (two : AllZip (HasLearned new.list) news finals) (kept : AreKept model shapes opening round end 0 sizes olds news befores nows kepts) (shared : AreShared model new.desk.state round sizes kepts first last [] asked) where
-    answered : AreAnswered model shapes opening before round old new others done round round sizes firsts finals befores nows first last [] asked
-    answered = all_answered model shapes opening before round old new others done round n 0 (length round) round sizes firsts olds news finals befores nows kepts first last [] asked sized_as whole few one two kept shared
-
-    pub run_lines : (count : ℕ) → count ≡ length before → (lines : List Line) × (merged count round asked others ≡ map printed_line lines) × AreLinesOf model shapes opening (suc n) before round (first ∷ befores) (last ∷ nows) lines
-    run_lines count count-is = round_lines model shapes opening before round round old new others done n sizes sized_as firsts finals first last befores nows asked answered count count-is
-
-    pub run_entered : (count : ℕ) → AreEntered (suc n) round new firsts finals (merged count round asked others)
-    run_entered count = round_entered model shapes opening before round round old new others done n sizes sized_as firsts finals first last befores nows asked answered count
+    pub run_entered : (count : ℕ) → AreEntered (suc n) round new firsts finals (merged count round (in_turn replies) others)
+    run_entered count = round_entered model shapes opening before round old new others done n parts parted firsts finals first last befores nows replies answered count
 
 -- ---- what seats know of behind the work
 
@@ -85,13 +78,13 @@ same_begins : (list : List SeatSeen) → AllZip (λ (s t : SeatSeen). IsPrefix s
 same_begins [] = tt
 same_begins (s ∷ list) = (prefix_self s.front, same_begins list)
 
-pub kept_grown : (model : ModelParts) (shapes : Shapes) (opening : Policy) (script : List Said) (version place : ℕ) (sizes : List ℕ) (olds news : List SeatSeen) (befores nows : List Refusals) (kepts : List (List PrintedAnswer)) → AreKept model shapes opening script version place sizes olds news befores nows kepts
+pub kept_grown : (model : ModelParts) (shapes : Shapes) (opening : Policy) (version : ℕ) (parts : List (List Said)) (olds news : List SeatSeen) (befores nows : List Refusals) (kepts : List (List PrintedAnswer)) → AreKept model shapes opening version parts olds news befores nows kepts
     → AllZip (λ (s t : SeatSeen). IsPrefix s.front t.front) olds news
-kept_grown model shapes opening script version place [] olds news befores nows [] kept = subst (AllZip (λ (s t : SeatSeen). IsPrefix s.front t.front) olds) (sym kept.0) (same_begins olds)
-kept_grown model shapes opening script version place (size ∷ sizes) [] news befores nows [] kept = subst (AllZip (λ (s t : SeatSeen). IsPrefix s.front t.front) []) (sym kept.0) tt
-kept_grown model shapes opening script version place (size ∷ sizes) (o ∷ olds) (n ∷ news) (b ∷ befores) (c ∷ nows) (k ∷ kepts) kept =
-    (kept_begins model shapes opening version (take size (drop place script)) b c o n k kept.0, kept_grown model shapes opening script version (place + size) sizes olds news befores nows kepts kept.1)
-kept_grown model shapes opening script version place _ _ _ _ _ _ kept = absurd kept
+kept_grown model shapes opening version [] olds news befores nows [] kept = subst (AllZip (λ (s t : SeatSeen). IsPrefix s.front t.front) olds) (sym kept.0) (same_begins olds)
+kept_grown model shapes opening version (part ∷ parts) [] news befores nows [] kept = subst (AllZip (λ (s t : SeatSeen). IsPrefix s.front t.front) []) (sym kept.0) tt
+kept_grown model shapes opening version (part ∷ parts) (o ∷ olds) (n ∷ news) (b ∷ befores) (c ∷ nows) (k ∷ kepts) kept =
+    (kept_begins model shapes opening version part b c o n k kept.0, kept_grown model shapes opening version parts olds news befores nows kepts kept.1)
+kept_grown model shapes opening version _ _ _ _ _ _ kept = absurd kept
 
 -- ---- the finders of a round
 
@@ -115,23 +108,31 @@ pub lines_with : (model : ModelParts) (shapes : Shapes) (opening : Policy) (work
 lines_with model shapes opening workers before round befores all nows now lines one two is =
     subst (λ (l : List Refusals). AreLinesOf model shapes opening workers before round l now lines) one (subst (λ (l : List Refusals). AreLinesOf model shapes opening workers before round befores l lines) two is)
 
+-- parts that were put behind none
+added_parts : (n : ℕ) (items : List Said) (parts : List Stretch) → AddsParts n items [] parts → AreParts n items (map items_of parts)
+added_parts n items parts added = subst (λ (l : List Stretch). AreParts n items (map items_of l)) (sym added.added) added.parts
+
 -- ---- all of it, by what the steps say
 
-module _ {P : Type 0} (refusals : P → Refusals) (model : ModelParts) (shapes : Shapes) (opening : Policy) (before round : List Said) (count workers n : ℕ) (count-is : count ≡ length before) (workers-is : workers ≡ suc n) (old new : AdminSeen) (others asked : List PrintedAnswer) (printed : List PrintedLine)
-    (sizes : List ℕ) (s0 s1 s2 s3 : List SeatSeen) (f0 f1 : List P) (d first last : P) (kepts : List (List PrintedAnswer)) (state : State) (front_old front_new : List (List (List Change))) where
-  run_items : AreDoneBeside shapes opening before round old new others → AddsParts n round [] sizes → front_old ≡ old.list → AllZip (HasLearned front_old) s0 s1 → front_new ≡ new.list → AllZip (HasLearned front_new) s2 s3
-      → AreKept model shapes opening round (versions new.desk.state.log) 0 sizes s1 s2 (drop 1 (map refusals f0)) (drop 1 (map refusals f1)) kepts → state ≡ new.desk.state → AreShared model state round sizes kepts (refusals first) (refusals last) [] asked
-      → take 1 f1 ≡ take 1 f0 → 0 < length f0 → first ≡ get_or f1 0 d → printed ≡ merged count round asked others → IsRun model shapes opening workers before round new s0 s3 (map refusals f0) (map refusals (slice_set f1 0 last)) printed
-  run_items done added old-is learned_old new-is learned_new kept state-is shared same some first-is lines-is =
+module _ {P : Type 0} (refusals : P → Refusals) (model : ModelParts) (shapes : Shapes) (opening : Policy) (before round : List Said) (count workers n : ℕ) (count-is : count ≡ length before) (workers-is : workers ≡ suc n) (old new : AdminSeen) (others : List PrintedAnswer) (replies : List (List PrintedAnswer)) (printed : List PrintedLine)
+    (stretches : List Stretch) (s0 s1 s2 s3 : List SeatSeen) (f0 f1 : List P) (d first last : P) (kepts : List (List PrintedAnswer)) (state : State) (front_old front_new : List (List (List Change))) where
+  abbrev parts : List (List Said)
+  parts = map items_of stretches
+
+  pub run_all : AreDoneBeside shapes opening before round old new others → AddsParts n round [] stretches → front_old ≡ old.list → AllZip (HasLearned front_old) s0 s1 → front_new ≡ new.list → AllZip (HasLearned front_new) s2 s3
+      → AreKept model shapes opening (versions new.desk.state.log) parts s1 s2 (drop 1 (map refusals f0)) (drop 1 (map refusals f1)) kepts → state ≡ new.desk.state → AreShared model state parts kepts (refusals first) (refusals last) replies
+      → take 1 f1 ≡ take 1 f0 → 0 < length f0 → first ≡ get_or f1 0 d → printed ≡ merged count round (in_turn replies) others → IsRun model shapes opening workers before round new s0 s3 (map refusals f0) (map refusals (slice_set f1 0 last)) printed
+  run_all done added old-is learned_old new-is learned_new kept state-is shared same some first-is lines-is =
+      let parted : AreParts n round parts = added_parts n round stretches added in
       let one : AllZip (HasLearned old.list) s0 s1 = subst (λ (l : List (List (List Change))). AllZip (HasLearned l) s0 s1) old-is learned_old in
       let two : AllZip (HasLearned new.list) s2 s3 = subst (λ (l : List (List (List Change))). AllZip (HasLearned l) s2 s3) new-is learned_new in
-      let shared_here : AreShared model new.desk.state round sizes kepts (refusals first) (refusals last) [] asked = subst (λ (s : State). AreShared model s round sizes kepts (refusals first) (refusals last) [] asked) state-is shared in
+      let shared_here : AreShared model new.desk.state parts kepts (refusals first) (refusals last) replies = subst (λ (s : State). AreShared model s parts kepts (refusals first) (refusals last) replies) state-is shared in
       let heads = first_same f0 f1 d same some in
       let first_old : refusals first ∷ drop 1 (map refusals f0) ≡ map refusals f0
       = ap (λ (f : P). refusals f ∷ drop 1 (map refusals f0)) (first-is ∙ heads.0) ∙ sym (first_and_others refusals f0 d some) in
       let last_new : refusals last ∷ drop 1 (map refusals f1) ≡ map refusals (slice_set f1 0 last) = sym (first_written refusals f1 last heads.1) in
-      let told = run_lines model shapes opening before round n old new others done sizes added s0 s1 s2 s3 (drop 1 (map refusals f0)) (drop 1 (map refusals f1)) kepts (refusals first) (refusals last) asked one two kept shared_here count count-is in
-      let entered = run_entered model shapes opening before round n old new others done sizes added s0 s1 s2 s3 (drop 1 (map refusals f0)) (drop 1 (map refusals f1)) kepts (refusals first) (refusals last) asked one two kept shared_here count in
+      let told = run_lines model shapes opening before round n old new others done parts parted s0 s1 s2 s3 (drop 1 (map refusals f0)) (drop 1 (map refusals f1)) kepts (refusals first) (refusals last) replies one two kept shared_here count count-is in
+      let entered = run_entered model shapes opening before round n old new others done parts parted s0 s1 s2 s3 (drop 1 (map refusals f0)) (drop 1 (map refusals f1)) kepts (refusals first) (refusals last) replies one two kept shared_here count in
       record {
         lines = told.0;
         told = lines-is ∙ told.1;
@@ -140,46 +141,22 @@ module _ {P : Type 0} (refusals : P → Refusals) (model : ModelParts) (shapes :
             (lines_with model shapes opening (suc n) before round _ (map refusals f0) _ (map refusals (slice_set f1 0 last)) told.0 first_old last_new told.2);
         behind = done.behind;
         entered = subst (λ (w : ℕ). AreEntered w round new s0 s3 printed) (sym workers-is) (subst (AreEntered (suc n) round new s0 s3) (sym lines-is) entered);
-        learned = all_learned old.list new.list s0 s1 s2 s3 one (kept_grown model shapes opening round (versions new.desk.state.log) 0 sizes s1 s2 (drop 1 (map refusals f0)) (drop 1 (map refusals f1)) kepts kept) two;
+        learned = all_learned old.list new.list s0 s1 s2 s3 one (kept_grown model shapes opening (versions new.desk.state.log) parts s1 s2 (drop 1 (map refusals f0)) (drop 1 (map refusals f1)) kepts kept) two;
       }
-
--- the same where the items are those of a script
-module _ {P : Type 0} (refusals : P → Refusals) (model : ModelParts) (shapes : Shapes) (opening : Policy) (before : List Said) (script items : List Item) (items-is : items ≡ script) (count workers n : ℕ) (count-is : count ≡ length before) (workers-is : workers ≡ suc n) (old new : AdminSeen) (others asked : List PrintedAnswer) (printed : List PrintedLine)
-    (sizes : List ℕ) (s0 s1 s2 s3 : List SeatSeen) (f0 f1 : List P) (d first last : P) (kepts : List (List PrintedAnswer)) (state : State) (front_old front_new : List (List (List Change))) where
-  abbrev Kept : List Item → Type 0
-  Kept l = AreKept model shapes opening (map seen l) (versions new.desk.state.log) 0 sizes s1 s2 (drop 1 (map refusals f0)) (drop 1 (map refusals f1)) kepts
-
-  abbrev Run : List Item → Type 0
-  Run l = IsRun model shapes opening workers before (map seen l) new s0 s3 (map refusals f0) (map refusals (slice_set f1 0 last)) printed
-
-  pub run_all : AreDoneBeside shapes opening before (map seen items) old new others → AddsParts n (map seen items) [] sizes → front_old ≡ old.list → AllZip (HasLearned front_old) s0 s1 → front_new ≡ new.list → AllZip (HasLearned front_new) s2 s3
-      → AreKept model shapes opening (map seen script) (versions new.desk.state.log) 0 sizes s1 s2 (drop 1 (map refusals f0)) (drop 1 (map refusals f1)) kepts → state ≡ new.desk.state → AreShared model state (map seen items) sizes kepts (refusals first) (refusals last) [] asked
-      → take 1 f1 ≡ take 1 f0 → 0 < length f0 → first ≡ get_or f1 0 d → printed ≡ merged count (map seen items) asked others → IsRun model shapes opening workers before (map seen script) new s0 s3 (map refusals f0) (map refusals (slice_set f1 0 last)) printed
-  run_all done added old-is learned_old new-is learned_new kept state-is shared same some first-is lines-is =
-      subst (λ (l : List Item). Kept l → Run l) items-is
-      (λ here. run_items refusals model shapes opening before (map seen items) count workers n count-is workers-is old new others asked printed sizes s0 s1 s2 s3 f0 f1 d first last kepts state front_old front_new done added old-is learned_old new-is learned_new here state-is shared same some first-is lines-is)
-      kept
 
 -- ---- what the steps want
 
--- there is a size for each worker
-pub sizes_long : (n : ℕ) (items : List Said) (sizes : List ℕ) → AreSizes n items sizes → length sizes ≡ suc n
-sizes_long zero items (size ∷ []) are = refl
-sizes_long (suc n) items (size ∷ sizes) are = ap (λ (k : ℕ). suc k) (sizes_long n (drop size items) sizes are.1)
-sizes_long zero items [] are = absurd are
-sizes_long zero items (size ∷ other ∷ sizes) are = absurd are
-sizes_long (suc n) items [] are = absurd are
+-- the parts that were put behind none, as they are lent
+pub added_in : (n : ℕ) (round again : Stretch) (start new lent : List Stretch) → again ≡ round → start ≡ [] → lent ≡ new → AddsParts n (items_of again) start new → AddsParts n (items_of round) [] lent
+added_in n round again start new lent read none same added =
+    subst (λ (s : Stretch). AddsParts n (items_of s) [] lent) read (subst (AddsParts n (items_of again) []) (sym same) (subst (λ (l : List Stretch). AddsParts n (items_of again) l new) none added))
 
-pub added_long : (n : ℕ) (items : List Said) (sizes : List ℕ) → AddsParts n items [] sizes → length sizes ≡ suc n
-added_long n items sizes added = ap (λ (l : List ℕ). length l) added.added ∙ sizes_long n items added.more added.sizes
+-- there is a part for each worker, and its numbers are those of its items
+pub added_long : (n : ℕ) (items : List Said) (lent : List Stretch) → AddsParts n items [] lent → length lent ≡ suc n
+added_long n items lent added = sym (map_long items_of lent) ∙ parts_long n items (map items_of lent) (added_parts n items lent added)
 
--- the sizes that were put behind none, as they are lent
-pub added_in : (n : ℕ) (items : List Said) (start new sizes : List ℕ) → start ≡ [] → sizes ≡ new → AddsParts n items start new → AddsParts n items [] sizes
-added_in n items start new sizes none same added = subst (AddsParts n items []) (sym same) (subst (λ (l : List ℕ). AddsParts n items l new) none added)
-
--- the parts end within the round
-pub added_within : (n : ℕ) (items : List Said) (sizes : List ℕ) → AddsParts n items [] sizes → total sizes ≤ length items
-added_within n items sizes added = subst (λ (l : List ℕ). total l ≤ length items) (sym added.added) added.few
+pub added_counted : (n : ℕ) (items : List Said) (lent : List Stretch) → AddsParts n items [] lent → AllByRecursion IsCounted lent
+added_counted n items lent added = subst (AllByRecursion IsCounted) (sym added.added) added.counted
 
 -- the finders behind the desk's answers
 pub used_first : {P : Type 0} (refusals : P → Refusals) (olds news : List P) (d first last : P) → AllZip IsUsed (map refusals olds) (map refusals news) → first ≡ get_or news 0 d → IsUsed (refusals first) (refusals last) → AllZip IsUsed (map refusals olds) (map refusals (slice_set news 0 last))

@@ -1,5 +1,5 @@
 -- What a worker answers at a seat.
-use Rattle.std.proofs.Common.{◌≡◌, ℕ, ◌+◌, ◌<◌, ◌≤◌, ◌==◌, Bool, true, false, List, [], ◌∷◌, ◌++◌, append-nil, inl, inr, get_or, length, length-append, map, take, take_all, drop, Ok, Err, Option, refl, sym, ap, subst, ◌∙◌, arith}
+use Rattle.std.proofs.Common.{◌≡◌, ℕ, ◌==◌, Bool, true, false, List, [], ◌∷◌, ◌++◌, append-nil, inl, inr, length, length-append, map, Ok, Err, Option, refl, sym, ap, subst, ◌∙◌, arith}
 use Rattle.std.specs.Prelude.{MatchBool}
 use Rattle.live_rounds.specs.Lists.{last_from}
 use Rattle.std.proofs.lemmas.Bool.{eq-eqb, ne_eqb}
@@ -10,7 +10,7 @@ use Rattle.answer_lines.specs.declared.answer.Answer.TheVariants as answer
 use Rattle.answer_lines.specs.declared.printed.PrintedAnswer.{PrintedAnswer}
 use Rattle.live_pair.specs.Seats.{IsEntered, IsShut, SeatSeen, version_of}
 use Rattle.desk_session.proofs.CallerLemmas.{judged_in, logged_more}
-use Rattle.live_rounds.proofs.ItemLemmas.{none_requested, one_more, parted, requests_both}
+use Rattle.live_rounds.proofs.ItemLemmas.{none_requested, parts_all, parts_more, requests_both}
 use Rattle.desk_session.specs.Steps.{is_request}
 use Rattle.live_rounds.specs.Requests.{requests}
 use Rattle.live_rounds.specs.Served.{AreServed, IsPartServed, IsServed, IsServedBy}
@@ -23,8 +23,7 @@ use Rattle.perm_value.specs.declared.request.RequestFault.{RequestFault}
 use Rattle.perm_value.specs.declared.value.Value.{Value}
 use Rattle.policy_table.specs.Tables.{Fields, Policy}
 use Rattle.regex_gate.specs.Refusals.{IsUsed, Refusals, after_refusals}
-use Rattle.script_read.specs.Said.{Reading, Said, seen}
-use Rattle.script_read.specs.declared.item.Item.{Item}
+use Rattle.script_read.specs.Said.{Reading, Said}
 use Rattle.script_read.specs.Said as said
 use Rattle.session_meaning.specs.Plain.{all_refused}
 use Rattle.session_meaning.specs.Replies.{IsDecided}
@@ -187,26 +186,35 @@ module _ (model : ModelParts) (shapes : Shapes) (opening : Policy) where
     ends = inr (subst (λ (s : SeatSeen). IsShut s after) so.seat shut);
   }
 
-  -- ---- the requests among the items of a slice
+  -- ---- the requests among the items of a part
 
-  module _ (items : List Item) (before : Refusals) (old : SeatSeen) where
-    -- so many of the items are done
-    abbrev pub IsServingUpTo : ℕ → Refusals → SeatSeen → List PrintedAnswer → Type 0
-    IsServingUpTo n now new replies = IsServing (map seen (take n items)) before now old new replies
+  module _ (part : List Said) (before : Refusals) (old : SeatSeen) where
+    -- these are left of the items, and the others are done
+    pub record IsServingUpTo (left : List Said) (now : Refusals) (new : SeatSeen) (replies : List PrintedAnswer) : Type 0 where
+      pub done : List Said
+      pub parts : part ≡ done ++ left
+      pub serving : IsServing done before now old new replies
 
-    pub serving_first : (replies : List PrintedAnswer) → replies ≡ [] → IsServingUpTo 0 before old replies
-    serving_first replies none = subst (IsServing [] before before old old) (sym none) (serving_none before old)
+    pub serving_first : (left : List Said) (replies : List PrintedAnswer) → left ≡ part → replies ≡ [] → IsServingUpTo left before old replies
+    serving_first left replies same none = record { done = []; parts = sym same; serving = subst (IsServing [] before before old old) (sym none) (serving_none before old) }
 
-    module _ (n : ℕ) (item : Item) (now : Refusals) (new : SeatSeen) (replies : List PrintedAnswer) (within : n < length items) (is : item ≡ get_or items n item) (so : IsServingUpTo n now new replies) where
-      pub serving_past : is_request (seen item) ≡ false → IsServingUpTo (n + 1) now new replies
-      serving_past other = subst (λ (done : List Said). IsServing done before now old new replies) (sym (one_more items n item within is)) (serving_other (map seen (take n items)) (seen item) before now old new replies other so)
+    module _ (left next : List Said) (item : Said) (now : Refusals) (new : SeatSeen) (replies : List PrintedAnswer) (first_is : left ≡ item ∷ next) (so : IsServingUpTo left now new replies) where
+      pub serving_past : is_request item ≡ false → IsServingUpTo next now new replies
+      serving_past other = record { done = so.done ++ item ∷ []; parts = parts_more part so.done left next item so.parts first_is; serving = serving_other so.done item before now old new replies other so.serving }
 
-      pub serving_next : (reading : Reading) (later : Refusals) (next : SeatSeen) (more : List PrintedAnswer) (reply : PrintedAnswer) → seen item ≡ said.asks reading → IsServedBy model shapes opening reading now later new next reply → more ≡ replies ++ reply ∷ [] → IsServingUpTo (n + 1) later next more
-      serving_next reading later next more reply asks served more-is =
-          subst (λ (done : List Said). IsServing done before later old next more) (sym (one_more items n item within is)) (serving_more (map seen (take n items)) (seen item) reading before now later old new next replies more reply asks so served more-is)
+      pub serving_next : (reading : Reading) (later : Refusals) (last : SeatSeen) (more : List PrintedAnswer) (reply : PrintedAnswer) → item ≡ said.asks reading → IsServedBy model shapes opening reading now later new last reply → more ≡ replies ++ reply ∷ [] → IsServingUpTo next later last more
+      serving_next reading later last more reply asks served more-is = record {
+        done = so.done ++ item ∷ [];
+        parts = parts_more part so.done left next item so.parts first_is;
+        serving = serving_more so.done item reading before now later old new last replies more reply asks so.serving served more-is;
+      }
 
-    pub serving_all : (n : ℕ) (now : Refusals) (new : SeatSeen) (replies : List PrintedAnswer) → length items ≤ n → IsServingUpTo n now new replies → IsPartServed model shapes opening (map seen items) before now old new replies
-    serving_all n now new replies past so = part_served (map seen items) (map seen (take n items)) before now old new replies (ap (map seen) (take_all n items past)) so
+    pub serving_all : (left : List Said) (now : Refusals) (new : SeatSeen) (replies : List PrintedAnswer) → left ≡ [] → IsServingUpTo left now new replies → IsPartServed model shapes opening part before now old new replies
+    serving_all left now new replies none so = part_served part so.done before now old new replies (parts_all part so.done left so.parts none) so.serving
 
-    pub serving_shut : (n : ℕ) (now later : Refusals) (new after : SeatSeen) (replies : List PrintedAnswer) → later ≡ now → IsShut new after → IsServingUpTo n now new replies → IsPartServed model shapes opening (map seen items) before later old after replies
-    serving_shut n now later new after replies same shut so = part_shut (map seen items) (map seen (take n items)) (map seen (drop n items)) before now later old new after replies (parted items n) same shut so
+    pub serving_shut : (left : List Said) (now later : Refusals) (new after : SeatSeen) (replies : List PrintedAnswer) → later ≡ now → IsShut new after → IsServingUpTo left now new replies → IsPartServed model shapes opening part before later old after replies
+    serving_shut left now later new after replies same shut so = part_shut part so.done left before now later old new after replies so.parts same shut so.serving
+
+    -- the finder was used so far
+    pub serving_uses : (left : List Said) (now : Refusals) (new : SeatSeen) (replies : List PrintedAnswer) → IsServingUpTo left now new replies → IsUsed before now
+    serving_uses left now new replies so = serving_used so.done before now old new replies so.serving

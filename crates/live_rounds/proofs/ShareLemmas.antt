@@ -1,5 +1,5 @@
 -- What the requests of one part are answered, at a seat and at the desk.
-use Rattle.std.proofs.Common.{◌≡◌, ⊎_elim, ℕ, suc, ◌+◌, ◌<◌, ◌≤◌, List, [], ◌∷◌, ◌++◌, append_assoc, append-nil, drop, length, map, refl, sym, ap, subst, ◌∙◌, arith}
+use Rattle.std.proofs.Common.{◌≡◌, ⊎_elim, ℕ, suc, ◌+◌, ◌<◌, ◌≤◌, List, [], ◌∷◌, ◌++◌, append-nil, drop, length, map, refl, sym, ap, subst, ◌∙◌, arith}
 use Rattle.std.specs.Prelude.{sum_by}
 use Rattle.std.proofs.lemmas.Grind.{flat_map-append}
 use Rattle.std.proofs.lemmas.List.Sums.{sum_by-append}
@@ -12,7 +12,7 @@ use Rattle.live_rounds.proofs.CutLemmas.{served_at, served_rise, took, version_b
 use Rattle.live_rounds.proofs.RiseLemmas.{rise_then}
 use Rattle.live_rounds.specs.Administrators.{AreDoneBeside}
 use Rattle.live_rounds.specs.Answered.{AreAnsweredAt, Rise}
-use Rattle.live_rounds.specs.Helps.Asked.{AreAnsweredOver, IsShared}
+use Rattle.live_rounds.specs.Helps.Asked.{AddsAnswered, AreAnsweredOver}
 use Rattle.live_rounds.specs.Helps.Learned.{HasLearned}
 use Rattle.live_rounds.specs.Lists.{last_from}
 use Rattle.live_rounds.specs.Requests.{requests}
@@ -87,9 +87,9 @@ module _ (model : ModelParts) (shapes : Shapes) (opening : Policy) (before round
   -- ---- one part
 
   -- its requests are answered behind others, by a worker whose finder refused these patterns, and at the desk
-  pub record IsShareDone (part : List Said) (kept : List PrintedAnswer) (worker : List (List ℕ)) (from until : Refusals) (was now : List PrintedAnswer) : Type 0 where
+  pub record IsShareDone (part : List Said) (kept : List PrintedAnswer) (worker : List (List ℕ)) (from until : Refusals) (replies : List PrintedAnswer) : Type 0 where
     pub at_desk : List PrintedAnswer
-    pub added : now ≡ was ++ (kept ++ at_desk)
+    pub added : replies ≡ kept ++ at_desk
     pub seen : List ℕ
     pub refused : List (List (List ℕ))
     pub answered : AreAnsweredAt model shapes opening before round seen refused (kept ++ at_desk) (requests part)
@@ -100,19 +100,22 @@ module _ (model : ModelParts) (shapes : Shapes) (opening : Policy) (before round
     pub logged : until ≡ after_refusals from patterns
     pub told : (weight : List ℕ → ℕ) → sum_by weight (all_refused refused) ≤ sum_by weight worker + sum_by weight patterns
 
-  module _ (part : List Said) (from until : Refusals) (was now : List PrintedAnswer) where
+  module _ (part : List Said) (from until : Refusals) (replies : List PrintedAnswer) where
+    -- what is kept, and behind it what is answered at the desk
+    abbrev Shares : List PrintedAnswer → Type 0
+    Shares kept = AddsAnswered model new.desk.state from until (drop (length kept) (requests part)) kept replies
+
     -- what was answered at a seat, and then at the desk
     share_done : (worker : List (List ℕ)) (seen : List ℕ) (refused : List (List (List ℕ))) (kept : List PrintedAnswer) → AreAnsweredAt model shapes opening before round seen refused kept (requests part) → Rise (version_of old.list) seen → last_from (version_of old.list) seen ≤ at_end
-        → ((weight : List ℕ → ℕ) → sum_by weight (all_refused refused) ≤ sum_by weight worker) → IsShared model new.desk.state part kept from until was now → IsShareDone part kept worker from until was now
-    share_done worker seen refused kept answered rise most told shared =
-        let adds = shared.adds in
+        → ((weight : List ℕ → ℕ) → sum_by weight (all_refused refused) ≤ sum_by weight worker) → Shares kept → IsShareDone part kept worker from until replies
+    share_done worker seen refused kept answered rise most told adds =
         let over : AreAnsweredOver model shapes at_end (tables new.desk.state) adds.refused adds.replies (drop (length kept) (requests part))
         = subst (λ (s : Shapes). AreAnsweredOver model s at_end (tables new.desk.state) adds.refused adds.replies (drop (length kept) (requests part))) done.behind.shapes_are adds.answered in
         let both = completed model shapes opening before round at_end (tables new.desk.state) end_cut end_tables seen refused adds.refused kept adds.replies (requests part) answered over in
         let all = completed_long model shapes opening before round at_end (tables new.desk.state) end_cut end_tables seen refused adds.refused kept adds.replies (requests part) answered over in
         record {
           at_desk = adds.replies;
-          added = adds.added ∙ append_assoc was kept adds.replies;
+          added = adds.added;
           seen = seen ++ map (λ (reply : PrintedAnswer). at_end) adds.replies;
           refused = refused ++ adds.refused;
           answered = both;
@@ -125,12 +128,12 @@ module _ (model : ModelParts) (shapes : Shapes) (opening : Policy) (before round
         }
 
     -- a part that nobody had
-    pub share_left : IsShared model new.desk.state part [] from until was now → IsShareDone part [] [] from until was now
+    pub share_left : Shares [] → IsShareDone part [] [] from until replies
     share_left shared = share_done [] [] [] [] tt tt end_least (λ weight. omega arith) shared
 
     -- one that a worker had
     pub share_kept : (seat left final : SeatSeen) (first last : Refusals) (kept : List PrintedAnswer) → IsPrefix old.list seat.front → HasLearned new.list left final → (is : IsPartKept model shapes opening at_end part first last seat left kept)
-        → IsShared model new.desk.state part kept from until was now → IsShareDone part kept (all_refused is.served.refused) from until was now
+        → Shares kept → IsShareDone part kept (all_refused is.served.refused) from until replies
     share_kept seat left final first last kept known end is shared = ⊎_elim of_seat of_none is.kept_is
       where
         versions_seen : List ℕ
@@ -139,16 +142,16 @@ module _ (model : ModelParts) (shapes : Shapes) (opening : Policy) (before round
         low : version_of old.list ≤ version_of seat.front
         low = version_begins old.list seat.front known
 
-        of_none : (at_end < version_of left.front) × (kept ≡ []) → IsShareDone part kept (all_refused is.served.refused) from until was now
+        of_none : (at_end < version_of left.front) × (kept ≡ []) → IsShareDone part kept (all_refused is.served.refused) from until replies
         of_none above =
-            subst (λ (k : List PrintedAnswer). IsShareDone part k (all_refused is.served.refused) from until was now) (sym above.1)
-            (share_done (all_refused is.served.refused) [] [] [] tt tt end_least (λ weight. omega arith) (subst (λ (k : List PrintedAnswer). IsShared model new.desk.state part k from until was now) above.1 shared))
+            subst (λ (k : List PrintedAnswer). IsShareDone part k (all_refused is.served.refused) from until replies) (sym above.1)
+            (share_done (all_refused is.served.refused) [] [] [] tt tt end_least (λ weight. omega arith) (subst (λ (k : List PrintedAnswer). Shares k) above.1 shared))
 
         -- the seat behind its last request is not above the end
         front_is : left.front ≡ (last_from seat is.served.seats).front
         front_is = ⊎_elim (λ whole. ap (λ (s : SeatSeen). s.front) whole.0) (λ shut. shut.front_is) is.served.ends
 
-        of_seat : (version_of left.front ≤ at_end) × (kept ≡ is.replies) → IsShareDone part kept (all_refused is.served.refused) from until was now
+        of_seat : (version_of left.front ≤ at_end) × (kept ≡ is.replies) → IsShareDone part kept (all_refused is.served.refused) from until replies
         of_seat within =
             let most : version_of (last_from seat is.served.seats).front ≤ at_end = subst (λ (l : List (List (List Change))). version_of l ≤ at_end) front_is within.0 in
             let above : version_of final.front ≤ version_of new.list

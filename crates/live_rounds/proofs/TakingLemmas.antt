@@ -1,8 +1,9 @@
 -- The lines of a round that are taken, some after the other.
 use Rattle.std.proofs.Common.{◌≡◌, inl, inr, List, [], ◌∷◌, ◌++◌, append_assoc, append-nil, drop, length, map, refl, sym, take, take-append-drop, ap, subst, ◌∙◌, arith}
-use Rattle.answer_lines.specs.Printed.{printed_line}
+use Rattle.answer_lines.specs.Printed.{ArePrinted, printed_line}
 use Rattle.answer_lines.specs.declared.answer.Line.{Line}
-use Rattle.answer_lines.specs.declared.printed.PrintedLine.{PrintedLine}
+use Rattle.answer_lines.specs.Printed.{PrintedLine}
+use Rattle.answer_lines.specs.declared.printed_lines.PrintedLines.{PrintedLines}
 use Rattle.live_rounds.proofs.RoundLemmas.{drop_front, take_front}
 use Rattle.live_rounds.proofs.SharesLemmas.{map_drop, map_take}
 use Rattle.live_rounds.specs.Shares.{in_turn}
@@ -49,54 +50,58 @@ none_printed : (back : List Line) (printed : List PrintedLine) → printed ≡ m
 none_printed [] printed is none = refl
 none_printed (line ∷ back) printed is none = absurd (omega (arith, ap (λ (l : List PrintedLine). length l) is, ap (λ (l : List PrintedLine). length l) none))
 
+-- lines that are printed, by what they tell
+pub are_told : (chunk : List PrintedLine) (printed : PrintedLines) (lines : List Line) → ArePrinted chunk printed → chunk ≡ map printed_line lines → ArePrinted (map printed_line lines) printed
+are_told chunk printed lines are same = subst (λ (l : List PrintedLine). ArePrinted l printed) same are
+
 module _ {X : Type 0} (took : X → List Line → X → Type 0) (stopped : X → List Line → X → TakeStop → Type 0) (old : X) (whole : List Line) where
-  -- the first of these lines were taken; of the others some are lent, and the rest is left
-  pub record IsTakenTo (chunk rest : List PrintedLine) (to : X) : Type 0 where
+  -- the first of these lines were taken, and the others are left
+  pub record IsTakenTo (rest : List PrintedLine) (to : X) : Type 0 where
     pub lists : List (List Line)
     pub back : List Line
     pub parts : whole ≡ in_turn lists ++ back
-    pub left : chunk ++ rest ≡ map printed_line back
+    pub left : rest ≡ map printed_line back
     pub taken : AreTaken took old lists to
 
-  pub taken_none : (told chunk rest : List PrintedLine) → told ≡ map printed_line whole → told ≡ chunk ++ rest → IsTakenTo chunk rest old
-  taken_none told chunk rest same parts = record { lists = []; back = whole; parts = refl; left = sym parts ∙ same; taken = refl }
+  pub taken_none : (told rest : List PrintedLine) → told ≡ map printed_line whole → rest ≡ told → IsTakenTo rest old
+  taken_none told rest same is = record { lists = []; back = whole; parts = refl; left = is ∙ same; taken = refl }
 
-  module _ (chunk rest : List PrintedLine) (to : X) (so : IsTakenTo chunk rest to) where
-    -- those that are lent are taken
-    pub taken_next : (next left : List PrintedLine) (later : X) → ((lines : List Line) → chunk ≡ map printed_line lines → took to lines later) → rest ≡ next ++ left → IsTakenTo next left later
-    taken_next next left later takes rest-is =
-        let first = front chunk rest so.back so.left in
-        let others = behind chunk rest so.back so.left in
+  module _ (chunk rest next : List PrintedLine) (to : X) (so : IsTakenTo rest to) (rest-is : rest ≡ chunk ++ next) where
+    left_is : chunk ++ next ≡ map printed_line so.back
+    left_is = sym rest-is ∙ so.left
+
+    -- some of them are taken
+    pub taken_next : (later : X) → ((lines : List Line) → chunk ≡ map printed_line lines → took to lines later) → IsTakenTo next later
+    taken_next later takes =
+        let first = front chunk next so.back left_is in
+        let others = behind chunk next so.back left_is in
         record {
           lists = so.lists ++ first ∷ [];
           back = others;
-          parts = so.parts ∙ ap (λ (l : List Line). in_turn so.lists ++ l) (both_are chunk rest so.back so.left) ∙ sym (append_assoc (in_turn so.lists) first others) ∙ ap (λ (l : List Line). l ++ others) (sym (in_turn_one so.lists first));
-          left = sym rest-is ∙ behind_is chunk rest so.back so.left;
-          taken = taken_both took old to later so.lists (first ∷ []) so.taken (later, takes first (front_is chunk rest so.back so.left), refl);
+          parts = so.parts ∙ ap (λ (l : List Line). in_turn so.lists ++ l) (both_are chunk next so.back left_is) ∙ sym (append_assoc (in_turn so.lists) first others) ∙ ap (λ (l : List Line). l ++ others) (sym (in_turn_one so.lists first));
+          left = behind_is chunk next so.back left_is;
+          taken = taken_both took old to later so.lists (first ∷ []) so.taken (later, takes first (front_is chunk next so.back left_is), refl);
         }
 
-    -- none is left
-    pub taken_all : chunk ≡ [] → rest ≡ [] → AreAllTaken took old whole to
-    taken_all none nothing =
-        let nil : so.back ≡ [] = none_printed so.back (chunk ++ rest) so.left ((λ j. none j ++ nothing j)) in
-        record { lists = so.lists; taken = so.taken; are = so.parts ∙ ap (λ (l : List Line). in_turn so.lists ++ l) nil ∙ append-nil (in_turn so.lists) }
-
-    -- those that are lent were not taken to their end
+    -- they were not taken to their end
     pub taken_amid : (later : X) (stop : TakeStop) → ((lines : List Line) → chunk ≡ map printed_line lines → stopped to lines later stop) → AreSomeTaken took stopped old whole later stop
     taken_amid later stop stops = record {
       lists = so.lists;
       mid = to;
-      next = front chunk rest so.back so.left;
-      more = behind chunk rest so.back so.left;
+      next = front chunk next so.back left_is;
+      more = behind chunk next so.back left_is;
       taken = so.taken;
-      parts = so.parts ∙ ap (λ (l : List Line). in_turn so.lists ++ l) (both_are chunk rest so.back so.left);
-      ends = inr (stops (front chunk rest so.back so.left) (front_is chunk rest so.back so.left));
+      parts = so.parts ∙ ap (λ (l : List Line). in_turn so.lists ++ l) (both_are chunk next so.back left_is);
+      ends = inr (stops (front chunk next so.back left_is) (front_is chunk next so.back left_is));
     }
+
+  module _ (rest : List PrintedLine) (to : X) (so : IsTakenTo rest to) where
+    -- none is left
+    pub taken_all : rest ≡ [] → AreAllTaken took old whole to
+    taken_all none =
+        let nil : so.back ≡ [] = none_printed so.back rest so.left none in
+        record { lists = so.lists; taken = so.taken; are = so.parts ∙ ap (λ (l : List Line). in_turn so.lists ++ l) nil ∙ append-nil (in_turn so.lists) }
 
     -- memory ran out before they were taken
     pub taken_early : AreSomeTaken took stopped old whole to NoMemory
     taken_early = record { lists = so.lists; mid = to; next = []; more = so.back; taken = so.taken; parts = so.parts; ends = inl (refl, refl) }
-
-  -- memory ran out before any was taken
-  pub none_taken : AreSomeTaken took stopped old whole old NoMemory
-  none_taken = record { lists = []; mid = old; next = []; more = whole; taken = refl; parts = refl; ends = inl (refl, refl) }

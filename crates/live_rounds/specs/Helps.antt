@@ -3,3 +3,5 @@ pub mod Asked
 pub mod MergedItems
 pub mod Posts
 pub mod Learned
+pub mod Passed
+pub mod Turns

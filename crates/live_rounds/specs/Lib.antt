@@ -1,6 +1,7 @@
 pub mod Lists
 pub mod Printed
 pub mod Requests
+pub mod Stretches
 pub mod Shares
 pub mod Taken
 pub mod Served

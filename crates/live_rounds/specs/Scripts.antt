@@ -1,5 +1,5 @@
 -- The lines of a whole script whose requests are answered by workers, and what the finders refused for them.
-use Rattle.std.specs.Prelude.{◌≡◌, ◌≤◌, ℕ, suc, Bool, List, [], ◌∷◌, ◌++◌, if◌then◌else◌, length, sum_by}
+use Rattle.std.specs.Prelude.{◌≡◌, ◌≤◌, ℕ, suc, List, [], ◌∷◌, ◌++◌, if◌then◌else◌, length, sum_by}
 use Rattle.answer_lines.specs.declared.answer.Line.{Line}
 use Rattle.live_rounds.specs.Done.{HaveRefused}
 use Rattle.live_rounds.specs.Taken.{AreAllTaken, AreSomeTaken}
@@ -9,7 +9,6 @@ use Rattle.perm_base.specs.declared.shapes.Shapes.{Shapes}
 use Rattle.policy_table.specs.Tables.{Policy}
 use Rattle.regex_gate.specs.Refusals.{Refusals}
 use Rattle.script_read.specs.Said.{Said}
-use Rattle.script_read.specs.Script.{SaysFrom}
 use Rattle.session_meaning.specs.Plain.{all_refused}
 use Rattle.session_meaning.specs.Rounds.{IsShared, is_sync}
 
@@ -18,16 +17,10 @@ abbrev pub round_size : List Said → ℕ
 round_size [] = 0
 round_size (item ∷ items) = if is_sync item then 1 else suc (round_size items)
 
--- items are a round and others, which the rest of their text says, whose lines are numbered from there
-pub record IsFirstRound (json : Bool) (items round : List Said) (next : ℕ) (rest : List ℕ) : Type 0 where
-  pub left : List Said
+-- this is the first round of items, and these are left behind it
+pub record IsFirstRound (items round left : List Said) : Type 0 where
   pub parts : items ≡ round ++ left
   pub size : round_size items ≡ length round
-  pub says : SaysFrom json next rest left
-
--- whatever a text says, this is its first round
-abbrev pub BeginsWithRound : (json : Bool) (number : ℕ) (text : List ℕ) (round : List Said) (next : ℕ) (rest : List ℕ) → Type 0
-BeginsWithRound json number text round next rest = (items : List Said) → SaysFrom json number text items → IsFirstRound json items round next rest
 
 -- these are lines of the items with so many workers. The finders, each by itself, refused each pattern at least as often as it was
 -- refused for the items, however patterns are weighed

@@ -1,15 +1,18 @@
-ghost use Rattle.std.specs.Prelude.{◌≡◌, IfOk, List, OnErr, false, map};
+ghost use Rattle.std.specs.Prelude.{◌≡◌, ◌++◌, ◌∷◌, [], IfOk, List, OnErr, OnOk, false};
+ghost use Rattle.answer_lines.specs.Printed.{printed_answer};
 ghost use Rattle.live_rounds.specs.Administrators.{AreDoneBeside, IsAdminAmid, IsAdminBehind, IsAdminStep, IsAdminStopped};
 ghost use Rattle.desk_session.specs.Steps.{is_request};
+ghost use Rattle.live_rounds.specs.Helps.Turns.{IsTurnDone, IsTurnStopped};
+ghost use Rattle.script_read.specs.ItemLines.{IsBuiltAs, said};
 ghost use Rattle.script_read.specs.Said.{Said, seen};
 
 use crate::gate::Gate;
-use crate::requests::is_request;
-use answer_lines::{PrintedAnswer, print_answer};
+use crate::replies::push_reply;
+use answer_lines::WaitingAnswers;
 use desk_session::{Answer, answer_other};
 use live_pair::{Admin, Naming};
 use outside::NoMemory;
-use script_read::Item;
+use script_read::{BuiltItem, Item, ItemLines};
 use std::alloc::Global;
 use std::sync::Wait;
 
@@ -17,32 +20,85 @@ use std::sync::Wait;
 pub(crate) fn answer_others<J: Naming, R: Wait, G: Gate>(
     rt: &R,
     alloc: Global,
-    items: &[Item],
+    items: &ItemLines<'_>,
     gate: &G,
     admin: &mut Admin<J>,
-) -> Result<Vec<PrintedAnswer>, NoMemory>
+) -> Result<WaitingAnswers, NoMemory>
     ensures done { IfOk result (λ replies. (before : List Said)
         → IsAdminBehind J.shapes J.opening before admin.old
-        → AreDoneBeside J.shapes J.opening before (map seen items.now)
-        admin.old admin.new replies.items) }
+        → AreDoneBeside J.shapes J.opening before (said items.now)
+        admin.old admin.new replies) }
     ensures stopped { OnErr result ((before : List Said)
         → IsAdminBehind J.shapes J.opening before admin.old
-        → IsAdminAmid J.shapes J.opening before (map seen items.now) admin.new) }
+        → IsAdminAmid J.shapes J.opening before (said items.now) admin.new) }
 {
     let mut printed = String::new(alloc);
-    let mut replies = Vec::new(alloc);
-    for item in items {
-        if is_request(item) {
-            continue;
-        }
-        let reply = answer_at(rt, alloc, admin, item, gate)?;
-        // The items of a script that was read name tables that have names, so that all answers can be printed.
-        if !reply.is_printable() {
-            return Err(NoMemory);
-        }
-        replies.push(print_answer(alloc, &mut printed, &reply)?)?;
+    let mut replies = WaitingAnswers::new(alloc);
+    let mut left = items.again();
+    while let Some(built) = left.next_built(alloc)? {
+        answer_built(rt, alloc, built, gate, admin, &mut printed, &mut replies)?;
     }
     Ok(replies)
+}
+
+// Answers and does an item that is no request, and puts its reply in behind others; nothing for one that is.
+fn answer_built<J: Naming, R: Wait, G: Gate>(
+    rt: &R,
+    alloc: Global,
+    built: BuiltItem<'_>,
+    gate: &G,
+    admin: &mut Admin<J>,
+    printed: &mut String,
+    replies: &mut WaitingAnswers,
+) -> Result<(), NoMemory>
+    requires kind { (item : Said) × IsBuiltAs built item }
+    ensures done { OnOk result ((item : Said) → IsBuiltAs built.entry item
+        → IsTurnDone item admin.old admin.new replies.old replies.new) }
+    ensures stopped { OnErr result ((item : Said) → IsBuiltAs built.entry item
+        → IsTurnStopped item admin.old admin.new) }
+{
+    let BuiltItem::Other(item) = built else {
+        return Ok(());
+    };
+    let done = answer_item(rt, alloc, &item, gate, admin, printed, replies);
+    drop(item);
+    done
+}
+
+// The same for an item that is no request.
+fn answer_item<J: Naming, R: Wait, G: Gate>(
+    rt: &R,
+    alloc: Global,
+    item: &Item,
+    gate: &G,
+    admin: &mut Admin<J>,
+    printed: &mut String,
+    replies: &mut WaitingAnswers,
+) -> Result<(), NoMemory>
+    requires other { is_request (seen item.now) ≡ false }
+    ensures done { OnOk result (IsTurnDone (seen item.now) admin.old admin.new
+        replies.old replies.new) }
+    ensures stopped { OnErr result (IsTurnStopped (seen item.now) admin.old admin.new) }
+{
+    let reply = answer_at(rt, alloc, admin, item, gate)?;
+    let told = push_told(alloc, printed, &reply, replies);
+    drop(reply);
+    told
+}
+
+// Puts a reply in behind others. The items of a script that was read name tables that have names, so that all answers can be printed.
+fn push_told(
+    alloc: Global,
+    printed: &mut String,
+    reply: &Answer,
+    replies: &mut WaitingAnswers,
+) -> Result<(), NoMemory>
+    ensures pushed { OnOk result (replies.new ≡ replies.old ++ printed_answer reply.now ∷ []) }
+{
+    if !reply.is_printable() {
+        return Err(NoMemory);
+    }
+    push_reply(alloc, printed, reply, replies)
 }
 
 // Answers an item that is no request, and does what it says.

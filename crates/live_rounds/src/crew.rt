@@ -1,8 +1,8 @@
-ghost use Rattle.std.specs.Prelude.{◌≡◌, ◌+◌, ◌<◌, ◌≤◌, ◌^◌, ◌++◌, ◌∷◌, [], IfOk, OnErr, length, map, vec_capacity};
-ghost use Rattle.live_rounds.specs.Helps.Posts.{AreAll, AreSpans};
-ghost use Rattle.live_rounds.specs.Shares.{total};
+ghost use Rattle.std.specs.Prelude.{◌≡◌, ◌+◌, ◌<◌, ◌≤◌, ◌++◌, ◌∷◌, [], IfOk, OnErr, length, map, vec_capacity};
+ghost use Rattle.live_rounds.specs.Helps.Posts.{AreAll};
 
 use crate::posts::Post;
+use crate::stretch::Stretch;
 use live_pair::{Naming, Seat};
 use outside::NoMemory;
 use regex_gate::Finder;
@@ -18,19 +18,15 @@ pub(crate) struct Crew<J: Naming, P: Finder> {
     pub finders: IntoIter<P>,
 }
 
-/// Posts for the parts of a round behind so many other items: each takes the next seat and the next finder behind the first, as
+/// Posts for the parts of a round: each takes the next seat and the next finder behind the first, as
 /// far as there are seats. The first finder stays, and there is room for all to come back.
 pub(crate) fn muster<J: Naming, P: Finder>(
     alloc: Global,
     seats: &mut Vec<Seat<J>>,
     finders: &mut Vec<P>,
-    sizes: &[usize],
-    behind: u32,
+    parts: &[Stretch<'_>],
 ) -> Result<Crew<J, P>, NoMemory>
-    requires enough { length sizes.now < length finders.old.items }
-    requires places { total sizes.now < 2 ^ 64 }
-    ensures spans { IfOk result (λ crew. AreSpans 0 sizes.now
-        (map (λ p. p.from) crew.posts.items) (map (λ p. p.until) crew.posts.items)) }
+    requires enough { length parts.now < length finders.old.items }
     ensures seats { IfOk result (λ crew. seats.old.items
         ≡ map (λ p. p.seat) crew.posts.items ++ crew.seats.rest.items) }
     ensures finders { IfOk result (λ crew. finders.old.items
@@ -38,9 +34,9 @@ pub(crate) fn muster<J: Naming, P: Finder>(
         ++ crew.finders.rest.items)) }
     ensures first { IfOk result (λ crew. length finders.new.items ≡ 1) }
     ensures taken { IfOk result (λ crew. seats.new.items ≡ []) }
-    ensures all { IfOk result (λ crew. AreAll sizes.now
+    ensures all { IfOk result (λ crew. AreAll parts.now
         crew.posts.items crew.seats.rest.items) }
-    ensures few { IfOk result (λ crew. length crew.posts.items ≤ length sizes.now) }
+    ensures few { IfOk result (λ crew. length crew.posts.items ≤ length parts.now) }
     ensures seat_room { IfOk result (λ crew.
         length crew.posts.items + length crew.seats.rest.items ≤ vec_capacity seats.new) }
     ensures finder_room { IfOk result (λ crew.
@@ -49,7 +45,7 @@ pub(crate) fn muster<J: Naming, P: Finder>(
     ensures same_seats { OnErr result (seats.new.items ≡ seats.old.items) }
     ensures same_finders { OnErr result (finders.new.items ≡ finders.old.items) }
 {
-    let room = Vec::with_capacity(alloc, sizes.len())?;
+    let room = Vec::with_capacity(alloc, parts.len())?;
     let seat_room = Vec::with_capacity(alloc, seats.len())?;
     let finder_room = Vec::with_capacity(alloc, finders.len())?;
     let all_seats = mem::replace(seats, seat_room);
@@ -58,14 +54,7 @@ pub(crate) fn muster<J: Naming, P: Finder>(
     let mut left_finders = all_finders.into_iter();
     let first = next_of(&mut left_finders);
     finders.push_reserved(first);
-    let posts = manned(
-        alloc,
-        room,
-        &mut left_seats,
-        &mut left_finders,
-        sizes,
-        behind,
-    );
+    let posts = manned(alloc, room, &mut left_seats, &mut left_finders, parts);
     Ok(Crew {
         posts,
         seats: left_seats,
@@ -79,32 +68,25 @@ fn manned<J: Naming, P: Finder>(
     room: Vec<Post<J, P>>,
     seats: &mut IntoIter<Seat<J>>,
     finders: &mut IntoIter<P>,
-    sizes: &[usize],
-    behind: u32,
+    parts: &[Stretch<'_>],
 ) -> Vec<Post<J, P>>
     requires none { room.items ≡ [] }
-    requires room { length sizes.now ≤ vec_capacity room }
-    requires enough { length sizes.now ≤ length finders.old.rest.items }
-    requires places { total sizes.now < 2 ^ 64 }
-    ensures spans { AreSpans 0 sizes.now
-        (map (λ p. p.from) result.items) (map (λ p. p.until) result.items) }
+    requires room { length parts.now ≤ vec_capacity room }
+    requires enough { length parts.now ≤ length finders.old.rest.items }
     ensures seats { seats.old.rest.items
         ≡ map (λ p. p.seat) result.items ++ seats.new.rest.items }
     ensures finders { finders.old.rest.items
         ≡ map (λ p. p.finder) result.items ++ finders.new.rest.items }
-    ensures all { AreAll sizes.now result.items seats.new.rest.items }
-    ensures few { length result.items ≤ length sizes.now }
+    ensures all { AreAll parts.now result.items seats.new.rest.items }
+    ensures few { length result.items ≤ length parts.now }
 {
     let mut posts = room;
-    let mut place = 0;
-    for size in sizes {
+    for _part in parts {
         let Some(seat) = seats.next() else {
             return posts;
         };
         let finder = next_of(finders);
-        let until = place + *size;
-        posts.push_reserved(Post::new(alloc, seat, finder, place, until, behind));
-        place = until;
+        posts.push_reserved(Post::new(alloc, seat, finder));
     }
     posts
 }

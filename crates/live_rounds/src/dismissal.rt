@@ -3,7 +3,7 @@ ghost use Rattle.live_rounds.specs.Helps.Posts.{kept_at};
 
 use crate::crew::Crew;
 use crate::posts::Post;
-use answer_lines::PrintedAnswer;
+use answer_lines::WaitingAnswers;
 use live_pair::{Naming, Seat};
 use regex_gate::Finder;
 use std::alloc::Global;
@@ -17,7 +17,7 @@ pub(crate) fn dismiss<J: Naming, P: Finder>(
     version: u32,
     seats: &mut Vec<Seat<J>>,
     finders: &mut Vec<P>,
-    kept: &mut Vec<Vec<PrintedAnswer>>,
+    kept: &mut Vec<WaitingAnswers>,
 ) -> bool
     requires seat_room { vec_len seats.old + (length crew.posts.items
         + length crew.seats.rest.items) ≤ vec_capacity seats.old }
@@ -28,8 +28,8 @@ pub(crate) fn dismiss<J: Naming, P: Finder>(
         ++ (map (λ p. p.seat) crew.posts.items ++ crew.seats.rest.items) }
     ensures finders { finders.new.items ≡ finders.old.items
         ++ (map (λ p. p.finder) crew.posts.items ++ crew.finders.rest.items) }
-    ensures kept { map (λ v. v.items) kept.new.items ≡ map (λ v. v.items) kept.old.items
-        ++ map (λ p. kept_at version p.seat p.replies.items) crew.posts.items }
+    ensures kept { kept.new.items ≡ kept.old.items
+        ++ map (λ p. kept_at version p.seat p.replies) crew.posts.items }
     ensures whole { IsTrue result → All (λ p. p.ran_out ≡ false) crew.posts.items }
 {
     let Crew {
@@ -50,15 +50,15 @@ fn unpost<J: Naming, P: Finder>(
     version: u32,
     seats: &mut Vec<Seat<J>>,
     finders: &mut Vec<P>,
-    kept: &mut Vec<Vec<PrintedAnswer>>,
+    kept: &mut Vec<WaitingAnswers>,
 ) -> bool
     requires seat_room { vec_len seats.old + length posts.items ≤ vec_capacity seats.old }
     requires finder_room { vec_len finders.old + length posts.items ≤ vec_capacity finders.old }
     requires kept_room { vec_len kept.old + length posts.items ≤ vec_capacity kept.old }
     ensures seats { seats.new.items ≡ seats.old.items ++ map (λ p. p.seat) posts.items }
     ensures finders { finders.new.items ≡ finders.old.items ++ map (λ p. p.finder) posts.items }
-    ensures kept { map (λ v. v.items) kept.new.items ≡ map (λ v. v.items) kept.old.items
-        ++ map (λ p. kept_at version p.seat p.replies.items) posts.items }
+    ensures kept { kept.new.items ≡ kept.old.items
+        ++ map (λ p. kept_at version p.seat p.replies) posts.items }
     ensures whole { IsTrue result → All (λ p. p.ran_out ≡ false) posts.items }
     ensures seat_capacity { vec_capacity seats.new ≡ vec_capacity seats.old }
     ensures finder_capacity { vec_capacity finders.new ≡ vec_capacity finders.old }
@@ -69,9 +69,6 @@ fn unpost<J: Naming, P: Finder>(
         let Post {
             seat,
             finder,
-            from: _from,
-            until: _until,
-            behind: _behind,
             replies,
             ran_out: _ran_out,
         } = post;
@@ -93,16 +90,16 @@ fn is_whole(whole: bool, ran_out: bool) -> bool
 fn kept_of<J: Naming>(
     alloc: Global,
     seat: &Seat<J>,
-    replies: Vec<PrintedAnswer>,
+    replies: WaitingAnswers,
     version: u32,
-) -> Vec<PrintedAnswer>
-    ensures { result.items ≡ kept_at version seat.now replies.items }
+) -> WaitingAnswers
+    ensures { result ≡ kept_at version seat.now replies }
 {
     let reached = seat.version();
     if reached <= version {
         return replies;
     }
-    Vec::new(alloc)
+    WaitingAnswers::new(alloc)
 }
 
 // Puts values behind others, where there is room for them.

@@ -1,57 +1,40 @@
 ghost use Rattle.std.specs.Prelude.{◌≡◌, ◌<◌};
 ghost use Rattle.std.specs.Thread.{IsSync};
 ghost use Rattle.decision.specs.contracts.program.Program as program_type;
-ghost use Rattle.script_read.specs.contracts.script.Script as script_type;
 ghost use Rattle.decision.specs.Programs.{Suits};
 ghost use Rattle.live_rounds.specs.Helps.Posts.{AreServedPosts, IsServedPost};
 
 use crate::gate::Gate;
-use crate::items::items_of;
 use crate::seat_answers::answer_part;
-use answer_lines::PrintedAnswer;
+use crate::stretch::Stretch;
+use answer_lines::WaitingAnswers;
 use decision::Program;
 use live_pair::{Naming, Seat};
 use regex_gate::Finder;
-use script_read::Script;
 use std::alloc::Global;
 use std::thread;
 use std::thread::Threads;
 
-/// A worker of a round: its seat, its finder, the places of its items, how many items stand before the round, and what it answered
-/// to the requests among its own.
+/// A worker of a round: its seat, its finder, and what it answered to the requests of its part. The parts are lent beside, the first to
+/// the first post.
 #[derive(Drop)]
 pub(crate) struct Post<J: Naming, P: Finder> {
     pub seat: Seat<J>,
     pub finder: P,
-    pub from: usize,
-    pub until: usize,
-    pub behind: u32,
-    pub replies: Vec<PrintedAnswer>,
+    pub replies: WaitingAnswers,
     pub ran_out: bool,
 }
 
 impl<J: Naming, P: Finder> Post<J, P> {
     /// A post where nothing was answered yet.
-    pub(crate) fn new(
-        alloc: Global,
-        seat: Seat<J>,
-        finder: P,
-        from: usize,
-        until: usize,
-        behind: u32,
-    ) -> Post<J, P>
+    pub(crate) fn new(alloc: Global, seat: Seat<J>, finder: P) -> Post<J, P>
         ensures seat { result.seat ≡ seat }
         ensures finder { result.finder ≡ finder }
-        ensures from { result.from ≡ from }
-        ensures until { result.until ≡ until }
     {
         Post {
             seat,
             finder,
-            from,
-            until,
-            behind,
-            replies: Vec::new(alloc),
+            replies: WaitingAnswers::new(alloc),
             ran_out: false,
         }
     }
@@ -63,20 +46,19 @@ pub(crate) fn serve_all<J: Naming + Send + Sync, R: Threads + Sync, P: Finder, G
     rt: &R,
     alloc: Global,
     program: &Program,
-    script: &Script,
     gate: &G,
+    parts: &[Stretch<'_>],
     posts: &mut [Post<J, P>],
     alone: bool,
 )
     requires suits { Suits program.now J.shapes }
-    ensures { AreServedPosts P.refusals program.now J.shapes J.opening script.now
+    ensures { AreServedPosts P.refusals program.now J.shapes J.opening parts.now
         posts.old posts.new }
 {
     if posts.is_empty() {
         return;
     }
     share_program(program);
-    share_script(script);
     let threads = threads_for(posts.len(), alone);
     thread::for_each_mut(
         rt,
@@ -84,7 +66,7 @@ pub(crate) fn serve_all<J: Naming + Send + Sync, R: Threads + Sync, P: Finder, G
         threads,
         &|worker, post: &mut Post<J, P>|
             requires { Suits program.now J.shapes }
-        { serve(alloc, program, script, worker, gate, post) },
+        { serve(alloc, program, worker, gate, parts, post) },
     );
 }
 
@@ -103,39 +85,31 @@ pub(crate) fn share_program(program: &Program)
     share(program);
 }
 
-/// The same of a script.
-pub(crate) fn share_script(script: &Script)
-    ensures { IsSync script_type.the_row }
-{
-    share(script);
-}
-
 // The same of whatever threads may share.
 fn share<T: Sync>(_value: &T)
     ensures { IsSync T.row }
 {}
 
-// The number of the item before a place of a round, behind so many other items.
-fn number_of(behind: u32, place: usize) -> u32 {
-    behind.saturating_add(u32::try_from(place).unwrap_or(u32::MAX))
-}
-
-// Answers the requests of a post.
+// Answers the requests of a worker's part at its post.
 fn serve<J: Naming, P: Finder, G: Gate>(
     alloc: Global,
     program: &Program,
-    script: &Script,
     worker: usize,
     gate: &G,
+    parts: &[Stretch<'_>],
     post: &mut Post<J, P>,
 )
     requires suits { Suits program.now J.shapes }
-    ensures { IsServedPost P.refusals program.now J.shapes J.opening script.now
+    ensures { IsServedPost P.refusals program.now J.shapes J.opening parts.now worker
         post.old post.new }
 {
+    let Some(part) = parts.get(worker) else {
+        post.ran_out = true;
+        return;
+    };
     let worker = u32::try_from(worker).unwrap_or(u32::MAX);
-    let others = number_of(post.behind, post.from);
-    let items = items_of(script, post.from, post.until);
+    let items = part.items.again();
+    let before = part.before;
     let finder = &mut post.finder;
     let Ok(replies) = answer_part(
         alloc,
@@ -144,7 +118,7 @@ fn serve<J: Naming, P: Finder, G: Gate>(
         items,
         finder,
         worker,
-        others,
+        before,
         gate,
     ) else {
         post.ran_out = true;

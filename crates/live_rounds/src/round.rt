@@ -3,8 +3,9 @@ ghost use Rattle.std.specs.List.{AllZip};
 ghost use Rattle.decision.specs.Programs.{Suits};
 ghost use Rattle.live_rounds.specs.Administrators.{IsAdminAmid, IsAdminBehind};
 ghost use Rattle.live_rounds.specs.Done.{IsRun};
+ghost use Rattle.live_rounds.specs.Stretches.{IsCounted, items_of};
 ghost use Rattle.regex_gate.specs.Refusals.{IsUsed};
-ghost use Rattle.script_read.specs.Said.{Said, seen};
+ghost use Rattle.script_read.specs.Said.{Said};
 
 use crate::asks::answer_asks;
 use crate::gate::Gate;
@@ -12,16 +13,16 @@ use crate::round_lines::RoundLines;
 use crate::round_work::{Worked, work_round};
 use crate::seat_fronts::learn_seats;
 use crate::shares::push_parts;
+use crate::stretch::Stretch;
 use decision::Program;
 use live_pair::{Admin, Naming, Seat};
 use outside::NoMemory;
 use regex_gate::Finder;
-use script_read::Script;
 use std::alloc::Global;
 use std::sync::Wait;
 use std::thread::Threads;
 
-/// One round of a session: its items, which stand behind so many others. The requests are cut into contiguous shares, one for each
+/// One round of a session. The requests are cut into contiguous shares, one for each
 /// worker, and worker k answers share k at seat k by finder k + 1, while the administrator does all other items in their order.
 /// What no seat answers is answered at the desk at the round's end, by the first finder: where there is no such seat, from an entry
 /// that was refused on, and where the seat has a version above the desk's. At its beginning and its end each seat learns the
@@ -36,39 +37,37 @@ pub fn run_round<'a, J: Naming + Send + Sync, R: Threads + Wait + Sync, P: Finde
     finders: &mut Vec<P>,
     workers: u32,
     program: &Program,
-    round: &'a Script,
-    behind: u32,
+    round: &Stretch<'a>,
     gate: &G,
 ) -> Result<RoundLines<'a>, NoMemory>
     requires some { 0 < workers }
     requires few { workers ≤ 8 }
     requires finders { workers < length finders.old.items }
     requires suits { Suits program.now J.shapes }
-    requires stands { (before : List Said) × (behind ≡ length before)
+    requires counted { IsCounted round.now }
+    requires stands { (before : List Said) × (round.now.before ≡ length before)
         × IsAdminBehind J.shapes J.opening before admin.old }
-    ensures run { IfOk result (λ lines. (before : List Said) → behind ≡ length before
+    ensures run { IfOk result (λ lines. (before : List Said) → round.now.before ≡ length before
         → IsAdminBehind J.shapes J.opening before admin.old
-        → IsRun program.now J.shapes J.opening workers before (map seen round.now) admin.new
+        → IsRun program.now J.shapes J.opening workers before (items_of round.now) admin.new
         seats.old.items seats.new.items (map P.refusals finders.old.items)
         (map P.refusals finders.new.items) lines) }
     ensures stopped { OnErr result ((before : List Said)
         → IsAdminBehind J.shapes J.opening before admin.old
-        → IsAdminAmid J.shapes J.opening before (map seen round.now) admin.new) }
+        → IsAdminAmid J.shapes J.opening before (items_of round.now) admin.new) }
     ensures used { AllZip IsUsed (map P.refusals finders.old.items)
         (map P.refusals finders.new.items) }
 {
-    let items = round.as_slice();
-    let mut sizes = Vec::new(alloc);
-    push_parts(&mut sizes, items, workers - 1)?;
+    let mut parts = Vec::new(alloc);
+    push_parts(&mut parts, round.again(), workers - 1)?;
     learn_seats(seats, &admin.front());
-    let sizes = sizes.as_slice();
+    let parts = parts.as_slice();
     let worked = work_round(
-        rt, alloc, program, round, items, sizes, behind, gate, admin, seats, finders,
+        rt, alloc, program, round, parts, gate, admin, seats, finders,
     );
     learn_seats(seats, &admin.front());
-    let worked = worked?;
-    let Worked { kept, others } = worked;
+    let Worked { kept, others } = worked?;
     let state = admin.desk().state();
-    let asked = answer_asks(alloc, state, program, items, sizes, kept, &mut finders[0])?;
-    Ok(RoundLines::new(items, behind, asked, others))
+    let asked = answer_asks(alloc, state, program, parts, kept, &mut finders[0])?;
+    Ok(RoundLines::new(alloc, round, asked, others))
 }

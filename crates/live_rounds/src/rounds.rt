@@ -1,25 +1,25 @@
-ghost use Rattle.std.specs.Prelude.{◌≡◌, ◌+◌, ◌<◌, ◌≤◌, ◌^◌, [], IfErr, IfNone, IfOk, IfSome, List, OnOk, length, map};
+ghost use Rattle.std.specs.Prelude.{◌≡◌, ◌+◌, ◌<◌, ◌≤◌, [], IfErr, IfSome, List, OnOk, length, map};
 ghost use Rattle.std.specs.List.{AllZip};
 ghost use Rattle.answer_lines.specs.Printed.{printed_line};
 ghost use Rattle.answer_lines.specs.declared.answer.Line as line;
 ghost use Rattle.decision.specs.Programs.{Suits};
 ghost use Rattle.live_rounds.specs.Administrators.{IsAdminBehind};
-ghost use Rattle.live_rounds.specs.Scripts.{AreAllShared, AreSomeShared, BeginsWithRound};
+ghost use Rattle.live_rounds.specs.Scripts.{AreAllShared, AreSomeShared};
 ghost use Rattle.live_rounds.specs.Taken.{AreAllTaken, AreSomeTaken};
 ghost use Rattle.regex_gate.specs.Refusals.{IsUsed};
-ghost use Rattle.script_read.specs.Said.{Said, seen};
-ghost use Rattle.script_read.specs.Script.{IsScript, SaysFrom};
-ghost use Rattle.session_meaning.specs.Rounds.{is_sync};
+ghost use Rattle.script_read.specs.Said.{Said};
+ghost use Rattle.script_read.specs.Script.{IsScript};
 
 use crate::gate::Gate;
 use crate::round::run_round;
 use crate::round_lines::RoundLines;
+use crate::stretch::next_round;
 use crate::taker::{TakeStop, Taker};
+use answer_lines::PrintedLines;
 use decision::Program;
 use live_pair::{Admin, Naming, Seat};
-use outside::NoMemory;
 use regex_gate::Finder;
-use script_read::{Item, Script, next_item};
+use script_read::item_lines;
 use session_meaning::plain_lines_are_shared;
 use std::alloc::Global;
 use std::sync::Wait;
@@ -68,20 +68,17 @@ pub(crate) fn run_rounds<
         (map P.refusals finders.new.items) }
 {
     plain_lines_are_shared();
-    let mut count: u32 = 0;
-    let mut at = 1;
-    let mut rest = script;
-    while let Some((round, next, behind)) = next_round(alloc, json, rest, at)? {
-        let Some(sum) = sum_of(count, round.len()) else {
+    let mut rest = item_lines(json, script, 1);
+    let mut before: u32 = 0;
+    while let Some(round) = next_round(&mut rest, before)? {
+        let Some(sum) = sum_of(before, round.count) else {
             return Err(TakeStop::NoMemory);
         };
-        let mut told = run_round(
-            rt, alloc, admin, seats, finders, workers, program, &round, count, gate,
+        let told = run_round(
+            rt, alloc, admin, seats, finders, workers, program, &round, gate,
         )?;
-        take_lines(alloc, taker, to, &mut told)?;
-        count = sum;
-        at = next;
-        rest = behind;
+        take_lines(alloc, taker, to, told)?;
+        before = sum;
     }
     Ok(())
 }
@@ -91,18 +88,18 @@ fn take_lines<X, T: Taker<X>>(
     alloc: Global,
     taker: &T,
     to: &mut X,
-    told: &mut RoundLines<'_>,
+    told: RoundLines<'_>,
 ) -> Result<(), TakeStop>
-    ensures taken { OnOk result ((lines : List line.Line) → told.old ≡ map printed_line lines
+    ensures taken { OnOk result ((lines : List line.Line) → told.entry ≡ map printed_line lines
         → AreAllTaken T.took to.old lines to.new) }
     ensures amid { IfErr result (λ stop. (lines : List line.Line)
-        → told.old ≡ map printed_line lines
+        → told.entry ≡ map printed_line lines
         → AreSomeTaken T.took T.stopped to.old lines to.new stop) }
 {
-    let mut lines = told.take_some(alloc)?;
-    'some: while !lines.is_empty() {
-        taker.take(alloc, to, lines.as_slice())?;
-        lines = told.take_some(alloc)?;
+    let mut left = told;
+    let mut lines = PrintedLines::new(alloc);
+    while left.take_some(&mut lines)? {
+        taker.take(alloc, to, &lines)?;
     }
     Ok(())
 }
@@ -115,48 +112,4 @@ fn sum_of(count: u32, more: usize) -> Option<u32>
         return None;
     };
     count.checked_add(more)
-}
-
-// The first round of a text that was checked, the number of the line behind it, and what stands from there on.
-fn next_round(
-    alloc: Global,
-    json: bool,
-    text: &str,
-    number: u64,
-) -> Result<Option<(Script, u64, &str)>, NoMemory>
-    requires few { number + length text.now < 2 ^ 64 }
-    requires checked { (items : List Said) × SaysFrom json number text.now items }
-    ensures none { IfOk result (λ next. IfNone next ((items : List Said)
-        → SaysFrom json number text.now items → items ≡ [])) }
-    ensures first { IfOk result (λ next. IfSome next (λ found.
-        BeginsWithRound json number text.now (map seen found.0) found.1 found.2.now)) }
-    ensures some { IfOk result (λ next. IfSome next (λ found. 0 < length (map seen found.0))) }
-    ensures within { IfOk result (λ next. IfSome next (λ found.
-        found.1 + length found.2.now ≤ number + length text.now)) }
-    ensures shorter { IfOk result (λ next. IfSome next (λ found.
-        length found.2.now < length text.now)) }
-{
-    let mut items = Vec::new(alloc);
-    let mut at = number;
-    let mut rest = text;
-    while let Some((item, next, behind)) = next_item(alloc, json, rest, at)? {
-        let last = is_sync(&item);
-        items.push(item)?;
-        if last {
-            return Ok(Some((Script::from_vec(items), next, behind)));
-        }
-        at = next;
-        rest = behind;
-    }
-    if items.is_empty() {
-        return Ok(None);
-    }
-    Ok(Some((Script::from_vec(items), at, rest)))
-}
-
-// Whether an item ends a round.
-fn is_sync(item: &Item) -> bool
-    ensures { result ≡ is_sync (seen item.now) }
-{
-    matches!(item, Item::Sync)
 }

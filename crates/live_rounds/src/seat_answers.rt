@@ -6,48 +6,52 @@ ghost use Rattle.live_rounds.specs.Served.{IsPartServed, IsServedBy};
 ghost use Rattle.live_seat.specs.Decided.{IsStoppedAt};
 ghost use Rattle.perm_value.specs.Seen.{datum};
 ghost use Rattle.regex_gate.specs.Refusals.{IsUsed};
+ghost use Rattle.script_read.specs.ItemLines.{said};
 ghost use Rattle.script_read.specs.Named.{is_named};
-ghost use Rattle.script_read.specs.Said.{asks, reading, reading_of, seen};
+ghost use Rattle.script_read.specs.Readings.{request_read};
+ghost use Rattle.script_read.specs.Said.{asks, reading};
 
 use crate::gate::Gate;
-use answer_lines::{PrintedAnswer, print_answer};
+use crate::replies::keep;
+use answer_lines::{PrintedAnswer, WaitingAnswers, print_answer};
 use decision::{Program, Scratch};
-use desk_session::{Answer, asked_in};
+use desk_session::Answer;
 use live_pair::{Naming, Seat};
 use live_seat::{SeatStop, print_seat};
 use outside::NoMemory;
 use perm_value::{Request, Value};
 use regex_gate::Finder;
-use script_read::{Item, RequestLine, RequestText, read_text, values_of};
+use script_read::{AskedLine, FirstItem, ItemLines, RequestLine, read_asked, values_of};
 use std::alloc::Global;
 use std::mem;
 
-/// Answers the requests among a worker's items at a seat, each in its turn, until an entry is refused. The items stand behind so
-/// many others of the script.
+/// Answers the requests among a worker's items at a seat, each in its turn, until an entry is refused. So many other items of the
+/// script stand before them.
 pub(crate) fn answer_part<J: Naming, P: Finder, G: Gate>(
     alloc: Global,
     seat: &mut Seat<J>,
     program: &Program,
-    items: &[Item],
+    part: ItemLines<'_>,
     finder: &mut P,
     worker: u32,
-    others: u32,
+    before: u32,
     gate: &G,
-) -> Result<Vec<PrintedAnswer>, NoMemory>
+) -> Result<WaitingAnswers, NoMemory>
     requires suits { Suits program.now J.shapes }
     ensures served { IfOk result (λ replies. IsPartServed program.now J.shapes J.opening
-        (map seen items.now) (P.refusals finder.old) (P.refusals finder.new)
-        seat.old seat.new replies.items) }
+        (said part.entry) (P.refusals finder.old) (P.refusals finder.new)
+        seat.old seat.new replies) }
     ensures used { IsUsed (P.refusals finder.old) (P.refusals finder.new) }
 {
     let mut scratch = Scratch::for_program(alloc, program);
     let mut values = Vec::new(alloc);
     let mut printed = String::new(alloc);
-    let mut replies = Vec::with_capacity(alloc, items.len())?;
-    let mut number = others;
-    for item in items {
+    let mut replies = WaitingAnswers::new(alloc);
+    let mut left = part;
+    let mut number = before;
+    while let Some(first) = left.next_told() {
         number = number.saturating_add(1);
-        let Some(text) = asked_in(item) else {
+        let FirstItem::Request(asked) = first else {
             continue;
         };
         gate.pass(worker, number);
@@ -55,13 +59,13 @@ pub(crate) fn answer_part<J: Naming, P: Finder, G: Gate>(
             alloc,
             seat,
             program,
-            text,
+            asked,
             finder,
             &mut scratch,
             &mut values,
             &mut printed,
         ) {
-            Ok(reply) => replies.push(reply)?,
+            Ok(reply) => keep(&mut replies, reply)?,
             Err(SeatStop::Shut) => return Ok(replies),
             Err(SeatStop::NoMemory) => return Err(NoMemory),
         }
@@ -75,7 +79,7 @@ fn answer_asked<J: Naming, P: Finder>(
     alloc: Global,
     seat: &mut Seat<J>,
     program: &Program,
-    text: &RequestText,
+    asked: AskedLine<'_>,
     finder: &mut P,
     scratch: &mut Scratch,
     values: &mut Vec<Value>,
@@ -83,18 +87,18 @@ fn answer_asked<J: Naming, P: Finder>(
 ) -> Result<PrintedAnswer, SeatStop>
     requires suits { Suits program.now J.shapes }
     ensures served { IfOk result (IsServedBy program.now J.shapes J.opening
-        (reading_of text.now) (P.refusals finder.old) (P.refusals finder.new)
+        (request_read asked.entry.json asked.entry.line.now) (P.refusals finder.old) (P.refusals finder.new)
         seat.old seat.new) }
     ensures shut { IsErrOf result SeatStop.Shut → IsStoppedAt
         (P.refusals finder.old) (P.refusals finder.new) seat.old seat.new SeatStop.Shut }
     ensures used { IsUsed (P.refusals finder.old) (P.refusals finder.new) }
 {
     let others = mem::replace(values, Vec::new(alloc));
-    let Ok(asked) = read_text(alloc, others, text) else {
+    let Ok(line) = read_asked(alloc, others, asked) else {
         return Err(SeatStop::NoMemory);
     };
-    let reply = answer_read(alloc, seat, program, &asked, finder, scratch, printed);
-    *values = values_of(alloc, asked);
+    let reply = answer_read(alloc, seat, program, &line, finder, scratch, printed);
+    *values = values_of(alloc, line);
     reply
 }
 
@@ -103,21 +107,21 @@ fn answer_read<J: Naming, P: Finder>(
     alloc: Global,
     seat: &mut Seat<J>,
     program: &Program,
-    asked: &RequestLine,
+    line: &RequestLine,
     finder: &mut P,
     scratch: &mut Scratch,
     printed: &mut String,
 ) -> Result<PrintedAnswer, SeatStop>
     requires suits { Suits program.now J.shapes }
-    requires named { is_named (asks (reading asked.now)) ≡ true }
+    requires named { is_named (asks (reading line.now)) ≡ true }
     ensures served { IfOk result (IsServedBy program.now J.shapes J.opening
-        (reading asked.now) (P.refusals finder.old) (P.refusals finder.new)
+        (reading line.now) (P.refusals finder.old) (P.refusals finder.new)
         seat.old seat.new) }
     ensures shut { IsErrOf result SeatStop.Shut → IsStoppedAt
         (P.refusals finder.old) (P.refusals finder.new) seat.old seat.new SeatStop.Shut }
     ensures used { IsUsed (P.refusals finder.old) (P.refusals finder.new) }
 {
-    match asked {
+    match line {
         RequestLine::Request(request) => {
             judge(alloc, seat, program, request, finder, scratch, printed)
         }

@@ -1,9 +1,9 @@
-ghost use Rattle.std.specs.Prelude.{◌≡◌, IfErr, List, OnOk, map};
-ghost use Rattle.answer_lines.specs.Printed.{printed_line};
+ghost use Rattle.std.specs.Prelude.{IfErr, List, OnOk, map};
+ghost use Rattle.answer_lines.specs.Printed.{ArePrinted, printed_line};
 ghost use Rattle.answer_lines.specs.declared.answer.Line as line;
 ghost use Rattle.live_rounds.specs.declared.taker.TakeStop as declared;
 
-use answer_lines::PrintedLine;
+use answer_lines::PrintedLines;
 use outside::NoMemory;
 use std::alloc::Global;
 
@@ -36,9 +36,9 @@ pub trait Taker<X> {
     ghost stopped: { X → List line.Line → X → declared.TakeStop → Type 0 };
 
     /// Takes lines, which are told as they are printed.
-    fn take(&self, alloc: Global, to: &mut X, lines: &[PrintedLine]) -> Result<(), TakeStop>
-        ensures took { OnOk result ((told : List line.Line) → lines.now ≡ map printed_line told
-            → took to.old told to.new) }
+    fn take(&self, alloc: Global, to: &mut X, lines: &PrintedLines) -> Result<(), TakeStop>
+        ensures took { OnOk result ((told : List line.Line)
+            → ArePrinted (map printed_line told) lines.now → took to.old told to.new) }
         ensures stopped { IfErr result (λ stop. (told : List line.Line)
-            → lines.now ≡ map printed_line told → stopped to.old told to.new stop) };
+            → ArePrinted (map printed_line told) lines.now → stopped to.old told to.new stop) };
 }

@@ -1,19 +1,19 @@
-ghost use Rattle.std.specs.Prelude.{IfOk, List, OnErr, map};
+ghost use Rattle.std.specs.Prelude.{IfOk, List, OnErr};
 ghost use Rattle.decision.specs.Programs.{Suits};
 ghost use Rattle.live_rounds.specs.Administrators.{AreDoneBeside, IsAdminAmid, IsAdminBehind};
 ghost use Rattle.live_rounds.specs.Helps.Posts.{AreServedPosts};
-ghost use Rattle.script_read.specs.Said.{Said, seen};
+ghost use Rattle.live_rounds.specs.Stretches.{items_of};
+ghost use Rattle.script_read.specs.Said.{Said};
 
 use crate::beside::answer_others;
 use crate::gate::Gate;
-use crate::posts::{Post, serve_all, share_program, share_script};
-use crate::requests::count_requests;
-use answer_lines::PrintedAnswer;
+use crate::posts::{Post, serve_all, share_program};
+use crate::stretch::Stretch;
+use answer_lines::WaitingAnswers;
 use decision::Program;
 use live_pair::{Admin, Naming};
 use outside::NoMemory;
 use regex_gate::Finder;
-use script_read::{Item, Script};
 use std::alloc::Global;
 use std::sync::Wait;
 use std::thread::{Threads, join_mut};
@@ -24,39 +24,31 @@ pub(crate) fn work_together<J: Naming + Send + Sync, R: Threads + Wait + Sync, P
     rt: &R,
     alloc: Global,
     program: &Program,
-    script: &Script,
-    items: &[Item],
+    round: &Stretch<'_>,
     gate: &G,
     admin: &mut Admin<J>,
+    parts: &[Stretch<'_>],
     posts: &mut Vec<Post<J, P>>,
-) -> Result<Vec<PrintedAnswer>, NoMemory>
+) -> Result<WaitingAnswers, NoMemory>
     requires suits { Suits program.now J.shapes }
     ensures done { IfOk result (λ replies. (before : List Said)
         → IsAdminBehind J.shapes J.opening before admin.old
-        → AreDoneBeside J.shapes J.opening before (map seen items.now)
-        admin.old admin.new replies.items) }
+        → AreDoneBeside J.shapes J.opening before (items_of round.now)
+        admin.old admin.new replies) }
     ensures stopped { OnErr result ((before : List Said)
         → IsAdminBehind J.shapes J.opening before admin.old
-        → IsAdminAmid J.shapes J.opening before (map seen items.now)
+        → IsAdminAmid J.shapes J.opening before (items_of round.now)
         admin.new) }
-    ensures served { AreServedPosts P.refusals program.now J.shapes J.opening script.now
-        posts.old.items posts.new.items }
+    ensures served { AreServedPosts P.refusals program.now J.shapes J.opening
+        parts.now posts.old.items posts.new.items }
 {
-    let requests = count_requests(items);
+    let items = &round.items;
     let mut beside = || answer_others(rt, alloc, items, gate, admin);
-    if requests == 0 {
-        return in_turn(rt, alloc, program, script, gate, posts, &mut beside);
+    if round.requests == 0 {
+        return in_turn(rt, alloc, program, gate, parts, posts, &mut beside);
     }
-    with_workers(
-        rt,
-        alloc,
-        program,
-        script,
-        gate,
-        posts,
-        requests == 1,
-        &mut beside,
-    )
+    let alone = round.requests == 1;
+    with_workers(rt, alloc, program, gate, parts, posts, alone, &mut beside)
 }
 
 // The posts, and then whatever the caller does, without a thread.
@@ -65,23 +57,23 @@ fn in_turn<
     R: Threads + Wait + Sync,
     P: Finder,
     G: Gate,
-    F: FnMut() -> Result<Vec<PrintedAnswer>, NoMemory>,
+    F: FnMut() -> Result<WaitingAnswers, NoMemory>,
 >(
     rt: &R,
     alloc: Global,
     program: &Program,
-    script: &Script,
     gate: &G,
+    parts: &[Stretch<'_>],
     posts: &mut Vec<Post<J, P>>,
     beside: &mut F,
-) -> Result<Vec<PrintedAnswer>, NoMemory>
+) -> Result<WaitingAnswers, NoMemory>
     requires suits { Suits program.now J.shapes }
     requires called { F.pre beside.old }
     ensures called { F.step beside.old result beside.new }
-    ensures served { AreServedPosts P.refusals program.now J.shapes J.opening script.now
-        posts.old.items posts.new.items }
+    ensures served { AreServedPosts P.refusals program.now J.shapes J.opening
+        parts.now posts.old.items posts.new.items }
 {
-    serve_vec(rt, alloc, program, script, gate, posts, true);
+    serve_vec(rt, alloc, program, gate, parts, posts, true);
     beside()
 }
 
@@ -92,28 +84,26 @@ fn with_workers<
     R: Threads + Wait + Sync,
     P: Finder,
     G: Gate,
-    F: FnMut() -> Result<Vec<PrintedAnswer>, NoMemory>,
+    F: FnMut() -> Result<WaitingAnswers, NoMemory>,
 >(
     rt: &R,
     alloc: Global,
     program: &Program,
-    script: &Script,
     gate: &G,
+    parts: &[Stretch<'_>],
     posts: &mut Vec<Post<J, P>>,
     alone: bool,
     beside: &mut F,
-) -> Result<Vec<PrintedAnswer>, NoMemory>
+) -> Result<WaitingAnswers, NoMemory>
     requires suits { Suits program.now J.shapes }
     requires called { F.pre beside.old }
     ensures called { F.step beside.old result beside.new }
-    ensures served { AreServedPosts P.refusals program.now J.shapes J.opening script.now
-        posts.old.items posts.new.items }
+    ensures served { AreServedPosts P.refusals program.now J.shapes J.opening
+        parts.now posts.old.items posts.new.items }
 {
-    share_program(program);
-    share_script(script);
     let mut workers = ||
         requires { Suits program.now J.shapes }
-    { serve_vec(rt, alloc, program, script, gate, posts, alone) };
+    { serve_vec(rt, alloc, program, gate, parts, posts, alone) };
     let (_, replies) = join_mut(rt, &mut workers, beside);
     replies
 }
@@ -123,22 +113,14 @@ fn serve_vec<J: Naming + Send + Sync, R: Threads + Sync, P: Finder, G: Gate>(
     rt: &R,
     alloc: Global,
     program: &Program,
-    script: &Script,
     gate: &G,
+    parts: &[Stretch<'_>],
     posts: &mut Vec<Post<J, P>>,
     alone: bool,
 )
     requires suits { Suits program.now J.shapes }
-    ensures { AreServedPosts P.refusals program.now J.shapes J.opening script.now
-        posts.old.items posts.new.items }
+    ensures { AreServedPosts P.refusals program.now J.shapes J.opening
+        parts.now posts.old.items posts.new.items }
 {
-    serve_all(
-        rt,
-        alloc,
-        program,
-        script,
-        gate,
-        posts.as_mut_slice(),
-        alone,
-    );
+    serve_all(rt, alloc, program, gate, parts, posts.as_mut_slice(), alone);
 }

@@ -7,11 +7,11 @@ ghost use Rattle.script_read.specs.Script.{IsScript};
 
 use crate::desks::{desk, program};
 use crate::meeting::Meeting;
-use answer_lines::PrintedLine;
+use answer_lines::PrintedLines;
 use decision::Program;
 use live_pair::{PairPlaces, Places};
 use live_rounds::{Gate, TakeStop, Taker, run_shared};
-use outside::{NoMemory, Text};
+use outside::NoMemory;
 use perm_base::Shapes;
 use regex_gate::RegexFinder;
 use script_read::check_script;
@@ -32,10 +32,10 @@ remove p, alice, data1, read
 publish
 ";
 
-// The answer of each line.
+// The lines of a session, as they are printed.
 #[derive(Drop)]
 struct Answers {
-    texts: Vec<Text>,
+    text: Vec<u8>,
 }
 
 // Keeps the answers of lines.
@@ -49,11 +49,9 @@ impl Taker<Answers> for Keeping {
 
     ghost stopped = { λ _ _ _ _. ⊤ };
 
-    fn take(&self, alloc: Global, to: &mut Answers, lines: &[PrintedLine]) -> Result<(), TakeStop> {
-        for line in lines {
-            let text = Text::from_str(alloc, line.answer.text.as_str())?;
-            to.texts.push(text).map_err(NoMemory::from)?;
-        }
+    fn take(&self, _alloc: Global, to: &mut Answers, lines: &PrintedLines) -> Result<(), TakeStop> {
+        let taken = to.text.extend_from_slice(&lines.text);
+        taken.map_err(NoMemory::from)?;
         Ok(())
     }
 }
@@ -139,7 +137,7 @@ fn lines_over<R: Threads + Wait + Sync, G: Gate, H: Places>(
     let desk = desk(alloc, shapes)?;
     let keeping = Keeping;
     let mut answers = Answers {
-        texts: Vec::new(alloc),
+        text: Vec::new(alloc),
     };
     match run_shared(
         rt,
@@ -160,10 +158,12 @@ fn lines_over<R: Threads + Wait + Sync, G: Gate, H: Places>(
     }
 }
 
-// Whether the answer at a place is that before the first publish, or the one behind it.
+// Whether the line at a place, behind its number, is the answer before the first publish, or the one behind it.
 fn is_beside(answers: &Answers, place: usize) -> bool {
-    let Some(text) = answers.texts.get(place) else {
+    let mut lines = answers.text.split(|byte| *byte == b'\n');
+    let Some(line) = lines.nth(place) else {
         return false;
     };
-    text.as_str() == "deny @0 -" || text.as_str() == "allow @1 p#1 alice, data1, read"
+    let told = line.get(2..).unwrap_or(line);
+    told == b"deny @0 -".as_slice() || told == b"allow @1 p#1 alice, data1, read".as_slice()
 }

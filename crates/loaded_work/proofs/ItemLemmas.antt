@@ -1,25 +1,23 @@
 -- How far the items of a script are done and their lines printed.
-use Rattle.std.proofs.Common.{◌≡◌, ℕ, Bool, true, ◌+◌, ◌≤◌, List, [], ◌∷◌, ◌++◌, append-nil, append_assoc, refl, sym, ap, subst, ◌∙◌, arith}
-use Rattle.std.specs.Prelude.{All, Option, String, min, string_bytes}
+use Rattle.std.proofs.Common.{◌≡◌, ℕ, true, ◌+◌, ◌≤◌, List, [], ◌∷◌, ◌++◌, append-nil, append_assoc, refl, sym, ap, subst, ◌∙◌, arith}
+use Rattle.std.specs.Prelude.{Option, String, min, string_bytes}
 use Rattle.std.specs.declared.alloc.Global.{Global}
-use Rattle.std.proofs.lemmas.List.Elements.{All-head, All-tail}
 use Rattle.answer_lines.specs.declared.answer.Line.{Line}
 use Rattle.effect_fold.specs.declared.effect.Effect.TheVariants.{AllowOverride}
-use Rattle.desk_session.proofs.CallerLemmas.{IsUnderWay, logged_more, under_way_more, under_way_none, way_used}
+use Rattle.desk_session.proofs.CallerLemmas.{IsUnderWay, logged_more, request_step, under_way_more, under_way_none, way_used}
 use Rattle.desk_session.specs.Desks.{StandsBehind}
-use Rattle.desk_session.specs.Requests.{Refuses}
+use Rattle.desk_session.specs.Requests.{Refuses, TellsAnswer}
 use Rattle.matcher_read.specs.Expression.{truth}
 use Rattle.model_conf.specs.ModelText.{ModelParts, parts_of}
 use Rattle.outside.specs.Faults.{Rose}
 use Rattle.outside.specs.Told.{with_back, TookFront}
 use Rattle.perm_base.specs.declared.shapes.Shapes.{Shapes}
 use Rattle.policy_desk.specs.Desks.{Work}
+use Rattle.policy_state.specs.States.{State}
 use Rattle.policy_table.specs.Tables.{Policy}
 use Rattle.regex_gate.specs.Refusals.{IsUsed, Refusals, after_refusals}
 use Rattle.run_status.specs.declared.stop.Stop.TheVariants.{CannotWrite, NoMemory}
-use Rattle.script_read.specs.Named.{is_named}
-use Rattle.script_read.specs.Said.{Said}
-use Rattle.script_read.specs.Script.{BeginsWith, IsScript, SaysFrom}
+use Rattle.script_read.specs.Said.{Reading, Said, asks}
 use Rattle.session_meaning.specs.Plain.{IsPlain, all_refused, most_number}
 use Rattle.loaded_work.specs.Finders.{HasRefused}
 use Rattle.loaded_work.specs.Helps.GatheredLines.{AreGathered, Moves}
@@ -128,40 +126,32 @@ module _ (model : ModelParts) (shapes : Shapes) (opening : Policy) where
           stops = stopped_first between.out between.out_now gathered so.lines rest.more between.faults between.faults_now so.told;
         }
 
-  -- ---- the items of a text
+  -- ---- the items of a script
 
-  -- the first items of a script are done, and what is left of its text says the others
-  pub record AreServedOf (json : Bool) (items : List Said) (at : ℕ) (rest : List ℕ) (desk : Work) (number : ℕ) (gathered : List ℕ) (between : Seen) : Type 0 where
+  -- its first items are done, and these are left
+  pub record AreServedOf (items left : List Said) (desk : Work) (number : ℕ) (gathered : List ℕ) (between : Seen) : Type 0 where
     pub done : List Said
-    pub left : List Said
     pub parts : done ++ left ≡ items
-    pub says : SaysFrom json at rest left
     pub served : AreServed done desk number gathered between
 
-  pub served_first : (json : Bool) (script : List ℕ) (items : List Said) (desk : Work) (number : ℕ) (gathered : List ℕ) (between : Seen) → IsScript json script items → AreServed [] desk number gathered between → AreServedOf json items 1 script desk number gathered between
-  served_first json script items desk number gathered between is so = record { done = []; left = items; parts = refl; says = record { reader = is.reader; says = is.says }; served = so }
+  pub served_first : (items left : List Said) (desk : Work) (number : ℕ) (gathered : List ℕ) (between : Seen) → left ≡ items → AreServed [] desk number gathered between → AreServedOf items left desk number gathered between
+  served_first items left desk number gathered between same so = record { done = []; parts = same; served = so }
 
   -- one item more
-  pub served_next : (json : Bool) (items : List Said) (at : ℕ) (rest : List ℕ) (item : Said) (later_at : ℕ) (behind : List ℕ) (desk new : Work) (number next : ℕ) (old text : String Global) (between : Seen) (later : Refusals)
-      → AreServedOf json items at rest desk number (string_bytes old) between → BeginsWith json at rest item later_at behind → next ≡ min (number + 1) most_number → PushesItem model between.now later item next desk new old text → new.state.shapes ≡ desk.state.shapes
-      → AreServedOf json items later_at behind new next (string_bytes text) (seen_later between later)
-  served_next json items at rest item later_at behind desk new number next old text between later so begins next-is pushed same =
-      let first = begins so.left so.says in
-      record {
-        done = so.done ++ item ∷ [];
-        left = first.0;
-        parts = append_assoc so.done (item ∷ []) first.0 ∙ ap (λ (l : List Said). so.done ++ l) (sym first.1) ∙ so.parts;
-        says = first.2;
-        served = served_more so.done item desk new number next old text between later so.served next-is pushed same;
-      }
+  pub served_next : (items left rest : List Said) (item : Said) (desk new : Work) (number next : ℕ) (old text : String Global) (between : Seen) (later : Refusals)
+      → AreServedOf items left desk number (string_bytes old) between → left ≡ item ∷ rest → next ≡ min (number + 1) most_number → PushesItem model between.now later item next desk new old text → new.state.shapes ≡ desk.state.shapes
+      → AreServedOf items rest new next (string_bytes text) (seen_later between later)
+  served_next items left rest item desk new number next old text between later so begins next-is pushed same = record {
+    done = so.done ++ item ∷ [];
+    parts = append_assoc so.done (item ∷ []) rest ∙ ap (λ (l : List Said). so.done ++ l) (sym begins) ∙ so.parts;
+    served = served_more so.done item desk new number next old text between later so.served next-is pushed same;
+  }
 
-  pub served_on : (json : Bool) (items : List Said) (at : ℕ) (rest : List ℕ) (desk : Work) (number : ℕ) (gathered still : List ℕ) (between : Seen) (now : Option (List ℕ)) (faults : ℕ) → AreServedOf json items at rest desk number gathered between → Moves between.out_now now gathered still → between.faults_now ≤ faults
-      → AreServedOf json items at rest desk number still (seen_pushed between now faults)
-  served_on json items at rest desk number gathered still between now faults so moved counted = record {
+  pub served_on : (items left : List Said) (desk : Work) (number : ℕ) (gathered still : List ℕ) (between : Seen) (now : Option (List ℕ)) (faults : ℕ) → AreServedOf items left desk number gathered between → Moves between.out_now now gathered still → between.faults_now ≤ faults
+      → AreServedOf items left desk number still (seen_pushed between now faults)
+  served_on items left desk number gathered still between now faults so moved counted = record {
     done = so.done;
-    left = so.left;
     parts = so.parts;
-    says = so.says;
     served = served_moved so.done desk number gathered still between now faults so.served moved counted;
   }
 
@@ -169,11 +159,11 @@ module _ (model : ModelParts) (shapes : Shapes) (opening : Policy) where
 pub all_done : (done left items : List Said) → done ++ left ≡ items → left ≡ [] → done ≡ items
 all_done done left items parts none = sym (append-nil done) ∙ ap (λ (l : List Said). done ++ l) (sym none) ∙ parts
 
--- an item among those that have names
-pub named_first : (done left others items : List Said) (item : Said) → done ++ left ≡ items → left ≡ item ∷ others → All (λ (said : Said). is_named said ≡ true) items → is_named item ≡ true
-named_first [] left others items item parts begins all = All-head (λ (said : Said). is_named said ≡ true) item others (subst (All (λ (said : Said). is_named said ≡ true)) (sym parts ∙ begins) all)
-named_first (first ∷ done) left others items item parts begins all =
-    named_first done left others (done ++ left) item refl begins (All-tail (λ (said : Said). is_named said ≡ true) first (done ++ left) (subst (All (λ (said : Said). is_named said ≡ true)) (sym parts) all))
+-- an item that is a request is told
+pub asked_pushed : (model : ModelParts) (before now : Refusals) (state : State) (reading : Reading) (item : Said) (desk : Work) (number : ℕ) (old new : String Global) → state ≡ desk.state → item ≡ asks reading → TellsAnswer model state before now reading number old new → PushesItem model before now item number desk desk old new
+asked_pushed model before now state reading item desk number old new state-is is told =
+    subst (λ (i : Said). PushesItem model before now i number desk desk old new) (sym is)
+    (record { reply = told.reply; step = request_step model before now desk state state-is reading told.reply told.answered; appended = told.appended })
 
 -- a model and refusals for what is so of all of them
 pub any_model : ModelParts

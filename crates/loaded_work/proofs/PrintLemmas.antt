@@ -1,12 +1,11 @@
 -- How far the requests of an input are answered and their lines printed.
-use Rattle.std.proofs.Common.{◌≡◌, ℕ, zero, suc, ◌+◌, ◌<◌, ◌≤◌, Bool, List, [], ◌∷◌, ◌++◌, append_assoc, append-nil, drop, get_or, length, map, take, refl, sym, ap, subst, ◌∙◌, arith}
+use Rattle.std.proofs.Common.{◌≡◌, ℕ, ◌+◌, ◌≤◌, Bool, List, [], ◌∷◌, ◌++◌, append_assoc, append-nil, map, refl, sym, ap, subst, ◌∙◌, arith}
 use Rattle.std.specs.Prelude.{Option, IsUtf8, String, min, string_bytes}
 use Rattle.std.specs.declared.alloc.Global.{Global}
-use Rattle.std.proofs.lemmas.List.{drop_all, length-map}
-use Rattle.answer_lines.specs.LineText.{line_text, numbered}
-use Rattle.answer_lines.specs.Printed.{printed_line}
+use Rattle.answer_lines.specs.LineText.{line_text}
+use Rattle.answer_lines.specs.Printed.{ArePrinted, printed_line, text_of}
 use Rattle.answer_lines.specs.declared.answer.Line.{Line}
-use Rattle.answer_lines.specs.declared.printed.PrintedLine.{PrintedLine}
+use Rattle.answer_lines.specs.declared.printed_lines.PrintedLines.{PrintedLines}
 use Rattle.desk_session.proofs.CallerLemmas.{IsUnderWay, alone, alone_before, logged_more, request_step, under_way_more, under_way_none, way_used}
 use Rattle.desk_session.specs.Requests.{Refuses}
 use Rattle.model_conf.specs.ModelText.{ModelParts}
@@ -184,59 +183,19 @@ module _ {json : Bool} (law : HasVerdicts) (run : Run json) (text : List ℕ) (l
         stops = (stopped_front seen.out seen.out_now now gathered so.lines rest.more seen.faults seen.faults_now so.told front, omega (arith, so.told.counted, rose));
       }
 
--- ---- lines that are there
-
--- the lines up to those that are left were pushed or are gathered
-pub record IsMidway (before now : Option (List ℕ)) (gathered : List ℕ) (all left : List Line) (faults faults_now : ℕ) : Type 0 where
-  pub so_far : List Line
-  pub told : AreGathered before now gathered so_far faults faults_now
-  pub parts : all ≡ so_far ++ left
-
-pub lines_none : (before : Option (List ℕ)) (gathered : List ℕ) (all : List Line) (faults : ℕ) → gathered ≡ [] → IsMidway before before gathered all all faults faults
-lines_none before gathered all faults none = record { so_far = []; told = gathered_none before gathered faults none; parts = refl }
-
--- one more line
-pub lines_more : (before now : Option (List ℕ)) (gathered more : List ℕ) (all left rest : List Line) (line : Line) (a b : ℕ) → IsMidway before now gathered all left a b → left ≡ line ∷ rest → more ≡ gathered ++ line_text line → IsMidway before now more all rest a b
-lines_more before now gathered more all left rest line a b so begins more-is = record {
-  so_far = so.so_far ++ line ∷ [];
-  told = gathered_more before now gathered more so.so_far line a b so.told more-is;
-  parts = so.parts ∙ ap (λ (lines : List Line). so.so_far ++ lines) begins ∙ sym (append_assoc so.so_far (line ∷ []) rest);
-}
-
-pub lines_moved : (before mid now : Option (List ℕ)) (gathered still : List ℕ) (all left : List Line) (a b c : ℕ) → IsMidway before mid gathered all left a b → Moves mid now gathered still → b ≤ c → IsMidway before now still all left a c
-lines_moved before mid now gathered still all left a b c so moved counted = record { so_far = so.so_far; told = gathered_moved before mid now gathered still so.so_far a b c so.told moved counted; parts = so.parts }
-
-pub lines_all : (before mid now : Option (List ℕ)) (gathered : List ℕ) (all left : List Line) (a b : ℕ) → IsMidway before mid gathered all left a b → left ≡ [] → now ≡ with_back mid gathered → now ≡ with_back before (text_of_lines all)
-lines_all before mid now gathered all left a b so none took =
-    let whole : so.so_far ≡ all = sym (so.parts ∙ ap (λ (lines : List Line). so.so_far ++ lines) none ∙ append-nil so.so_far) in
-    all_pushed before mid now gathered so.so_far a b so.told took ∙ ap (λ (lines : List Line). with_back before (text_of_lines lines)) whole
-
-pub lines_first : (before now : Option (List ℕ)) (gathered : List ℕ) (all left : List Line) (a b : ℕ) → IsMidway before now gathered all left a b → (count : ℕ) × (now ≡ with_back before (text_of_lines (take count all)))
-lines_first before now gathered all left a b so =
-    subst (λ (lines : List Line). (count : ℕ) × (now ≡ with_back before (text_of_lines (take count lines)))) (sym so.parts) (stopped_first before now gathered so.so_far left a b so.told)
-
-pub lines_stopped : (before mid now : Option (List ℕ)) (gathered : List ℕ) (all left : List Line) (a b c : ℕ) → IsMidway before mid gathered all left a b → TookFront mid now gathered → Rose b c → TookFront before now (text_of_lines all) × Rose a c
-lines_stopped before mid now gathered all left a b c so front rose =
-    (subst (λ (lines : List Line). TookFront before now (text_of_lines lines)) (sym so.parts) (stopped_front before mid now gathered so.so_far left a b so.told front), omega (arith, so.told.counted, rose))
-
 -- ---- lines that are printed already
 
--- the next of the lines that are told
-told_next : (printed : List PrintedLine) (told : List Line) (n : ℕ) (item : PrintedLine) → printed ≡ map printed_line told → n < length printed → item ≡ get_or printed n item → (line : Line) × (item ≡ printed_line line) × (drop n told ≡ line ∷ drop (n + 1) told)
-told_next [] told n item same within is = absurd (omega (arith, within))
-told_next (p ∷ printed) [] n item same within is = absurd (omega (arith, ap (λ (l : List PrintedLine). length l) same))
-told_next (p ∷ printed) (line ∷ told) zero item same within is = (line, is ∙ ap (λ (l : List PrintedLine). get_or l 0 item) same, refl)
-told_next (p ∷ printed) (line ∷ told) (suc n) item same within is =
-    let next = told_next printed told n item (ap (λ (l : List PrintedLine). drop 1 l) same) (omega (arith, within)) is in
-    let place : suc n + 1 ≡ suc (n + 1) = omega arith in
-    (next.0, next.1, next.2 ∙ ap (λ (k : ℕ). next.0 ∷ drop k (line ∷ told)) (sym place))
+-- their text
+pub text_told : (told : List Line) → text_of (map printed_line told) ≡ text_of_lines told
+text_told [] = refl
+text_told (line ∷ told) = ap (λ (t : List ℕ). line_text line ++ t) (text_told told)
 
-pub printed_line_more : (before now : Option (List ℕ)) (gathered more : List ℕ) (printed : List PrintedLine) (told : List Line) (n : ℕ) (item : PrintedLine) (a b : ℕ) → printed ≡ map printed_line told → n < length printed → item ≡ get_or printed n item
-    → IsMidway before now gathered told (drop n told) a b → more ≡ gathered ++ numbered item.number item.answer.text → IsMidway before now more told (drop (n + 1) told) a b
-printed_line_more before now gathered more printed told n item a b same within is so more-is =
-    let next = told_next printed told n item same within is in
-    lines_more before now gathered more told (drop n told) (drop (n + 1) told) next.0 a b so next.2 (more-is ∙ ap (λ (p : PrintedLine). gathered ++ numbered p.number p.answer.text) next.1)
+printed_text : (told : List Line) (printed : PrintedLines) → ArePrinted (map printed_line told) printed → printed.text.items ≡ text_of_lines told
+printed_text told printed are = are.text ∙ text_told told
 
-pub printed_all_lines : (before mid now : Option (List ℕ)) (gathered : List ℕ) (printed : List PrintedLine) (told : List Line) (n a b : ℕ) → printed ≡ map printed_line told → length printed ≤ n → IsMidway before mid gathered told (drop n told) a b → now ≡ with_back mid gathered → now ≡ with_back before (text_of_lines told)
-printed_all_lines before mid now gathered printed told n a b same past so took =
-    lines_all before mid now gathered told (drop n told) a b so (drop_all n told (omega (arith, past, ap (λ (l : List PrintedLine). length l) same, length-map told printed_line))) took
+-- and of bytes that are their text, as far as they were pushed
+pub printed_whole : (before now : Option (List ℕ)) (bytes : List ℕ) (told : List Line) (printed : PrintedLines) → bytes ≡ printed.text.items → ArePrinted (map printed_line told) printed → now ≡ with_back before bytes → now ≡ with_back before (text_of_lines told)
+printed_whole before now bytes told printed is are took = took ∙ ap (λ (t : List ℕ). with_back before t) (is ∙ printed_text told printed are)
+
+pub printed_front : (before now : Option (List ℕ)) (bytes : List ℕ) (told : List Line) (printed : PrintedLines) → bytes ≡ printed.text.items → ArePrinted (map printed_line told) printed → TookFront before now bytes → TookFront before now (text_of_lines told)
+printed_front before now bytes told printed is are front = subst (λ (t : List ℕ). TookFront before now t) (is ∙ printed_text told printed are) front

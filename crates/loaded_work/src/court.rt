@@ -110,7 +110,8 @@ pub fn next_number(number: u32) -> u32
     number.saturating_add(1)
 }
 
-// Appends the line of the request with this number. Its values take the place of others, and stand there afterwards.
+// Appends the line of the request with this number. It is read over the values that are lent, for the sake of their memory; which
+// stand there afterwards is not said.
 fn push_answer<P: Finder>(
     alloc: Global,
     text: &mut String,

@@ -1,8 +1,9 @@
 ghost use Rattle.std.specs.Prelude.{◌≡◌, ◌≤◌, IfErr, List, None, OnErr, OnOk, [], false, map, true};
-ghost use Rattle.answer_lines.specs.Printed.{printed_line};
+ghost use Rattle.answer_lines.specs.Printed.{ArePrinted, printed_line};
 ghost use Rattle.answer_lines.specs.declared.answer.Line as line;
 ghost use Rattle.outside.specs.Faults.{Rose};
 ghost use Rattle.outside.specs.Told.{with_back};
+ghost use Rattle.script_read.specs.ItemLines.{IsBuiltAs};
 ghost use Rattle.script_read.specs.Named.{is_named};
 ghost use Rattle.script_read.specs.Said.{Said, seen};
 ghost use Rattle.script_read.specs.Script.{IsScript};
@@ -24,16 +25,16 @@ use crate::court::next_number;
 use crate::gather::push_full;
 use crate::loaded::Loaded;
 use crate::opened::open_loaded;
-use answer_lines::{PrintedLine, push_line, push_printed};
+use answer_lines::{PrintedLines, push_line};
 use decision::{Program, Scratch};
-use desk_session::{Line, answer_other, asked_in, push_asked};
+use desk_session::{Line, answer_other, push_asked};
 use matcher_meaning::case_verdict_is_there;
 use outside::{NoMemory, Sink, push_all};
 use perm_value::Value;
 use policy_desk::{Desk, open_desk};
 use regex_gate::Finder;
 use run_status::Stop;
-use script_read::{Item, items_are_named, next_item};
+use script_read::{BuiltItem, Item, item_lines};
 use session_meaning::replies_are_printable;
 use std::alloc::Global;
 
@@ -85,14 +86,12 @@ fn print_items<K: Sink, P: Finder>(
 {
     desk.holds();
     case_verdict_is_there();
-    items_are_named();
     let mut scratch = Scratch::for_program(alloc, program);
     let mut text = String::new(alloc);
     let mut values = Vec::new(alloc);
     let mut number = 0;
-    let mut at = 1;
-    let mut rest = script;
-    while let Some((item, next, behind)) = next_item(alloc, json, rest, at)? {
+    let mut left = item_lines(json, script, 1);
+    while let Some(built) = left.next_built(alloc)? {
         number = next_number(number);
         push_item(
             alloc,
@@ -100,15 +99,12 @@ fn print_items<K: Sink, P: Finder>(
             number,
             desk,
             program,
-            &item,
+            built,
             finder,
             &mut scratch,
             &mut values,
         )?;
         push_full(out, &mut text)?;
-        drop(item);
-        at = next;
-        rest = behind;
     }
     push_all(out, text.as_bytes())?;
     Ok(())
@@ -122,28 +118,34 @@ fn push_item<P: Finder>(
     number: u32,
     desk: &mut Desk,
     program: &Program,
-    item: &Item,
+    built: BuiltItem<'_>,
     finder: &mut P,
     scratch: &mut Scratch,
     values: &mut Vec<Value>,
 ) -> Result<(), NoMemory>
     requires suits { Suits program.now desk.old.state.shapes }
     requires stands { (opening : Policy) × (before : List Said) × StandsBehind opening before desk.old }
-    requires has_name { is_named (seen item.now) ≡ true }
-    ensures pushed { OnOk result (PushesItem program.now
-        (P.refusals finder.old) (P.refusals finder.new) (seen item.now) number
+    requires kind { (item : Said) × IsBuiltAs built item }
+    ensures pushed { OnOk result ((item : Said) → IsBuiltAs built.entry item
+        → PushesItem program.now (P.refusals finder.old) (P.refusals finder.new) item number
         desk.old desk.new text.old text.new) }
     ensures shapes { desk.new.state.shapes ≡ desk.old.state.shapes }
-    ensures refused { OnErr result (Refuses program.now
-        (P.refusals finder.old) (P.refusals finder.new) (seen item.now)) }
+    ensures refused { OnErr result ((item : Said) → IsBuiltAs built.entry item
+        → Refuses program.now (P.refusals finder.old) (P.refusals finder.new) item) }
 {
-    let Some(asked) = asked_in(item) else {
-        return push_other(alloc, text, number, desk, item);
-    };
-    let state = desk.state();
-    push_asked(
-        alloc, text, number, state, program, asked, finder, scratch, values,
-    )
+    match built {
+        BuiltItem::Request(asked) => {
+            let state = desk.state();
+            push_asked(
+                alloc, text, number, state, program, asked, finder, scratch, values,
+            )
+        }
+        BuiltItem::Other(item) => {
+            let pushed = push_other(alloc, text, number, desk, &item);
+            drop(item);
+            pushed
+        }
+    }
 }
 
 // The same for an item that is no request.
@@ -168,19 +170,16 @@ fn push_other(
 }
 
 /// Pushes lines that were printed.
-pub fn print_lines<K: Sink>(alloc: Global, out: &mut K, lines: &[PrintedLine]) -> Result<(), Stop>
-    ensures printed { OnOk result ((told : List line.Line) → lines.now ≡ map printed_line told
+pub fn print_lines<K: Sink>(out: &mut K, lines: &PrintedLines) -> Result<(), Stop>
+    ensures printed { OnOk result ((told : List line.Line)
+        → ArePrinted (map printed_line told) lines.now
         → K.taken out.new ≡ with_back (K.taken out.old) (text_of_lines told)) }
     ensures stopped { IfErr result (λ stop. (told : List line.Line)
-        → lines.now ≡ map printed_line told → LinesStop (K.taken out.old) (K.taken out.new)
+        → ArePrinted (map printed_line told) lines.now
+        → LinesStop (K.taken out.old) (K.taken out.new)
         told (Rose (K.faults out.old) (K.faults out.new)) stop) }
     ensures counted { K.faults out.old ≤ K.faults out.new }
 {
-    let mut text = String::new(alloc);
-    for line in lines {
-        push_printed(&mut text, line)?;
-        push_full(out, &mut text)?;
-    }
-    push_all(out, text.as_bytes())?;
+    push_all(out, lines.text.as_slice())?;
     Ok(())
 }

@@ -8,5 +8,6 @@ pub mod BlockLemmas
 pub mod ScriptLemmas
 pub mod WalkLemmas
 pub mod PairLemmas
-mod NamedLemmas
+pub mod NamedLemmas
+pub mod ItemLemmas
 pub mod CallerLemmas

@@ -42,31 +42,31 @@ use Rattle.script_read.specs.Named.{has_name, is_named, is_request_told}
 -- ---- steps over results
 
 -- a value has it, if there is one
-abbrev Gives : {X E : Type 0} → (X → Type 0) → Result X E → Type 0
+abbrev pub Gives : {X E : Type 0} → (X → Type 0) → Result X E → Type 0
 Gives Has (Ok x) = Has x
 Gives Has (Err e) = ⊤
 
-step_gives : {X Y E : Type 0} (Has : X → Type 0) (Had : Y → Type 0) (r : Result X E) (next : X → Result Y E) → Gives Has r → ((x : X) → Has x → Gives Had (next x)) → Gives Had (followed r next)
+pub step_gives : {X Y E : Type 0} (Has : X → Type 0) (Had : Y → Type 0) (r : Result X E) (next : X → Result Y E) → Gives Has r → ((x : X) → Has x → Gives Had (next x)) → Gives Had (followed r next)
 step_gives Has Had (Ok x) next has on = on x has
 step_gives Has Had (Err e) next has on = tt
 
-map_gives : {X Y E : Type 0} (Has : X → Type 0) (Had : Y → Type 0) (r : Result X E) (f : X → Y) → Gives Has r → ((x : X) → Has x → Had (f x)) → Gives Had (mapped f r)
+pub map_gives : {X Y E : Type 0} (Has : X → Type 0) (Had : Y → Type 0) (r : Result X E) (f : X → Y) → Gives Has r → ((x : X) → Has x → Had (f x)) → Gives Had (mapped f r)
 map_gives Has Had (Ok x) f has on = on x has
 map_gives Has Had (Err e) f has on = tt
 
-anything : {X E : Type 0} (r : Result X E) → Gives (λ (x : X). ⊤) r
+pub anything : {X E : Type 0} (r : Result X E) → Gives (λ (x : X). ⊤) r
 anything (Ok x) = tt
 anything (Err e) = tt
 
-line_gives : {X : Type 0} (Has : X → Type 0) (number : ℕ) (r : Result X LineCause) → Gives Has r → Gives Has (at_line number r)
+pub line_gives : {X : Type 0} (Has : X → Type 0) (number : ℕ) (r : Result X LineCause) → Gives Has r → Gives Has (at_line number r)
 line_gives Has number (Ok x) has = has
 line_gives Has number (Err why) has = tt
 
-choice_gives : {X E : Type 0} (Has : X → Type 0) (test : Bool) (r s : Result X E) → Gives Has r → Gives Has s → Gives Has (if test then r else s)
+pub choice_gives : {X E : Type 0} (Has : X → Type 0) (test : Bool) (r s : Result X E) → Gives Has r → Gives Has s → Gives Has (if test then r else s)
 choice_gives Has true r s p q = p
 choice_gives Has false r s p q = q
 
-alone_gives : {X : Type 0} (Has : X → Type 0) (fields : FieldReader) (it : X) (arguments : List ℕ) → Has it → Gives Has (alone fields it arguments)
+pub alone_gives : {X : Type 0} (Has : X → Type 0) (fields : FieldReader) (it : X) (arguments : List ℕ) → Has it → Gives Has (alone fields it arguments)
 alone_gives Has fields it [] has = has
 alone_gives {X} Has fields it (byte ∷ bytes) has = step_gives {Y = X} (λ (found : Fields). ⊤) Has (fields (byte ∷ bytes)) (λ _. Err cause.Fields) (anything (fields (byte ∷ bytes))) (λ found _. tt)
 
@@ -75,7 +75,7 @@ alone_gives {X} Has fields it (byte ∷ bytes) has = step_gives {Y = X} (λ (fou
 abbrev Named : TableId → Type 0
 Named table = has_name table ≡ true
 
-abbrev ItemNamed : Said → Type 0
+abbrev pub ItemNamed : Said → Type 0
 ItemNamed item = is_named item ≡ true
 
 table_gives : (name : List ℕ) → Gives Named (table_of name)
@@ -286,7 +286,7 @@ module _ (json : Bool) (reader : Reader json) where
   told : (line : List ℕ) → ReadingTold (reader.request line)
   told line = reading_told json line (reader.request line) (reader.says line)
 
-  part_named : (part : Part) → Gives ItemNamed (part_item reader.fields reader.request part)
+  pub part_named : (part : Part) → Gives ItemNamed (part_item reader.fields reader.request part)
   part_named (single line) = line_gives ItemNamed (given_number line.number) (line_item reader.fields reader.request line.text) (line_named reader.fields reader.request told line.text)
   part_named (block begin inside end) =
       map_gives CallNamed ItemNamed (block_call reader.fields begin inside end) (λ (it : Call). said.edits it) (block_named reader.fields begin inside end) (λ it has. has)

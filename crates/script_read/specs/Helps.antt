@@ -1,3 +1,4 @@
 -- What only private functions and proofs say.
 pub mod Given
 pub mod Ends
+pub mod Checked

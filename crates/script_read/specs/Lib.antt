@@ -8,3 +8,4 @@ pub mod Blocks
 pub mod Script
 pub mod Helps
 pub mod Named
+pub mod ItemLines

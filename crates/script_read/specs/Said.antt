@@ -1,5 +1,5 @@
 -- What items say. A request shows its data, or why the line is none.
-use Rattle.std.specs.Prelude.{ℕ, List, map, Option, Ok, Err}
+use Rattle.std.specs.Prelude.{ℕ, Bool, true, false, List, map, Option, Ok, Err}
 use Rattle.edit_calls.specs.declared.call.Call.{Call}
 use Rattle.perm_base.specs.declared.shapes.TableId.{TableId}
 use Rattle.perm_value.specs.Seen.{datum}
@@ -45,3 +45,13 @@ seen (item.Roles relation name domain) = roles relation name domain
 seen (item.Users relation name domain) = users relation name domain
 seen (item.Keep count) = keeps count
 seen (item.History number) = recalls number
+
+-- ---- kinds of items
+
+abbrev pub is_request : Said → Bool
+is_request (asks reading) = true
+is_request _ = false
+
+abbrev pub is_sync : Said → Bool
+is_sync syncs = true
+is_sync _ = false

@@ -12,6 +12,7 @@ mod line_item;
 mod lines;
 mod reader;
 mod requests;
+mod said_lines;
 mod script;
 mod walk;
 mod word;
@@ -25,8 +26,9 @@ pub use laws::{
 };
 pub use reader::read_script;
 pub use requests::{
-    next_request, read_line_over, read_request, read_request_over, read_text, values_of,
+    next_request, read_asked, read_line_over, read_request, read_request_over, read_text, values_of,
 };
+pub use said_lines::{AskedLine, BuiltItem, FirstItem, ItemLines, item_lines};
 pub use script::Script;
 pub use walk::{check_script, next_item};
 pub use word::{begins_block, ends_block};

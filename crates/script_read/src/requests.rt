@@ -8,6 +8,7 @@ ghost use Rattle.script_read.specs.Named.{is_named};
 ghost use Rattle.script_read.specs.Said.{asks, reading, reading_of};
 
 use crate::item::{RequestLine, RequestText};
+use crate::said_lines::AskedLine;
 use outside::{LineText, NoMemory};
 use perm_value::{Request, RequestFault, Value, request_of_json, request_over_fields};
 use std::alloc::Global;
@@ -74,6 +75,19 @@ pub fn read_text(
     ensures named { IfOk result (λ asked. is_named (asks (reading asked)) ≡ true) }
 {
     read_line_over(alloc, others, text.json, text.line.as_str())
+}
+
+/// Reads the request of a line of a script, as `read_text` says it.
+pub fn read_asked(
+    alloc: Global,
+    others: Vec<Value>,
+    asked: AskedLine<'_>,
+) -> Result<RequestLine, NoMemory>
+    ensures read { IfOk result (λ line. reading line
+        ≡ request_read asked.entry.json asked.entry.line.now) }
+    ensures named { IfOk result (λ line. is_named (asks (reading line)) ≡ true) }
+{
+    read_line_over(alloc, others, asked.json, asked.line)
 }
 
 /// What the line of a request asks, or why it is none. Its values take the place of others, where they are fields.

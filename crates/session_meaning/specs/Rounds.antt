@@ -1,21 +1,18 @@
 -- The lines of a script whose requests are answered by workers, beside the one thread that does all other items in their order. A
 -- script is cut into rounds, and the requests of each round are shared out among the workers.
-use Rattle.std.specs.Prelude.{◌≡◌, ℕ, zero, suc, ◌+◌, ◌/◌, ⊤, All, Bool, true, false, List, [], ◌∷◌, ◌++◌, length, take, drop, if◌then◌else◌}
+use Rattle.std.specs.Prelude.{◌≡◌, ℕ, zero, suc, ◌+◌, ◌/◌, ⊤, All, List, [], ◌∷◌, ◌++◌, length, take, drop, if◌then◌else◌}
 use Rattle.std.specs.List.Sorted.{IsNonDecreasing}
 use Rattle.answer_lines.specs.declared.answer.Line.{Line}
 use Rattle.model_conf.specs.ModelText.{ModelParts}
 use Rattle.perm_base.specs.declared.shapes.Shapes.{Shapes}
 use Rattle.policy_table.specs.Tables.{Policy}
 use Rattle.script_read.specs.Said.{Said}
+pub use Rattle.script_read.specs.Said.{is_sync}
 use Rattle.script_read.specs.Said as said
 use Rattle.session_meaning.specs.Plain.{IsLineAt}
 use Rattle.session_meaning.specs.Versions.{out, tables_at}
 
 -- ---- rounds and shares
-
-abbrev pub is_sync : Said → Bool
-is_sync said.syncs = true
-is_sync _ = false
 
 -- an item at the front of the first round
 abbrev pub onto_first : Said → List (List Said) → List (List Said)

@@ -1,6 +1,9 @@
 -- Requests that are answered over one policy.
-use Rattle.std.specs.Prelude.{◌≡◌, ℕ, ⊤, false, List, [], ◌∷◌, ◌++◌, drop, length, take}
+use Rattle.std.specs.Prelude.{◌≡◌, ℕ, ⊤, false, List, [], ◌∷◌, ◌++◌, drop, length}
+use Rattle.answer_lines.specs.Printed.{printed_answer}
+use Rattle.answer_lines.specs.declared.answer.Answer.{Answer}
 use Rattle.answer_lines.specs.declared.printed.PrintedAnswer.{PrintedAnswer}
+use Rattle.desk_session.specs.Requests.{IsAnsweredBy}
 use Rattle.model_conf.specs.ModelText.{ModelParts}
 use Rattle.perm_base.specs.declared.shapes.Shapes.{Shapes}
 use Rattle.policy_state.specs.States.{State, tables}
@@ -33,6 +36,12 @@ pub record AddsAnswered (model : ModelParts) (state : State) (before now : Refus
   pub logged : now ≡ after_refusals before (all_refused refused)
   pub answered : AreAnsweredOver model state.shapes (versions state.log) (tables state) refused replies readings
 
+-- one of them, whose reply stands behind others
+pub record IsAnsweredBehind (model : ModelParts) (state : State) (before now : Refusals) (reading : Reading) (old new : List PrintedAnswer) : Type 0 where
+  pub answer : Answer
+  pub answered : IsAnsweredBy model state before now reading answer
+  pub added : new ≡ old ++ printed_answer answer ∷ []
+
 -- ---- parts one after the other
 
 -- what is kept for the first part, and for the others: nothing where there is none
@@ -45,13 +54,15 @@ others_kept [] = []
 others_kept (kept ∷ others) = others
 
 module _ (model : ModelParts) (state : State) where
-  -- behind other replies stand those to the requests of a part: what is kept, and for the others what they are answered over a policy
-  pub record IsShared (part : List Said) (kept : List PrintedAnswer) (before now : Refusals) (old new : List PrintedAnswer) : Type 0 where
-    pub adds : AddsAnswered model state before now (drop (length kept) (requests part)) (old ++ kept) new
+  -- the replies to the requests of parts, part by part: what is kept, and for the others what they are answered over a policy
+  abbrev pub AreShared : List (List Said) → (kept : List (List PrintedAnswer)) → (before now : Refusals) → List (List PrintedAnswer) → Type 0
+  AreShared [] kept before now [] = now ≡ before
+  AreShared (part ∷ parts) kept before now (replies ∷ others) =
+      (mid : Refusals) × AddsAnswered model state before mid (drop (length (first_kept kept)) (requests part)) (first_kept kept) replies × AreShared parts (others_kept kept) mid now others
+  AreShared _ kept before now _ = ⊥
 
-  -- the same for parts of these sizes
-  abbrev pub AreShared : List Said → List ℕ → List (List PrintedAnswer) → (before now : Refusals) → (old new : List PrintedAnswer) → Type 0
-  AreShared items [] kept before now old new = (now ≡ before) × (new ≡ old)
-  AreShared items (size ∷ sizes) kept before now old new =
-      (mid : Refusals) × (more : List PrintedAnswer) × IsShared (take size items) (first_kept kept) before mid old more
-      × AreShared (drop size items) sizes (others_kept kept) mid now more new
+  -- they stand behind those of other parts
+  pub record AddsShared (parts : List (List Said)) (kept : List (List PrintedAnswer)) (before now : Refusals) (old new : List (List PrintedAnswer)) : Type 0 where
+    pub more : List (List PrintedAnswer)
+    pub added : new ≡ old ++ more
+    pub shared : AreShared parts kept before now more

@@ -1,15 +1,37 @@
--- One item of a round whose lines are put together.
-use Rattle.std.specs.Prelude.{◌≡◌, ℕ, suc, Bool, List, [], ◌∷◌}
+-- Lines of a round that are put together one after the other.
+use Rattle.std.specs.Prelude.{◌≡◌, ◌<◌, ℕ, Bool, true, false, List, [], ◌∷◌, ◌++◌, length}
+use Rattle.answer_lines.specs.Printed.{AddsLine, ArePrinted, IsTakenOut, PrintedLine}
 use Rattle.answer_lines.specs.declared.printed.PrintedAnswer.{PrintedAnswer}
-use Rattle.live_rounds.specs.Merged.{line_behind, merged}
-use Rattle.desk_session.specs.Steps.{is_request}
-use Rattle.script_read.specs.Said.{Said}
+use Rattle.answer_lines.specs.declared.printed_lines.PrintedLines.{PrintedLines}
+use Rattle.live_rounds.specs.Shares.{in_turn}
 
--- there is no reply to the next item, which is a request or not, and so no line
-abbrev pub IsMergedOut : Bool → (asked others : List PrintedAnswer) → Type 0
-IsMergedOut asks asked others = (count : ℕ) (item : Said) (items : List Said) → is_request item ≡ asks → merged count (item ∷ items) asked others ≡ []
+-- the next reply to an item that is a request or not, if there is one, is printed behind other lines
+abbrev pub IsNextPrinted : (some asks : Bool) (number : ℕ) (asked left_asked others left_others : List PrintedAnswer) → (before after : PrintedLines) → Type 0
+IsNextPrinted some true number asked left_asked others left_others before after = IsTakenOut some number asked left_asked before after × (left_others ≡ others)
+IsNextPrinted some false number asked left_asked others left_others before after = IsTakenOut some number others left_others before after × (left_asked ≡ asked)
 
--- this is the reply to the next item, and these are left
-abbrev pub IsMergedOn : Bool → (asked others left_asked left_others : List PrintedAnswer) → PrintedAnswer → Type 0
-IsMergedOn asks asked others left_asked left_others reply =
-    (count : ℕ) (item : Said) (items : List Said) → is_request item ≡ asks → merged count (item ∷ items) asked others ≡ line_behind count reply ∷ merged (suc count) items left_asked left_others
+-- the first of some lines, if there is one, is printed behind others
+abbrev pub IsOnePrinted : (some : Bool) → (old new : List PrintedLine) → (before after : PrintedLines) → Type 0
+IsOnePrinted true old new before after = (line : PrintedLine) × (old ≡ line ∷ new) × AddsLine line.number line.answer.text line.answer.shown before after
+IsOnePrinted false old new before after = (old ≡ []) × (new ≡ []) × (after ≡ before)
+
+-- some of the first lines are taken and printed, unless none is left
+pub record FillsWith (old new : List PrintedLine) (printed : PrintedLines) : Type 0 where
+  pub lines : List PrintedLine
+  pub parts : old ≡ lines ++ new
+  pub are : ArePrinted lines printed
+  pub ends : lines ≡ [] → old ≡ []
+
+-- lists of replies are passed that have none, up to one that has some
+pub record GoesOn (some : Bool) (old new : List PrintedAnswer) (olds news : List (List PrintedAnswer)) : Type 0 where
+  pub same : old ++ in_turn olds ≡ new ++ in_turn news
+  pub left : some ≡ true → 0 < length new
+  pub none : some ≡ false → old ++ in_turn olds ≡ []
+
+-- some of the first lines are taken, and printed alone
+pub record TakesSome (some : Bool) (old new : List PrintedLine) (printed : PrintedLines) : Type 0 where
+  pub lines : List PrintedLine
+  pub parts : old ≡ lines ++ new
+  pub are : ArePrinted lines printed
+  pub some_are : some ≡ true → 0 < length lines
+  pub ends : some ≡ false → old ≡ []

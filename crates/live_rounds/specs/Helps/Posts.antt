@@ -1,5 +1,5 @@
 -- The posts of a round: where they stand, and what is kept of what was answered at them.
-use Rattle.std.specs.Prelude.{◌≡◌, ◌⊎◌, ◌+◌, ◌<◌, ℕ, ⊤, false, List, [], ◌∷◌, drop, if◌then◌else◌, length, map, nat_le, slice_index_or, take}
+use Rattle.std.specs.Prelude.{◌≡◌, ◌⊎◌, ◌<◌, ℕ, false, List, [], ◌∷◌, if◌then◌else◌, length, nat_le, slice_index_or}
 use Rattle.answer_lines.specs.declared.printed.PrintedAnswer.{PrintedAnswer}
 use Rattle.live_pair.specs.Seats.{SeatSeen, version_of}
 use Rattle.live_rounds.specs.Served.{IsPartKept, IsPartServed}
@@ -8,43 +8,34 @@ use Rattle.perm_base.specs.declared.shapes.Shapes.{Shapes}
 use Rattle.policy_table.specs.Tables.{Policy}
 use Rattle.live_rounds.specs.declared.posts.Post.{Post}
 use Rattle.regex_gate.specs.Refusals.{IsUsed, Refusals}
-use Rattle.script_read.specs.Said.{Said, seen}
-use Rattle.script_read.specs.declared.item.Item.{Item}
+use Rattle.live_rounds.specs.Stretches.{items_of}
+use Rattle.live_rounds.specs.declared.stretch.Stretch.{Stretch}
+use Rattle.script_read.specs.Said.{Said}
 
--- places that begin and end parts of these sizes, one behind the other from this place on, as far as there are places
-abbrev pub AreSpans : ℕ → List ℕ → (froms untils : List ℕ) → Type 0
-AreSpans place sizes [] [] = ⊤
-AreSpans place (size ∷ sizes) (from ∷ froms) (until ∷ untils) = (from ≡ place) × (until ≡ place + size) × AreSpans (place + size) sizes froms untils
-AreSpans place _ _ _ = ⊥
-
--- there are as many as there are sizes, or no more seats
-abbrev pub AreAll : {X Y : Type 0} → List ℕ → List X → List Y → Type 0
-AreAll sizes posts left = (length posts ≡ length sizes) ⊎ (left ≡ [])
+-- there are as many as there are parts, or no more seats
+abbrev pub AreAll : {X Y Z : Type 0} → List X → List Y → List Z → Type 0
+AreAll parts posts left = (length posts ≡ length parts) ⊎ (left ≡ [])
 
 -- what is kept of replies: all where the seat's version is not above that one, and else none
 abbrev pub kept_at : (version : ℕ) → SeatSeen → List PrintedAnswer → List PrintedAnswer
 kept_at version seat replies = if nat_le (version_of seat.front) version then replies else []
 
-module _ {J P : Type 0} (refusals : P → Refusals) (model : ModelParts) (shapes : Shapes) (opening : Policy) (script : List Item) where
-  -- a post behind the work at it: its worker used its finder, and answered the requests of its part unless its memory ran out
-  pub record IsServedPost (old new : Post J P) : Type 0 where
-    pub from : new.from ≡ old.from
-    pub until : new.until ≡ old.until
-    pub served : new.ran_out ≡ false → IsPartServed model shapes opening (map seen (drop old.from (take old.until script))) (refusals old.finder) (refusals new.finder) old.seat new.seat new.replies.items
+module _ {J P : Type 0} (refusals : P → Refusals) (model : ModelParts) (shapes : Shapes) (opening : Policy) where
+  -- the post with this number behind the work at it: its worker used its finder, and answered the requests of its part unless its memory ran out
+  pub record IsServedPost (parts : List Stretch) (number : ℕ) (old new : Post J P) : Type 0 where
+    pub served : new.ran_out ≡ false → (d : Stretch) → IsPartServed model shapes opening (items_of (slice_index_or parts number d)) (refusals old.finder) (refusals new.finder) old.seat new.seat new.replies
     pub used : IsUsed (refusals old.finder) (refusals new.finder)
 
   -- so are all of them
-  pub record AreServedPosts (olds news : List (Post J P)) : Type 0 where
+  pub record AreServedPosts (parts : List Stretch) (olds news : List (Post J P)) : Type 0 where
     pub count : length news ≡ length olds
-    pub each : (i : ℕ) (d : Post J P) → i < length olds → IsServedPost (slice_index_or olds i d) (slice_index_or news i d)
+    pub each : (i : ℕ) (d : Post J P) → i < length olds → IsServedPost parts i (slice_index_or olds i d) (slice_index_or news i d)
 
-module _ (model : ModelParts) (shapes : Shapes) (opening : Policy) (script : List Said) (version : ℕ) where
-  -- each worker answered the requests of its part of a script, the parts having these sizes from this place on, at its seat and by its
-  -- finder, and so is kept of its replies; a part that has no seat is left, and so are seats and finders that have no part
-  abbrev pub AreKept : ℕ → List ℕ → (olds news : List SeatSeen) → (befores nows : List Refusals) → List (List PrintedAnswer) → Type 0
-  AreKept place [] olds news befores nows [] = (news ≡ olds) × (nows ≡ befores)
-  AreKept place (size ∷ sizes) [] news befores nows [] = (news ≡ []) × (nows ≡ befores)
-  AreKept place (size ∷ sizes) (old ∷ olds) (new ∷ news) (before ∷ befores) (now ∷ nows) (kept ∷ others) =
-      IsPartKept model shapes opening version (take size (drop place script)) before now old new kept
-      × AreKept (place + size) sizes olds news befores nows others
-  AreKept place _ _ _ _ _ _ = ⊥
+module _ (model : ModelParts) (shapes : Shapes) (opening : Policy) (version : ℕ) where
+  -- each worker answered the requests of its part at its seat and by its finder, and so is kept of its replies; a part that has no seat
+  -- is left, and so are seats and finders that have no part
+  abbrev pub AreKept : List (List Said) → (olds news : List SeatSeen) → (befores nows : List Refusals) → List (List PrintedAnswer) → Type 0
+  AreKept [] olds news befores nows [] = (news ≡ olds) × (nows ≡ befores)
+  AreKept (part ∷ parts) [] news befores nows [] = (news ≡ []) × (nows ≡ befores)
+  AreKept (part ∷ parts) (old ∷ olds) (new ∷ news) (before ∷ befores) (now ∷ nows) (kept ∷ others) = IsPartKept model shapes opening version part before now old new kept × AreKept parts olds news befores nows others
+  AreKept _ _ _ _ _ _ = ⊥

@@ -1,18 +1,28 @@
-use Rattle.std.proofs.Common.{map}
+use Rattle.std.proofs.Common.{◌≡◌, ◌++◌, ◌∷◌, [], rules, sym, subst}
+use Rattle.std.proofs.lemmas.Result.{on_ok_weaker}
+use Rattle.std.specs.List.{AllByRecursion}
 use Rattle.regex_gate.proofs.CallerLemmas.{used_none, used_then}
-use Rattle.live_rounds.proofs.SharingLemmas.{parts_shared, shared_none}
+use Rattle.live_rounds.proofs.SharingLemmas.{none_in, shared_more, shared_none}
+use Rattle.live_rounds.specs.Stretches.{IsCounted}
 use Rattle.live_rounds.proofs.asks.+answer_parts.Goals as goal
 
 -- no part is left
 pub returns-in_default-clause-shared : goal.returns-in_default-clause-shared
-returns-in_default-clause-shared g t c = shared_none c.args.program.now c.args.state.now c.args.items.now c.args.sizes.now _ _ _ c.in_default.ensures.cases
+returns-in_default-clause-shared g t c = shared_none c.args.program.now c.args.state.now c.args.parts.now _ _ _ (none_in c.args.parts.now c.in_default.ensures.cases)
 
 -- the first part, and the others
 pub returns-clause-shared : goal.returns-clause-shared
 returns-clause-shared g t c =
-    parts_shared c.args.program.now c.args.state.now c.args.items.now c.args.sizes.now c.in-Some.size.now c.in-Some.sizes.now _ _ (map (λ v. v.items) c.args.kept.now.rest.items) (map (λ v. v.items) c.next_kept-replies.new.kept.rest.items)
-    c.next_kept-replies.result.items (g.P.Finder.refusals c.args.finder.now) (g.P.Finder.refusals c.answer_part.new.finder) (g.P.Finder.refusals c.answer_parts.new.finder) c.args.asked.now.items c.answer_part.new.asked.items c.answer_parts.new.asked.items c.min.result
-    c.in-Some.ensures.cases.0 c.min.ensures c.split_at.ensures.front c.split_at.ensures.back c.next_kept-replies.ensures.first c.next_kept-replies.ensures.others c.in_ok-answer_part.ensures.shared c.answer_parts.result c.answer_parts.ensures.shared
+    let one : c.push.new.self.items ≡ c.args.asked.now.items ++ c.in_ok-all.all ∷ [] = search rules in
+    on_ok_weaker c.answer_parts.result
+    (λ adds. shared_more c.args.program.now c.args.state.now c.args.parts.now c.in-Some.others.now c.in-Some.part.now c.args.kept.now.rest.items c.next_kept-replies.new.kept.rest.items c.next_kept-replies.result c.in_ok-all.all (g.P.Finder.refusals c.args.finder.now) (g.P.Finder.refusals c.answer_part.new.finder) (g.P.Finder.refusals c.answer_parts.new.finder)
+    c.args.asked.now.items c.push.new.self.items c.answer_parts.new.asked.items c.in-Some.ensures.cases.0 c.next_kept-replies.ensures.first c.next_kept-replies.ensures.others c.in_ok-all.ensures.shared one adds) c.answer_parts.ensures.shared
+
+pub answer_part-requires-clause-counted : goal.answer_part-requires-clause-counted
+answer_part-requires-clause-counted g t c = λ lifetimes outlive. (subst (AllByRecursion IsCounted) c.in-Some.ensures.cases.0 c.requires.counted).0
+
+pub answer_parts-requires-clause-counted : goal.answer_parts-requires-clause-counted
+answer_parts-requires-clause-counted g t c = λ lifetimes outlive. (subst (AllByRecursion IsCounted) c.in-Some.ensures.cases.0 c.requires.counted).1
 
 -- ---- the finder
 

@@ -1,53 +1,41 @@
-use Rattle.std.proofs.Common.{◌≡◌, ◌++◌, ◌∷◌, [], arith, map, refl, rules, take}
-use Rattle.script_read.specs.Said.{seen}
-use Rattle.live_rounds.proofs.AskedLemmas.{asking_all, asking_next, asking_none, asking_past, asking_skip, asking_used, asking_used_then}
+use Rattle.std.proofs.Common.{◌≡◌, ap, arith, refl}
+use Rattle.regex_gate.proofs.CallerLemmas.{used_then}
+use Rattle.live_rounds.proofs.AskedLemmas.{asking_first, asking_next, asking_past, asking_skip, asking_uses}
+use Rattle.live_rounds.proofs.ItemLemmas.{told_other}
+use Rattle.live_rounds.specs.Stretches.{items_of}
+use Rattle.script_read.specs.ItemLines.{said}
+use Rattle.script_read.specs.Readings.{request_read}
+use Rattle.script_read.specs.Said.{asks}
 use Rattle.live_rounds.proofs.asks.answer_left.Goals as goal
 
-pub loop-item-init : goal.loop-item-init
-loop-item-init g c = asking_none c.args.program.now c.args.state.now (g.P.Finder.refusals c.args.finder.now) c.args.skipped c.args.asked.now.items
+pub loop-first-init : goal.loop-first-init
+loop-first-init g c = asking_first c.args.program.now c.args.state.now (items_of c.args.part.now) (g.P.Finder.refusals c.args.finder.now) c.args.skipped c.args.asked.now (said c.again-rest.result) (ap said c.again-rest.ensures)
 
 -- an item that is no request
-pub loop-item-preserved-in_default : goal.loop-item-preserved-in_default
-loop-item-preserved-in_default g c =
-    asking_past c.args.program.now c.args.state.now c.args.items.now (g.P.Finder.refusals c.args.finder.now) c.args.skipped c.args.asked.now.items c.loop-item.item-index c.item-item.result (g.P.Finder.refusals c.loop-item.finder) c.loop-item.left
-    c.loop-item.asked.items c.loop-item-test.true c.item-item.is c.loop-item.invariant c.in_default.ensures
+pub loop-first-preserved-in_default-first : goal.loop-first-preserved-in_default-first
+loop-first-preserved-in_default-first g c =
+    let off = c.in-Some.ensures.some in
+    asking_past c.args.program.now c.args.state.now (items_of c.args.part.now) (g.P.Finder.refusals c.args.finder.now) c.args.skipped c.args.asked.now (said c.loop-first.rest) (said c.next_told.new.self) off.item (g.P.Finder.refusals c.loop-first.finder) c.loop-first.left c.loop-first.asked
+    off.parts c.loop-first.invariant (told_other c.in-Some.first off.item off.holds c.in_default-first.not-Request)
 
 -- a request that is skipped
-pub loop-item-preserved-then-left-gt0 : goal.loop-item-preserved-then-left-gt0
-loop-item-preserved-then-left-gt0 g c =
-    asking_skip c.args.program.now c.args.state.now c.args.items.now (g.P.Finder.refusals c.args.finder.now) c.args.skipped c.args.asked.now.items c.loop-item.item-index c.item-item.result (g.P.Finder.refusals c.loop-item.finder) c.loop-item.left
-    c.loop-item.asked.items c.loop-item-test.true c.item-item.is c.loop-item.invariant _ _ c.in-Some.ensures (omega (arith, c.if-left-gt0.true)) refl
+pub loop-first-preserved-then-left-gt0 : goal.loop-first-preserved-then-left-gt0
+loop-first-preserved-then-left-gt0 g c =
+    let off = c.in-Some.ensures.some in
+    let asked : off.item ≡ asks (request_read c.in-Request.request.json c.in-Request.request.line.now) = rw c.in-Request.is at off.holds in
+    asking_skip c.args.program.now c.args.state.now (items_of c.args.part.now) (g.P.Finder.refusals c.args.finder.now) c.args.skipped c.args.asked.now (said c.loop-first.rest) (said c.next_told.new.self) off.item (g.P.Finder.refusals c.loop-first.finder) c.loop-first.left c.loop-first.asked
+    off.parts c.loop-first.invariant _ _ asked (omega (arith, c.if-left-gt0.true)) refl
 
 -- one that is answered
-pub loop-item-preserved : goal.loop-item-preserved
-loop-item-preserved g c =
-    let more : c.push.new.self.items ≡ c.loop-item.asked.items ++ c.in_ok-print_answer.field-0 ∷ [] = search rules in
-    asking_next c.args.program.now c.args.state.now c.args.items.now (g.P.Finder.refusals c.args.finder.now) c.args.skipped c.args.asked.now.items c.loop-item.item-index c.item-item.result (g.P.Finder.refusals c.loop-item.finder) c.loop-item.left
-    c.loop-item.asked.items c.loop-item-test.true c.item-item.is c.loop-item.invariant _ (g.P.Finder.refusals c.answer_text.new.finder) c.push.new.self.items c.in_ok-reply.reply _ c.in-Some.ensures (omega (arith, c.if-left-gt0.false)) c.in_ok-reply.ensures.answer c.in_ok-print_answer.ensures.printed more
+pub loop-first-preserved : goal.loop-first-preserved
+loop-first-preserved g c =
+    let off = c.in-Some.ensures.some in
+    let asked : off.item ≡ asks (request_read c.in-Request.request.json c.in-Request.request.line.now) = rw c.in-Request.is at off.holds in
+    let told = c.in_ok-answer_behind.ensures.answered in
+    asking_next c.args.program.now c.args.state.now (items_of c.args.part.now) (g.P.Finder.refusals c.args.finder.now) c.args.skipped c.args.asked.now (said c.loop-first.rest) (said c.next_told.new.self) off.item (g.P.Finder.refusals c.loop-first.finder) c.loop-first.left c.loop-first.asked
+    off.parts c.loop-first.invariant _ (g.P.Finder.refusals c.answer_behind.new.finder) c.answer_behind.new.asked told.answer _ asked (omega (arith, c.if-left-gt0.false)) told.answered refl told.added
 
-pub returns-clause-added : goal.returns-clause-added
-returns-clause-added g c =
-    asking_all c.args.program.now c.args.state.now c.args.items.now (g.P.Finder.refusals c.args.finder.now) c.args.skipped c.args.asked.now.items c.loop-item.item-index (g.P.Finder.refusals c.loop-item.finder) c.loop-item.left c.loop-item.asked.items
-    c.loop-item-test.false c.loop-item.invariant
-
--- ---- the finder
-
-pub returns-in_err-reply-clause-used : goal.returns-in_err-reply-clause-used
-returns-in_err-reply-clause-used g c =
-    asking_used_then c.args.program.now c.args.state.now (g.P.Finder.refusals c.args.finder.now) (g.P.Finder.refusals c.loop-item.finder) (g.P.Finder.refusals c.answer_text.new.finder) c.args.skipped c.loop-item.left
-    (map seen (take c.loop-item.item-index c.args.items.now)) c.args.asked.now.items c.loop-item.asked.items _ c.loop-item.invariant c.in_err-reply.ensures.stopped
-
-pub returns-in_err-print_answer-clause-used : goal.returns-in_err-print_answer-clause-used
-returns-in_err-print_answer-clause-used g c =
-    asking_used_then c.args.program.now c.args.state.now (g.P.Finder.refusals c.args.finder.now) (g.P.Finder.refusals c.loop-item.finder) (g.P.Finder.refusals c.answer_text.new.finder) c.args.skipped c.loop-item.left
-    (map seen (take c.loop-item.item-index c.args.items.now)) c.args.asked.now.items c.loop-item.asked.items _ c.loop-item.invariant c.in_ok-reply.ensures.answer.asked
-
-pub returns-in_err-push-clause-used : goal.returns-in_err-push-clause-used
-returns-in_err-push-clause-used g c =
-    asking_used_then c.args.program.now c.args.state.now (g.P.Finder.refusals c.args.finder.now) (g.P.Finder.refusals c.loop-item.finder) (g.P.Finder.refusals c.answer_text.new.finder) c.args.skipped c.loop-item.left
-    (map seen (take c.loop-item.item-index c.args.items.now)) c.args.asked.now.items c.loop-item.asked.items _ c.loop-item.invariant c.in_ok-reply.ensures.answer.asked
-
-pub returns-clause-used : goal.returns-clause-used
-returns-clause-used g c =
-    asking_used c.args.program.now c.args.state.now (g.P.Finder.refusals c.args.finder.now) (g.P.Finder.refusals c.loop-item.finder) c.args.skipped c.loop-item.left (map seen (take c.loop-item.item-index c.args.items.now)) c.args.asked.now.items
-    c.loop-item.asked.items c.loop-item.invariant
+pub returns-in_err-answer_behind-clause-used : goal.returns-in_err-answer_behind-clause-used
+returns-in_err-answer_behind-clause-used g c =
+    used_then (g.P.Finder.refusals c.args.finder.now) (g.P.Finder.refusals c.loop-first.finder) (g.P.Finder.refusals c.answer_behind.new.finder)
+    (asking_uses c.args.program.now c.args.state.now (items_of c.args.part.now) (g.P.Finder.refusals c.args.finder.now) c.args.skipped c.args.asked.now (said c.loop-first.rest) (g.P.Finder.refusals c.loop-first.finder) c.loop-first.left c.loop-first.asked c.loop-first.invariant) c.answer_behind.ensures.used

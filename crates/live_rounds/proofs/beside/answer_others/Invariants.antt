@@ -1,5 +1,10 @@
+use Rattle.std.proofs.Common.{length}
 use Rattle.live_rounds.proofs.BesideLemmas.{AreDoneUpTo}
+use Rattle.script_read.specs.ItemLines.{said}
 use Rattle.live_rounds.proofs.beside.answer_others.Given as goal
 
-abbrev pub invariant-loop-item : goal.invariant-loop-item
-invariant-loop-item g l = AreDoneUpTo g.J.Naming.shapes g.J.Naming.opening l.items l.initial.admin l.item-index l.admin l.replies.items
+abbrev pub invariant-loop-replies : goal.invariant-loop-replies
+invariant-loop-replies g l = AreDoneUpTo g.J.Naming.shapes g.J.Naming.opening (said l.items) l.initial.admin (said l.left) l.admin l.replies
+
+abbrev pub decreases-loop-replies : goal.decreases-loop-replies
+decreases-loop-replies g l = length (said l.left)

@@ -1,7 +1,7 @@
-use Rattle.std.proofs.Common.{◌≡◌, ◌∷◌, ◌++◌, [], ap, append_assoc, arith, length, map, refl, rules, sym, ◌∙◌}
+use Rattle.std.proofs.Common.{◌≡◌, ◌∷◌, ◌++◌, [], ap, append_assoc, arith, length, refl, rules, sym, ◌∙◌}
 use Rattle.std.proofs.lemmas.Grind.{common_steps}
-use Rattle.std.proofs.lemmas.List.{map-append}
 use Rattle.live_rounds.proofs.PostLemmas.{map_done, pushed_map, whole_done, whole_more}
+use Rattle.live_rounds.specs.Helps.Posts.{kept_at}
 use Rattle.live_rounds.proofs.dismissal.unpost.Goals as goal
 
 -- a post more: its seat, its finder and what is kept of its replies stand behind the others
@@ -15,7 +15,7 @@ loop-post-preserved g c =
       inv.0 ∙ ap (λ l. done ++ l) rest ∙ sym (append_assoc done (post ∷ []) next),
       pushed_map (λ p. p.seat) c.args.seats.now.items c.loop-post.seats.items c.push_reserved-in-loop-post.new.self.items done post post.seat inv.1 c.push_reserved-in-loop-post.ensures.items refl,
       pushed_map (λ p. p.finder) c.args.finders.now.items c.loop-post.finders.items c.push_reserved-in-loop-post-2.new.self.items done post post.finder inv.2 c.push_reserved-in-loop-post-2.ensures.items refl,
-      pushed_map _ _ _ _ done post _ inv.3 (ap (map (λ v. v.items)) c.push_reserved.ensures.items ∙ map-append (λ v. v.items) c.loop-post.kept.items (c.kept_of.result ∷ [])) c.kept_of.ensures,
+      pushed_map (λ p. kept_at c.args.version p.seat p.replies) c.args.kept.now.items c.loop-post.kept.items c.push_reserved.new.self.items done post c.kept_of.result inv.3 c.push_reserved.ensures.items c.kept_of.ensures,
       whole_more (λ p. p.ran_out) done post c.loop-post.whole c.is_whole-whole.result inv.4 c.is_whole-whole.ensures,
       omega (arith, ap length rest, inv.5, c.push_reserved-in-loop-post.ensures.len, c.push_reserved-in-loop-post.ensures.capacity),
       omega (arith, ap length rest, inv.6, c.push_reserved-in-loop-post-2.ensures.len, c.push_reserved-in-loop-post-2.ensures.capacity),

@@ -9,7 +9,7 @@ invariant-loop-post g l =
     (l.fn.posts.items ≡ l.yielded ++ l.post-iterator.rest.items)
     × (l.seats.items ≡ l.initial.seats.items ++ map (λ p. p.seat) l.yielded)
     × (l.finders.items ≡ l.initial.finders.items ++ map (λ p. p.finder) l.yielded)
-    × (map (λ v. v.items) l.kept.items ≡ map (λ v. v.items) l.initial.kept.items ++ map (λ p. kept_at l.version p.seat p.replies.items) l.yielded)
+    × (l.kept.items ≡ l.initial.kept.items ++ map (λ p. kept_at l.version p.seat p.replies) l.yielded)
     × (IsTrue l.whole → AllByRecursion (λ p. p.ran_out ≡ false) l.yielded)
     × (vec_len l.seats + length l.post-iterator.rest.items ≤ vec_capacity l.seats)
     × (vec_len l.finders + length l.post-iterator.rest.items ≤ vec_capacity l.finders)

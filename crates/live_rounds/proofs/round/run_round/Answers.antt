@@ -1,52 +1,49 @@
-use Rattle.std.proofs.Common.{◌-◌, List, ap, arith, map, subst, sym, ◌∙◌}
-use Rattle.std.proofs.lemmas.List.{length-map}
+use Rattle.std.proofs.Common.{◌-◌, ap, arith, subst, sym, ◌∙◌}
 use Rattle.decision.specs.Programs.{Suits}
 use Rattle.policy_desk.specs.Desks.{Work}
 use Rattle.policy_state.specs.States.{State}
-use Rattle.script_read.specs.Said.{seen}
-use Rattle.script_read.specs.declared.item.Item.{Item}
 use Rattle.desk_session.proofs.CallerLemmas.{on_err_of}
 use Rattle.live_rounds.proofs.AdminLemmas.{amid_first}
 use Rattle.live_rounds.proofs.RoundsLemmas.{used_alike}
-use Rattle.live_rounds.proofs.RunLemmas.{added_in, added_long, added_within, run_all, used_first}
+use Rattle.live_rounds.proofs.RunLemmas.{added_counted, added_in, added_long, run_all, used_first}
 use Rattle.live_rounds.proofs.WorkedLemmas.{amid_all}
-use Rattle.live_rounds.specs.Administrators.{IsAdminAmid}
+use Rattle.live_rounds.specs.Stretches.{items_of}
 use Rattle.live_rounds.proofs.round.run_round.Goals as goal
 
 -- want of memory before anything was done
 pub returns-in_err-push_parts-clause-stopped : goal.returns-in_err-push_parts-clause-stopped
-returns-in_err-push_parts-clause-stopped g c = on_err_of c.from_residual.result (λ before is. amid_first g.J.Naming.shapes g.J.Naming.opening before (map seen c.args.round.now) c.args.admin.now is)
+returns-in_err-push_parts-clause-stopped g c = on_err_of c.from_residual.result (λ before is. amid_first g.J.Naming.shapes g.J.Naming.opening before (items_of c.args.round.now) c.args.admin.now is)
 
 -- while the workers and the administrator were at it
-pub returns-in_err-worked-clause-stopped : goal.returns-in_err-worked-clause-stopped
-returns-in_err-worked-clause-stopped g c = on_err_of c.from_residual-in_err-worked.result (λ before is.
-    subst (λ (l : List Item). IsAdminAmid g.J.Naming.shapes g.J.Naming.opening before (map seen l) c.work_round-worked.new.admin) c.as_slice-items.ensures (c.in_err-worked.ensures.stopped before is))
+pub returns-in_err-kept-clause-stopped : goal.returns-in_err-kept-clause-stopped
+returns-in_err-kept-clause-stopped g c = on_err_of c.from_residual-in_err-kept.result c.in_err-kept.ensures.stopped
 
 -- and behind them
 pub returns-in_err-asked-clause-stopped : goal.returns-in_err-asked-clause-stopped
 returns-in_err-asked-clause-stopped g c = on_err_of c.from_residual-in_err-asked.result (λ before is.
-    subst (λ (l : List Item). IsAdminAmid g.J.Naming.shapes g.J.Naming.opening before (map seen l) c.work_round-worked.new.admin) c.as_slice-items.ensures
-    (amid_all g.J.Naming.shapes g.J.Naming.opening before (map seen c.as_slice-items.result.now) c.args.admin.now c.work_round-worked.new.admin c.in_ok-worked.worked.others.items (c.in_ok-worked.ensures.done before is)))
+    amid_all g.J.Naming.shapes g.J.Naming.opening before (items_of c.args.round.now) c.args.admin.now c.work_round-worked.new.admin c.in_ok-kept.field-0.others (c.in_ok-kept.ensures.done before is))
 
 -- behind Ok, at what the steps say
 pub returns-clause-run : goal.returns-clause-run
 returns-clause-run g c = λ before long is.
-    run_all g.P.Finder.refusals c.args.program.now g.J.Naming.shapes g.J.Naming.opening before c.args.round.now c.as_slice-items.result.now c.as_slice-items.ensures c.args.behind c.args.workers (c.args.workers - 1) long (omega (arith, c.requires.some))
-    c.args.admin.now c.work_round-worked.new.admin c.in_ok-worked.worked.others.items c.in_ok-asked.asked.items c.new.result c.as_slice-sizes.result.now c.args.seats.now.items c.learn_seats.new.seats.items c.work_round-worked.new.seats.items c.learn_seats-2.new.seats.items
-    c.args.finders.now.items c.work_round-worked.new.finders.items _ _ c.answer_asks.new.finder _ c.state-state.result.now c.front.result c.front-2.result (c.in_ok-worked.ensures.done before is) (added_in (c.args.workers - 1) (map seen c.as_slice-items.result.now) c.new-sizes.result.items c.push_parts.new.sizes.items c.as_slice-sizes.result.now c.new-sizes.ensures.items c.as_slice-sizes.ensures.value c.in_ok-push_parts.ensures.parts) c.front.ensures.front c.learn_seats.ensures.learned c.front-2.ensures.front c.learn_seats-2.ensures.learned c.in_ok-worked.ensures.kept
+    run_all g.P.Finder.refusals c.args.program.now g.J.Naming.shapes g.J.Naming.opening before (items_of c.args.round.now) c.args.round.now.before c.args.workers (c.args.workers - 1) long (omega (arith, c.requires.some))
+    c.args.admin.now c.work_round-worked.new.admin c.in_ok-kept.field-0.others c.in_ok-asked.asked.items c.new.result c.as_slice-parts.result.now c.args.seats.now.items c.learn_seats.new.seats.items c.work_round-worked.new.seats.items c.learn_seats-2.new.seats.items
+    c.args.finders.now.items c.work_round-worked.new.finders.items _ _ c.answer_asks.new.finder c.in_ok-kept.field-0.kept.items c.state-state.result.now c.front.result c.front-2.result (c.in_ok-kept.ensures.done before is)
+    (added_in _ _ _ _ _ _ c.again.ensures c.new-parts.ensures.items c.as_slice-parts.ensures.value c.in_ok-push_parts.ensures.parts) c.front.ensures.front c.learn_seats.ensures.learned c.front-2.ensures.front c.learn_seats-2.ensures.learned c.in_ok-kept.ensures.kept
     (c.state-state.ensures.state ∙ ap (λ (desk : Work). desk.state) c.desk.ensures.desk) c.in_ok-asked.ensures.shared c.work_round-worked.ensures.first (omega (arith, c.requires.finders)) c.index_mut.ensures.value c.new.ensures
 
 -- what the steps want
+pub work_round-worked-requires-clause-enough : goal.work_round-worked-requires-clause-enough
+work_round-worked-requires-clause-enough g c =
+    omega (arith, added_long (c.args.workers - 1) (items_of c.args.round.now) c.as_slice-parts.result.now (added_in _ _ _ _ _ _ c.again.ensures c.new-parts.ensures.items c.as_slice-parts.ensures.value c.in_ok-push_parts.ensures.parts), c.requires.some, c.requires.finders)
+
 pub answer_asks-requires-clause-suits : goal.answer_asks-requires-clause-suits
 answer_asks-requires-clause-suits g c = λ lifetimes outlive.
     subst (Suits c.args.program.now) (sym (ap (λ (state : State). state.shapes) (c.state-state.ensures.state ∙ ap (λ (desk : Work). desk.state) c.desk.ensures.desk) ∙ c.desk.ensures.shapes)) c.requires.suits
 
-pub work_round-worked-requires-clause-enough : goal.work_round-worked-requires-clause-enough
-work_round-worked-requires-clause-enough g c = omega (arith, added_long (c.args.workers - 1) (map seen c.as_slice-items.result.now) c.as_slice-sizes.result.now (added_in (c.args.workers - 1) (map seen c.as_slice-items.result.now) c.new-sizes.result.items c.push_parts.new.sizes.items c.as_slice-sizes.result.now c.new-sizes.ensures.items c.as_slice-sizes.ensures.value c.in_ok-push_parts.ensures.parts), c.requires.some, c.requires.finders)
-
-pub work_round-worked-requires-clause-places : goal.work_round-worked-requires-clause-places
-work_round-worked-requires-clause-places g c =
-    omega (arith, added_within (c.args.workers - 1) (map seen c.as_slice-items.result.now) c.as_slice-sizes.result.now (added_in (c.args.workers - 1) (map seen c.as_slice-items.result.now) c.new-sizes.result.items c.push_parts.new.sizes.items c.as_slice-sizes.result.now c.new-sizes.ensures.items c.as_slice-sizes.ensures.value c.in_ok-push_parts.ensures.parts), length-map c.as_slice-items.result.now seen)
+pub answer_asks-requires-clause-counted : goal.answer_asks-requires-clause-counted
+answer_asks-requires-clause-counted g c = λ lifetimes outlive.
+    added_counted (c.args.workers - 1) (items_of c.args.round.now) c.as_slice-parts.result.now (added_in _ _ _ _ _ _ c.again.ensures c.new-parts.ensures.items c.as_slice-parts.ensures.value c.in_ok-push_parts.ensures.parts)
 
 -- the finders
 pub returns-in_err-push_parts-clause-used : goal.returns-in_err-push_parts-clause-used

@@ -1,5 +1,10 @@
+use Rattle.std.proofs.Common.{length}
 use Rattle.live_rounds.proofs.ServedLemmas.{IsServingUpTo}
+use Rattle.script_read.specs.ItemLines.{said}
 use Rattle.live_rounds.proofs.seat_answers.answer_part.Given as goal
 
-abbrev pub invariant-loop-item : goal.invariant-loop-item
-invariant-loop-item g l = IsServingUpTo l.program g.J.Naming.shapes g.J.Naming.opening l.items (g.P.Finder.refusals l.initial.finder) l.initial.seat l.item-index (g.P.Finder.refusals l.finder) l.seat l.replies.items
+abbrev pub invariant-loop-first : goal.invariant-loop-first
+invariant-loop-first g l = IsServingUpTo l.program g.J.Naming.shapes g.J.Naming.opening (said l.fn.part) (g.P.Finder.refusals l.initial.finder) l.initial.seat (said l.left) (g.P.Finder.refusals l.finder) l.seat l.replies
+
+abbrev pub decreases-loop-first : goal.decreases-loop-first
+decreases-loop-first g l = length (said l.left)

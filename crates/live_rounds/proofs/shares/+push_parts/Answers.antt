@@ -1,22 +1,16 @@
-use Rattle.std.proofs.Common.{◌≡◌, ◌++◌, ◌∷◌, ◌-◌, [], arith, length, map, refl, rules, subst, sym}
+use Rattle.std.proofs.Common.{◌≡◌, ◌-◌, ap, arith, length, ◌∙◌}
+use Rattle.live_rounds.specs.Requests.{requests}
 use Rattle.std.proofs.lemmas.Result.{on_ok_weaker}
-use Rattle.script_read.specs.Said.{seen}
-use Rattle.live_rounds.proofs.SharesLemmas.{last_part, part_more}
-use Rattle.live_rounds.specs.Shares.{AddsParts}
+use Rattle.live_rounds.proofs.SharesLemmas.{ceil_share_one, part_more}
+use Rattle.live_rounds.specs.Stretches.{items_of}
+use Rattle.session_meaning.specs.Rounds.{share_size}
 use Rattle.live_rounds.proofs.shares.+push_parts.Goals as goal
-
--- nobody is left
-pub returns-then-others-eq0 : goal.returns-then-others-eq0
-returns-then-others-eq0 t c =
-    let pushed : c.push.new.self.items ≡ c.args.sizes.now.items ++ length c.args.items.now ∷ [] = search rules in
-    record { parts = subst (λ n. AddsParts n (map seen c.args.items.now) c.args.sizes.now.items c.push.new.self.items) (sym c.if-others-eq0.true) (last_part c.args.items.now (length c.args.items.now) c.args.sizes.now.items c.push.new.self.items refl pushed) }
 
 -- the first part, and those of the others
 pub returns : goal.returns
 returns t c =
-    let size = c.first_part-size.result in
-    let pushed : c.push-2.new.self.items ≡ c.args.sizes.now.items ++ size ∷ [] = search rules in
+    let share : c.div_ceil-share.result ≡ share_size c.args.others (length (requests (items_of c.args.items))) = c.div_ceil-share.ensures ∙ ceil_share_one c.args.others c.args.items.requests ∙ ap (share_size c.args.others) c.requires.counted.requests in
     record {
-      parts = on_ok_weaker c.push_parts.result (λ adds. part_more c.args.others (c.args.others - 1) c.args.items.now c.behind.result.now size c.args.sizes.now.items c.push-2.new.self.items c.push_parts.new.sizes.items (omega (arith, c.if-others-eq0.false)) c.first_part-size.ensures.within
-          c.behind.ensures c.first_part-size.ensures.share pushed adds) c.push_parts.ensures.parts;
+      parts = on_ok_weaker c.push_parts.result (λ adds. part_more c.args.others (c.args.others - 1) c.div_ceil-share.result (items_of c.args.items) c.cut_behind-part.result.0 c.cut_behind-part.result.1 c.args.parts.now.items c.push-2.new.self.items c.push_parts.new.parts.items (omega (arith, c.if-others-eq0.false))
+          c.cut_behind-part.ensures share c.in_ok-push-2.ensures.items adds) c.push_parts.ensures.parts;
     }
