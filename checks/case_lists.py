@@ -1,9 +1,9 @@
-"""Lists of cases as crates/case_list reads them, and what a run of the program comes to as crates/cases_runs tells it."""
+"""Lists of cases as crates/cases_runs reads them, and what a run of the program comes to as it tells it."""
 
 import re
 
 # A line of more bytes than the first is long, and of it so many are shown in front and at the end.
-LONG, SHOWN, SHOWN_AT_END = 200, 80, 40
+LONG, SHOWN, SHOWN_AT_END = 300, 80, 40
 
 
 class Field:
@@ -79,14 +79,13 @@ def read_cases(path):
 
 
 def read_reports(path):
-    """What the cases of a list come to, by their names; of a name that comes twice nothing is told."""
-    reports, twice = {}, set()
+    """What the cases of a list come to, by their names; of a name that comes twice the first is told."""
+    reports = {}
     with open(path, "rb") as file:
         for block in re.split(rb"(?m)^case ", file.read())[1:]:
             name = block.split(b"\n", 1)[0].rsplit(b": status ", 1)[0].decode()
-            twice |= {name} & reports.keys()
-            reports[name] = b"case " + block
-    return {name: reports[name] for name in reports.keys() - twice}
+            reports.setdefault(name, b"case " + block)
+    return reports
 
 
 def report(case, status, out, err):

@@ -2,8 +2,8 @@
 
 Usage: refusals.py PROGRAM OBJECT WORK alloc|on|io [WORD]
 
-OBJECT is built of refuse.c. The runs are the cases of crates/cases_runs that are small and need no failing sink or finder, and
-those of checks/runs. WORD leaves those alone whose names have it. In the folder WORK each run has a folder of its own.
+OBJECT is built of refuse.c. The runs are the cases of crates/cases_runs that are small, need no failing sink or finder and are no
+lint, and those of checks/runs. WORD leaves those alone whose names have it. In the folder WORK each run has a folder of its own.
 
 What a run may come to, where the plain run of the same words, files and input ends with a status and took a text on `out`:
 
@@ -117,6 +117,11 @@ class OneText:
     def is_written(self, out, count):
         """Whether this is what was written before a write failed, of which there were so many bytes in a plain run."""
         return out == self.text[:count]
+
+
+def is_small_run(case):
+    """Whether a case is run here; what `lint` comes to where a call fails, stands among its cases."""
+    return not case.keys and case.words and case.words[0] != b"lint" and case.size() <= LARGEST
 
 
 def has_threads(case):
@@ -303,7 +308,7 @@ def try_case(program, shim, case, folder, kind, wanted):
 def main():
     program, shim, work, kind, *word = sys.argv[1:]
     reports = read_reports(f"{ROOT}/crates/cases_runs/stdout")
-    cases = [it for it in read_cases(f"{ROOT}/crates/cases_runs/stdin") if not it.keys and it.words and it.size() <= LARGEST]
+    cases = [it for it in read_cases(f"{ROOT}/crates/cases_runs/stdin") if is_small_run(it)]
     cases = [(it, reports.get(it.name)) for it in cases] + [(it, None) for it in read_cases(f"{ROOT}/checks/runs")]
     cases = [(case, wanted) for case, wanted in cases if not word or word[0] in case.name]
     statuses, faults, left_out = collections.Counter(), [], []

@@ -23,17 +23,6 @@ take_whole zero (x ∷ xs) is = absurd (omega (arith, is))
 take_whole (suc n) [] is = absurd (omega (arith, is))
 take_whole {X = X} (suc n) (x ∷ xs) is = ap (λ (l : List X). x ∷ l) (take_whole n xs (omega (arith, is)))
 
-drop_more : {X : Type 0} (n m : ℕ) (xs : List X) → drop (n + m) xs ≡ drop m (drop n xs)
-drop_more {X = X} zero m xs = let same : 0 + m ≡ m = omega arith in ap (λ (k : ℕ). drop k xs) same
-drop_more (suc n) m [] = by (suc n + m) m
-  where
-    by : {X : Type 0} (a b : ℕ) → drop {A = X} a [] ≡ drop b []
-    by zero zero = refl
-    by zero (suc b) = refl
-    by (suc a) zero = refl
-    by (suc a) (suc b) = refl
-drop_more {X = X} (suc n) m (x ∷ xs) = let same : suc n + m ≡ suc (n + m) = omega arith in ap (λ (k : ℕ). drop k (x ∷ xs)) same ∙ drop_more n m xs
-
 drop_at : {X : Type 0} (n : ℕ) (xs : List X) (x : X) → n < length xs → x ≡ get_or xs n x → drop n xs ≡ x ∷ drop (n + 1) xs
 drop_at n [] x within is = absurd (omega (arith, within))
 drop_at {X = X} zero (y ∷ xs) x within is = ap (λ (a : X). a ∷ xs) (sym is)
@@ -81,28 +70,6 @@ module _ (from taken until : ℕ) (texts : List ℕ) (marks : List Mark) (mark :
 
   pub first_fits : until ≤ length texts
   first_fits = omega (arith, until-is, are.size, are.within, ap size_of first_mark, length-drop from texts)
-
-  rest_texts : drop until texts ≡ drop mark.size (drop from texts)
-  rest_texts = ap (λ (k : ℕ). drop k texts) until-is ∙ drop_more from mark.size texts
-
-  pub taken_marked : AreMarked until (taken + 1) texts marks
-  taken_marked = record {
-    few = omega (arith, within);
-    within = first_fits;
-    size = omega (arith, are.size, ap size_of first_mark, ap (λ (l : List ℕ). length l) rest_texts, length-drop mark.size (drop from texts));
-  }
-
-  pub first_answer : marked (drop taken marks) (drop from texts) ≡ record { text = take mark.size (drop from texts); shown = mark.shown } ∷ marked (drop (taken + 1) marks) (drop until texts)
-  first_answer = ap (λ (l : List Mark). marked l (drop from texts)) first_mark ∙ ap (λ (t : List ℕ). record { text = take mark.size (drop from texts); shown = mark.shown } ∷ marked (drop (taken + 1) marks) t) (sym rest_texts)
-
-pub none_marked : (from taken : ℕ) (texts : List ℕ) (marks : List Mark) → length marks ≤ taken → marked (drop taken marks) (drop from texts) ≡ []
-none_marked from taken texts marks past = ap (λ (l : List Mark). marked l (drop from texts)) (by taken marks past)
-  where
-    by : (n : ℕ) (l : List Mark) → length l ≤ n → drop n l ≡ []
-    by zero [] past = refl
-    by (suc n) [] past = refl
-    by zero (m ∷ l) past = absurd (omega (arith, past))
-    by (suc n) (m ∷ l) past = by n l (omega (arith, past))
 
 pub length_marked : (marks : List Mark) (text : List ℕ) → length (marked marks text) ≡ length marks
 length_marked [] text = refl

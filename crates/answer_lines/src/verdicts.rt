@@ -1,5 +1,5 @@
-ghost use Rattle.std.specs.Prelude.{◌≡◌, ◌+◌, ◌≤◌, ◌++◌, OnOk, codes, length, option_copied, true};
-ghost use Rattle.answer_lines.specs.LineText.{Appends, cause_text, fault_text, place_text, rule_text, verdict_text};
+ghost use Rattle.std.specs.Prelude.{◌≡◌, ◌+◌, ◌≤◌, ◌++◌, OnOk, length, option_copied, true};
+ghost use Rattle.answer_lines.specs.LineText.{Appends, cause_text, fault_text, place_text, verdict_text};
 ghost use Rattle.answer_lines.specs.Helps.Heads.{failed_text, head_text, judged_text};
 ghost use Rattle.answer_lines.specs.Told.{comes_with_rule, row_has_rule};
 

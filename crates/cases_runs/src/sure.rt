@@ -1,17 +1,30 @@
-use crate::report::{file_of, finders};
+use crate::case::Case;
+use crate::objects::{file_of, finders};
 use anyhow::{Context, Result, ensure};
 use casbin_run::run_casbin;
-use case_list::Case;
 use live_pair::PairPlaces;
 use live_rounds::FreeGate;
 use outside::{SureShelf, SureSink, SureSource};
 use regex_gate::ListFinder;
 use std::alloc::Global;
+use std::io::Write;
 use std::sync::Wait;
 use std::thread::Threads;
 
-/// Runs a case over objects that never fail, and gives its exit status.
-pub(crate) fn run_sure<R: Threads + Wait + Sync>(rt: &R, alloc: Global, case: &Case) -> Result<u8> {
+/// Runs a case over objects that never fail, and says how it ended.
+pub(crate) fn push_sure<R: Threads + Wait + Sync>(
+    rt: &R,
+    alloc: Global,
+    report: &mut Vec<u8>,
+    case: &Case,
+) -> Result<()> {
+    let code = run_sure(rt, alloc, case)?;
+    writeln!(report, "case {}: status {code}", case.name)?;
+    Ok(())
+}
+
+// Runs a case over such objects, and gives its exit status.
+fn run_sure<R: Threads + Wait + Sync>(rt: &R, alloc: Global, case: &Case) -> Result<u8> {
     let words = case.words(alloc, "words")?;
     let mut shelf = shelf(alloc, case)?;
     let mut input = SureSource::new(case.text(alloc, "input")?);

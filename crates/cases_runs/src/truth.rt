@@ -1,15 +1,22 @@
+use crate::case::Case;
 use anyhow::{Context, Result, bail, ensure};
-use case_list::Case;
-use matcher_code::{Links, NoTruth, Stack, WideStack, build, run};
+use matcher_code::{KeptRules, Links, NoTruth, Stack, WideStack, build, run};
 use matcher_meaning::links_of_tables_are_decided;
 use model_conf::{Model, read_model};
 use perm_base::{Rule, read_fields};
 use perm_value::{Request, View, request_of_fields};
 use regex_gate::ListFinder;
 use std::alloc::Global;
+use std::io::Write;
 
-/// What the matcher of a case's model comes to, for the case's request and rule, or without a rule.
-pub(crate) fn truth(alloc: Global, case: &Case) -> Result<String> {
+/// Says what the matcher of a case's model comes to, for the case's request and rule, or without a rule.
+pub(crate) fn push_truth(alloc: Global, report: &mut Vec<u8>, case: &Case) -> Result<()> {
+    let truth = truth(alloc, case)?;
+    writeln!(report, "case {}: {truth}", case.name)?;
+    Ok(())
+}
+
+fn truth(alloc: Global, case: &Case) -> Result<String> {
     let model = model_of(alloc, case)?;
     truth_of(alloc, case, &model)
 }
@@ -89,9 +96,10 @@ fn asked(
     finder: &mut ListFinder,
 ) -> Result<String> {
     let code = build(alloc, model).ok().context("memory ran out")?;
+    let mut kept = KeptRules::new();
     let mut stack: WideStack = Stack::new();
     match run(
-        alloc, &code, model, request, rule, &NoLinks, finder, &mut stack,
+        alloc, &code, model, request, rule, &NoLinks, finder, &mut kept, &mut stack,
     ) {
         Ok(View::Truth(truth)) => Ok(format!(in alloc; "truth {truth}")?),
         Ok(_) => bail!("the matcher has a value that is no truth"),

@@ -11,7 +11,7 @@ use crate::looked::Looked;
 use crate::outcome::{outcome, outcome_told};
 use crate::plain_parts::PlainParts;
 use effect_fold::{Fold, Verdict};
-use matcher_code::Stack;
+use matcher_code::{KeptRules, Stack};
 use matcher_meaning::case_answer_is_there;
 use outside::NoMemory;
 use regex_gate::Finder;
@@ -62,6 +62,7 @@ pub(crate) fn verdict_by_rows<'a, P: Finder, const N: usize>(
     asking: &Asking<'a>,
     looked: Looked<'a>,
     finder: &mut P,
+    kept: &mut KeptRules,
     stack: &mut Stack<'a, N>,
 ) -> Result<Verdict, NoMemory>
     requires run { CanRun asking.now N }
@@ -77,7 +78,7 @@ pub(crate) fn verdict_by_rows<'a, P: Finder, const N: usize>(
     let mut fold = Fold::new(asking.model.effect());
     let mut candidates = Candidates::of(asking, looked);
     while let Some((number, row)) = candidates.next() {
-        let outcome = outcome(asking, Some(row), finder, stack)?;
+        let outcome = outcome(asking, Some(row), finder, kept, stack)?;
         if fold.take(Some(number), outcome) {
             return Ok(fold.end());
         }

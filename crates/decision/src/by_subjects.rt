@@ -13,7 +13,7 @@ use crate::depths::{Depths, PLACES, depth_of};
 use crate::looked::Looked;
 use crate::outcome::outcome;
 use effect_fold::{Outcome, Verdict};
-use matcher_code::Stack;
+use matcher_code::{KeptRules, Stack};
 use matcher_meaning::{case_answer_is_there, case_answer_is_unique};
 use outside::NoMemory;
 use perm_base::Rule;
@@ -35,6 +35,7 @@ pub(crate) fn verdict_by_subjects<'a, P: Finder, const N: usize>(
     asking: &Asking<'a>,
     looked: Looked<'a>,
     finder: &mut P,
+    kept: &mut KeptRules,
     stack: &mut Stack<'a, N>,
 ) -> Result<Verdict, NoMemory>
     requires run { CanRun asking.now N }
@@ -55,7 +56,7 @@ pub(crate) fn verdict_by_subjects<'a, P: Finder, const N: usize>(
     let mut depths = [None; PLACES];
     let mut candidates = Candidates::of(asking, looked);
     while let Some((number, row)) = candidates.next() {
-        let outcome = outcome(asking, Some(row), finder, stack)?;
+        let outcome = outcome(asking, Some(row), finder, kept, stack)?;
         first = first_with(asking, first, number, row, outcome, &mut depths);
     }
     Ok(verdict_of(first))

@@ -12,7 +12,7 @@ use crate::asking::Asking;
 use crate::links::StateLinks;
 use crate::plain_parts::{PlainParts, told_by};
 use effect_fold::Outcome;
-use matcher_code::{NoTruth, Stack, run};
+use matcher_code::{KeptRules, NoTruth, Stack, run};
 use outside::NoMemory;
 use perm_base::Rule;
 use perm_value::View;
@@ -39,6 +39,7 @@ pub(crate) fn outcome<'a, P: Finder, const N: usize>(
     asking: &Asking<'a>,
     row: Option<&'a Rule>,
     finder: &mut P,
+    kept: &mut KeptRules,
     stack: &mut Stack<'a, N>,
 ) -> Result<Outcome, NoMemory>
     requires { CanRun asking.now N }
@@ -47,7 +48,7 @@ pub(crate) fn outcome<'a, P: Finder, const N: usize>(
     ensures no_memory { IfErr result (λ e. takes_memory asking.now.model.now.matcher ≡ true) }
     ensures used { IsUsed (P.refusals finder.old) (P.refusals finder.new) }
 {
-    match truth(asking, row, finder, stack) {
+    match truth(asking, row, finder, kept, stack) {
         Ok(true) => Ok(matched(word_of_row(asking, row))),
         Ok(false) => Ok(Outcome::Unmatched),
         Err(NoTruth::Fault(fault)) => Ok(Outcome::Failed(fault)),
@@ -60,6 +61,7 @@ fn truth<'a, P: Finder, const N: usize>(
     asking: &Asking<'a>,
     row: Option<&'a Rule>,
     finder: &mut P,
+    kept: &mut KeptRules,
     stack: &mut Stack<'a, N>,
 ) -> Result<bool, NoTruth>
     requires { CanRun asking.now N }
@@ -72,7 +74,7 @@ fn truth<'a, P: Finder, const N: usize>(
     if let Some(truth) = told(asking, row) {
         return Ok(truth);
     }
-    truth_by_code(asking, row, finder, stack)
+    truth_by_code(asking, row, finder, kept, stack)
 }
 
 // The same by the code of the matcher, whose locals no other call is to pay for.
@@ -81,6 +83,7 @@ fn truth_by_code<'a, P: Finder, const N: usize>(
     asking: &Asking<'a>,
     row: Option<&'a Rule>,
     finder: &mut P,
+    kept: &mut KeptRules,
     stack: &mut Stack<'a, N>,
 ) -> Result<bool, NoTruth>
     requires { CanRun asking.now N }
@@ -102,6 +105,7 @@ fn truth_by_code<'a, P: Finder, const N: usize>(
         row,
         &links,
         finder,
+        kept,
         stack,
     ) {
         Ok(value) => Ok(truth_in(value)),

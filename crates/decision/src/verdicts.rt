@@ -21,7 +21,7 @@ use crate::plain_parts::{PlainParts, plain_parts_of};
 use crate::program::Program;
 use crate::scratch::Scratch;
 use effect_fold::{Effect, Fold, Verdict};
-use matcher_code::{Stack, WideStack};
+use matcher_code::{KeptRules, Stack, WideStack};
 use outside::NoMemory;
 use perm_base::TableId;
 use perm_value::Request;
@@ -65,7 +65,14 @@ pub fn decide<P: Finder>(
     if let Some(verdict) = verdict_at_once(&asking, looked, parts) {
         return Ok(verdict);
     }
-    verdict_by_code(&asking, looked, parts, finder, &mut scratch.room)
+    verdict_by_code(
+        &asking,
+        looked,
+        parts,
+        finder,
+        &mut scratch.room,
+        &mut scratch.kept,
+    )
 }
 
 // The verdict by the code of the matcher, whose locals no request is to pay for that is judged at once. Where many rows ask about a
@@ -77,6 +84,7 @@ fn verdict_by_code<P: Finder>(
     parts: Option<PlainParts<'_>>,
     finder: &mut P,
     room: &mut Room,
+    kept: &mut KeptRules,
 ) -> Result<Verdict, NoMemory>
     requires asked { IsAsked asking.now }
     requires parts { IfSome parts (DecideAlone asking.now) }
@@ -92,9 +100,9 @@ fn verdict_by_code<P: Finder>(
     let name = name_asked(&asking, looked, room);
     let known = with_known(&asking, name.as_ref(), parts);
     if known.code.height() <= NARROW {
-        return on_narrow_stack(&known, looked, finder);
+        return on_narrow_stack(&known, looked, finder, kept);
     }
-    on_wide_stack(&known, looked, finder)
+    on_wide_stack(&known, looked, finder, kept)
 }
 
 // The verdict where no code has to run and nothing is found first: no row is left to judge, or parts tell all rows alone.
@@ -147,6 +155,7 @@ fn on_narrow_stack<P: Finder>(
     asking: &Asking,
     looked: Looked<'_>,
     finder: &mut P,
+    kept: &mut KeptRules,
 ) -> Result<Verdict, NoMemory>
     requires asked { IsAsked asking.now }
     requires knows { KnowsName asking.now }
@@ -162,7 +171,7 @@ fn on_narrow_stack<P: Finder>(
     ensures used { IsUsed (P.refusals finder.old) (P.refusals finder.new) }
 {
     let mut stack: Stack<8> = Stack::new();
-    verdict_of(asking, looked, finder, &mut stack)
+    verdict_of(asking, looked, finder, kept, &mut stack)
 }
 
 // The verdict, on a stack with room for each matcher, which no other call is to pay for.
@@ -171,6 +180,7 @@ fn on_wide_stack<P: Finder>(
     asking: &Asking,
     looked: Looked<'_>,
     finder: &mut P,
+    kept: &mut KeptRules,
 ) -> Result<Verdict, NoMemory>
     requires asked { IsAsked asking.now }
     requires knows { KnowsName asking.now }
@@ -185,7 +195,7 @@ fn on_wide_stack<P: Finder>(
     ensures used { IsUsed (P.refusals finder.old) (P.refusals finder.new) }
 {
     let mut stack: WideStack = Stack::new();
-    verdict_of(asking, looked, finder, &mut stack)
+    verdict_of(asking, looked, finder, kept, &mut stack)
 }
 
 // The verdict, by rows or once.
@@ -193,6 +203,7 @@ fn verdict_of<'a, P: Finder, const N: usize>(
     asking: &Asking<'a>,
     looked: Looked<'a>,
     finder: &mut P,
+    kept: &mut KeptRules,
     stack: &mut Stack<'a, N>,
 ) -> Result<Verdict, NoMemory>
     requires run { CanRun asking.now N }
@@ -206,21 +217,22 @@ fn verdict_of<'a, P: Finder, const N: usize>(
     ensures used { IsUsed (P.refusals finder.old) (P.refusals finder.new) }
 {
     if !asking.by_row {
-        return verdict_once(asking, finder, stack);
+        return verdict_once(asking, finder, kept, stack);
     }
     if asking.state.tables().len(TableId::P) == 0 {
-        return verdict_once(asking, finder, stack);
+        return verdict_once(asking, finder, kept, stack);
     }
     if is_by_subjects(asking.model.effect()) {
-        return verdict_by_subjects(asking, looked, finder, stack);
+        return verdict_by_subjects(asking, looked, finder, kept, stack);
     }
-    verdict_by_rows(asking, looked, finder, stack)
+    verdict_by_rows(asking, looked, finder, kept, stack)
 }
 
 // The verdict of the one evaluation that goes without a row.
 fn verdict_once<'a, P: Finder, const N: usize>(
     asking: &Asking<'a>,
     finder: &mut P,
+    kept: &mut KeptRules,
     stack: &mut Stack<'a, N>,
 ) -> Result<Verdict, NoMemory>
     requires { CanRun asking.now N }
@@ -232,7 +244,7 @@ fn verdict_once<'a, P: Finder, const N: usize>(
     ensures used { IsUsed (P.refusals finder.old) (P.refusals finder.new) }
 {
     let mut fold = Fold::new(asking.model.effect());
-    let outcome = outcome(asking, None, finder, stack)?;
+    let outcome = outcome(asking, None, finder, kept, stack)?;
     let _ = fold.take(None, outcome);
     Ok(fold.end())
 }

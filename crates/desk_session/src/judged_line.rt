@@ -50,7 +50,7 @@ pub fn push_request<P: Finder>(
 }
 
 /// Appends the line that tells what a request of a script, which is read here, is answered over a policy, as `push_request` says it.
-/// Its values take the place of others, and stand there afterwards.
+/// The request is read over the values that are lent, for the sake of their memory; which stand there afterwards is not said.
 pub fn push_asked<P: Finder>(
     alloc: Global,
     text: &mut String,

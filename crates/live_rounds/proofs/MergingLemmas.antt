@@ -7,87 +7,90 @@ use Rattle.answer_lines.specs.LineText.{numbered}
 use Rattle.answer_lines.specs.Printed.{ArePrinted, PrintedLine, shown_of, text_of}
 use Rattle.answer_lines.specs.declared.printed.Shown.{Shown}
 use Rattle.answer_lines.specs.declared.printed_lines.PrintedLines.{PrintedLines}
-use Rattle.live_rounds.specs.Helps.MergedItems.{FillsWith, IsNextPrinted, IsOnePrinted, TakesSome}
+use Rattle.live_rounds.specs.Helps.MergedItems.{FillsWith, IsNextPrinted, IsOnePrinted, TakesSome, merged_kinds}
 use Rattle.live_rounds.specs.Merged.{line_behind, merged}
 use Rattle.desk_session.specs.Steps.{is_request}
 use Rattle.script_read.specs.Said.{Said}
 use Rattle.script_read.specs.Said as said
 use Rattle.session_meaning.specs.Plain.{most_number}
 
--- ---- one reply
+-- ---- items by their kinds
 
-asked_out : (count : ℕ) (item : Said) (items : List Said) (others : List PrintedAnswer) → is_request item ≡ true → merged count (item ∷ items) [] others ≡ []
-asked_out count (said.asks reading) items others asks = refl
-asked_out count _ items others asks = absurd cc
+pub merged_by_kinds : (count : ℕ) (items : List Said) (asked others : List PrintedAnswer) → merged count items asked others ≡ merged_kinds count (map is_request items) asked others
+merged_by_kinds count [] asked others = refl
+merged_by_kinds count (said.asks reading ∷ items) [] others = refl
+merged_by_kinds count (said.asks reading ∷ items) (reply ∷ asked) others = ap (λ (l : List PrintedLine). line_behind count reply ∷ l) (merged_by_kinds (suc count) items asked others)
+merged_by_kinds count (item ∷ items) asked [] = refl
+merged_by_kinds count (item ∷ items) asked (reply ∷ others) = ap (λ (l : List PrintedLine). line_behind count reply ∷ l) (merged_by_kinds (suc count) items asked others)
 
-asked_on : (count : ℕ) (item : Said) (items : List Said) (asked others : List PrintedAnswer) (reply : PrintedAnswer) → is_request item ≡ true → merged count (item ∷ items) (reply ∷ asked) others ≡ line_behind count reply ∷ merged (suc count) items asked others
-asked_on count (said.asks reading) items asked others reply asks = refl
-asked_on count _ items asked others reply asks = absurd cc
+pub merged_from_kinds : (count : ℕ) (items : List Said) (kinds : List Bool) (asked others : List PrintedAnswer) (printed : List PrintedLine) → kinds ≡ map is_request items → printed ≡ merged_kinds count kinds asked others → printed ≡ merged count items asked others
+merged_from_kinds count items kinds asked others printed kinds-are is =
+    is ∙ ap (λ (l : List Bool). merged_kinds count l asked others) kinds-are ∙ sym (merged_by_kinds count items asked others)
 
-others_out : (count : ℕ) (item : Said) (items : List Said) (asked : List PrintedAnswer) → is_request item ≡ false → merged count (item ∷ items) asked [] ≡ []
-others_out count (said.asks reading) items asked other = absurd cc
-others_out count _ items asked other = refl
-
-others_on : (count : ℕ) (item : Said) (items : List Said) (asked others : List PrintedAnswer) (reply : PrintedAnswer) → is_request item ≡ false → merged count (item ∷ items) asked (reply ∷ others) ≡ line_behind count reply ∷ merged (suc count) items asked others
-others_on count (said.asks reading) items asked others reply other = absurd cc
-others_on count _ items asked others reply other = refl
-
--- ---- items one after the other
+-- ---- one after the other
 
 -- where numbers go no further, all lines have the last one
-merged_alike : (a b : ℕ) (items : List Said) (asked others : List PrintedAnswer) → min a most_number ≡ min b most_number → merged a items asked others ≡ merged b items asked others
-merged_alike a b [] asked others same = refl
-merged_alike a b (said.asks reading ∷ items) [] others same = refl
-merged_alike a b (said.asks reading ∷ items) (reply ∷ asked) others same =
+kinds_alike : (a b : ℕ) (kinds : List Bool) (asked others : List PrintedAnswer) → min a most_number ≡ min b most_number → merged_kinds a kinds asked others ≡ merged_kinds b kinds asked others
+kinds_alike a b [] asked others same = refl
+kinds_alike a b (true ∷ kinds) [] others same = refl
+kinds_alike a b (true ∷ kinds) (reply ∷ asked) others same =
     let number : min (a + 1) most_number ≡ min (b + 1) most_number = omega (arith, same) in
-    let rest = merged_alike (suc a) (suc b) items asked others (omega (arith, same)) in
+    let rest = kinds_alike (suc a) (suc b) kinds asked others (omega (arith, same)) in
     λ j. record { number = number j; answer = reply } ∷ rest j
-merged_alike a b (item ∷ items) asked [] same = refl
-merged_alike a b (item ∷ items) asked (reply ∷ others) same =
+kinds_alike a b (false ∷ kinds) asked [] same = refl
+kinds_alike a b (false ∷ kinds) asked (reply ∷ others) same =
     let number : min (a + 1) most_number ≡ min (b + 1) most_number = omega (arith, same) in
-    let rest = merged_alike (suc a) (suc b) items asked others (omega (arith, same)) in
+    let rest = kinds_alike (suc a) (suc b) kinds asked others (omega (arith, same)) in
     λ j. record { number = number j; answer = reply } ∷ rest j
 
-module _ (number next : ℕ) (items rest : List Said) (item : Said) (begins : items ≡ item ∷ rest) (next-is : next ≡ min (number + 1) most_number) where
+module _ (number next : ℕ) (kinds rest : List Bool) (next-is : next ≡ min (number + 1) most_number) where
   -- the line of a reply, and those behind it
-  line_on : (asked others : List PrintedAnswer) (reply : PrintedAnswer) → line_behind number reply ∷ merged (suc number) rest asked others ≡ record { number = next; answer = reply } ∷ merged next rest asked others
+  line_on : (asked others : List PrintedAnswer) (reply : PrintedAnswer) → line_behind number reply ∷ merged_kinds (suc number) rest asked others ≡ record { number = next; answer = reply } ∷ merged_kinds next rest asked others
   line_on asked others reply =
       let line : line_behind number reply ≡ record { number = next; answer = reply } = ap (λ (k : ℕ). record { number = k; answer = reply }) (sym next-is) in
       let same : min (suc number) most_number ≡ min next most_number = omega (arith, next-is) in
-      let last = merged_alike (suc number) next rest asked others same in
+      let last = kinds_alike (suc number) next rest asked others same in
       λ j. line j ∷ last j
 
   -- one line
-  pub merged_on : (asks : Bool) (asked left_asked others left_others : List PrintedAnswer) (before after : PrintedLines) → is_request item ≡ asks → IsNextPrinted true asks next asked left_asked others left_others before after
-      → IsOnePrinted true (merged number items asked others) (merged next rest left_asked left_others) before after
-  merged_on true asked left_asked others left_others before after kind told =
+  pub merged_on : (asks : Bool) (asked left_asked others left_others : List PrintedAnswer) (before after : PrintedLines) → kinds ≡ asks ∷ rest → IsNextPrinted true asks next asked left_asked others left_others before after
+      → IsOnePrinted true (merged_kinds number kinds asked others) (merged_kinds next rest left_asked left_others) before after
+  merged_on true asked left_asked others left_others before after begins told =
       let reply = told.0.0 in (
         record { number = next; answer = reply },
-        ap (λ (l : List Said). merged number l asked others) begins ∙ ap (λ (l : List PrintedAnswer). merged number (item ∷ rest) l others) told.0.1 ∙ asked_on number item rest left_asked others reply kind
-            ∙ line_on left_asked others reply ∙ ap (λ (l : List PrintedAnswer). record { number = next; answer = reply } ∷ merged next rest left_asked l) (sym told.1),
+        ap (λ (l : List Bool). merged_kinds number l asked others) begins ∙ ap (λ (l : List PrintedAnswer). merged_kinds number (true ∷ rest) l others) told.0.1
+            ∙ line_on left_asked others reply ∙ ap (λ (l : List PrintedAnswer). record { number = next; answer = reply } ∷ merged_kinds next rest left_asked l) (sym told.1),
         told.0.2,
       )
-  merged_on false asked left_asked others left_others before after kind told =
+  merged_on false asked left_asked others left_others before after begins told =
       let reply = told.0.0 in (
         record { number = next; answer = reply },
-        ap (λ (l : List Said). merged number l asked others) begins ∙ ap (λ (l : List PrintedAnswer). merged number (item ∷ rest) asked l) told.0.1 ∙ others_on number item rest asked left_others reply kind
-            ∙ line_on asked left_others reply ∙ ap (λ (l : List PrintedAnswer). record { number = next; answer = reply } ∷ merged next rest l left_others) (sym told.1),
+        ap (λ (l : List Bool). merged_kinds number l asked others) begins ∙ ap (λ (l : List PrintedAnswer). merged_kinds number (false ∷ rest) asked l) told.0.1
+            ∙ line_on asked left_others reply ∙ ap (λ (l : List PrintedAnswer). record { number = next; answer = reply } ∷ merged_kinds next rest l left_others) (sym told.1),
         told.0.2,
       )
 
   -- no reply is left
-  pub merged_out : (asks : Bool) (asked left_asked others left_others : List PrintedAnswer) (before after : PrintedLines) (none : List Said) → is_request item ≡ asks → IsNextPrinted false asks next asked left_asked others left_others before after → none ≡ []
-      → IsOnePrinted false (merged number items asked others) (merged number none left_asked left_others) before after
-  merged_out true asked left_asked others left_others before after none kind told nothing = (
-    ap (λ (l : List Said). merged number l asked others) begins ∙ ap (λ (l : List PrintedAnswer). merged number (item ∷ rest) l others) told.0.0 ∙ asked_out number item rest others kind,
-    ap (λ (l : List Said). merged number l left_asked left_others) nothing,
+  pub merged_out : (asks : Bool) (asked left_asked others left_others : List PrintedAnswer) (before after : PrintedLines) (none : List Bool) → kinds ≡ asks ∷ rest → IsNextPrinted false asks next asked left_asked others left_others before after → none ≡ []
+      → IsOnePrinted false (merged_kinds number kinds asked others) (merged_kinds number none left_asked left_others) before after
+  merged_out true asked left_asked others left_others before after none begins told nothing = (
+    ap (λ (l : List Bool). merged_kinds number l asked others) begins ∙ ap (λ (l : List PrintedAnswer). merged_kinds number (true ∷ rest) l others) told.0.0,
+    ap (λ (l : List Bool). merged_kinds number l left_asked left_others) nothing,
     told.0.2,
   )
-  merged_out false asked left_asked others left_others before after none kind told nothing = (
-    ap (λ (l : List Said). merged number l asked others) begins ∙ ap (λ (l : List PrintedAnswer). merged number (item ∷ rest) asked l) told.0.0 ∙ others_out number item rest asked kind,
-    ap (λ (l : List Said). merged number l left_asked left_others) nothing,
+  merged_out false asked left_asked others left_others before after none begins told nothing = (
+    ap (λ (l : List Bool). merged_kinds number l asked others) begins ∙ ap (λ (l : List PrintedAnswer). merged_kinds number (false ∷ rest) asked l) told.0.0,
+    ap (λ (l : List Bool). merged_kinds number l left_asked left_others) nothing,
     told.0.2,
   )
+
+-- no item is left
+pub merged_end : (number : ℕ) (kinds left : List Bool) (asked others : List PrintedAnswer) (printed : PrintedLines) → kinds ≡ [] → left ≡ [] → IsOnePrinted false (merged_kinds number kinds asked others) (merged_kinds number left asked others) printed printed
+merged_end number kinds left asked others printed none nothing = (
+  ap (λ (l : List Bool). merged_kinds number l asked others) none,
+  ap (λ (l : List Bool). merged_kinds number l asked others) nothing,
+  refl,
+)
 
 -- ---- lines that are taken one after the other
 

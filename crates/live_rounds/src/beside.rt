@@ -1,8 +1,8 @@
 ghost use Rattle.std.specs.Prelude.{◌≡◌, ◌++◌, ◌∷◌, [], IfOk, List, OnErr, OnOk, false};
 ghost use Rattle.answer_lines.specs.Printed.{printed_answer};
-ghost use Rattle.live_rounds.specs.Administrators.{AreDoneBeside, IsAdminAmid, IsAdminBehind, IsAdminStep, IsAdminStopped};
+ghost use Rattle.live_rounds.specs.Administrators.{IsAdminAmid, IsAdminBehind, IsAdminStep, IsAdminStopped};
 ghost use Rattle.desk_session.specs.Steps.{is_request};
-ghost use Rattle.live_rounds.specs.Helps.Turns.{IsTurnDone, IsTurnStopped};
+ghost use Rattle.live_rounds.specs.Helps.Turns.{AreOthersDone, IsTurnDone, IsTurnStopped, is_built_asked};
 ghost use Rattle.script_read.specs.ItemLines.{IsBuiltAs, said};
 ghost use Rattle.script_read.specs.Said.{Said, seen};
 
@@ -16,6 +16,13 @@ use script_read::{BuiltItem, Item, ItemLines};
 use std::alloc::Global;
 use std::sync::Wait;
 
+/// What is answered to those items of a round that are no requests, and of each of its items whether it is a request.
+#[derive(Drop)]
+pub(crate) struct OthersDone {
+    pub replies: WaitingAnswers,
+    pub kinds: Vec<bool>,
+}
+
 /// Answers and does those items of a round that are no requests, in their order, at the pair's administrator.
 pub(crate) fn answer_others<J: Naming, R: Wait, G: Gate>(
     rt: &R,
@@ -23,22 +30,30 @@ pub(crate) fn answer_others<J: Naming, R: Wait, G: Gate>(
     items: &ItemLines<'_>,
     gate: &G,
     admin: &mut Admin<J>,
-) -> Result<WaitingAnswers, NoMemory>
-    ensures done { IfOk result (λ replies. (before : List Said)
-        → IsAdminBehind J.shapes J.opening before admin.old
-        → AreDoneBeside J.shapes J.opening before (said items.now)
-        admin.old admin.new replies) }
+) -> Result<OthersDone, NoMemory>
+    ensures done { IfOk result (AreOthersDone J.shapes J.opening (said items.now)
+        admin.old admin.new) }
     ensures stopped { OnErr result ((before : List Said)
         → IsAdminBehind J.shapes J.opening before admin.old
         → IsAdminAmid J.shapes J.opening before (said items.now) admin.new) }
 {
     let mut printed = String::new(alloc);
+    let mut kinds = Vec::new(alloc);
     let mut replies = WaitingAnswers::new(alloc);
     let mut left = items.again();
     while let Some(built) = left.next_built(alloc)? {
+        let asks = is_built_asked(&built);
         answer_built(rt, alloc, built, gate, admin, &mut printed, &mut replies)?;
+        kinds.push(asks)?;
     }
-    Ok(replies)
+    Ok(OthersDone { replies, kinds })
+}
+
+// Whether an item is a request.
+fn is_built_asked(built: &BuiltItem<'_>) -> bool
+    ensures { result ≡ is_built_asked built.now }
+{
+    matches!(built, BuiltItem::Request(_))
 }
 
 // Answers and does an item that is no request, and puts its reply in behind others; nothing for one that is.

@@ -29,7 +29,7 @@ use std::thread::Threads;
 /// administrator's front. There is one line for each item, as it is printed. It may wait for seats that are inside. Where memory runs out the
 /// administrator stands behind some of the first items, and the lines are dropped; seats and finders are in their places, whatever
 /// the answer.
-pub fn run_round<'a, J: Naming + Send + Sync, R: Threads + Wait + Sync, P: Finder, G: Gate>(
+pub fn run_round<J: Naming + Send + Sync, R: Threads + Wait + Sync, P: Finder, G: Gate>(
     rt: &R,
     alloc: Global,
     admin: &mut Admin<J>,
@@ -37,9 +37,9 @@ pub fn run_round<'a, J: Naming + Send + Sync, R: Threads + Wait + Sync, P: Finde
     finders: &mut Vec<P>,
     workers: u32,
     program: &Program,
-    round: &Stretch<'a>,
+    round: &Stretch<'_>,
     gate: &G,
-) -> Result<RoundLines<'a>, NoMemory>
+) -> Result<RoundLines, NoMemory>
     requires some { 0 < workers }
     requires few { workers ≤ 8 }
     requires finders { workers < length finders.old.items }
@@ -69,5 +69,5 @@ pub fn run_round<'a, J: Naming + Send + Sync, R: Threads + Wait + Sync, P: Finde
     let Worked { kept, others } = worked?;
     let state = admin.desk().state();
     let asked = answer_asks(alloc, state, program, parts, kept, &mut finders[0])?;
-    Ok(RoundLines::new(alloc, round, asked, others))
+    Ok(RoundLines::new(alloc, round.before, asked, others))
 }

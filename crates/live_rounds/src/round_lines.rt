@@ -1,14 +1,11 @@
 ghost use Rattle.std.specs.Prelude.{◌≡◌, [], IfOk, OnOk};
 ghost use Rattle.answer_lines.specs.Printed.{ArePrinted, IsTakenOut};
-ghost use Rattle.live_rounds.specs.Helps.MergedItems.{FillsWith, GoesOn, IsNextPrinted, IsOnePrinted, TakesSome};
-ghost use Rattle.live_rounds.specs.Merged.{merged};
+ghost use Rattle.live_rounds.specs.Helps.MergedItems.{FillsWith, GoesOn, IsNextPrinted, IsOnePrinted, TakesSome, merged_kinds};
 ghost use Rattle.live_rounds.specs.Shares.{in_turn};
-ghost use Rattle.live_rounds.specs.Stretches.{items_of};
 
-use crate::stretch::{Stretch, is_asked};
+use crate::beside::OthersDone;
 use answer_lines::{PrintedLines, WaitingAnswers};
 use outside::NoMemory;
-use script_read::ItemLines;
 use std::alloc::Global;
 use std::marker::Model;
 use std::vec::IntoIter;
@@ -16,24 +13,24 @@ use std::vec::IntoIter;
 // How many lines are taken at a time, so that those of a long round are never all in memory beside its replies.
 const AT_ONCE: usize = 1_024;
 
-/// The lines of a round that are left, in the order of its items. Contracts see the list of them.
+/// The lines of a round that are left, in the order of its items, of each of which it is known whether it is a request. Contracts see
+/// the list of them.
 #[derive(Drop)]
-pub struct RoundLines<'a> {
-    items: ItemLines<'a>,
+pub struct RoundLines {
+    kinds: IntoIter<bool>,
     number: u32,
     asked: Replies,
     others: WaitingAnswers,
 }
 
-impl<'a> Model for RoundLines<'a> {
+impl Model for RoundLines {
     ghost use Rattle.std.specs.Prelude.{List};
     ghost use Rattle.answer_lines.specs.Printed as line;
-    ghost use Rattle.live_rounds.specs.Merged.{merged};
-    ghost use Rattle.script_read.specs.ItemLines.{said};
+    ghost use Rattle.live_rounds.specs.Helps.MergedItems.{merged_kinds};
 
     ghost Value = { List line.PrintedLine };
 
-    ghost view = { λ l. merged l.number (said l.items) l.asked l.others };
+    ghost view = { λ l. merged_kinds l.number l.kinds.rest.items l.asked l.others };
 }
 
 // The replies to requests that are left: of the part that they stand in, and of the parts behind it. Contracts see the list of them.
@@ -79,25 +76,27 @@ fn go_on(current: &mut WaitingAnswers, lists: &mut IntoIter<WaitingAnswers>) -> 
     true
 }
 
-impl<'a> RoundLines<'a> {
-    /// The lines of a round, out of the replies to the requests of its parts and of those to its other items.
+impl RoundLines {
+    /// The lines of a round behind so many items, out of the replies to the requests of its parts and of what was answered to its other
+    /// items.
     pub(crate) fn new(
         alloc: Global,
-        round: &Stretch<'a>,
+        before: u32,
         asked: Vec<WaitingAnswers>,
-        others: WaitingAnswers,
-    ) -> RoundLines<'a>
-        ensures { result ≡ merged round.now.before (items_of round.now)
-            (in_turn asked.items) others }
+        others: OthersDone,
+    ) -> RoundLines
+        ensures { result ≡ merged_kinds before others.kinds.items
+            (in_turn asked.items) others.replies }
     {
+        let OthersDone { replies, kinds } = others;
         RoundLines {
-            items: round.items.again(),
-            number: round.before,
+            kinds: kinds.into_iter(),
+            number: before,
             asked: Replies {
                 current: WaitingAnswers::new(alloc),
                 lists: asked.into_iter(),
             },
-            others,
+            others: replies,
         }
     }
 
@@ -127,13 +126,12 @@ impl<'a> RoundLines<'a> {
     fn take_first(&mut self, lines: &mut PrintedLines) -> Result<bool, NoMemory>
         ensures { IfOk result (λ some. IsOnePrinted some self.old self.new lines.old lines.new) }
     {
-        let Some(first) = self.items.next_told() else {
+        let Some(asks) = self.kinds.next() else {
             return Ok(false);
         };
         let number = self.number.saturating_add(1);
-        let asks = is_asked(&first);
         if !print_next(asks, number, &mut self.asked, &mut self.others, lines)? {
-            self.items = self.items.front(0);
+            pass_all(&mut self.kinds);
             return Ok(false);
         }
         self.number = number;
@@ -156,4 +154,11 @@ fn print_next(
         return asked.print_first(number, lines);
     }
     others.print_first(number, lines)
+}
+
+// Passes over all that are left.
+fn pass_all(kinds: &mut IntoIter<bool>)
+    ensures { kinds.new.rest.items ≡ [] }
+{
+    while let Some(_kind) = kinds.next() {}
 }

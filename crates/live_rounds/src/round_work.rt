@@ -1,13 +1,15 @@
 ghost use Rattle.std.specs.Prelude.{◌≡◌, ◌<◌, IfOk, List, OnErr, drop, length, map, take};
 ghost use Rattle.std.specs.List.{AllZip};
 ghost use Rattle.decision.specs.Programs.{Suits};
-ghost use Rattle.live_rounds.specs.Administrators.{AreDoneBeside, IsAdminAmid, IsAdminBehind};
+ghost use Rattle.live_rounds.specs.Administrators.{IsAdminAmid, IsAdminBehind};
 ghost use Rattle.live_rounds.specs.Helps.Posts.{AreKept};
+ghost use Rattle.live_rounds.specs.Helps.Turns.{AreOthersDone};
 ghost use Rattle.live_rounds.specs.Stretches.{items_of};
 ghost use Rattle.regex_gate.specs.Refusals.{IsUsed};
 ghost use Rattle.script_read.specs.Said.{Said};
 ghost use Rattle.version_log.specs.Log.{versions};
 
+use crate::beside::OthersDone;
 use crate::crew::muster;
 use crate::dismissal::dismiss;
 use crate::gate::Gate;
@@ -22,12 +24,12 @@ use std::alloc::Global;
 use std::sync::Wait;
 use std::thread::Threads;
 
-/// What a round was answered by workers and the administrator: what is kept of each worker's replies, and the replies to the
+/// What a round was answered by workers and the administrator: what is kept of each worker's replies, and what was answered to the
 /// items that are no requests.
 #[derive(Drop)]
 pub(crate) struct Worked {
     pub kept: Vec<WaitingAnswers>,
-    pub others: WaitingAnswers,
+    pub others: OthersDone,
 }
 
 /// Workers answer the parts of a round at their seats, beside the administrator; seats and finders are
@@ -51,9 +53,7 @@ pub(crate) fn work_round<J: Naming + Send + Sync, R: Threads + Wait + Sync, P: F
         (drop 1 (map P.refusals finders.old.items))
         (drop 1 (map P.refusals finders.new.items))
         worked.kept.items) }
-    ensures done { IfOk result (λ worked. (before : List Said)
-        → IsAdminBehind J.shapes J.opening before admin.old
-        → AreDoneBeside J.shapes J.opening before (items_of round.now)
+    ensures done { IfOk result (λ worked. AreOthersDone J.shapes J.opening (items_of round.now)
         admin.old admin.new worked.others) }
     ensures stopped { OnErr result ((before : List Said)
         → IsAdminBehind J.shapes J.opening before admin.old

@@ -88,12 +88,12 @@ fn take_lines<X, T: Taker<X>>(
     alloc: Global,
     taker: &T,
     to: &mut X,
-    told: RoundLines<'_>,
+    told: RoundLines,
 ) -> Result<(), TakeStop>
-    ensures taken { OnOk result ((lines : List line.Line) → told.entry ≡ map printed_line lines
+    ensures taken { OnOk result ((lines : List line.Line) → told ≡ map printed_line lines
         → AreAllTaken T.took to.old lines to.new) }
     ensures amid { IfErr result (λ stop. (lines : List line.Line)
-        → told.entry ≡ map printed_line lines
+        → told ≡ map printed_line lines
         → AreSomeTaken T.took T.stopped to.old lines to.new stop) }
 {
     let mut left = told;

@@ -25,8 +25,8 @@ use std::thread::Threads;
 /// Does a script whose text was checked, and whose requests are answered by workers, beside the administrator that does all other
 /// items in their order. There is one line for each item, numbered from 1; those of a round are taken when it is over, before the
 /// next one is read. A pair of copies of the desk's policy is opened for them, with a seat for
-/// each worker as far as there are places. It may wait for seats that are inside. Where memory runs out the lines of
-/// the round are dropped. The finders are in their places, whatever the answer.
+/// each worker as far as there are places. It may wait for seats that are inside. Where memory runs out the lines that were
+/// not taken yet are dropped. The finders are in their places, whatever the answer.
 pub fn run_shared<R: Threads + Wait + Sync, P: Finder, G: Gate, H: Places, X, T: Taker<X>>(
     rt: &R,
     alloc: Global,

@@ -1,15 +1,15 @@
 ghost use Rattle.std.specs.Prelude.{IfOk, List, OnErr};
 ghost use Rattle.decision.specs.Programs.{Suits};
-ghost use Rattle.live_rounds.specs.Administrators.{AreDoneBeside, IsAdminAmid, IsAdminBehind};
+ghost use Rattle.live_rounds.specs.Administrators.{IsAdminAmid, IsAdminBehind};
 ghost use Rattle.live_rounds.specs.Helps.Posts.{AreServedPosts};
+ghost use Rattle.live_rounds.specs.Helps.Turns.{AreOthersDone};
 ghost use Rattle.live_rounds.specs.Stretches.{items_of};
 ghost use Rattle.script_read.specs.Said.{Said};
 
-use crate::beside::answer_others;
+use crate::beside::{OthersDone, answer_others};
 use crate::gate::Gate;
 use crate::posts::{Post, serve_all, share_program};
 use crate::stretch::Stretch;
-use answer_lines::WaitingAnswers;
 use decision::Program;
 use live_pair::{Admin, Naming};
 use outside::NoMemory;
@@ -29,12 +29,10 @@ pub(crate) fn work_together<J: Naming + Send + Sync, R: Threads + Wait + Sync, P
     admin: &mut Admin<J>,
     parts: &[Stretch<'_>],
     posts: &mut Vec<Post<J, P>>,
-) -> Result<WaitingAnswers, NoMemory>
+) -> Result<OthersDone, NoMemory>
     requires suits { Suits program.now J.shapes }
-    ensures done { IfOk result (λ replies. (before : List Said)
-        → IsAdminBehind J.shapes J.opening before admin.old
-        → AreDoneBeside J.shapes J.opening before (items_of round.now)
-        admin.old admin.new replies) }
+    ensures done { IfOk result (AreOthersDone J.shapes J.opening (items_of round.now)
+        admin.old admin.new) }
     ensures stopped { OnErr result ((before : List Said)
         → IsAdminBehind J.shapes J.opening before admin.old
         → IsAdminAmid J.shapes J.opening before (items_of round.now)
@@ -57,7 +55,7 @@ fn in_turn<
     R: Threads + Wait + Sync,
     P: Finder,
     G: Gate,
-    F: FnMut() -> Result<WaitingAnswers, NoMemory>,
+    F: FnMut() -> Result<OthersDone, NoMemory>,
 >(
     rt: &R,
     alloc: Global,
@@ -66,7 +64,7 @@ fn in_turn<
     parts: &[Stretch<'_>],
     posts: &mut Vec<Post<J, P>>,
     beside: &mut F,
-) -> Result<WaitingAnswers, NoMemory>
+) -> Result<OthersDone, NoMemory>
     requires suits { Suits program.now J.shapes }
     requires called { F.pre beside.old }
     ensures called { F.step beside.old result beside.new }
@@ -84,7 +82,7 @@ fn with_workers<
     R: Threads + Wait + Sync,
     P: Finder,
     G: Gate,
-    F: FnMut() -> Result<WaitingAnswers, NoMemory>,
+    F: FnMut() -> Result<OthersDone, NoMemory>,
 >(
     rt: &R,
     alloc: Global,
@@ -94,7 +92,7 @@ fn with_workers<
     posts: &mut Vec<Post<J, P>>,
     alone: bool,
     beside: &mut F,
-) -> Result<WaitingAnswers, NoMemory>
+) -> Result<OthersDone, NoMemory>
     requires suits { Suits program.now J.shapes }
     requires called { F.pre beside.old }
     ensures called { F.step beside.old result beside.new }
@@ -104,8 +102,8 @@ fn with_workers<
     let mut workers = ||
         requires { Suits program.now J.shapes }
     { serve_vec(rt, alloc, program, gate, parts, posts, alone) };
-    let (_, replies) = join_mut(rt, &mut workers, beside);
-    replies
+    let (_, done) = join_mut(rt, &mut workers, beside);
+    done
 }
 
 // The workers' side.

@@ -8,11 +8,10 @@ use Rattle.std.proofs.lemmas.List.Folds.{list_any_at}
 use Rattle.std.proofs.lemmas.Option.{get_or_from_slice_get, slice_get_within}
 use Rattle.std.proofs.lemmas.Slice.Eq.{bytes_eq-Decides}
 use Rattle.effect_fold.specs.declared.fault.Cause.{Cause}
-use Rattle.effect_fold.specs.declared.fault.Cause.TheVariants.{Pattern, RuleText}
+use Rattle.effect_fold.specs.declared.fault.Cause.TheVariants.{Pattern}
 use Rattle.effect_fold.specs.declared.fault.Fault.{Fault}
 use Rattle.matcher_read.specs.Expression.{Expression}
 use Rattle.model_conf.specs.Columns.{AreColumns}
-use Rattle.model_conf.specs.RuleText.{IsRuleText, IsNoRuleText}
 use Rattle.perm_value.specs.Datum.{Datum}
 use Rattle.perm_value.specs.Datum as datum
 use Rattle.perm_value.specs.Seen.{datum_of_view}
@@ -27,6 +26,7 @@ use Rattle.matcher_meaning.specs.Comes.{Evaluates, RuleComesTo}
 use Rattle.matcher_meaning.specs.Operators.{as_truth}
 use Rattle.matcher_code.specs.Compiled.{has_eval_op, column_number}
 use Rattle.matcher_code.specs.Helps.Ends.{refused_by, stop_of}
+use Rattle.matcher_code.specs.Helps.Kept.{TextComesTo}
 use Rattle.matcher_code.specs.Helps.Runs.{ComesFrom, IsAt, LeadsOn, RunEnds, StandsAt, some_searches}
 use Rattle.matcher_code.specs.Machine.{CodeComesTo, Executes, field_at, goes}
 use Rattle.matcher_code.specs.Rules.{CodeParts, IsCode}
@@ -105,15 +105,10 @@ text_there case column are within =
     let any = list_any_at (bytes_eq name) case.model.policy column [] within ((bytes_eq-Decides name name).1 refl) in
     field_there case.model.policy case.row name any ∙ ap (field_at case.row) (number_here case.model.policy column are within any)
 
--- the row's field says no rule
-pub eval_none : (case : Case) (at column : ℕ) (bytes : List ℕ) → AreColumns case.model.policy → column < length case.model.policy → bytes ≡ field_at case.row column → IsNoRuleText case.model bytes
-    → Evaluates case at (get_or case.model.policy column []) (fails RuleText at)
-eval_none case at column bytes are within is none = inl (subst (IsNoRuleText case.model) (is ∙ sym (text_there case column are within)) none, refl)
-
--- it says this one
-pub eval_rule : (case : Case) (at column : ℕ) (bytes : List ℕ) (rule : Expression) (r : Evaluation) → AreColumns case.model.policy → column < length case.model.policy → bytes ≡ field_at case.row column → IsRuleText case.model bytes rule
-    → RuleComesTo case at rule r → Evaluates case at (get_or case.model.policy column []) r
-eval_rule case at column bytes rule r are within is says comes = inr (rule, subst (λ (text : List ℕ). IsRuleText case.model text rule) (is ∙ sym (text_there case column are within)) says, comes)
+-- what an `eval` of this text comes to, where it is the row's field
+pub eval_text : (case : Case) (at column : ℕ) (bytes : List ℕ) (r : Evaluation) → AreColumns case.model.policy → column < length case.model.policy → bytes ≡ field_at case.row column → TextComesTo case at bytes r
+    → Evaluates case at (get_or case.model.policy column []) r
+eval_text case at column bytes r are within is comes = subst (λ (text : List ℕ). TextComesTo case at text r) (is ∙ sym (text_there case column are within)) comes
 
 -- what is said of each answer is said of a stop
 pub stop_says : {X Y : Type 0} (Says Other : Option (ℕ × List ℕ) → Evaluation → Type 0) (value : X → Datum) (other : Y → Datum) (Refused : Option (List ℕ) → Type 0) (why : NoTruth) → ((refused : Option (ℕ × List ℕ)) (r : Evaluation) → Says refused r → Other refused r)

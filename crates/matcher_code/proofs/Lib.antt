@@ -16,3 +16,5 @@ mod BuildTakers
 mod BuildTrees
 mod BuildUses
 mod BuildWhole
+mod FrameLemmas
+mod KeptLemmas

@@ -6,3 +6,4 @@ pub mod Ends
 pub mod Steps
 pub mod Runs
 pub mod Compared
+pub mod Kept

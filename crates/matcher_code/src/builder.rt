@@ -8,7 +8,7 @@ ghost use Rattle.model_conf.specs.Kept.{IsKept};
 ghost use Rattle.model_conf.specs.Uses.{first_undeclared, uses};
 ghost use Rattle.matcher_meaning.specs.Answers.{Evaluation};
 ghost use Rattle.matcher_meaning.specs.Cases.{Case};
-ghost use Rattle.matcher_meaning.specs.Comes.{RuleComesTo, TruthIs, takes_memory};
+ghost use Rattle.matcher_meaning.specs.Comes.{RuleComesTo, TruthIs, all_at, takes_memory};
 ghost use Rattle.matcher_meaning.specs.Meaning.{searches};
 ghost use Rattle.matcher_code.specs.Compiled.{IsRule, as_answer, code_of, has_eval_op, has_search_op};
 ghost use Rattle.matcher_code.specs.Helps.NodePlaces.{placed};
@@ -55,6 +55,9 @@ pub fn build(alloc: Global, model: &Model) -> Result<Code, NoMemory>
 /// Makes the code of a rule of a model, which a text says, with each instruction at one place of the matcher.
 pub fn build_rule(alloc: Global, model: &Model, rule: &Tree, at: u32) -> Result<Code, NoMemory>
     requires { IsRule model.now (expression rule.now) }
+    // It has the instructions of the rule.
+    ensures ops { IfOk result
+        (λ code. code.ops ≡ code_of model.now (all_at at (expression rule.now))) }
     // It is code for the columns of the model.
     ensures columns { IfOk result (λ code. code.columns ≡ length model.now.request) }
     ensures policy_columns { IfOk result

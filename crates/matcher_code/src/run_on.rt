@@ -1,17 +1,20 @@
-ghost use Rattle.std.specs.Prelude.{◌≤◌, length};
+ghost use Rattle.std.specs.Prelude.{◌≡◌, ◌≤◌, length};
 ghost use Rattle.model_conf.specs.ModelText.{ModelParts};
 ghost use Rattle.regex_gate.specs.Refusals.{RefusedOnly};
-ghost use Rattle.matcher_code.specs.Helps.Ends.{case_for, refused_by};
+ghost use Rattle.matcher_code.specs.Helps.Ends.{case_for, refused_by, stop_of};
 ghost use Rattle.matcher_code.specs.Helps.Runs.{IsAt, RunEnds};
 
 use crate::asked::Asked;
 use crate::code::Code;
 use crate::comparison::advance;
+use crate::faults::fault;
 use crate::halt::Halt;
 use crate::links::Links;
+use crate::no_truth::NoTruth;
 use crate::pause::Pause;
 use crate::stack::Stack;
 use crate::step::Step;
+use effect_fold::Cause;
 use regex_gate::Finder;
 
 /// Runs code from a place on, to its end or to an `eval`. It copies nothing.
@@ -47,4 +50,15 @@ pub(crate) fn run_on<'a, K: Links, P: Finder, const N: usize>(
         }
     }
     Ok(Pause::Value(stack.pop()))
+}
+
+/// Why a run stopped: a search that was refused is a fault of its place.
+pub(crate) fn stop_of(halt: Halt<'_>) -> NoTruth
+    ensures { result ≡ stop_of halt.entry }
+{
+    match halt {
+        Halt::Fault(failed) => NoTruth::Fault(failed),
+        Halt::Refused { at, .. } => NoTruth::Fault(fault(Cause::Pattern, at)),
+        Halt::NoMemory => NoTruth::NoMemory,
+    }
 }

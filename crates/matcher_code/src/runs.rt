@@ -5,11 +5,12 @@ ghost use Rattle.matcher_code.specs.RunEnds.{IsValueOf, IsWantOfMemory, case_of,
 
 use crate::asked::Asked;
 use crate::code::Code;
-use crate::eval::{evaluated, stop_of};
+use crate::eval::evaluated;
+use crate::kept_rules::KeptRules;
 use crate::links::Links;
 use crate::no_truth::NoTruth;
 use crate::pause::Pause;
-use crate::run_on::run_on;
+use crate::run_on::{run_on, stop_of};
 use crate::stack::Stack;
 use model_conf::Model;
 use perm_base::Rule;
@@ -19,7 +20,8 @@ use std::alloc::Global;
 
 /// The value that code of a model comes to for a request and a row, or none, over a stack that is emptied first. A search
 /// that the finder refuses is a fault. It copies nothing, and memory is taken by `regexMatch` and `eval` alone: an `eval`
-/// reads the rule that the row holds, and runs its code over a stack of its own.
+/// reads the rule that the row holds, unless its code is kept already, keeps the code, and runs it over a stack of its
+/// own.
 pub fn run<'a, K: Links, P: Finder, const N: usize>(
     alloc: Global,
     code: &'a Code,
@@ -28,6 +30,7 @@ pub fn run<'a, K: Links, P: Finder, const N: usize>(
     row: Option<&'a Rule>,
     links: &K,
     finder: &mut P,
+    kept: &mut KeptRules,
     stack: &mut Stack<'a, N>,
 ) -> Result<View<'a>, NoTruth>
     // The stack has room for the code, and the model has the columns of a policy that it names.
@@ -56,7 +59,7 @@ pub fn run<'a, K: Links, P: Finder, const N: usize>(
                 at,
                 column,
             } => {
-                let truth = evaluated(alloc, model, asked, column, at, links, finder)?;
+                let truth = evaluated(alloc, model, asked, column, at, links, finder, kept)?;
                 stack.push(View::Truth(truth));
                 place = standing + 1;
             }

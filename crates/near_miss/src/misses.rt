@@ -6,7 +6,7 @@ ghost use Rattle.near_miss.specs.Misses.{AreNearMisses, misses_from};
 
 use crate::explainer::Explainer;
 use crate::row::{Asking, lack};
-use matcher_code::{Stack, WideStack};
+use matcher_code::{KeptRules, Stack, WideStack};
 use matcher_meaning::case_answer_is_there;
 use outside::NoMemory;
 use perm_base::TableId;
@@ -46,6 +46,7 @@ pub fn near_misses<P: Finder>(
         state,
         request,
     };
+    let mut kept = KeptRules::new();
     let mut stack: WideStack = Stack::new();
     let mut misses = Vec::new(alloc);
     let mut number = 0;
@@ -54,7 +55,7 @@ pub fn near_misses<P: Finder>(
             return Ok(misses);
         }
         number += 1;
-        let lack = lack(&asking, row, finder, &mut stack)?;
+        let lack = lack(&asking, row, finder, &mut kept, &mut stack)?;
         push_lack(&mut misses, number, lack)?;
     }
     Ok(misses)

@@ -10,7 +10,7 @@ ghost use Rattle.near_miss.specs.Helps.Rows.{IsTruthGiven, lack_of, standing_wit
 use crate::links::StateLinks;
 use crate::part::Part;
 use effect_fold::Fault;
-use matcher_code::{NoTruth, WideStack, run};
+use matcher_code::{KeptRules, NoTruth, WideStack, run};
 use matcher_meaning::case_answer_is_there;
 use outside::NoMemory;
 use perm_base::Rule;
@@ -41,6 +41,7 @@ pub(crate) fn lack<'a, P: Finder>(
     asking: &Asking<'a>,
     row: &'a Rule,
     finder: &mut P,
+    kept: &mut KeptRules,
     stack: &mut WideStack<'a>,
 ) -> Result<Option<usize>, NoMemory>
     ensures lacks { IfOk result (Lacks
@@ -55,7 +56,7 @@ pub(crate) fn lack<'a, P: Finder>(
         if let Standing::Other = standing {
             return Ok(None);
         }
-        let truth = truth(asking, part, row, finder, stack)?;
+        let truth = truth(asking, part, row, finder, kept, stack)?;
         standing = standing_with(standing, at, truth);
     }
     Ok(lack_of(standing))
@@ -96,6 +97,7 @@ fn truth<'a, P: Finder>(
     part: &'a Part,
     row: &'a Rule,
     finder: &mut P,
+    kept: &mut KeptRules,
     stack: &mut WideStack<'a>,
 ) -> Result<Result<bool, Fault>, NoMemory>
     ensures truth { IfOk result (IsTruthGiven
@@ -115,6 +117,7 @@ fn truth<'a, P: Finder>(
         Some(row),
         &links,
         finder,
+        kept,
         stack,
     ) {
         Ok(value) => Ok(Ok(truth_in(value))),

@@ -9,7 +9,7 @@ mod MoveLemmas
 mod ChangeLemmas
 mod BringLemmas
 mod StepLemmas
-mod Placed
+mod OwnLemmas
 mod Popped
 mod TouchLemmas
 mod TurnLemmas

@@ -1,6 +1,6 @@
 -- What only private functions and proofs say.
 pub mod Tallies
-pub mod RowPlaces
+pub mod OwnRows
 pub mod Turns
 pub mod Kept
 pub mod Walks

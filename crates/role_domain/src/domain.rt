@@ -1,10 +1,10 @@
 //! The rows that count in one domain.
 
-ghost use Rattle.std.specs.Prelude.{◌≡◌, ◌+◌, ◌<◌, ◌≤◌, All, IfOk, OnOk, length, map};
-ghost use Rattle.policy_table.specs.Tables.{Fields, rows};
+ghost use Rattle.std.specs.Prelude.{◌≡◌, ◌+◌, ◌≤◌, All, IfOk, List, OnOk, length, map};
+ghost use Rattle.policy_table.specs.Tables.{Fields};
 ghost use Rattle.role_domain.specs.Domains.{IsDomain};
 ghost use Rattle.role_domain.specs.Helps.Copies.{content_of};
-ghost use Rattle.role_domain.specs.Helps.RowPlaces.{CanMake, HasPlaces, is_plain_text, placed};
+ghost use Rattle.role_domain.specs.Helps.OwnRows.{CanMake, is_plain_text, lent, named_rows};
 ghost use Rattle.role_domain.specs.Relations.{counted, pair_of};
 ghost use Rattle.role_graph.specs.Built.{IsCounted};
 ghost use Rattle.role_graph.specs.Graph.{most_rows};
@@ -13,8 +13,7 @@ ghost use Rattle.role_graph.specs.Groups.{times};
 use crate::patterns::fitting;
 use crate::terms::Terms;
 use outside::{NoMemory, Share};
-use perm_base::{Fit, Rule, TableId, is_pattern};
-use policy_table::Tables;
+use perm_base::{Fit, Rule, is_pattern};
 use role_graph::{GraphBuilder, RoleGraph};
 use role_meaning::links_are_decided;
 use std::alloc::Global;
@@ -48,80 +47,68 @@ impl Domain {
 
 impl Share for Domain {}
 
-/// The domain of a text, of the rows of a table at these places, given all rows with a pattern as their domain.
-pub(crate) fn domain_at(
+/// The domain of a text, made of the rows that have it as theirs, given all rows with a pattern as their domain.
+pub(crate) fn domain_with(
     alloc: Global,
     terms: Terms,
     text: &[u8],
-    tables: &Tables,
-    table: TableId,
-    places: &[u32],
+    own: &[&Rule],
     patterns: &[Rule],
 ) -> Result<Domain, NoMemory>
-    requires { CanMake terms text.now (rows tables.now.policy table) places.now patterns.now }
-    ensures { IfOk result
-        (IsDomain (record { terms = terms; rows = rows tables.now.policy table }) text.now) }
+    requires { (all : List Fields) × CanMake terms text.now all (lent own.now) patterns.now }
+    ensures { IfOk result (λ domain. (all : List Fields)
+        → CanMake terms text.now all (lent own.now) patterns.now
+        → IsDomain (record { terms = terms; rows = all }) text.now domain) }
 {
     links_are_decided();
-    let own = places.len() as u64;
+    let count = own.len() as u64;
     let pairs = fitting(alloc, terms.domains, text, patterns)?;
-    let mut graph = graph_at(alloc, terms, text, tables, table, places)?;
+    let mut graph = graph_with(alloc, terms, text, own)?;
     push_all(alloc, &mut graph, &pairs)?;
     let graph = graph.build(alloc)?;
-    Ok(Domain { own, graph })
+    Ok(Domain { own: count, graph })
 }
 
-// The graph that is being made of the rows at these places. A pattern counts in all domains that fit it, and is brought to them at
-// the end.
-fn graph_at(
+// The graph that is being made of the rows that have a text as their domain. A pattern counts in all domains that fit it, and is
+// brought to them at the end.
+fn graph_with(
     alloc: Global,
     terms: Terms,
     text: &[u8],
-    tables: &Tables,
-    table: TableId,
-    places: &[u32],
+    own: &[&Rule],
 ) -> Result<GraphBuilder, NoMemory>
-    requires has { HasPlaces (rows tables.now.policy table) text.now (rows tables.now.policy table)
-        places.now }
-    requires wide { All (λ row. 2 ≤ length row) (rows tables.now.policy table) }
-    requires few { length places.now ≤ most_rows }
+    requires wide { All (λ row. 2 ≤ length row.now) own.now }
+    requires few { length own.now ≤ most_rows }
     requires least { 1 ≤ terms.limit }
     requires most { terms.limit ≤ 250 }
-    ensures rows { IfOk result (λ graph. (one : Fields) → times one graph.rows
-        ≡ counted (is_plain_text terms.domains text.now) one (rows tables.now.policy table)) }
+    ensures rows { IfOk result (λ graph. (all : List Fields)
+        → lent own.now ≡ named_rows text.now all → (one : Fields)
+        → times one graph.rows ≡ counted (is_plain_text terms.domains text.now) one all) }
     ensures names { IfOk result (λ graph. graph.names ≡ terms.names) }
     ensures limit { IfOk result (λ graph. graph.limit ≡ terms.limit) }
     ensures counted { IfOk result IsCounted }
 {
-    let mut graph = GraphBuilder::new(alloc, terms.names, terms.limit);
     if is_pattern(terms.domains, text) {
-        return Ok(graph);
+        return Ok(GraphBuilder::new(alloc, terms.names, terms.limit));
     }
-    push_at(alloc, &mut graph, tables, table, places)?;
+    let mut graph = GraphBuilder::with_room(alloc, terms.names, terms.limit, own.len())?;
+    push_own(alloc, &mut graph, own)?;
     Ok(graph)
 }
 
-// Adds the users and the roles of the rows at these places.
-fn push_at(
-    alloc: Global,
-    graph: &mut GraphBuilder,
-    tables: &Tables,
-    table: TableId,
-    places: &[u32],
-) -> Result<(), NoMemory>
-    requires within { All (λ at. at < length (rows tables.now.policy table)) places.now }
-    requires wide { All (λ row. 2 ≤ length row) (rows tables.now.policy table) }
+// Adds the users and the roles of rows as they stand in their table.
+fn push_own(alloc: Global, graph: &mut GraphBuilder, own: &[&Rule]) -> Result<(), NoMemory>
+    requires wide { All (λ row. 2 ≤ length row.now) own.now }
     requires counted { IsCounted graph.old }
-    requires few { length graph.old.rows + length places.now ≤ most_rows }
-    ensures rows { OnOk result ((one : Fields)
-        → times one graph.new.rows ≡ times one graph.old.rows
-        + times one (map pair_of (placed (rows tables.now.policy table) places.now))) }
+    requires few { length graph.old.rows + length own.now ≤ most_rows }
+    ensures rows { OnOk result ((one : Fields) → times one graph.new.rows
+        ≡ times one graph.old.rows + times one (map pair_of (lent own.now))) }
     ensures counted { OnOk result (IsCounted graph.new) }
     ensures names { OnOk result (graph.new.names ≡ graph.old.names) }
     ensures limit { OnOk result (graph.new.limit ≡ graph.old.limit) }
 {
-    for place in places {
-        graph.push(alloc, tables.row(table, *place))?;
+    for row in own {
+        graph.push(alloc, row)?;
     }
     Ok(())
 }

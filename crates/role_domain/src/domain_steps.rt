@@ -12,10 +12,10 @@ ghost use Rattle.role_domain.specs.Helps.Turns.{CanStep, CanTurn, IsTurnOf, Turn
 ghost use Rattle.role_domain.specs.Relations.{Relation, Tells, pair_of};
 ghost use Rattle.role_domain.specs.Steps.{AreReady, IsReady};
 
-use crate::domain::{Domain, domain_at, graph_of};
+use crate::domain::{Domain, domain_with, graph_of};
 use crate::domains::Domains;
+use crate::own_rows::rows_by_domain;
 use crate::patterns::fitting;
-use crate::places::places_of;
 use crate::prepared::DomainStep;
 use crate::rows::domain_of;
 use crate::tallies::Tallies;
@@ -42,10 +42,10 @@ impl Domains {
         ensures { OnOk result (AreDomains
             (after_of (first_turn terms (rows tables.now.policy table))) self.new.entries) }
     {
-        let mut places = places_of(alloc, tables.rows(table))?;
-        self.reserve(places.len())?;
-        while let Some((text, own)) = places.pop() {
-            let domain = domain_at(alloc, terms, text.as_slice(), tables, table, &own, patterns)?;
+        let mut owned = rows_by_domain(alloc, tables.rows(table))?;
+        self.reserve(owned.len())?;
+        while let Some((text, own)) = owned.pop() {
+            let domain = domain_with(alloc, terms, text.as_slice(), &own, patterns)?;
             self.put(text, domain);
         }
         Ok(())

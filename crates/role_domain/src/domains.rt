@@ -17,12 +17,13 @@ use crate::domain::Domain;
 use crate::prepared::DomainStep;
 use indexmap::IndexMap;
 use outside::{NoMemory, Share};
+use role_graph::NameHash;
 use std::alloc::Global;
 use std::marker::Model;
 
 /// The domains by their texts. Contracts see them, and for how many further ones there is room.
 pub(crate) struct Domains {
-    pub(crate) entries: IndexMap<Vec<u8>, Domain>,
+    pub(crate) entries: IndexMap<Vec<u8>, Domain, NameHash>,
 }
 
 // Written out, so that a caller's proof sees one call and not the drop of each field.
@@ -49,7 +50,7 @@ impl Domains {
         ensures { result.entries ≡ [] }
     {
         Domains {
-            entries: IndexMap::new(alloc),
+            entries: IndexMap::with_hasher(alloc, NameHash::new()),
         }
     }
 
@@ -58,7 +59,7 @@ impl Domains {
         ensures { IfOk result (λ copy. contents_of copy.entries ≡ contents_of self.now.entries) }
     {
         let len = self.len();
-        let mut entries = IndexMap::with_capacity(alloc, len)?;
+        let mut entries = IndexMap::with_capacity_and_hasher(alloc, len, NameHash::new())?;
         for at in 0..len {
             let (text, domain) = self.entry(at);
             let _none = entries.insert(Vec::from_slice(alloc, text)?, domain.copy(alloc)?)?;

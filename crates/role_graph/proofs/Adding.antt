@@ -1,7 +1,6 @@
 -- A row more in the groups of a graph: a role more in a group that is there, or a group that is new.
 use Rattle.std.proofs.Common.{◌≡◌, ◌⊎◌, inl, inr, ◌<◌, ◌≤◌, ◌+◌, ℕ, Bool, true, false, ◌&&◌, cond, List, [], ◌∷◌, ◌++◌, Option, Some, length, map, refl, sym, ap, subst, ◌∙◌, arith, length-append}
 use Rattle.std.specs.Prelude.{All, not}
-use Rattle.std.specs.Global.{Vec}
 use Rattle.std.specs.List.{IsDistinct, count_by}
 use Rattle.std.specs.Map.{KeepsOthers, keys_of, lookup, set_value}
 use Rattle.std.specs.Option.{option_map_or}
@@ -15,6 +14,7 @@ use Rattle.policy_table.specs.Tables.{Fields, same}
 use Rattle.role_graph.specs.Groups.{Group, row, rows_of, times}
 use Rattle.role_graph.specs.Helps.Edits.{standing}
 use Rattle.role_graph.specs.Helps.Kept.{AreKept, AreLinks, Kept, Parts, group_of, linked_of, roles_in, roles_under}
+use Rattle.role_graph.specs.Helps.UserRoles.{Texts}
 use Rattle.role_graph.proofs.ChangeLemmas.{put_pattern, put_text}
 use Rattle.role_graph.proofs.CountLemmas.{rows_both, some_rows, times_linked_all}
 use Rattle.role_graph.proofs.EditLemmas.{count_more, no_other, once, this_role}
@@ -23,7 +23,7 @@ use Rattle.role_graph.proofs.PutLemmas.{apart_from, overlay_none, others_kept, s
 
 -- ---- one list of roles is written in its place
 
-all_written : (P : Group → Type 0) (user : List ℕ) (roles : Vec (List ℕ)) (entries : List Entry) → P (record { user = user; roles = roles.items }) → All P (map group_of entries) → All P (map group_of (set_value (is_user user) entries roles))
+all_written : (P : Group → Type 0) (user : List ℕ) (roles : Texts) (entries : List Entry) → P (record { user = user; roles = roles.items }) → All P (map group_of entries) → All P (map group_of (set_value (is_user user) entries roles))
 all_written P user roles [] here all = all
 all_written P user roles (entry ∷ entries) here all =
     by (bytes_eq user entry.0.items) refl (all_written P user roles entries here (All-tail P (group_of entry) (map group_of entries) all))
@@ -36,24 +36,24 @@ all_written P user roles (entry ∷ entries) here all =
     by false is rest = All-cons P (group_of entry) (map group_of (set_value (is_user user) entries roles)) (All-head P (group_of entry) (map group_of entries) all) rest
 
 -- a group that is found has some role
-pub found_some : (user : List ℕ) (entries : List Entry) (roles : Vec (List ℕ)) → All (λ (group : Group). 0 < length group.roles) (map group_of entries) → Some roles ≡ lookup (is_user user) entries → 0 < length roles.items
+pub found_some : (user : List ℕ) (entries : List Entry) (roles : Texts) → All (λ (group : Group). 0 < length group.roles) (map group_of entries) → Some roles ≡ lookup (is_user user) entries → 0 < length roles.items
 found_some user [] roles all is = absurd cc
 found_some user (entry ∷ entries) roles all is =
     by (bytes_eq user entry.0.items) is (found_some user entries roles (All-tail (λ (group : Group). 0 < length group.roles) (group_of entry) (map group_of entries) all))
   where
     by : (test : Bool) → Some roles ≡ cond test (Some entry.1) (lookup (is_user user) entries) → (Some roles ≡ lookup (is_user user) entries → 0 < length roles.items) → 0 < length roles.items
     by true here more =
-        subst (λ (one : Vec (List ℕ)). 0 < length one.items) (sym (same_Some roles entry.1 here)) (All-head (λ (group : Group). 0 < length group.roles) (group_of entry) (map group_of entries) all)
+        subst (λ (one : Texts). 0 < length one.items) (sym (same_Some roles entry.1 here)) (All-head (λ (group : Group). 0 < length group.roles) (group_of entry) (map group_of entries) all)
     by false rest more = more rest
 
-pub kept_written : (user : List ℕ) (roles : Vec (List ℕ)) (old new : List Entry) → new ≡ set_value (is_user user) old roles → IsDistinct same_key (keys_of new) → 0 < length roles.items → AreKept (map group_of old) → AreKept (map group_of new)
+pub kept_written : (user : List ℕ) (roles : Texts) (old new : List Entry) → new ≡ set_value (is_user user) old roles → IsDistinct same_key (keys_of new) → 0 < length roles.items → AreKept (map group_of old) → AreKept (map group_of new)
 kept_written user roles old new is apart some kept = record {
   once = apart_from new apart;
   some = subst (λ (entries : List Entry). All (λ (group : Group). 0 < length group.roles) (map group_of entries)) (sym is)
       (all_written (λ (group : Group). 0 < length group.roles) user roles old some kept.some);
 }
 
-pub users_written : (P : Group → Type 0) (user : List ℕ) (roles : Vec (List ℕ)) (old new : List Entry) (groups : List Group) → map group_of old ≡ groups → new ≡ set_value (is_user user) old roles → P (record { user = user; roles = roles.items }) → All P groups → All P (map group_of new)
+pub users_written : (P : Group → Type 0) (user : List ℕ) (roles : Texts) (old new : List Entry) (groups : List Group) → map group_of old ≡ groups → new ≡ set_value (is_user user) old roles → P (record { user = user; roles = roles.items }) → All P groups → All P (map group_of new)
 users_written P user roles old new groups same_groups is here all =
     subst (λ (entries : List Entry). All P (map group_of entries)) (sym is) (all_written P user roles old here (subst (All P) (sym same_groups) all))
 
@@ -63,24 +63,24 @@ pushed_some before after role is = omega (arith, ap length is, length-append bef
 
 -- ---- the roles of each user afterwards
 
-pub roles_more : (name user role : List ℕ) (old new : List Entry) (after : Vec (List ℕ)) (groups : List Group) → map group_of old ≡ groups → KeepsOthers same_key (is_user user) old new → lookup (is_user user) new ≡ Some after → after.items ≡ roles_under user groups ++ role ∷ []
+pub roles_more : (name user role : List ℕ) (old new : List Entry) (after : Texts) (groups : List Group) → map group_of old ≡ groups → KeepsOthers same_key (is_user user) old new → lookup (is_user user) new ≡ Some after → after.items ≡ roles_under user groups ++ role ∷ []
     → roles_under name (map group_of new) ≡ cond (bytes_eq name user) (roles_under user groups ++ role ∷ []) (roles_under name groups)
 roles_more name user role old new after groups same_groups keeps there is = by (bytes_eq name user) refl
   where
     by : (test : Bool) → bytes_eq name user ≡ test → roles_under name (map group_of new) ≡ cond test (roles_under user groups ++ role ∷ []) (roles_under name groups)
     by true equal =
         ap (λ (text : List ℕ). roles_under text (map group_of new)) (same_text name user equal) ∙ lookup_roles user new
-        ∙ ap (λ (o : Option (Vec (List ℕ))). option_map_or (λ (roles : Vec (List ℕ)). roles.items) o []) there ∙ is
+        ∙ ap (λ (o : Option Texts). option_map_or (λ (roles : Texts). roles.items) o []) there ∙ is
     by false differ =
         sym (overlay_none (map group_of new) name) ∙ others_kept name user [] old new keeps differ ∙ overlay_none (map group_of old) name
         ∙ ap (roles_under name) same_groups
 
 -- a user that is there gets a role behind its others
-pub roles_pushed : (user role : List ℕ) (entries : List Entry) (before after : Vec (List ℕ)) (groups : List Group) → map group_of entries ≡ groups → Some before ≡ lookup (is_user user) entries → after.items ≡ before.items ++ role ∷ [] → after.items ≡ roles_under user groups ++ role ∷ []
+pub roles_pushed : (user role : List ℕ) (entries : List Entry) (before after : Texts) (groups : List Group) → map group_of entries ≡ groups → Some before ≡ lookup (is_user user) entries → after.items ≡ before.items ++ role ∷ [] → after.items ≡ roles_under user groups ++ role ∷ []
 roles_pushed user role entries before after groups same_groups found is =
     is
     ∙ ap (λ (roles : List (List ℕ)). roles ++ role ∷ [])
-    (ap (λ (o : Option (Vec (List ℕ))). option_map_or (λ (roles : Vec (List ℕ)). roles.items) o []) found ∙ sym (lookup_roles user entries) ∙ ap (roles_under user) same_groups)
+    (ap (λ (o : Option Texts). option_map_or (λ (roles : Texts). roles.items) o []) found ∙ sym (lookup_roles user entries) ∙ ap (roles_under user) same_groups)
 
 -- one that is nowhere has this role alone
 pub roles_first : (user role : List ℕ) (entries : List Entry) (after : List (List ℕ)) (groups : List Group) → map group_of entries ≡ groups → [] ≡ roles_under user (map group_of entries) → after ≡ role ∷ [] → after ≡ roles_under user groups ++ role ∷ []

@@ -15,6 +15,7 @@ use Rattle.role_graph.specs.Groups.{Group, rows_of}
 use Rattle.role_graph.specs.Helps.Kept.{AreLinks, IsSound, Parts, group_of, linked_of, users_of}
 use Rattle.role_graph.specs.Helps.Roles.{Counted}
 use Rattle.role_graph.specs.Helps.Walks.{no_group}
+use Rattle.role_graph.specs.Helps.UserRoles.{Texts}
 use Rattle.role_graph.proofs.Entries.{Entry}
 
 -- entries by the texts of their keys, each with what is copied of its value
@@ -63,7 +64,7 @@ copied_all all new at few so_far = so_far ∙ take_all at all few
 abbrev pub key_text : Vec ℕ → List ℕ
 key_text key = key.items
 
-abbrev pub roles_text : Vec (List ℕ) → List (List ℕ)
+abbrev pub roles_text : Texts → List (List ℕ)
 roles_text roles = roles.items
 
 -- groups as pairs
@@ -90,7 +91,7 @@ back_seen : (entries : List Entry) → map group_of entries ≡ map group_by (se
 back_seen [] = refl
 back_seen (entry ∷ entries) = ap (λ (l : List Group). group_of entry ∷ l) (back_seen entries)
 
-pub group_copied : (groups : List Group) (old new : List Entry) (at : ℕ) (user : Vec ℕ) (roles : Vec (List ℕ)) → IsDistinct bytes_eq (users_of groups) → at < length groups → user.items ≡ (get_or groups at no_group).user
+pub group_copied : (groups : List Group) (old new : List Entry) (at : ℕ) (user : Vec ℕ) (roles : Texts) → IsDistinct bytes_eq (users_of groups) → at < length groups → user.items ≡ (get_or groups at no_group).user
     → roles.items ≡ (get_or groups at no_group).roles → seen key_text roles_text old ≡ take at (pairs_of groups) → new ≡ insert_entry (λ (a b : Vec ℕ). bytes_eq a.items b.items) old user roles
     → seen key_text roles_text new ≡ take (at + 1) (pairs_of groups)
 group_copied groups old new at user roles distinct within named same so_far inserted =

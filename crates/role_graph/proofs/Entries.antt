@@ -14,9 +14,10 @@ use Rattle.std.proofs.lemmas.List.{get_or-map, length-map}
 use Rattle.role_graph.specs.Groups.{Group}
 use Rattle.role_graph.specs.Helps.Kept.{AreKept, group_of, roles_under, users_of}
 use Rattle.role_graph.specs.Helps.Walks.{no_group}
+use Rattle.role_graph.specs.Helps.UserRoles.{Texts}
 
 abbrev pub Entry : Type 0
-Entry = Vec ℕ × Vec (List ℕ)
+Entry = Vec ℕ × Texts
 
 abbrev pub is_user : List ℕ → Vec ℕ → Bool
 is_user user key = bytes_eq user key.items
@@ -96,18 +97,18 @@ pub kept_none : AreKept []
 unfolding IsDistinct
 kept_none = record { once = tt; some = λ k d none. absurd (omega arith) }
 
-pub lookup_roles : (user : List ℕ) (entries : List Entry) → roles_under user (map group_of entries) ≡ option_map_or (λ (roles : Vec (List ℕ)). roles.items) (lookup (is_user user) entries) []
+pub lookup_roles : (user : List ℕ) (entries : List Entry) → roles_under user (map group_of entries) ≡ option_map_or (λ (roles : Texts). roles.items) (lookup (is_user user) entries) []
 lookup_roles user [] = refl
 lookup_roles user (entry ∷ entries) = by (bytes_eq user entry.0.items) (lookup_roles user entries)
   where
-    by : (test : Bool) → roles_under user (map group_of entries) ≡ option_map_or (λ (roles : Vec (List ℕ)). roles.items) (lookup (is_user user) entries) [] → cond test entry.1.items (roles_under user (map group_of entries)) ≡ option_map_or (λ (roles : Vec (List ℕ)). roles.items) (cond test (Some entry.1) (lookup (is_user user) entries)) []
+    by : (test : Bool) → roles_under user (map group_of entries) ≡ option_map_or (λ (roles : Texts). roles.items) (lookup (is_user user) entries) [] → cond test entry.1.items (roles_under user (map group_of entries)) ≡ option_map_or (λ (roles : Texts). roles.items) (cond test (Some entry.1) (lookup (is_user user) entries)) []
     by true rest = refl
     by false rest = rest
 
-pub roles_found : (user : List ℕ) (entries : List Entry) (roles : Vec (List ℕ)) → lookup (is_user user) entries ≡ Some roles → roles.items ≡ roles_under user (map group_of entries)
+pub roles_found : (user : List ℕ) (entries : List Entry) (roles : Texts) → lookup (is_user user) entries ≡ Some roles → roles.items ≡ roles_under user (map group_of entries)
 roles_found user entries roles found =
-    sym (lookup_roles user entries ∙ ap (λ (o : Option (Vec (List ℕ))). option_map_or (λ (r : Vec (List ℕ)). r.items) o []) found)
+    sym (lookup_roles user entries ∙ ap (λ (o : Option Texts). option_map_or (λ (r : Texts). r.items) o []) found)
 
 pub roles_nowhere : (user : List ℕ) (entries : List Entry) → lookup (is_user user) entries ≡ None → [] ≡ roles_under user (map group_of entries)
 roles_nowhere user entries none =
-    sym (lookup_roles user entries ∙ ap (λ (o : Option (Vec (List ℕ))). option_map_or (λ (r : Vec (List ℕ)). r.items) o []) none)
+    sym (lookup_roles user entries ∙ ap (λ (o : Option Texts). option_map_or (λ (r : Texts). r.items) o []) none)

@@ -35,6 +35,7 @@ mod ResizeLemmas
 mod SeekLemmas
 mod ShortLists
 mod Tallies
+mod TextLemmas
 mod UserLemmas
 mod WalkLemmas
 pub mod CallerLemmas

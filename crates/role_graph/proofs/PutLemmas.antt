@@ -16,6 +16,7 @@ use Rattle.indexmap.specs.IndexMap.{insert_entry, swap_remove_entry}
 use Rattle.role_graph.specs.Groups.{Group}
 use Rattle.role_graph.specs.Helps.Edits.{overlay}
 use Rattle.role_graph.specs.Helps.Kept.{AreApart, AreKept, group_of, roles_under, users_of}
+use Rattle.role_graph.specs.Helps.UserRoles.{Texts}
 use Rattle.role_graph.proofs.Entries.{Entry, is_user}
 
 -- equal keys
@@ -58,7 +59,7 @@ all_swap P test (entry ∷ entries) all = all_swapped P entry entries (position 
 pub all_removed : (P : Group → Type 0) (test : Vec ℕ → Bool) (entries : List Entry) → All P (map group_of entries) → All P (map group_of (swap_remove_entry test entries))
 all_removed P test entries all = All-map P group_of (swap_remove_entry test entries) (all_swap (λ (entry : Entry). P (group_of entry)) test entries (all_entries P entries all))
 
-pub all_inserted : (P : Group → Type 0) (entries : List Entry) (user : Vec ℕ) (roles : Vec (List ℕ)) → P (group_of (user, roles)) → All P (map group_of entries) → All P (map group_of (insert_entry same_key entries user roles))
+pub all_inserted : (P : Group → Type 0) (entries : List Entry) (user : Vec ℕ) (roles : Texts) → P (group_of (user, roles)) → All P (map group_of entries) → All P (map group_of (insert_entry same_key entries user roles))
 all_inserted P [] user roles here all = All-cons P (group_of (user, roles)) [] here all
 all_inserted P (entry ∷ entries) user roles here all =
     by (bytes_eq user.items entry.0.items) refl (all_inserted P entries user roles here (All-tail P (group_of entry) (map group_of entries) all))
@@ -71,7 +72,7 @@ all_inserted P (entry ∷ entries) user roles here all =
     by false is rest = All-cons P (group_of entry) (map group_of (insert_entry same_key entries user roles)) (All-head P (group_of entry) (map group_of entries) all) rest
 
 -- the roles after a group is put in
-pub overlay_inserted : (name : List ℕ) (base : List (List ℕ)) (entries : List Entry) (user : Vec ℕ) (roles : Vec (List ℕ)) → overlay (map group_of (insert_entry same_key entries user roles)) base name ≡ cond (bytes_eq name user.items) roles.items (overlay (map group_of entries) base name)
+pub overlay_inserted : (name : List ℕ) (base : List (List ℕ)) (entries : List Entry) (user : Vec ℕ) (roles : Texts) → overlay (map group_of (insert_entry same_key entries user roles)) base name ≡ cond (bytes_eq name user.items) roles.items (overlay (map group_of entries) base name)
 overlay_inserted name base [] user roles = refl
 overlay_inserted name base (entry ∷ entries) user roles = by (bytes_eq user.items entry.0.items) refl (overlay_inserted name base entries user roles)
   where
@@ -104,17 +105,17 @@ pub overlay_none : (groups : List Group) (user : List ℕ) → overlay groups []
 overlay_none [] user = refl
 overlay_none (group ∷ groups) user = ap (λ (rest : List (List ℕ)). cond (bytes_eq user group.user) group.roles rest) (overlay_none groups user)
 
-pub roles_inserted : (name : List ℕ) (entries : List Entry) (user : Vec ℕ) (roles : Vec (List ℕ)) → roles_under name (map group_of (insert_entry same_key entries user roles)) ≡ cond (bytes_eq name user.items) roles.items (roles_under name (map group_of entries))
+pub roles_inserted : (name : List ℕ) (entries : List Entry) (user : Vec ℕ) (roles : Texts) → roles_under name (map group_of (insert_entry same_key entries user roles)) ≡ cond (bytes_eq name user.items) roles.items (roles_under name (map group_of entries))
 roles_inserted name entries user roles =
     sym (overlay_none (map group_of (insert_entry same_key entries user roles)) name) ∙ overlay_inserted name [] entries user roles
     ∙ ap (λ (rest : List (List ℕ)). cond (bytes_eq name user.items) roles.items rest) (overlay_none (map group_of entries) name)
 
 -- what a query finds, as an overlay
-pub overlay_lookup : (user : List ℕ) (base : List (List ℕ)) (entries : List Entry) → overlay (map group_of entries) base user ≡ option_map_or (λ (roles : Vec (List ℕ)). roles.items) (lookup (is_user user) entries) base
+pub overlay_lookup : (user : List ℕ) (base : List (List ℕ)) (entries : List Entry) → overlay (map group_of entries) base user ≡ option_map_or (λ (roles : Texts). roles.items) (lookup (is_user user) entries) base
 overlay_lookup user base [] = refl
 overlay_lookup user base (entry ∷ entries) = by (bytes_eq user entry.0.items) (overlay_lookup user base entries)
   where
-    by : (test : Bool) → overlay (map group_of entries) base user ≡ option_map_or (λ (roles : Vec (List ℕ)). roles.items) (lookup (is_user user) entries) base → cond test entry.1.items (overlay (map group_of entries) base user) ≡ option_map_or (λ (roles : Vec (List ℕ)). roles.items) (cond test (Some entry.1) (lookup (is_user user) entries)) base
+    by : (test : Bool) → overlay (map group_of entries) base user ≡ option_map_or (λ (roles : Texts). roles.items) (lookup (is_user user) entries) base → cond test entry.1.items (overlay (map group_of entries) base user) ≡ option_map_or (λ (roles : Texts). roles.items) (cond test (Some entry.1) (lookup (is_user user) entries)) base
     by true rest = refl
     by false rest = rest
 
@@ -132,11 +133,11 @@ tests_apart name user differ key here = by (cases_Bool (bytes_eq name key.items)
 pub others_kept : (name user : List ℕ) (base : List (List ℕ)) (old new : List Entry) → KeepsOthers same_key (is_user user) old new → bytes_eq name user ≡ false → overlay (map group_of new) base name ≡ overlay (map group_of old) base name
 unfolding KeepsOthers
 others_kept name user base old new keeps differ =
-    overlay_lookup name base new ∙ ap (λ (o : Option (Vec (List ℕ))). option_map_or (λ (r : Vec (List ℕ)). r.items) o base) (keeps (is_user name) (key_test name) (tests_apart name user differ))
+    overlay_lookup name base new ∙ ap (λ (o : Option Texts). option_map_or (λ (r : Texts). r.items) o base) (keeps (is_user name) (key_test name) (tests_apart name user differ))
     ∙ sym (overlay_lookup name base old)
 
 pub taken_out : (name : List ℕ) (base : List (List ℕ)) (new : List Entry) → lookup (is_user name) new ≡ None → overlay (map group_of new) base name ≡ base
-taken_out name base new none = overlay_lookup name base new ∙ ap (λ (o : Option (Vec (List ℕ))). option_map_or (λ (r : Vec (List ℕ)). r.items) o base) none
+taken_out name base new none = overlay_lookup name base new ∙ ap (λ (o : Option Texts). option_map_or (λ (r : Texts). r.items) o base) none
 
 -- a user that is given no roles
 pub roles_removed : (name user : List ℕ) (roles : List (List ℕ)) (old new : List Entry) → KeepsOthers same_key (is_user user) old new → lookup (is_user user) new ≡ None → roles ≡ [] → roles_under name (map group_of new) ≡ cond (bytes_eq name user) roles (roles_under name (map group_of old))
@@ -157,7 +158,7 @@ pub some_length : (n : ℕ) (test : Bool) → test ≡ (n == 0) → test ≡ fal
 some_length zero test is differ = absurd (false≢true (sym differ ∙ is))
 some_length (suc n) test is differ = omega arith
 
-pub kept_inserted : (old new : List Entry) (user : Vec ℕ) (roles : Vec (List ℕ)) → IsDistinct same_key (keys_of new) → new ≡ insert_entry same_key old user roles → 0 < length roles.items → AreKept (map group_of old) → AreKept (map group_of new)
+pub kept_inserted : (old new : List Entry) (user : Vec ℕ) (roles : Texts) → IsDistinct same_key (keys_of new) → new ≡ insert_entry same_key old user roles → 0 < length roles.items → AreKept (map group_of old) → AreKept (map group_of new)
 kept_inserted old new user roles apart is some kept = record {
   once = apart_from new apart;
   some = subst (λ (entries : List Entry). All (λ (group : Group). 0 < length group.roles) (map group_of entries)) (sym is)
@@ -168,11 +169,11 @@ pub users_removed : (P : Group → Type 0) (test : Vec ℕ → Bool) (old new : 
 users_removed P test old new groups same is all =
     subst (λ (entries : List Entry). All P (map group_of entries)) (sym is) (all_removed P test old (subst (All P) (sym same) all))
 
-pub users_inserted : (P : Group → Type 0) (old new : List Entry) (user : Vec ℕ) (roles : Vec (List ℕ)) (groups : List Group) → map group_of old ≡ groups → new ≡ insert_entry same_key old user roles → P (group_of (user, roles)) → All P groups → All P (map group_of new)
+pub users_inserted : (P : Group → Type 0) (old new : List Entry) (user : Vec ℕ) (roles : Texts) (groups : List Group) → map group_of old ≡ groups → new ≡ insert_entry same_key old user roles → P (group_of (user, roles)) → All P groups → All P (map group_of new)
 users_inserted P old new user roles groups same is here all =
     subst (λ (entries : List Entry). All P (map group_of entries)) (sym is) (all_inserted P old user roles here (subst (All P) (sym same) all))
 
-pub roles_given : (name : List ℕ) (old new : List Entry) (user : Vec ℕ) (roles : Vec (List ℕ)) (groups : List Group) → map group_of old ≡ groups → new ≡ insert_entry same_key old user roles → roles_under name (map group_of new) ≡ cond (bytes_eq name user.items) roles.items (roles_under name groups)
+pub roles_given : (name : List ℕ) (old new : List Entry) (user : Vec ℕ) (roles : Texts) (groups : List Group) → map group_of old ≡ groups → new ≡ insert_entry same_key old user roles → roles_under name (map group_of new) ≡ cond (bytes_eq name user.items) roles.items (roles_under name groups)
 roles_given name old new user roles groups same is =
     ap (λ (entries : List Entry). roles_under name (map group_of entries)) is ∙ roles_inserted name old user roles
     ∙ ap (λ (gs : List Group). cond (bytes_eq name user.items) roles.items (roles_under name gs)) same
@@ -204,7 +205,7 @@ apart_front old new last is apart =
     (subst (IsDistinct bytes_eq) (users_both (map group_of new) (map group_of last))
     (subst (λ (groups : List Group). AreApart groups) (ap (map group_of) is ∙ groups_both new last) apart))
 
-pub overlay_given : (name : List ℕ) (base : List (List ℕ)) (old new : List Entry) (user : Vec ℕ) (roles : Vec (List ℕ)) (groups : List Group) → map group_of old ≡ groups → new ≡ insert_entry same_key old user roles → overlay (map group_of new) base name ≡ cond (bytes_eq name user.items) roles.items (overlay groups base name)
+pub overlay_given : (name : List ℕ) (base : List (List ℕ)) (old new : List Entry) (user : Vec ℕ) (roles : Texts) (groups : List Group) → map group_of old ≡ groups → new ≡ insert_entry same_key old user roles → overlay (map group_of new) base name ≡ cond (bytes_eq name user.items) roles.items (overlay groups base name)
 overlay_given name base old new user roles groups same is =
     ap (λ (entries : List Entry). overlay (map group_of entries) base name) is ∙ overlay_inserted name base old user roles
     ∙ ap (λ (gs : List Group). cond (bytes_eq name user.items) roles.items (overlay gs base name)) same
@@ -229,13 +230,13 @@ one_fewer name other texts at d found =
     ap (λ (text : List ℕ). count_by (bytes_eq other) (swap_remove texts at d) + cond (bytes_eq other text) 1 0) (sym is)
     ∙ sum_by-swap_remove (λ (text : List ℕ). cond (bytes_eq other text) 1 0) texts at d place.0
 
-pub overlay_found : (user : List ℕ) (base : List (List ℕ)) (entries : List Entry) (groups : List Group) (roles : Vec (List ℕ)) → map group_of entries ≡ groups → Some roles ≡ lookup (is_user user) entries → roles.items ≡ overlay groups base user
+pub overlay_found : (user : List ℕ) (base : List (List ℕ)) (entries : List Entry) (groups : List Group) (roles : Texts) → map group_of entries ≡ groups → Some roles ≡ lookup (is_user user) entries → roles.items ≡ overlay groups base user
 overlay_found user base entries groups roles same found =
-    ap (λ (o : Option (Vec (List ℕ))). option_map_or (λ (r : Vec (List ℕ)). r.items) o base) found ∙ sym (overlay_lookup user base entries) ∙ ap (λ (gs : List Group). overlay gs base user) same
+    ap (λ (o : Option Texts). option_map_or (λ (r : Texts). r.items) o base) found ∙ sym (overlay_lookup user base entries) ∙ ap (λ (gs : List Group). overlay gs base user) same
 
 pub overlay_nowhere : (user : List ℕ) (base : List (List ℕ)) (entries : List Entry) (groups : List Group) → map group_of entries ≡ groups → None ≡ lookup (is_user user) entries → base ≡ overlay groups base user
 overlay_nowhere user base entries groups same none =
-    ap (λ (o : Option (Vec (List ℕ))). option_map_or (λ (r : Vec (List ℕ)). r.items) o base) none ∙ sym (overlay_lookup user base entries) ∙ ap (λ (gs : List Group). overlay gs base user) same
+    ap (λ (o : Option Texts). option_map_or (λ (r : Texts). r.items) o base) none ∙ sym (overlay_lookup user base entries) ∙ ap (λ (gs : List Group). overlay gs base user) same
 
 pub if_any : {A E : Type 0} (r : Result A E) (P : Type 0) → P → OnOk r P
 if_any (Ok x) P p = p

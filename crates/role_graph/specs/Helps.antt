@@ -2,6 +2,8 @@
 pub mod Marks
 pub mod Walks
 pub mod Roles
+pub mod NameHash
+pub mod UserRoles
 pub mod Kept
 pub mod Edits
 pub mod Names

@@ -10,6 +10,7 @@ ghost use Rattle.role_meaning.specs.Links.{role_of, user_of};
 use crate::graph::{RoleGraph, graph_of};
 use crate::link_groups::LinkGroups;
 use crate::roles::Roles;
+use crate::touched::MOST_NODES;
 use outside::NoMemory;
 use perm_base::{Fit, Rule};
 use std::alloc::Global;
@@ -71,6 +72,33 @@ impl GraphBuilder {
             roles: Roles::new(alloc),
             count: 0,
         }
+    }
+
+    /// The same, with room for so many users and as many roles, of these for 1,024 at most. What is not needed is given back
+    /// once the graph is made.
+    pub fn with_room(
+        alloc: Global,
+        names: Fit,
+        limit: u8,
+        rows: usize,
+    ) -> Result<GraphBuilder, NoMemory>
+        requires some { 1 ≤ limit }
+        requires most { limit ≤ 250 }
+        ensures rows { IfOk result (λ graph. graph.rows ≡ []) }
+        ensures names { IfOk result (λ graph. graph.names ≡ names) }
+        ensures limit { IfOk result (λ graph. graph.limit ≡ limit) }
+        ensures counted { IfOk result IsCounted }
+    {
+        let mut links = LinkGroups::new(alloc, names);
+        let mut roles = Roles::new(alloc);
+        links.reserve_plain(rows)?;
+        roles.reserve(rows.min(MOST_NODES))?;
+        Ok(GraphBuilder {
+            links,
+            limit,
+            roles,
+            count: 0,
+        })
     }
 
     /// Adds the user and the role of a row.

@@ -10,6 +10,7 @@ ghost use Rattle.role_graph.specs.Helps.Roles.{count_of};
 ghost use Rattle.role_graph.specs.Helps.Walks.{no_group};
 
 use crate::link_groups::LinkGroups;
+use crate::role_texts::RoleTexts;
 use crate::roles::Roles;
 use indexmap::IndexMap;
 use outside::{NoMemory, Text};
@@ -19,7 +20,7 @@ use std::marker::Model;
 
 /// The users whose rows change. Contracts see them, each with the roles that it has afterwards.
 pub(crate) struct Edits {
-    entries: IndexMap<Vec<u8>, Vec<Text>>,
+    entries: IndexMap<Vec<u8>, RoleTexts>,
 }
 
 // Written out, so that a caller's proof sees one call and not the drop of each field.
@@ -75,7 +76,7 @@ impl Edits {
     }
 
     /// The last user and its roles afterwards.
-    pub(crate) fn pop(&mut self) -> Option<(Vec<u8>, Vec<Text>)>
+    pub(crate) fn pop(&mut self) -> Option<(Vec<u8>, RoleTexts)>
         ensures none { IfNone result (self.old ≡ []) }
         ensures some { IfSome result (λ r. self.old
             ≡ self.new ++ record { user = r.0.items; roles = r.1.items } ∷ []) }
@@ -132,7 +133,7 @@ impl Edits {
             → overlay self.new base name ≡ overlay self.old base name) }
     {
         match self.entries.swap_remove(user) {
-            Some(roles) => Ok(roles),
+            Some(roles) => roles.into_vec(alloc),
             None => copy_and_room(alloc, links.roles_of(user)),
         }
     }
@@ -142,7 +143,7 @@ impl Edits {
         ensures { OnOk result ((name : List ℕ) (base : List (List ℕ)) → overlay self.new base name
             ≡ (if bytes_eq name user.items then roles.items else overlay self.old base name)) }
     {
-        self.entries.insert(user, roles)?;
+        self.entries.insert(user, RoleTexts::from_vec(roles))?;
         Ok(())
     }
 }

@@ -7,7 +7,8 @@ ghost use Rattle.role_graph.specs.Groups.{Group};
 ghost use Rattle.role_graph.specs.Helps.Kept.{AreKept, roles_under};
 ghost use Rattle.role_graph.specs.Helps.Walks.{no_group};
 
-use crate::edits::copy_all;
+use crate::name_hash::NameHash;
+use crate::role_texts::RoleTexts;
 use indexmap::IndexMap;
 use outside::{NoMemory, Share, Text};
 use std::alloc::Global;
@@ -16,7 +17,7 @@ use std::marker::Model;
 /// Groups with different users, each with some role, in an order of their own. Contracts see the
 /// groups and the room.
 pub(crate) struct Groups {
-    entries: IndexMap<Vec<u8>, Vec<Text>>,
+    entries: IndexMap<Vec<u8>, RoleTexts, NameHash>,
 }
 
 // Written out, so that a caller's proof sees one call and not the drop of each field.
@@ -47,7 +48,7 @@ impl Groups {
         ensures kept { AreKept result.groups }
     {
         Groups {
-            entries: IndexMap::new(alloc),
+            entries: IndexMap::with_hasher(alloc, NameHash::new()),
         }
     }
 
@@ -108,10 +109,10 @@ impl Groups {
         ensures { IfOk result (λ copy. copy.groups ≡ self.now.groups) }
     {
         let len = self.entries.len();
-        let mut entries = IndexMap::with_capacity(alloc, len)?;
+        let mut entries = IndexMap::with_capacity_and_hasher(alloc, len, NameHash::new())?;
         for at in 0..len {
             let user = Vec::from_slice(alloc, self.user_at(at))?;
-            let roles = copy_all(alloc, self.roles_at(at))?;
+            let roles = RoleTexts::copy_of(alloc, self.roles_at(at))?;
             let _none = entries.insert(user, roles)?;
         }
         Ok(Groups { entries })
@@ -145,17 +146,15 @@ impl Groups {
         ensures few { length self.new.groups ≤ length self.old.groups + 1 }
     {
         if let Some(roles) = self.entries.get_mut(user) {
-            return push_role(roles, role);
+            return roles.push(alloc, role);
         }
-        // Most users have few roles, and a list that grows takes room for four.
-        let mut first = Vec::with_capacity(alloc, 1)?;
-        first.push_reserved(role);
+        let first = RoleTexts::one(role);
         self.entries.insert(Vec::from_slice(alloc, user)?, first)?;
         Ok(())
     }
 
     /// Gives a user these roles in place of those that it had; a user without roles has no group.
-    pub(crate) fn put(&mut self, user: Vec<u8>, roles: Vec<Text>)
+    pub(crate) fn put(&mut self, user: Vec<u8>, roles: RoleTexts)
         requires { 0 < self.old.spare }
         ensures roles { (name : List ℕ) → roles_under name self.new.groups
             ≡ (if bytes_eq name user.items then roles.items else roles_under name self.old.groups) }
@@ -174,12 +173,3 @@ impl Groups {
 }
 
 impl Share for Groups {}
-
-// Puts a role behind the others.
-fn push_role(roles: &mut Vec<Text>, role: Text) -> Result<(), NoMemory>
-    ensures pushed { OnOk result (roles.new.items ≡ roles.old.items ++ role ∷ []) }
-    ensures longer { length roles.old.items ≤ length roles.new.items }
-{
-    roles.push(role)?;
-    Ok(())
-}

@@ -135,6 +135,15 @@ impl LinkGroups {
         self.patterned.reserve(count)
     }
 
+    /// Makes room for so many further groups whose users are no patterns.
+    pub(crate) fn reserve_plain(&mut self, count: usize) -> Result<(), NoMemory>
+        ensures plain { self.new.plain.groups ≡ self.old.plain.groups }
+        ensures patterned { self.new.patterned.groups ≡ self.old.patterned.groups }
+        ensures names { self.new.names ≡ self.old.names }
+    {
+        self.plain.reserve(count)
+    }
+
     /// Gives back the room for further groups.
     pub(crate) fn fit(&mut self)
         ensures plain { self.new.plain.groups ≡ self.old.plain.groups }

@@ -6,6 +6,7 @@ ghost use Rattle.std.specs.Str.{IsUtf8, bytes_eq};
 ghost use Rattle.perm_base.specs.LineEnds.{has_line_end};
 ghost use Rattle.role_graph.specs.Helps.Roles.{HasNames, HasNoZero, count_of, nodes_of};
 
+use crate::name_hash::NameHash;
 use crate::names::Names;
 use indexmap::IndexMap;
 use outside::{NoMemory, Share, Text};
@@ -15,7 +16,7 @@ use std::str;
 
 /// The different roles of rows, each with the number of its rows, at places of their own.
 pub(crate) struct Roles {
-    counts: IndexMap<Vec<u8>, u64>,
+    counts: IndexMap<Vec<u8>, u64, NameHash>,
 }
 
 // Written out, so that a caller's proof sees one call and not the drop of each field.
@@ -47,7 +48,7 @@ impl Roles {
         ensures none { nodes_of result ≡ [] }
     {
         Roles {
-            counts: IndexMap::new(alloc),
+            counts: IndexMap::with_hasher(alloc, NameHash::new()),
         }
     }
 
@@ -56,7 +57,7 @@ impl Roles {
         ensures { IfOk result (λ copy. copy.entries ≡ self.now.entries) }
     {
         let len = self.len();
-        let mut counts = IndexMap::with_capacity(alloc, len)?;
+        let mut counts = IndexMap::with_capacity_and_hasher(alloc, len, NameHash::new())?;
         for at in 0..len {
             let (role, count) = self.entry(at);
             let _none = counts.insert(Vec::from_slice(alloc, role)?, count)?;

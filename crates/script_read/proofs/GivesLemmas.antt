@@ -1,5 +1,5 @@
 -- What readers give back, a step at a time.
-use Rattle.std.proofs.Common.{◌≡◌, ◌≢◌, ℕ, List, [], ◌∷◌, Result, Ok, Err, refl, sym, ap, ◌∙◌}
+use Rattle.std.proofs.Common.{◌≡◌, ◌≢◌, ℕ, List, [], ◌∷◌, Result, Ok, Err, refl, ap}
 use Rattle.policy_table.specs.Tables.{Fields}
 use Rattle.script_read.specs.Blocks.{at_line}
 use Rattle.script_read.specs.Helps.Given.{Fails, fields_read}
@@ -26,33 +26,9 @@ step_fails NoMemory read next e = tt
 
 -- ---- within one line
 
-at_line-Err : {X : Type 0} (number : ℕ) (said : Result X LineCause) (line : ℕ) (why : LineCause) → at_line number said ≡ Err (Line line why) → (number ≡ line) × (said ≡ Err why)
-at_line-Err number (Ok x) line why e = absurd cc
-at_line-Err number (Err other) line why e = (cc, cc)
-
-at_line-Ok : {X : Type 0} (number : ℕ) (said : Result X LineCause) (x : X) → at_line number said ≡ Ok x → said ≡ Ok x
-at_line-Ok number (Ok y) x e = cc
-at_line-Ok number (Err why) x e = absurd cc
-
 no_other : {X : Type 0} (number : ℕ) (said : Result X LineCause) (fault : ScriptFault) → ((line : ℕ) (why : LineCause) → fault ≢ Line line why) → at_line number said ≡ Err fault → ⊥
 no_other number (Ok x) fault none e = absurd cc
 no_other number (Err why) fault none e = none number why cc
-
-pub line_fails : {Y W : Type 0} (number : ℕ) (fault : ScriptFault) (said : Result Y LineCause) (next : Y → Result W LineCause) → Fails fault (at_line number said) → Fails fault (at_line number (followed said next))
-line_fails number NotUtf8 said next e = absurd (no_other number said NotUtf8 (λ line why f. absurd cc) e)
-line_fails number (OpenBatch line) said next e = absurd (no_other number said (OpenBatch line) (λ at why f. absurd cc) e)
-line_fails number NoMemory said next e = tt
-line_fails number (Line line why) said next e =
-    let both = at_line-Err number said line why e in
-    ap (λ (r : Result _ LineCause). at_line number (followed r next)) (both.1) ∙ ap (λ (n : ℕ). Err (Line n why)) (both.0)
-
--- the first step is done
-pub line_next : {Y W : Type 0} (number : ℕ) (said : Result Y LineCause) (next : Y → Result W LineCause) (y : Y) → at_line number said ≡ Ok y → at_line number (followed said next) ≡ at_line number (next y)
-line_next number said next y e = ap (λ (r : Result _ LineCause). at_line number (followed r next)) (at_line-Ok number said y e)
-
--- a cause that is told at the line
-pub cause_told : {Y : Type 0} (number : ℕ) (said : Result Y LineCause) (why : LineCause) (fault : ScriptFault) → said ≡ Err why → fault ≡ Line number why → Fails fault (at_line number said)
-cause_told number said why fault e told = fails fault (at_line number said) (ap (at_line number) e ∙ ap (λ (f : ScriptFault). Err f) (sym told))
 
 -- ---- no arguments
 

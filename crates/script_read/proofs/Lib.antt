@@ -3,6 +3,7 @@ pub mod GivesLemmas
 pub mod NumberLemmas
 pub mod RequestLemmas
 pub mod WordLemmas
+pub mod AskLemmas
 pub mod EndLemmas
 pub mod BlockLemmas
 pub mod ScriptLemmas

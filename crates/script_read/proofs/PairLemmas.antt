@@ -8,10 +8,6 @@ use Rattle.script_read.specs.Blocks.{pairs_of}
 abbrev pub behind_pairs : List (Fields × Fields) → Option (List (Fields × Fields)) → Option (List (Fields × Fields))
 behind_pairs taken others = option_map (λ (pairs : List (Fields × Fields)). taken ++ pairs) others
 
-pub pairs_begin : (others : Option (List (Fields × Fields))) → behind_pairs [] others ≡ others
-pairs_begin None = refl
-pairs_begin (Some pairs) = refl
-
 pub pairs_more : (taken : List (Fields × Fields)) (old new : Fields) (rules : List Fields) → behind_pairs taken (pairs_of (old ∷ new ∷ rules)) ≡ behind_pairs (taken ++ (old, new) ∷ []) (pairs_of rules)
 unfolding pairs_of
 pairs_more taken old new rules = by (pairs_of rules)

@@ -2,3 +2,4 @@
 pub mod Given
 pub mod Ends
 pub mod Checked
+pub mod Asks

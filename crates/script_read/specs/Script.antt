@@ -24,10 +24,6 @@ pub record SaysFrom (json : Bool) (number : ℕ) (text : List ℕ) (items : List
   pub reader : Reader json
   pub says : SayItems reader (parts (full_lines number text)) items
 
--- whatever a text says, this item is the first, and the others are those of the rest, whose lines are numbered from there
-abbrev pub BeginsWith : (json : Bool) (number : ℕ) (text : List ℕ) → Said → (next : ℕ) (rest : List ℕ) → Type 0
-BeginsWith json number text item next rest = (items : List Said) → SaysFrom json number text items → (left : List Said) × (items ≡ item ∷ left) × SaysFrom json next rest left
-
 -- behind parts that say items stands a part with this fault
 pub record IsFaultInPart (json : Bool) (bytes : List ℕ) (fault : ScriptFault) : Type 0 where
   pub reader : Reader json

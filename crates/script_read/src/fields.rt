@@ -1,4 +1,4 @@
-ghost use Rattle.std.specs.Prelude.{◌≡◌, ◌<◌, List, Result, length};
+ghost use Rattle.std.specs.Prelude.{◌<◌, Result, length};
 ghost use Rattle.perm_base.specs.LineEnds.{AreFields};
 ghost use Rattle.script_read.specs.Blocks.{at_line};
 ghost use Rattle.script_read.specs.Helps.Given.{Gives, fields_read};

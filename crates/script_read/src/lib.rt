@@ -30,5 +30,5 @@ pub use requests::{
 };
 pub use said_lines::{AskedLine, BuiltItem, FirstItem, ItemLines, item_lines};
 pub use script::Script;
-pub use walk::{check_script, next_item};
+pub use walk::check_script;
 pub use word::{begins_block, ends_block};

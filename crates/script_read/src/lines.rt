@@ -1,10 +1,12 @@
-ghost use Rattle.std.specs.Prelude.{◌≡◌, ◌+◌, ◌<◌, ◌≤◌, ◌^◌, []};
+ghost use Rattle.std.specs.Prelude.{◌≡◌, ◌+◌, ◌<◌, ◌≤◌, ◌^◌, [], ◌∷◌};
 ghost use Rattle.std.specs.Prelude.{IfNone, IfSome, length, option_map};
+ghost use Rattle.script_read.specs.Helps.Asks.{IsAskedLine};
 ghost use Rattle.script_read.specs.Helps.Ends.{behind_end, end_number};
 ghost use Rattle.text_parts.specs.Full.{full_lines};
+ghost use Rattle.text_parts.specs.Numbered.{line as line_at};
 
-use crate::word::ends_block;
-use text_parts::next_full_line;
+use crate::word::{begins_ask, ends_block};
+use text_parts::{next_full_line, next_text_line};
 
 /// The first line of a text that ends a block: its number, and what stands behind it. The first line
 /// of the text has the given number.
@@ -28,4 +30,37 @@ pub(crate) fn block_end(text: &str, number: u64) -> Option<(u64, &str)>
         rest = after;
     }
     None
+}
+
+/// The first line of a text that counts, as `next_full_line` gives it. The line of a request is told by its first bytes alone, where it
+/// stands as most do.
+pub(crate) fn next_item_line(text: &str, number: u64) -> Option<(u64, &str, &str)>
+    requires { number + length text.now < 2 ^ 64 }
+    ensures none { IfNone result (full_lines number text.now ≡ []) }
+    ensures first { IfSome result (λ found. full_lines number text.now
+        ≡ line_at found.0 found.1.now ∷ full_lines (found.0 + 1) found.2.now) }
+    ensures within { IfSome result (λ found.
+        found.0 + 1 + length found.2.now ≤ number + length text.now) }
+    ensures shorter { IfSome result (λ found. length found.2.now < length text.now) }
+{
+    if let Some((line, after)) = asked_line(text) {
+        return Some((number, line, after));
+    }
+    next_full_line(text, number)
+}
+
+// The first line of a text where it begins with `ask` and a blank, and what stands behind it.
+fn asked_line(text: &str) -> Option<(&str, &str)>
+    ensures { IfSome result (λ found. IsAskedLine text.now found.0.now found.1.now) }
+{
+    if !begins_ask(text) {
+        return None;
+    }
+    let Some((line, after)) = next_text_line(text) else {
+        return None;
+    };
+    if !begins_ask(line) {
+        return None;
+    }
+    Some((line, after))
 }

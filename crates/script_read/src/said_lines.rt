@@ -5,12 +5,12 @@ ghost use Rattle.script_read.specs.Said.{Said};
 ghost use Rattle.script_read.specs.Script.{SaysFrom};
 
 use crate::item::Item;
+use crate::lines::next_item_line;
 use crate::reader::{part_end, read_part};
 use crate::word::word_and_arguments;
 use outside::NoMemory;
 use std::alloc::Global;
 use std::marker::Model;
-use text_parts::next_full_line;
 
 /// The line of a request as it stands in a script, behind its word. `read_line_over` reads it.
 #[derive(Clone, Copy)]
@@ -177,7 +177,7 @@ fn first_told(json: bool, text: &str, number: u64) -> Option<(FirstItem<'_>, u64
         (items_from json number text.now) (items_from json found.1 found.2.now)) }
     ensures rest { IfSome result (λ found. AreChecked json found.1 found.2.now) }
 {
-    let Some((at, line, after)) = next_full_line(text, number) else {
+    let Some((at, line, after)) = next_item_line(text, number) else {
         return None;
     };
     let (word, arguments) = word_and_arguments(line);
@@ -209,7 +209,7 @@ fn first_built(
     ensures rest { IfOk result (λ next. IfSome next (λ found.
         AreChecked json found.1 found.2.now)) }
 {
-    let Some((at, line, after)) = next_full_line(text, number) else {
+    let Some((at, line, after)) = next_item_line(text, number) else {
         return Ok(None);
     };
     let (word, arguments) = word_and_arguments(line);

@@ -3,6 +3,7 @@ ghost use Rattle.std.specs.Str.{bytes_eq};
 ghost use Rattle.script_read.specs.Items.{verbs, word_of_verb};
 ghost use Rattle.script_read.specs.Lines.{arguments_of, begins_block, ends_block, word_of};
 ghost use Rattle.std.specs.List.{prefix_len};
+ghost use Rattle.script_read.specs.Helps.Asks.{BeginsAsk};
 ghost use Rattle.script_read.specs.Helps.Ends.{is_no_blank};
 
 use text_parts::{before_blanks, is_blank, trimmed};
@@ -62,8 +63,26 @@ pub(crate) fn word_and_arguments(line: &str) -> (&str, &str)
     ensures word { result.0.now ≡ word_of line.now }
     ensures arguments { result.1.now ≡ arguments_of line.now }
 {
+    if begins_ask(line) {
+        return ("ask", behind_ask(line));
+    }
     let end = word_end(line.as_bytes());
     (&line[..end], trimmed(&line[end..]))
+}
+
+/// Whether a line begins with `ask` and a blank, by which most lines of requests are told.
+pub(crate) fn begins_ask(line: &str) -> bool
+    ensures { result ≡ true → BeginsAsk line.now }
+{
+    line.as_bytes().starts_with("ask ".as_bytes())
+}
+
+// The arguments of such a line.
+fn behind_ask(line: &str) -> &str
+    requires { BeginsAsk line.now }
+    ensures { result.now ≡ arguments_of line.now }
+{
+    trimmed(&line[3..])
 }
 
 // How many bytes stand before the first blank, or all.

@@ -1,9 +1,18 @@
 -- Lines of a round that are put together one after the other.
-use Rattle.std.specs.Prelude.{◌≡◌, ◌<◌, ℕ, Bool, true, false, List, [], ◌∷◌, ◌++◌, length}
+use Rattle.std.specs.Prelude.{◌≡◌, ◌<◌, ℕ, suc, Bool, true, false, List, [], ◌∷◌, ◌++◌, length}
 use Rattle.answer_lines.specs.Printed.{AddsLine, ArePrinted, IsTakenOut, PrintedLine}
 use Rattle.answer_lines.specs.declared.printed.PrintedAnswer.{PrintedAnswer}
 use Rattle.answer_lines.specs.declared.printed_lines.PrintedLines.{PrintedLines}
+use Rattle.live_rounds.specs.Merged.{line_behind}
 use Rattle.live_rounds.specs.Shares.{in_turn}
+
+-- the lines of items behind so many others, of which it is known whether they are requests, as far as there are replies
+abbrev pub merged_kinds : ℕ → (kinds : List Bool) → (asked others : List PrintedAnswer) → List PrintedLine
+merged_kinds count [] asked others = []
+merged_kinds count (true ∷ kinds) [] others = []
+merged_kinds count (true ∷ kinds) (reply ∷ asked) others = line_behind count reply ∷ merged_kinds (suc count) kinds asked others
+merged_kinds count (false ∷ kinds) asked [] = []
+merged_kinds count (false ∷ kinds) asked (reply ∷ others) = line_behind count reply ∷ merged_kinds (suc count) kinds asked others
 
 -- the next reply to an item that is a request or not, if there is one, is printed behind other lines
 abbrev pub IsNextPrinted : (some asks : Bool) (number : ℕ) (asked left_asked others left_others : List PrintedAnswer) → (before after : PrintedLines) → Type 0

@@ -8,6 +8,7 @@ use Rattle.perm_base.specs.declared.shapes.Fit.{Fit}
 use Rattle.role_graph.specs.Groups.{Group, rows_of, rows_with}
 use Rattle.role_graph.specs.Helps.Roles.{Counted, count_of, nodes_of}
 use Rattle.role_graph.specs.Helps.Squares.{AreNodes, IsExact}
+use Rattle.role_graph.specs.Helps.UserRoles.{Texts}
 use Rattle.role_graph.specs.Helps.Walks.{Linked}
 
 -- the groups, and for how many further ones there is room
@@ -19,7 +20,7 @@ abbrev pub users_of : List Group → List (List ℕ)
 users_of groups = map (λ (group : Group). group.user) groups
 
 -- an entry of the map as a group
-abbrev pub group_of : Vec ℕ × Vec (List ℕ) → Group
+abbrev pub group_of : Vec ℕ × Texts → Group
 group_of entry = record { user = entry.0.items; roles = entry.1.items }
 
 -- the users differ

@@ -1,4 +1,4 @@
-use Rattle.std.proofs.Common.{ℕ, arith, drop, length, subst, sym}
+use Rattle.std.proofs.Common.{ℕ, arith, drop, subst}
 use Rattle.regex_gate.proofs.CallerLemmas.{used_none}
 use Rattle.live_rounds.proofs.AskedLemmas.{all_kept_are}
 use Rattle.live_rounds.specs.Helps.Asked.{AddsAnswered}

@@ -1,11 +1,11 @@
-use Rattle.std.proofs.Common.{ap}
+use Rattle.std.proofs.Common.{◌≡◌, ◌++◌, ◌∷◌, [], Bool, ap, rules, sym, ◌∙◌}
 use Rattle.desk_session.proofs.CallerLemmas.{on_err_of}
-use Rattle.live_rounds.proofs.BesideLemmas.{done_all, done_first, done_still, turn_done, turn_stopped}
+use Rattle.live_rounds.proofs.BesideLemmas.{built_asked, done_all, done_first, done_still, kinds_all, turn_done, turn_dropped, turn_stopped}
 use Rattle.script_read.specs.ItemLines.{IsBuiltAs, IsTakenOff, said}
 use Rattle.live_rounds.proofs.beside.answer_others.Goals as goal
 
 pub loop-replies-init : goal.loop-replies-init
-loop-replies-init g c = done_first g.J.Naming.shapes g.J.Naming.opening (said c.args.items.now) c.args.admin.now (said c.again-left.result) c.new-replies.result (ap said c.again-left.ensures) c.new-replies.ensures
+loop-replies-init g c = done_first g.J.Naming.shapes g.J.Naming.opening (said c.args.items.now) c.args.admin.now (said c.again-left.result) c.new-replies.result c.new-kinds.result.items (ap said c.again-left.ensures) c.new-replies.ensures c.new-kinds.ensures.items
 
 pub answer_built-requires-clause-kind : goal.answer_built-requires-clause-kind
 answer_built-requires-clause-kind g c = λ lifetimes outlive.
@@ -15,19 +15,33 @@ answer_built-requires-clause-kind g c = λ lifetimes outlive.
 pub loop-replies-preserved : goal.loop-replies-preserved
 loop-replies-preserved g c =
     let first : IsTakenOff (IsBuiltAs c.in-Some.built) (said c.loop-replies.left) (said c.next_built.new.self) = rw c.in-Some.is at c.in_ok-built.ensures.some in
-    turn_done g.J.Naming.shapes g.J.Naming.opening (said c.args.items.now) c.args.admin.now (said c.loop-replies.left) (said c.next_built.new.self) first.item c.loop-replies.admin c.answer_built.new.admin c.loop-replies.replies c.answer_built.new.replies first.parts c.loop-replies.invariant
-    (c.in_ok-answer_built.ensures.done first.item first.holds)
+    let pushed : c.push.new.self.items ≡ c.loop-replies.kinds.items ++ c.is_built_asked-asks.result ∷ [] = search rules in
+    turn_done g.J.Naming.shapes g.J.Naming.opening (said c.args.items.now) c.args.admin.now (said c.loop-replies.left) (said c.next_built.new.self) first.item c.loop-replies.admin c.answer_built.new.admin c.loop-replies.replies c.answer_built.new.replies c.loop-replies.kinds.items c.push.new.self.items first.parts c.loop-replies.invariant
+    (pushed ∙ ap (λ (b : Bool). c.loop-replies.kinds.items ++ b ∷ []) (c.is_built_asked-asks.ensures ∙ sym (built_asked c.in-Some.built first.item first.holds))) (c.in_ok-answer_built.ensures.done first.item first.holds)
 
 pub returns-in_err-built-clause-stopped : goal.returns-in_err-built-clause-stopped
 returns-in_err-built-clause-stopped g c =
-    on_err_of c.from_residual.result (done_still g.J.Naming.shapes g.J.Naming.opening (said c.args.items.now) c.args.admin.now (said c.loop-replies.left) c.loop-replies.admin c.loop-replies.replies c.loop-replies.invariant)
+    on_err_of c.from_residual.result (done_still g.J.Naming.shapes g.J.Naming.opening (said c.args.items.now) c.args.admin.now (said c.loop-replies.left) c.loop-replies.admin c.loop-replies.replies c.loop-replies.kinds.items c.loop-replies.invariant)
 
 pub returns-in_err-answer_built-clause-stopped : goal.returns-in_err-answer_built-clause-stopped
 returns-in_err-answer_built-clause-stopped g c =
     let first : IsTakenOff (IsBuiltAs c.in-Some.built) (said c.loop-replies.left) (said c.next_built.new.self) = rw c.in-Some.is at c.in_ok-built.ensures.some in
     on_err_of c.from_residual-in_err-answer_built.result
-    (turn_stopped g.J.Naming.shapes g.J.Naming.opening (said c.args.items.now) c.args.admin.now (said c.loop-replies.left) (said c.next_built.new.self) first.item c.loop-replies.admin c.answer_built.new.admin c.loop-replies.replies first.parts c.loop-replies.invariant
+    (turn_stopped g.J.Naming.shapes g.J.Naming.opening (said c.args.items.now) c.args.admin.now (said c.loop-replies.left) (said c.next_built.new.self) first.item c.loop-replies.admin c.answer_built.new.admin c.loop-replies.replies c.loop-replies.kinds.items first.parts c.loop-replies.invariant
     (c.in_err-answer_built.ensures.stopped first.item first.holds))
 
+-- it was done, and its kind is not kept
+pub returns-in_err-push-clause-stopped : goal.returns-in_err-push-clause-stopped
+returns-in_err-push-clause-stopped g c =
+    let first : IsTakenOff (IsBuiltAs c.in-Some.built) (said c.loop-replies.left) (said c.next_built.new.self) = rw c.in-Some.is at c.in_ok-built.ensures.some in
+    on_err_of c.from_residual-in_err-push.result
+    (turn_dropped g.J.Naming.shapes g.J.Naming.opening (said c.args.items.now) c.args.admin.now (said c.loop-replies.left) (said c.next_built.new.self) first.item c.loop-replies.admin c.answer_built.new.admin c.loop-replies.replies c.answer_built.new.replies c.loop-replies.kinds.items first.parts c.loop-replies.invariant
+    (c.in_ok-answer_built.ensures.done first.item first.holds))
+
 pub returns-clause-done : goal.returns-clause-done
-returns-clause-done g c = done_all g.J.Naming.shapes g.J.Naming.opening (said c.args.items.now) c.args.admin.now (said c.loop-replies.left) c.loop-replies.admin c.loop-replies.replies (rw c.in_default.is at c.in_ok-built.ensures.none).0 c.loop-replies.invariant
+returns-clause-done g c =
+    let none = (rw c.in_default.is at c.in_ok-built.ensures.none).0 in
+    record {
+      beside = done_all g.J.Naming.shapes g.J.Naming.opening (said c.args.items.now) c.args.admin.now (said c.loop-replies.left) c.loop-replies.admin c.loop-replies.replies c.loop-replies.kinds.items none c.loop-replies.invariant;
+      kinds_are = kinds_all g.J.Naming.shapes g.J.Naming.opening (said c.args.items.now) c.args.admin.now (said c.loop-replies.left) c.loop-replies.admin c.loop-replies.replies c.loop-replies.kinds.items none c.loop-replies.invariant;
+    }

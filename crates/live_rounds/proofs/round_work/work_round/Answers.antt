@@ -60,7 +60,7 @@ returns-in_err-others-clause-used g c =
 -- a worker ran out of memory, while the administrator did all of its items
 pub returns-then-not-whole-clause-stopped : goal.returns-then-not-whole-clause-stopped
 returns-then-not-whole-clause-stopped g c = λ before is.
-    amid_all g.J.Naming.shapes g.J.Naming.opening before (items_of c.args.round.now) c.args.admin.now c.work_together-others.new.admin c.in_ok-others.others (c.in_ok-others.ensures.done before is)
+    amid_all g.J.Naming.shapes g.J.Naming.opening before (items_of c.args.round.now) c.args.admin.now c.work_together-others.new.admin c.in_ok-others.others.replies (c.in_ok-others.ensures.done.beside before is)
 
 pub returns-then-not-whole-clause-first : goal.returns-then-not-whole-clause-first
 returns-then-not-whole-clause-first g c =

@@ -1,4 +1,4 @@
-use Rattle.std.proofs.Common.{◌≡◌, ◌+◌, ℕ, Bool, false, true, ap, arith, rules, subst, sym, ◌∙◌}
+use Rattle.std.proofs.Common.{◌≡◌, ◌+◌, ℕ, Bool, ap, arith, rules, subst, sym, ◌∙◌}
 use Rattle.std.specs.Prelude.{cond}
 use Rattle.live_rounds.proofs.ItemLemmas.{told_asked, told_end}
 use Rattle.live_rounds.proofs.PassingLemmas.{IsPassing, cond_few, passing_few, passing_last, passing_more}

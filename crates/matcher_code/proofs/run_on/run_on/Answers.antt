@@ -1,4 +1,4 @@
-use Rattle.std.proofs.Common.{rules, ◌≡◌, ◌≤◌, ◌<◌, List, map, length, slice_get, Some, None, Ok, Err, arith, refl, subst, ◌∙◌}
+use Rattle.std.proofs.Common.{rules, ◌≡◌, ◌≤◌, ◌<◌, List, map, length, slice_get, Some, Ok, Err, arith, refl, subst, ◌∙◌}
 use Rattle.std.proofs.lemmas.Option.{slice_get_read}
 use Rattle.model_conf.specs.ModelText.{ModelParts}
 use Rattle.perm_value.specs.Seen.{datum_of_view}

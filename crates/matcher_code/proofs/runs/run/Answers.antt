@@ -1,4 +1,4 @@
-use Rattle.std.proofs.Common.{rules, ◌≡◌, ◌<◌, ◌+◌, ◌^◌, map, None, Ok, Err, option_copied, arith, subst, ◌∙◌}
+use Rattle.std.proofs.Common.{rules, ◌≡◌, ◌<◌, ◌+◌, ◌^◌, map, Ok, Err, option_copied, arith, subst, ◌∙◌}
 use Rattle.perm_value.specs.Seen.{datum, datum_of_view}
 use Rattle.matcher_code.specs.Helps.Runs.{RunEnds}
 use Rattle.matcher_code.specs.RunEnds.{case_of}

@@ -33,5 +33,5 @@ pub returns-clause-found : goal.returns-clause-found
 returns-clause-found c =
     let utf8 : IsUtf8 c.args.bytes.now = search rules in
     let so = c.loop-at.invariant.reads in
-    let all = parts_end c.args.json c.loop-at.number c.loop-at.rest.now so.0 (whole c.args.json c.args.bytes.now) c.in_default-next_full_line.ensures.none so.1 in
+    let all = parts_end c.args.json c.loop-at.number c.loop-at.rest.now so.0 (whole c.args.json c.args.bytes.now) c.in_default-next_item_line.ensures.none so.1 in
     (so.0, (text_read c.args.json c.args.bytes.now).says so.0 utf8 all)

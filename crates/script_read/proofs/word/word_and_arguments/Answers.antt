@@ -4,8 +4,13 @@ use Rattle.std.specs.Str.{IsCharBoundary}
 use Rattle.std.proofs.lemmas.Grind.{common_steps}
 use Rattle.text_parts.specs.Blanks.{trimmed}
 use Rattle.script_read.specs.Helps.Ends.{is_no_blank}
+use Rattle.script_read.proofs.AskLemmas.{asked_word}
 use Rattle.script_read.proofs.WordLemmas.{behind_word-drop, word_boundary, word_of-take}
 use Rattle.script_read.proofs.word.word_and_arguments.Goals as goal
+
+-- a line that begins with `ask` and a blank
+pub returns-then-begins_ask-clause-word : goal.returns-then-begins_ask-clause-word
+returns-then-begins_ask-clause-word c = sym (asked_word c.args.line.now (c.begins_ask.ensures c.if-begins_ask.true))
 
 pub range-requires-clause-end_boundary : goal.range-requires-clause-end_boundary
 range-requires-clause-end_boundary c =

@@ -13,7 +13,8 @@ invariant_of-self c = apart_from c.swap_remove.new.self.entries c.swap_remove.en
 pub returns-clause-roles : goal.returns-clause-roles
 returns-clause-roles c = elim c.match-swap_remove.branch [
   | in-Some w ↦ subst (λ r. IfOk r (λ roles. roles.items ≡ overlay c.args.self.now (roles_in c.args.links.now c.args.user.now) c.args.user.now)) (sym w.result-is)
-      (overlay_found c.args.user.now (roles_in c.args.links.now c.args.user.now) c.self.inside.entries.entries c.args.self.now w.in-Some.roles c.self.view_is w.in-Some.ensures.value)
+      (subst (λ (texts : List (List ℕ)). IfOk w.into_vec.result (λ roles. roles.items ≡ texts))
+      (overlay_found c.args.user.now (roles_in c.args.links.now c.args.user.now) c.self.inside.entries.entries c.args.self.now w.in-Some.roles c.self.view_is w.in-Some.ensures.value) w.into_vec.ensures)
   | in-None w ↦ subst (λ r. IfOk r (λ roles. roles.items ≡ overlay c.args.self.now (roles_in c.args.links.now c.args.user.now) c.args.user.now)) (sym w.result-is)
       (subst (λ (texts : List (List ℕ)). IfOk w.copy_and_room.result (λ roles. roles.items ≡ texts))
       (w.roles_of.ensures ∙ overlay_nowhere c.args.user.now (roles_in c.args.links.now c.args.user.now) c.self.inside.entries.entries c.args.self.now c.self.view_is w.in-None.ensures.value) w.copy_and_room.ensures)

@@ -1,4 +1,4 @@
-use Rattle.std.proofs.Common.{◌≡◌, ◌<◌, ◌∙◌, ℕ, true, List, cond, map, ap, sym, subst, vec_len}
+use Rattle.std.proofs.Common.{◌≡◌, ◌∙◌, ℕ, true, List, cond, length, map, ap, refl, sym, subst}
 use Rattle.std.specs.Prelude.{All}
 use Rattle.std.specs.Str.{bytes_eq}
 use Rattle.indexmap.specs.IndexMap.{insert_entry}
@@ -21,18 +21,18 @@ pub invariant_of-self-else-is_empty : goal.invariant_of-self-else-is_empty
 invariant_of-self-else-is_empty c =
     kept_inserted c.self.inside.entries.entries c.insert.new.self.entries c.args.user c.args.roles c.insert.ensures.unique
     (given c.insert.result c.unwrap-old.result (c.insert.new.self.entries ≡ insert_entry same_key c.self.inside.entries.entries c.args.user c.args.roles) c.unwrap-old.ensures c.insert.ensures.entries)
-    (subst (λ (n : ℕ). 0 < n) c.args.roles.ok.0 (some_length (vec_len c.args.roles) c.is_empty.result c.is_empty.ensures c.if-is_empty.false)) c.self.invariant
+    (some_length (length c.args.roles.items) c.is_empty.result c.is_empty.ensures c.if-is_empty.false) c.self.invariant
 
 pub invariant_of-self-else-is_empty-2 : goal.invariant_of-self-else-is_empty-2
 invariant_of-self-else-is_empty-2 c =
     kept_inserted c.self.inside.entries.entries c.insert.new.self.entries c.args.user c.args.roles c.insert.ensures.unique
     (given c.insert.result c.unwrap-old.result (c.insert.new.self.entries ≡ insert_entry same_key c.self.inside.entries.entries c.args.user c.args.roles) c.unwrap-old.ensures c.insert.ensures.entries)
-    (subst (λ (n : ℕ). 0 < n) c.args.roles.ok.0 (some_length (vec_len c.args.roles) c.is_empty.result c.is_empty.ensures c.if-is_empty.false)) c.self.invariant
+    (some_length (length c.args.roles.items) c.is_empty.result c.is_empty.ensures c.if-is_empty.false) c.self.invariant
 
 pub returns-then-is_empty-clause-roles : goal.returns-then-is_empty-clause-roles
 returns-then-is_empty-clause-roles c = λ name.
     roles_removed name c.as_slice.result.now c.args.roles.items c.self.inside.entries.entries c.swap_remove-gone.new.self.entries c.swap_remove-gone.ensures.updates.3 c.swap_remove-gone.ensures.updates.1
-    (no_items (vec_len c.args.roles) c.args.roles.items c.is_empty.result c.args.roles.ok.0 c.is_empty.ensures c.if-is_empty.true)
+    (no_items (length c.args.roles.items) c.args.roles.items c.is_empty.result refl c.is_empty.ensures c.if-is_empty.true)
     ∙ ap (λ (user : List ℕ). cond (bytes_eq name user) c.args.roles.items (roles_under name (map group_of c.self.inside.entries.entries))) c.as_slice.ensures.value
     ∙ ap (λ (k : Kept). cond (bytes_eq name c.args.user.items) c.args.roles.items (roles_under name k.groups)) c.self.view_is
 
@@ -66,7 +66,7 @@ returns-else-is_empty-clause-kept c =
     let put : AreKept (map group_of c.insert.new.self.entries) =
     kept_inserted c.self.inside.entries.entries c.insert.new.self.entries c.args.user c.args.roles c.insert.ensures.unique
     (given c.insert.result c.unwrap-old.result (c.insert.new.self.entries ≡ insert_entry same_key c.self.inside.entries.entries c.args.user c.args.roles) c.unwrap-old.ensures c.insert.ensures.entries)
-    (subst (λ (n : ℕ). 0 < n) c.args.roles.ok.0 (some_length (vec_len c.args.roles) c.is_empty.result c.is_empty.ensures c.if-is_empty.false)) c.self.invariant in
+    (some_length (length c.args.roles.items) c.is_empty.result c.is_empty.ensures c.if-is_empty.false) c.self.invariant in
     elim c.match-old.branch [
       | in-Some-2 w ↦ subst (λ (k : Kept). AreKept k.groups) (sym w.self-is) put
       | in-None-2 w ↦ subst (λ (k : Kept). AreKept k.groups) (sym w.self-is) put
