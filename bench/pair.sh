@@ -60,20 +60,22 @@ def script(requests, publishes):
 
 
 # The seconds of a round with so many workers, its publishes, and the greatest version that a request shows: near the last one, so
-# that the administrator published as long as the workers read, and not longer. The time to load the policy, and to read as many
-# other lines and to print theirs, is taken out.
+# that the administrator published as long as the workers read, and not longer. What is published behind the last request is counted
+# into the time of the requests, so it may be a twentieth at most. The time to load the policy, and to read as many other lines and
+# to print theirs, is taken out.
 def beside(name, requests, workers):
-    publishes = len(requests) // 10
-    for _ in range(10):
+    wanted = len(requests) // 10
+    for _ in range(20):
+        publishes = wanted
         seconds, answers = took(name, "session", ["--workers", str(workers)], script(requests, publishes))
         asked = answers[1 : len(requests) + 1]
         if not all(line.split(" ")[1] in ("allow", "deny") for line in asked):
             sys.exit(f"{name}: a request is not judged")
         shown = max(int(line.split(" ")[2].removeprefix("@")) for line in asked)
         if shown >= publishes:
-            publishes *= 3
-        elif shown < publishes * 0.8:
-            publishes = max(shown * 11 // 10, 10)
+            wanted = publishes * 3
+        elif shown < publishes * 0.95:
+            wanted = max(shown * 103 // 100 + 1, 10)
         else:
             break
     others, _ = took(name, "session", [], ["sync"] * (2 * publishes))
@@ -107,7 +109,8 @@ def compare(what, name, requests):
 files("equal", "r.sub == p.sub && r.obj == p.obj && r.act == p.act", (f"p, user{i}, data{i}, read" for i in range(RULES)))
 compare("found by equalities", "equal", [f"user{i % RULES}, data{i % RULES}, {'write' if i % 2 else 'read'}" for i in range(most)])
 files("paths", "keyMatch2(r.obj, p.obj) && r.act == p.act", (f"p, user, /data{i}/:id, read" for i in range(RULES)))
-compare("found by the front of a pattern", "paths", [f"user, /data{RULES - 1}/7, {'write' if i % 2 else 'read'}" for i in range(most // 20)])
+compare("found by the front of a pattern", "paths", [f"user, /data{RULES - 1}/7, {'write' if i % 2 else 'read'}" for i in range(most)])
+# Each of these looks at all rules, so there are fewer of them.
 files("each", "!(r.obj != p.obj) && !(r.act != p.act)", (f"p, user, /data{i}, read" for i in range(RULES)))
 compare("1000 rules looked at", "each", [f"user, /data{RULES - 1}, {'write' if i % 2 else 'read'}" for i in range(most // 20)])
 PYTHON

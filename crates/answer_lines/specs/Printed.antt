@@ -1,10 +1,9 @@
 -- Answers as they are printed, and what they show.
-use Rattle.std.specs.Prelude.{◌≡◌, ℕ, Bool, true, false, List, [], ◌∷◌, ◌++◌, flat_map, map}
+use Rattle.std.specs.Prelude.{◌≡◌, ℕ, suc, List, [], ◌∷◌, ◌++◌, flat_map, length, map}
 use Rattle.answer_lines.specs.LineText.{answer_text, numbered}
 use Rattle.answer_lines.specs.declared.answer.Answer.{Answer}
 use Rattle.answer_lines.specs.declared.answer.Answer.TheVariants as answer
 use Rattle.answer_lines.specs.declared.answer.Line.{Line}
-use Rattle.answer_lines.specs.declared.printed.PrintedAnswer.{PrintedAnswer}
 use Rattle.answer_lines.specs.declared.printed.Shown.{Shown}
 use Rattle.answer_lines.specs.declared.printed.Shown.TheVariants as shown
 use Rattle.answer_lines.specs.declared.printed_lines.PrintedLines.{PrintedLines}
@@ -24,7 +23,12 @@ shown_by (answer.Truth truth) = shown.Truth truth
 shown_by (answer.Published version) = shown.Published version
 shown_by _ = shown.Other
 
--- an answer as it is printed
+-- an answer as it is printed, without the LF at its end, and what it shows
+pub record PrintedAnswer : Type 0 where
+  pub text : List ℕ
+  pub shown : Shown
+
+-- how an answer is printed
 abbrev pub printed_answer : Answer → PrintedAnswer
 printed_answer told = record { text = answer_text told; shown = shown_by told }
 
@@ -55,7 +59,19 @@ pub record AddsLine (number : ℕ) (told : List ℕ) (shows : Shown) (old new : 
   pub text : new.text.items ≡ old.text.items ++ numbered number told
   pub shown : new.shown.items ≡ old.shown.items ++ shows ∷ []
 
--- the first of some answers, if there is one, is taken out, and its line is one more
-abbrev pub IsTakenOut : (some : Bool) (number : ℕ) (old new : List PrintedAnswer) (before after : PrintedLines) → Type 0
-IsTakenOut true number old new before after = (answer : PrintedAnswer) × (old ≡ answer ∷ new) × AddsLine number answer.text answer.shown before after
-IsTakenOut false number old new before after = (old ≡ []) × (new ≡ []) × (after ≡ before)
+-- the lines of answers, numbered from this on
+abbrev pub lines_from : ℕ → List PrintedAnswer → List PrintedLine
+lines_from number [] = []
+lines_from number (answer ∷ answers) = record { number = number; answer = answer } ∷ lines_from (suc number) answers
+
+-- these lines stand behind others
+pub record AddsLines (lines : List PrintedLine) (old new : PrintedLines) : Type 0 where
+  pub text : new.text.items ≡ old.text.items ++ text_of lines
+  pub shown : new.shown.items ≡ old.shown.items ++ shown_of lines
+
+-- so many of the first answers are taken out, and their lines, numbered from this on, stand behind others
+pub record AreTakenOut (count number : ℕ) (old new : List PrintedAnswer) (before after : PrintedLines) : Type 0 where
+  pub answers : List PrintedAnswer
+  pub parts : old ≡ answers ++ new
+  pub long : length answers ≡ count
+  pub lines : AddsLines (lines_from number answers) before after

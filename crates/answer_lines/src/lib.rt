@@ -3,6 +3,7 @@
 
 mod answer;
 mod front;
+mod kept;
 mod laws;
 mod line;
 mod line_text;
@@ -19,6 +20,6 @@ pub use answer::{Answer, Line};
 pub use laws::edits_are_told_line_by_line;
 pub use line::{print_line, push_decided, push_line};
 pub use lines::Lines;
-pub use printed::{PrintedAnswer, Shown, print_answer, print_verdict, shown_by};
+pub use printed::{Shown, shown_by};
 pub use printed_lines::PrintedLines;
 pub use waiting::WaitingAnswers;

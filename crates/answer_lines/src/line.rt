@@ -1,8 +1,8 @@
 ghost use Rattle.std.specs.Prelude.{◌≡◌, ◌≤◌, ◌++◌, [], IfOk, OnOk, codes, decimal, length, option_copied, true};
-ghost use Rattle.answer_lines.specs.LineText.{Appends, decided_text, line_text};
+ghost use Rattle.answer_lines.specs.LineText.{Appends, answer_text, decided_text, line_text, numbered};
 ghost use Rattle.answer_lines.specs.Told.{comes_with_rule, is_printable};
 
-use crate::answer::Line;
+use crate::answer::{Answer, Line};
 use crate::front::Front;
 use crate::line_text::push_answer;
 use crate::pieces::push_number;
@@ -30,8 +30,17 @@ pub fn push_line(text: &mut String, line: &Line) -> Result<(), NoMemory>
     requires printable { is_printable line.now.answer ≡ true }
     ensures appended { OnOk result (Appends text.old text.new (line_text line.now)) }
 {
-    push_front(text, line.number)?;
-    push_answer(text, &line.answer)?;
+    push_numbered(text, line.number, &line.answer)
+}
+
+/// Appends the line of an answer with this number.
+pub(crate) fn push_numbered(text: &mut String, number: u32, answer: &Answer) -> Result<(), NoMemory>
+    requires printable { is_printable answer.now ≡ true }
+    ensures appended { OnOk result (Appends text.old text.new
+        (numbered number (answer_text answer.now))) }
+{
+    push_front(text, number)?;
+    push_answer(text, answer)?;
     text.push_str("\n")?;
     Ok(())
 }

@@ -3,11 +3,10 @@ ghost use Rattle.answer_lines.specs.LineText.{Appends, answer_text, truth_text};
 ghost use Rattle.answer_lines.specs.Told.{is_printable};
 
 use crate::answer::Answer;
-use crate::front::Front;
 use crate::pieces::{push_at, push_text};
 use crate::refusals::{push_arity, push_call, push_fault, push_query};
 use crate::rows::{push_names, push_recorded, push_rules};
-use crate::verdicts::push_verdict;
+use crate::verdicts::push_verdict_alone;
 use outside::NoMemory;
 
 /// Appends what is answered, without the LF at its end.
@@ -20,10 +19,7 @@ pub(crate) fn push_answer(text: &mut String, answer: &Answer) -> Result<(), NoMe
             version,
             verdict,
             rule,
-        } => {
-            let mut front = Front::new();
-            push_verdict(text, &mut front, *version, *verdict, rule.as_ref())
-        }
+        } => push_verdict_alone(text, *version, *verdict, rule.as_ref()),
         Answer::Arity { got, want } => push_arity(text, *got, *want),
         Answer::Request(fault) => push_fault(text, *fault),
         Answer::Call(refused) => push_call(text, *refused),

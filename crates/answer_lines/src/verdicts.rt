@@ -30,6 +30,21 @@ pub(crate) fn push_verdict(
     }
 }
 
+/// Appends a verdict without a front.
+pub(crate) fn push_verdict_alone(
+    text: &mut String,
+    version: u32,
+    verdict: Verdict,
+    rule: Option<&Rule>,
+) -> Result<(), NoMemory>
+    requires { comes_with_rule verdict (option_copied rule) ≡ true }
+    ensures { OnOk result (Appends text.old text.new
+        (verdict_text version verdict (option_copied rule.entry))) }
+{
+    let mut front = Front::new();
+    push_verdict(text, &mut front, version, verdict, rule)
+}
+
 // Appends a front, a word, a version, and the place of a row with its rule, or that there is none.
 #[inline(always)]
 fn push_judged(

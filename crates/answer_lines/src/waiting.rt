@@ -1,40 +1,37 @@
-ghost use Rattle.std.specs.Prelude.{◌≡◌, ◌∷◌, ◌++◌, [], IfOk, OnErr, OnOk, length};
-ghost use Rattle.answer_lines.specs.Printed.{IsTakenOut};
+ghost use Rattle.std.specs.Prelude.{◌≡◌, ◌+◌, ◌<◌, ◌≤◌, ◌∷◌, ◌++◌, ◌^◌, [], IfOk, OnErr, OnOk, length, option_copied, true};
+ghost use Rattle.answer_lines.specs.Printed.{AreTakenOut, printed_answer};
+ghost use Rattle.answer_lines.specs.Told.{comes_with_rule, is_printable};
+ghost use Rattle.answer_lines.specs.declared.answer.Answer.TheVariants.{Decided};
 
-use crate::printed::{PrintedAnswer, Shown};
-use crate::printed_lines::{PrintedLines, push_line_of};
+use crate::answer::Answer;
+use crate::kept::KeptAnswers;
+use crate::line::{push_decided, push_numbered};
+use crate::printed::{shown_by, shown_by_verdict};
+use crate::printed_lines::PrintedLines;
+use effect_fold::Verdict;
 use outside::NoMemory;
+use perm_base::Rule;
 use std::alloc::Global;
 use std::marker::Model;
 
 /// Printed answers that wait for their lines: they are taken out in the order in which they were put in. Contracts see the list of
-/// those that are left. Their texts stand behind each other in one piece of memory.
+/// those that are left.
 #[derive(Drop)]
 pub struct WaitingAnswers {
-    texts: Vec<u8>,
-    marks: Vec<Mark>,
-    // How many bytes and how many answers were taken out.
-    from: usize,
-    taken: usize,
-}
-
-// How long the text of an answer is, and what the answer shows.
-#[derive(Clone, Copy)]
-struct Mark {
-    size: usize,
-    shown: Shown,
+    kept: KeptAnswers,
+    // What a line is printed into: where memory runs out in its middle, those that are kept have nothing of it.
+    text: String,
+    // The number that the line of the next one has most likely.
+    number: u32,
 }
 
 impl Model for WaitingAnswers {
-    ghost use Rattle.std.specs.Prelude.{List, drop};
-    ghost use Rattle.answer_lines.specs.declared.printed.PrintedAnswer as answer;
-    ghost use Rattle.answer_lines.specs.Helps.Marked.{AreMarked, marked};
+    ghost use Rattle.std.specs.Prelude.{List};
+    ghost use Rattle.answer_lines.specs.Printed as answer;
 
     ghost Value = { List answer.PrintedAnswer };
 
-    ghost view = { λ w. marked (drop w.taken w.marks.items) (drop w.from w.texts.items) };
-
-    ghost invariant = { λ w. AreMarked w.from w.taken w.texts.items w.marks.items };
+    ghost view = { λ w. w.kept };
 }
 
 impl WaitingAnswers {
@@ -43,50 +40,95 @@ impl WaitingAnswers {
         ensures { result ≡ [] }
     {
         WaitingAnswers {
-            texts: Vec::new(alloc),
-            marks: Vec::new(alloc),
-            from: 0,
-            taken: 0,
+            kept: KeptAnswers::new(alloc),
+            text: String::new(alloc),
+            number: 1,
         }
+    }
+
+    /// None, with memory for so many, and for so many bytes of their lines: up to these nothing is moved when one is put in.
+    pub fn with_room(
+        alloc: Global,
+        answers: usize,
+        bytes: usize,
+    ) -> Result<WaitingAnswers, NoMemory>
+        ensures none { IfOk result (λ waiting. waiting ≡ []) }
+    {
+        let kept = KeptAnswers::with_room(alloc, answers, bytes)?;
+        Ok(WaitingAnswers {
+            kept,
+            text: String::new(alloc),
+            number: 1,
+        })
     }
 
     /// How many are left.
     pub fn len(&self) -> usize
         ensures { result ≡ length self.now }
     {
-        self.marks.len() - self.taken
+        self.kept.len()
     }
 
-    /// Puts one in behind the others. Where memory runs out all are as they were.
-    pub fn push(&mut self, answer: &PrintedAnswer) -> Result<(), NoMemory>
-        ensures pushed { OnOk result (self.new ≡ self.old ++ answer.now ∷ []) }
+    /// The line of the answer that is put in next has most likely this number, and those behind it the next ones. An answer whose line has
+    /// another number is printed anew.
+    pub fn expect(&mut self, number: u32)
+        ensures { self.new ≡ self.old }
+    {
+        self.number = number;
+    }
+
+    /// Prints an answer, which is put in behind the others. Refused is want of memory alone, and so is a text of more than 2^32 - 1
+    /// bytes: then all are as they were.
+    pub fn push_answer(&mut self, answer: &Answer) -> Result<(), NoMemory>
+        requires printable { is_printable answer.now ≡ true }
+        ensures pushed { OnOk result (self.new ≡ self.old ++ printed_answer answer.now ∷ []) }
         ensures same { OnErr result (self.new ≡ self.old) }
     {
-        let text = answer.text.as_str().as_bytes();
-        self.marks.reserve(1)?;
-        self.texts.extend_from_slice(text)?;
-        self.marks.push_reserved(Mark {
-            size: text.len(),
-            shown: answer.shown,
-        });
+        let number = self.number;
+        self.text.clear();
+        push_numbered(&mut self.text, number, answer)?;
+        self.kept
+            .push(number, self.text.as_bytes(), shown_by(answer))?;
+        self.number = number.saturating_add(1);
         Ok(())
     }
 
-    /// Takes the first one out, and puts its line with this number behind others; it says whether there was one. Where memory runs out
-    /// the answer is left.
-    pub fn print_first(&mut self, number: u32, lines: &mut PrintedLines) -> Result<bool, NoMemory>
-        ensures first { IfOk result (λ some. IsTakenOut some number
-            self.old self.new lines.old lines.new) }
+    /// Prints a verdict as `push_answer` prints `Answer::Decided`, with a rule that is not copied.
+    pub fn push_verdict(
+        &mut self,
+        version: u32,
+        verdict: Verdict,
+        rule: Option<&Rule>,
+    ) -> Result<(), NoMemory>
+        requires printable { comes_with_rule verdict (option_copied rule) ≡ true }
+        ensures pushed { OnOk result (self.new ≡ self.old
+            ++ printed_answer (Decided version verdict (option_copied rule.entry)) ∷ []) }
         ensures same { OnErr result (self.new ≡ self.old) }
     {
-        let Some(mark) = self.marks.get(self.taken) else {
-            return Ok(false);
-        };
-        let mark = *mark;
-        let until = self.from + mark.size;
-        push_line_of(lines, number, &self.texts[self.from..until], mark.shown)?;
-        self.from = until;
-        self.taken += 1;
-        Ok(true)
+        let number = self.number;
+        self.text.clear();
+        push_decided(&mut self.text, number, version, verdict, rule)?;
+        let shown = shown_by_verdict(version, verdict);
+        self.kept.push(number, self.text.as_bytes(), shown)?;
+        self.number = number.saturating_add(1);
+        Ok(())
+    }
+
+    /// Takes some of the first ones out, at most so many, and puts their lines behind others, with this number and those behind it. It
+    /// says how many. Where memory runs out all are left.
+    pub fn print_some(
+        &mut self,
+        number: u32,
+        most: usize,
+        lines: &mut PrintedLines,
+    ) -> Result<usize, NoMemory>
+        ensures taken { IfOk result (λ count. AreTakenOut count number
+            self.old self.new lines.old lines.new) }
+        ensures most { IfOk result (λ count. count ≤ most) }
+        ensures some { IfOk result (λ count. 0 < most → 0 < length self.old → 0 < count) }
+        ensures numbers { IfOk result (λ count. number + count ≤ 2 ^ 32) }
+        ensures same { OnErr result (self.new ≡ self.old) }
+    {
+        self.kept.print_some(number, most, lines)
     }
 }

@@ -17,6 +17,7 @@ use Rattle.run_status.specs.declared.stop.Stop.{Stop}
 use Rattle.run_status.specs.declared.stop.Stop.TheVariants.{NoScript, NoPackets, CannotRead, CannotWrite, TooLong, NoMemory}
 use Rattle.script_read.specs.Said.{Said}
 use Rattle.script_read.specs.Script.{IsRequests, IsScript}
+use Rattle.script_read.specs.Script.IsScriptFault.{not_utf8}
 use Rattle.session_meaning.specs.Plain.{all_refused}
 use Rattle.loaded_work.specs.Finders.{HasRefused}
 use Rattle.loaded_work.specs.Followed.{IsFollowed}
@@ -53,6 +54,15 @@ input_stops on IsLogged out input_rose out_rose (NoScript fault) reads stops = (
 input_stops on IsLogged out input_rose out_rose (NoPackets fault) reads stops = (reads, stops)
 input_stops on IsLogged out input_rose out_rose NoMemory reads stops = inl refl
 input_stops on IsLogged out input_rose out_rose _ reads stops = absurd stops
+
+-- what is no text is no script
+pub served_stops : (json : Bool) (input : Option (List ℕ)) (rose : Type 0) (stop : Stop) → InputStops (Enforce json) input rose stop → InputStops (Serve json) input rose stop
+served_stops json input rose (CannotRead Input) stops = stops
+served_stops json input rose (TooLong Input) stops = stops
+served_stops json input rose (NoScript fault) (bytes, told, within, none) = (bytes, told, within, not_utf8 none.0 none.1)
+served_stops json input rose (NoPackets fault) stops = stops
+served_stops json input rose NoMemory stops = stops
+served_stops json input rose _ stops = absurd stops
 
 -- a script that is shipped is read as one that is served
 pub shipped_stops : (input : Option (List ℕ)) (rose : Type 0) (stop : Stop) → InputStops (Serve false) input rose stop → InputStops tasks.Ship input rose stop

@@ -73,12 +73,9 @@ pub(crate) fn read_checked<S: Source>(
         (Rose (S.faults input.old) (S.faults input.new))) }
     ensures counted { S.faults input.old ≤ S.faults input.new }
 {
-    let bytes = read_bytes(alloc, input)?;
-    check_script(alloc, &bytes, json)?;
-    match String::from_utf8(bytes) {
-        Ok(script) => Ok(script),
-        Err(_) => Err(Stop::NoScript(ScriptFault::NotUtf8)),
-    }
+    let script = read_text(alloc, input, json)?;
+    check_script(alloc, script.as_str(), json)?;
+    Ok(script)
 }
 
 /// Reads an input to its end as packets.

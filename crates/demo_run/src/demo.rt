@@ -241,7 +241,7 @@ fn demo_script(alloc: Global, count: u32) -> Result<String, NoMemory>
         × IsScript false (string_bytes script) items) }
 {
     let text = script_text(alloc, count)?;
-    let Ok(()) = check_script(alloc, text.as_bytes(), false) else {
+    let Ok(()) = check_script(alloc, text.as_str(), false) else {
         return Err(NoMemory);
     };
     Ok(text)

@@ -1,10 +1,11 @@
 -- What a request is answered over a policy, and its line.
-use Rattle.std.proofs.Common.{◌≡◌, ℕ, ◌==◌, Bool, true, false, List, [], Option, Ok, Err, String, length, map, refl, sym, ap, subst, ◌∙◌}
+use Rattle.std.proofs.Common.{◌≡◌, ℕ, ◌==◌, Bool, true, false, List, [], ◌∷◌, ◌++◌, Option, Ok, Err, String, length, map, refl, sym, ap, subst, ◌∙◌}
 use Rattle.std.specs.Prelude.{MatchBool}
 use Rattle.std.specs.declared.alloc.Global.{Global}
 use Rattle.std.proofs.lemmas.Bool.{eq-eqb, ne_eqb}
 use Rattle.std.proofs.lemmas.List.{length-map}
 use Rattle.answer_lines.specs.LineText.{Appends, decided_text, line_text}
+use Rattle.answer_lines.specs.Printed.{PrintedAnswer, printed_answer}
 use Rattle.answer_lines.specs.Told.{comes_with_rule, is_printable}
 use Rattle.answer_lines.specs.declared.answer.Answer.{Answer}
 use Rattle.answer_lines.specs.declared.answer.Answer.TheVariants as answer
@@ -22,7 +23,7 @@ use Rattle.script_read.specs.Said.{Reading, asks}
 use Rattle.session_meaning.proofs.CallerLemmas.{RowsAreMoved, rule_stands}
 use Rattle.session_meaning.specs.Replies.{IsDecided, rule_of}
 use Rattle.version_log.specs.Log.{versions}
-use Rattle.desk_session.specs.Requests.{IsAnsweredBy, Refuses, TellsAnswer}
+use Rattle.desk_session.specs.Requests.{AddsReply, IsAnsweredBy, Refuses, TellsAnswer}
 use Rattle.desk_session.proofs.LogLemmas.{judged_in, none_asked}
 
 -- the verdict comes with its rule
@@ -81,6 +82,10 @@ module _ (model : ModelParts) (state : State) where
         judged = judged_in model state.shapes (tables state) (map datum values) before now used.more verdict used.refused judged;
         told = ap (λ (v : ℕ). answer.Decided v verdict rule) is_version ∙ ap (answer.Decided (versions state.log) verdict) is_rule;
       }
+
+  -- a reply that is put in behind others
+  pub adds_reply : (before now : Refusals) (reading : Reading) (old new : List PrintedAnswer) (reply : Answer) → IsAnsweredBy model state before now reading reply → new ≡ old ++ printed_answer reply ∷ [] → AddsReply model state before now reading old new
+  adds_reply before now reading old new reply answered added = record { reply = reply; answered = answered; added = added }
 
   -- the line of an answer
   pub tells : (before now : Refusals) (reading : Reading) (number : ℕ) (old new : String Global) (reply : Answer) → IsAnsweredBy model state before now reading reply → Appends old new (line_text (record { number = number; answer = reply }))

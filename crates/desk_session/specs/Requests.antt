@@ -1,7 +1,8 @@
 -- What a request is answered over a policy of a version (Casbin, enforce), and what the finder refused for it.
-use Rattle.std.specs.Prelude.{◌≡◌, ℕ, false, List, [], String}
+use Rattle.std.specs.Prelude.{◌≡◌, ℕ, false, List, [], ◌∷◌, ◌++◌, String}
 use Rattle.std.specs.declared.alloc.Global.{Global}
 use Rattle.answer_lines.specs.LineText.{Appends, line_text}
+use Rattle.answer_lines.specs.Printed.{PrintedAnswer, printed_answer}
 use Rattle.answer_lines.specs.declared.answer.Answer.{Answer}
 use Rattle.model_conf.specs.ModelText.{ModelParts}
 use Rattle.policy_state.specs.States.{State, tables}
@@ -26,3 +27,9 @@ pub record TellsAnswer (model : ModelParts) (state : State) (before now : Refusa
   pub reply : Answer
   pub answered : IsAnsweredBy model state before now reading reply
   pub appended : Appends old new (line_text (record { number = number; answer = reply }))
+
+-- such an answer is put in behind other replies, as it is printed
+pub record AddsReply (model : ModelParts) (state : State) (before now : Refusals) (reading : Reading) (old new : List PrintedAnswer) : Type 0 where
+  pub reply : Answer
+  pub answered : IsAnsweredBy model state before now reading reply
+  pub added : new ≡ old ++ printed_answer reply ∷ []

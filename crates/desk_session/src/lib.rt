@@ -8,6 +8,7 @@ mod judged_line;
 mod named;
 mod other;
 mod plain;
+mod printed_reply;
 mod queries;
 mod request;
 
@@ -18,5 +19,6 @@ pub use judged_line::{push_asked, push_request};
 pub use named::named_rule;
 pub use other::answer_other;
 pub use plain::run_plain;
+pub use printed_reply::print_asked;
 pub use queries::{bytes_of, refusal_answer};
-pub use request::{answer_line, answer_request, answer_text};
+pub use request::{answer_request, answer_text};

@@ -2,7 +2,6 @@ ghost use Rattle.std.specs.Prelude.{◌≡◌, IfOk, Ok, OnErr, map, true};
 ghost use Rattle.answer_lines.specs.Told.{is_printable};
 ghost use Rattle.perm_value.specs.Seen.{datum};
 ghost use Rattle.script_read.specs.Named.{is_named};
-ghost use Rattle.script_read.specs.Readings.{request_read};
 ghost use Rattle.script_read.specs.Said.{asks, reading, reading_of};
 ghost use Rattle.decision.specs.Programs.{Suits};
 ghost use Rattle.desk_session.specs.Requests.{IsAnsweredBy, Refuses};
@@ -15,7 +14,7 @@ use outside::NoMemory;
 use perm_value::Request;
 use policy_state::PolicyState;
 use regex_gate::Finder;
-use script_read::{AskedLine, RequestLine, RequestText, read_asked, read_text};
+use script_read::{RequestLine, RequestText, read_text};
 use std::alloc::Global;
 
 /// What a line of requests is answered over a policy: the verdict on a request with the policy's version and the rule that the
@@ -61,28 +60,6 @@ pub fn answer_text<P: Finder>(
 {
     let asked = read_text(alloc, Vec::new(alloc), text)?;
     answer_request(alloc, state, program, &asked, finder, scratch)
-}
-
-/// The same for the line of a request of a script.
-pub fn answer_line<P: Finder>(
-    alloc: Global,
-    state: &PolicyState,
-    program: &Program,
-    asked: AskedLine<'_>,
-    finder: &mut P,
-    scratch: &mut Scratch,
-) -> Result<Answer, NoMemory>
-    requires suits { Suits program.now state.now.shapes }
-    ensures answer { IfOk result (IsAnsweredBy program.now state.now
-        (P.refusals finder.old) (P.refusals finder.new)
-        (request_read asked.entry.json asked.entry.line.now)) }
-    ensures printable { IfOk result (λ reply. is_printable reply ≡ true) }
-    ensures stopped { OnErr result (Refuses program.now
-        (P.refusals finder.old) (P.refusals finder.new)
-        (asks (request_read asked.entry.json asked.entry.line.now))) }
-{
-    let line = read_asked(alloc, Vec::new(alloc), asked)?;
-    answer_request(alloc, state, program, &line, finder, scratch)
 }
 
 // What a request is answered.

@@ -1,8 +1,7 @@
 -- Requests that are answered at the desk, behind those that were answered at a seat.
 use Rattle.std.proofs.Common.{◌≡◌, ℕ, zero, suc, ◌+◌, ◌-◌, ◌<◌, ◌≤◌, false, List, [], ◌∷◌, ◌++◌, append_assoc, append-nil, drop, length, length-append, map, refl, sym, ap, subst, ◌∙◌, arith}
-use Rattle.answer_lines.specs.Printed.{printed_answer}
+use Rattle.answer_lines.specs.Printed.{PrintedAnswer, printed_answer}
 use Rattle.answer_lines.specs.declared.answer.Answer.{Answer}
-use Rattle.answer_lines.specs.declared.printed.PrintedAnswer.{PrintedAnswer}
 use Rattle.desk_session.proofs.CallerLemmas.{logged_more}
 use Rattle.desk_session.specs.Requests.{IsAnsweredBy, Refuses}
 use Rattle.live_rounds.specs.Answered.{AreAnsweredAt}

@@ -3,7 +3,7 @@ use Rattle.std.proofs.Common.{◌≡◌, ℕ, zero, suc, ◌≤◌, leb, Bool, t
 use Rattle.std.specs.Prelude.{MatchBool}
 use Rattle.std.proofs.lemmas.Bool.{leb-false, leb-true}
 use mathlib.Core.List.{IsPrefix}
-use Rattle.answer_lines.specs.declared.printed.PrintedAnswer.{PrintedAnswer}
+use Rattle.answer_lines.specs.Printed.{PrintedAnswer}
 use Rattle.live_pair.proofs.CallerLemmas.{edits_both, prefix_self, prefix_shorter, prefix_trans}
 use Rattle.live_pair.specs.Seats.{IsEntered, SeatSeen, version_of}
 use Rattle.live_pair.specs.Story.{edits_in}

@@ -2,8 +2,7 @@
 use Rattle.std.proofs.Common.{◌≡◌, ℕ, suc, List, [], ◌∷◌, ◌++◌, length, map, refl, sym, ap, subst, ◌∙◌, arith}
 use Rattle.std.specs.Prelude.{sum_by}
 use Rattle.std.proofs.lemmas.List.Sums.{sum_by-append}
-use Rattle.answer_lines.specs.Printed.{printed_line}
-use Rattle.answer_lines.specs.declared.printed.PrintedAnswer.{PrintedAnswer}
+use Rattle.answer_lines.specs.Printed.{PrintedAnswer, printed_line}
 use Rattle.answer_lines.specs.Printed.{PrintedLine}
 use Rattle.answer_lines.specs.declared.answer.Line.{Line}
 use Rattle.live_pair.specs.Admins.{AdminSeen}

@@ -1,9 +1,8 @@
 -- Entries of a seat that answers requests, and what its share shows of them.
 use Rattle.std.proofs.Common.{◌≡◌, ⊎_elim, ℕ, ◌+◌, ◌≤◌, ◌==◌, min, Bool, true, false, List, [], ◌∷◌, ◌++◌, append-nil, length, length-append, Option, Some, None, Ok, Err, refl, sym, ap, ◌∙◌, arith}
 use Rattle.std.specs.Prelude.{MatchBool}
-use Rattle.answer_lines.specs.Printed.{printed_answer, shown_by}
+use Rattle.answer_lines.specs.Printed.{PrintedAnswer, printed_answer, shown_by}
 use Rattle.answer_lines.specs.declared.answer.Answer.{Answer}
-use Rattle.answer_lines.specs.declared.printed.PrintedAnswer.{PrintedAnswer}
 use Rattle.answer_lines.specs.declared.answer.Answer.TheVariants as answer
 use Rattle.effect_fold.specs.declared.verdict.Verdict.{Verdict}
 use Rattle.effect_fold.specs.declared.verdict.Verdict.TheVariants as verdict

@@ -6,6 +6,7 @@ pub mod ServedLemmas
 pub mod CutLemmas
 pub mod MergedLemmas
 pub mod MergingLemmas
+pub mod KindLemmas
 pub mod RoundLemmas
 pub mod SharesLemmas
 pub mod AskedLemmas

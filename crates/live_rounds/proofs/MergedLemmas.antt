@@ -1,8 +1,7 @@
 -- The replies to the requests of a round, at cuts of it, and those to its other items are its lines.
 use Rattle.std.proofs.Common.{◌≡◌, ℕ, suc, List, [], ◌∷◌, ◌++◌, length, length-append, map, refl, sym, ap, ◌∙◌, arith}
 use Rattle.std.specs.List.{AllByRecursion}
-use Rattle.answer_lines.specs.Printed.{printed_line}
-use Rattle.answer_lines.specs.declared.printed.PrintedAnswer.{PrintedAnswer}
+use Rattle.answer_lines.specs.Printed.{PrintedAnswer, printed_line}
 use Rattle.answer_lines.specs.declared.answer.Line.{Line}
 use Rattle.answer_lines.specs.Printed.{PrintedLine}
 use Rattle.live_rounds.specs.Administrators.{AreReplies}

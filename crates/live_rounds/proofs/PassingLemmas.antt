@@ -1,6 +1,7 @@
 -- Items that are passed one after the other: to the end of a round, and behind so many requests.
-use Rattle.std.proofs.Common.{◌≡◌, ℕ, suc, ◌+◌, ◌-◌, ◌<◌, ◌≤◌, Bool, true, false, List, [], ◌∷◌, ◌++◌, append-nil, length, length-append, take, refl, sym, ap, subst, ◌∙◌, arith}
+use Rattle.std.proofs.Common.{◌≡◌, ℕ, suc, ◌+◌, ◌-◌, ◌<◌, ◌≤◌, Bool, true, false, List, [], ◌∷◌, ◌++◌, append-nil, append_assoc, length, length-append, take, refl, sym, ap, subst, ◌∙◌, arith}
 use Rattle.std.specs.Prelude.{cond, if◌then◌else◌}
+use Rattle.std.specs.List.{list_all}
 use Rattle.desk_session.specs.Steps.{is_request}
 use Rattle.live_rounds.proofs.ItemLemmas.{asked_more, other_more, parts_more, requests_both, requests_few}
 use Rattle.live_rounds.proofs.RoundLemmas.{take_front}
@@ -9,6 +10,7 @@ use Rattle.live_rounds.specs.Requests.{requests}
 use Rattle.live_rounds.specs.Scripts.{IsFirstRound, round_size}
 use Rattle.live_rounds.specs.Stretches.{IsCounted, items_of}
 use Rattle.live_rounds.specs.declared.stretch.Stretch.{Stretch}
+use Rattle.script_read.specs.ItemLines.{ArePassed}
 use Rattle.script_read.specs.Said.{Reading, Said, is_sync}
 use Rattle.script_read.specs.Said as said
 
@@ -74,6 +76,35 @@ module _ (count asks : ℕ) (all left next : List Said) (item : Said) (so : IsPa
         count_is = omega (arith, so.count_is, longer);
         requests_are = omega (arith, so.requests_are, ap (λ (l : List Reading). length l) (other_more so.front item (calm_sync item last)));
       }
+
+-- requests that are passed at once
+passed_size : (passed next : List Said) → list_all is_request passed ≡ true → round_size (passed ++ next) ≡ length passed + round_size next
+passed_size [] next asked = omega arith
+passed_size (said.asks reading ∷ passed) next asked = let rest = passed_size passed next asked in omega (arith, rest)
+passed_size (item ∷ passed) next asked = absurd cc
+
+passed_asked : (passed : List Said) → list_all is_request passed ≡ true → length (requests passed) ≡ length passed
+passed_asked [] asked = refl
+passed_asked (said.asks reading ∷ passed) asked = let rest = passed_asked passed asked in omega (arith, rest)
+passed_asked (item ∷ passed) asked = absurd cc
+
+pub passing_first : (count : ℕ) (all next : List Said) → ArePassed count all next → IsPassing count count all next
+passing_first count all next is = record {
+  front = is.passed;
+  parts = is.parts;
+  size = ap round_size is.parts ∙ passed_size is.passed next is.asked;
+  count_is = sym is.long;
+  requests_are = omega (arith, is.long, passed_asked is.passed is.asked);
+}
+
+pub passing_many : (count asks more : ℕ) (all left next : List Said) → IsPassing count asks all left → ArePassed more left next → IsPassing (count + more) (asks + more) all next
+passing_many count asks more all left next so is = record {
+  front = so.front ++ is.passed;
+  parts = so.parts ∙ ap (λ (l : List Said). so.front ++ l) is.parts ∙ sym (append_assoc so.front is.passed next);
+  size = omega (arith, so.size, ap round_size is.parts, passed_size is.passed next is.asked, length-append so.front is.passed);
+  count_is = omega (arith, so.count_is, is.long, length-append so.front is.passed);
+  requests_are = omega (arith, so.requests_are, is.long, passed_asked is.passed is.asked, ap (λ (l : List Reading). length l) (requests_both so.front is.passed), length-append (requests so.front) (requests is.passed));
+}
 
 -- no item is left
 pub passing_end : (count asks : ℕ) (all left next : List Said) → IsPassing count asks all left → left ≡ [] → next ≡ [] → IsPassed count asks all next

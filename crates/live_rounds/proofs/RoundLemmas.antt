@@ -4,8 +4,7 @@ use Rattle.std.specs.Prelude.{All}
 use Rattle.std.specs.List.{AllByRecursion, AllZip}
 use Rattle.std.specs.List.Sorted.{IsNonDecreasing}
 use Rattle.std.proofs.lemmas.List.Elements.{All-from_recursion}
-use Rattle.answer_lines.specs.Printed.{printed_line}
-use Rattle.answer_lines.specs.declared.printed.PrintedAnswer.{PrintedAnswer}
+use Rattle.answer_lines.specs.Printed.{PrintedAnswer, printed_line}
 use Rattle.answer_lines.specs.Printed.{PrintedLine}
 use Rattle.answer_lines.specs.declared.answer.Line.{Line}
 use Rattle.live_rounds.proofs.ItemLemmas.{requests_both}

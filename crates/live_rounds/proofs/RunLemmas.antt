@@ -2,8 +2,7 @@
 use Rattle.std.proofs.Common.{◌≡◌, ⊎_elim, ℕ, suc, ◌<◌, List, [], ◌∷◌, drop, get_or, length, map, slice_set, take, refl, sym, ap, subst, ◌∙◌, arith}
 use Rattle.std.specs.List.{AllByRecursion, AllZip}
 use mathlib.Core.List.{IsPrefix}
-use Rattle.answer_lines.specs.Printed.{printed_line}
-use Rattle.answer_lines.specs.declared.printed.PrintedAnswer.{PrintedAnswer}
+use Rattle.answer_lines.specs.Printed.{PrintedAnswer, printed_line}
 use Rattle.answer_lines.specs.Printed.{PrintedLine}
 use Rattle.answer_lines.specs.declared.answer.Line.{Line}
 use Rattle.live_pair.proofs.CallerLemmas.{prefix_self, prefix_trans}

@@ -4,17 +4,17 @@ use Rattle.std.specs.Prelude.{MatchBool}
 use Rattle.live_rounds.specs.Lists.{last_from}
 use Rattle.std.proofs.lemmas.Bool.{eq-eqb, ne_eqb}
 use Rattle.std.proofs.lemmas.List.{length-map}
-use Rattle.answer_lines.specs.Printed.{printed_answer}
+use Rattle.answer_lines.specs.Printed.{PrintedAnswer, printed_answer}
 use Rattle.answer_lines.specs.declared.answer.Answer.{Answer}
 use Rattle.answer_lines.specs.declared.answer.Answer.TheVariants as answer
-use Rattle.answer_lines.specs.declared.printed.PrintedAnswer.{PrintedAnswer}
 use Rattle.live_pair.specs.Seats.{IsEntered, IsShut, SeatSeen, version_of}
 use Rattle.desk_session.proofs.CallerLemmas.{judged_in, logged_more}
 use Rattle.live_rounds.proofs.ItemLemmas.{none_requested, parts_all, parts_more, requests_both}
 use Rattle.desk_session.specs.Steps.{is_request}
 use Rattle.live_rounds.specs.Requests.{requests}
+use Rattle.live_rounds.specs.Helps.Behind.{IsServedBehind}
 use Rattle.live_rounds.specs.Served.{AreServed, IsPartServed, IsServed, IsServedBy}
-use Rattle.live_seat.specs.Decided.{IsExplainedAt, tables_behind}
+use Rattle.live_seat.specs.Decided.{IsExplainedAt, IsPrintedAt, tables_behind}
 use Rattle.live_seat.specs.declared.answered.Answered.{Answered}
 use Rattle.model_conf.specs.ModelText.{ModelParts}
 use Rattle.perm_base.specs.declared.shapes.Shapes.{Shapes}
@@ -97,6 +97,31 @@ module _ (model : ModelParts) (shapes : Shapes) (opening : Policy) where
         judged = judged_in model shapes (tables_behind opening new.front) (map datum values) before now used.more told.0.verdict used.refused explained.decided.judged;
         told = ap (λ (v : ℕ). answer.Decided v told.0.verdict told.1) version-is ∙ ap (answer.Decided (version_of new.front) told.0.verdict) explained.rule_is;
       }
+
+  -- each of them behind other replies
+  module _ (replies all : List PrintedAnswer) where
+    pub behind_fault : (refusals : Refusals) (seat : SeatSeen) (fault : RequestFault) → all ≡ replies ++ printed_answer (answer.Request fault) ∷ [] → IsServedBehind model shapes opening (Err fault) refusals refusals seat seat replies all
+    behind_fault refusals seat fault added = record {
+      reply = printed_answer (answer.Request fault);
+      served = served_fault refusals seat fault (printed_answer (answer.Request fault)) refl;
+      added = added;
+    }
+
+    pub behind_arity : (refusals : Refusals) (seat : SeatSeen) (values : List Value) (got want : ℕ) → (length values ≡ length model.request → ⊥) → got ≡ length values → want ≡ length model.request → all ≡ replies ++ printed_answer (answer.Arity got want) ∷ []
+        → IsServedBehind model shapes opening (Ok (map datum values)) refusals refusals seat seat replies all
+    behind_arity refusals seat values got want others is_got is_want added = record {
+      reply = printed_answer (answer.Arity got want);
+      served = served_arity refusals seat values got want (printed_answer (answer.Arity got want)) others is_got is_want refl;
+      added = added;
+    }
+
+    pub behind_printed : (before now : Refusals) (old new : SeatSeen) (values : List Value) → length values ≡ length model.request → IsUsed before now → IsPrintedAt model shapes opening (map datum values) before now old new replies all
+        → IsServedBehind model shapes opening (Ok (map datum values)) before now old new replies all
+    behind_printed before now old new values equal used is = record {
+      reply = printed_answer (answer.Decided is.told.0.version is.told.0.verdict is.told.1);
+      served = served_decided before now old new values is.told (printed_answer (answer.Decided is.told.0.version is.told.0.verdict is.told.1)) equal used is.explained refl;
+      added = is.added;
+    }
 
   -- ---- requests one after the other
 
@@ -212,8 +237,9 @@ module _ (model : ModelParts) (shapes : Shapes) (opening : Policy) where
     pub serving_all : (left : List Said) (now : Refusals) (new : SeatSeen) (replies : List PrintedAnswer) → left ≡ [] → IsServingUpTo left now new replies → IsPartServed model shapes opening part before now old new replies
     serving_all left now new replies none so = part_served part so.done before now old new replies (parts_all part so.done left so.parts none) so.serving
 
-    pub serving_shut : (left : List Said) (now later : Refusals) (new after : SeatSeen) (replies : List PrintedAnswer) → later ≡ now → IsShut new after → IsServingUpTo left now new replies → IsPartServed model shapes opening part before later old after replies
-    serving_shut left now later new after replies same shut so = part_shut part so.done left before now later old new after replies so.parts same shut so.serving
+    pub serving_shut : (left : List Said) (now later : Refusals) (new after : SeatSeen) (replies all : List PrintedAnswer) → later ≡ now → IsShut new after → all ≡ replies → IsServingUpTo left now new replies → IsPartServed model shapes opening part before later old after all
+    serving_shut left now later new after replies all same shut kept so =
+        subst (IsPartServed model shapes opening part before later old after) (sym kept) (part_shut part so.done left before now later old new after replies so.parts same shut so.serving)
 
     -- the finder was used so far
     pub serving_uses : (left : List Said) (now : Refusals) (new : SeatSeen) (replies : List PrintedAnswer) → IsServingUpTo left now new replies → IsUsed before now

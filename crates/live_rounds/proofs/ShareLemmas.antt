@@ -4,7 +4,7 @@ use Rattle.std.specs.Prelude.{sum_by}
 use Rattle.std.proofs.lemmas.Grind.{flat_map-append}
 use Rattle.std.proofs.lemmas.List.Sums.{sum_by-append}
 use mathlib.Core.List.{IsPrefix}
-use Rattle.answer_lines.specs.declared.printed.PrintedAnswer.{PrintedAnswer}
+use Rattle.answer_lines.specs.Printed.{PrintedAnswer}
 use Rattle.live_pair.specs.Admins.{AdminSeen}
 use Rattle.live_pair.specs.Seats.{SeatSeen, version_of}
 use Rattle.live_rounds.proofs.AskedLemmas.{completed, completed_long}

@@ -1,6 +1,6 @@
 -- What is kept for parts, and the replies to their other requests, one part after the other.
 use Rattle.std.proofs.Common.{◌≡◌, List, [], ◌∷◌, ◌++◌, append_assoc, append-nil, drop, length, map, refl, sym, ap, subst, ◌∙◌, arith}
-use Rattle.answer_lines.specs.declared.printed.PrintedAnswer.{PrintedAnswer}
+use Rattle.answer_lines.specs.Printed.{PrintedAnswer}
 use Rattle.live_rounds.specs.Helps.Asked.{AddsAnswered, AddsShared, AreShared, first_kept, others_kept}
 use Rattle.live_rounds.specs.Requests.{requests}
 use Rattle.live_rounds.specs.Stretches.{items_of}

@@ -2,8 +2,7 @@
 use Rattle.std.specs.Prelude.{◌≡◌, ◌≤◌, ◌+◌, ℕ, ⊤, min, List, [], ◌∷◌, ◌++◌, Option, Some, None, length, map, sum_by}
 use Rattle.std.specs.List.{AllZip}
 use mathlib.Core.List.{IsPrefix}
-use Rattle.answer_lines.specs.declared.printed.PrintedAnswer.{PrintedAnswer}
-use Rattle.answer_lines.specs.Printed.{PrintedLine}
+use Rattle.answer_lines.specs.Printed.{PrintedAnswer, PrintedLine}
 use Rattle.answer_lines.specs.declared.printed.Shown.{Shown}
 use Rattle.answer_lines.specs.declared.printed.Shown.TheVariants as shown
 use Rattle.answer_lines.specs.Printed.{printed_line}

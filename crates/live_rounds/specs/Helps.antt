@@ -1,5 +1,6 @@
 -- What only private functions and proofs say.
 pub mod Asked
+pub mod Behind
 pub mod MergedItems
 pub mod Posts
 pub mod Learned

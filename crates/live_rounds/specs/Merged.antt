@@ -1,7 +1,6 @@
 -- The lines of a round, out of the replies to its requests and of those to its other items.
 use Rattle.std.specs.Prelude.{ℕ, suc, List, [], ◌∷◌}
-use Rattle.answer_lines.specs.declared.printed.PrintedAnswer.{PrintedAnswer}
-use Rattle.answer_lines.specs.Printed.{PrintedLine}
+use Rattle.answer_lines.specs.Printed.{PrintedAnswer, PrintedLine}
 use Rattle.script_read.specs.Said.{Said}
 use Rattle.script_read.specs.Said as said
 use Rattle.session_meaning.specs.Plain.{number_behind}

@@ -1,7 +1,7 @@
 -- What a worker answers at a seat.
 use Rattle.std.specs.Prelude.{◌≡◌, ◌⊎◌, ◌<◌, ◌≤◌, ℕ, ⊤, false, List, [], ◌∷◌, MatchBool, length}
 use Rattle.live_rounds.specs.Lists.{last_from}
-use Rattle.answer_lines.specs.declared.printed.PrintedAnswer.{PrintedAnswer}
+use Rattle.answer_lines.specs.Printed.{PrintedAnswer}
 use Rattle.live_pair.specs.Seats.{IsEntered, IsShut, SeatSeen, version_of}
 use Rattle.live_rounds.specs.Printed.{IsPrinted}
 use Rattle.live_rounds.specs.Requests.{requests}

@@ -1,21 +1,19 @@
 ghost use Rattle.std.specs.Prelude.{◌≡◌, IfOk, OnOk, drop, length, map};
 ghost use Rattle.std.specs.List.{AllByRecursion};
 ghost use Rattle.decision.specs.Programs.{Suits};
-ghost use Rattle.live_rounds.specs.Helps.Asked.{AddsAnswered, AddsShared, AreShared, IsAnsweredBehind, first_kept, others_kept};
+ghost use Rattle.live_rounds.specs.Helps.Asked.{AddsAnswered, AddsShared, AreShared, first_kept, others_kept};
 ghost use Rattle.live_rounds.specs.Requests.{requests};
 ghost use Rattle.live_rounds.specs.Stretches.{IsCounted, items_of};
 ghost use Rattle.regex_gate.specs.Refusals.{IsUsed};
-ghost use Rattle.script_read.specs.Readings.{request_read};
 
-use crate::replies::push_reply;
 use crate::stretch::Stretch;
 use answer_lines::WaitingAnswers;
 use decision::{Program, Scratch};
-use desk_session::answer_line;
+use desk_session::print_asked;
 use outside::NoMemory;
 use policy_state::PolicyState;
 use regex_gate::Finder;
-use script_read::{AskedLine, FirstItem};
+use script_read::FirstItem;
 use std::alloc::Global;
 use std::vec::IntoIter;
 
@@ -121,7 +119,7 @@ fn answer_left<P: Finder>(
     ensures used { IsUsed (P.refusals finder.old) (P.refusals finder.new) }
 {
     let mut scratch = Scratch::for_program(alloc, program);
-    let mut printed = String::new(alloc);
+    let mut values = Vec::new(alloc);
     let mut rest = part.items.again();
     let mut left = skipped;
     while let Some(first) = rest.next_told() {
@@ -132,39 +130,16 @@ fn answer_left<P: Finder>(
             left -= 1;
             continue;
         }
-        answer_behind(
+        print_asked(
             alloc,
+            asked,
             state,
             program,
             request,
             finder,
             &mut scratch,
-            &mut printed,
-            asked,
+            &mut values,
         )?;
     }
     Ok(())
-}
-
-// Answers a request over a policy, and puts the reply in behind others.
-fn answer_behind<P: Finder>(
-    alloc: Global,
-    state: &PolicyState,
-    program: &Program,
-    request: AskedLine<'_>,
-    finder: &mut P,
-    scratch: &mut Scratch,
-    printed: &mut String,
-    asked: &mut WaitingAnswers,
-) -> Result<(), NoMemory>
-    requires suits { Suits program.now state.now.shapes }
-    ensures answered { OnOk result (IsAnsweredBehind program.now state.now
-        (P.refusals finder.old) (P.refusals finder.new)
-        (request_read request.entry.json request.entry.line.now) asked.old asked.new) }
-    ensures used { IsUsed (P.refusals finder.old) (P.refusals finder.new) }
-{
-    let reply = answer_line(alloc, state, program, request, finder, scratch)?;
-    let told = push_reply(alloc, printed, &reply, asked);
-    drop(reply);
-    told
 }

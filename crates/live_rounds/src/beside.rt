@@ -7,7 +7,6 @@ ghost use Rattle.script_read.specs.ItemLines.{IsBuiltAs, said};
 ghost use Rattle.script_read.specs.Said.{Said, seen};
 
 use crate::gate::Gate;
-use crate::replies::push_reply;
 use answer_lines::WaitingAnswers;
 use desk_session::{Answer, answer_other};
 use live_pair::{Admin, Naming};
@@ -37,13 +36,12 @@ pub(crate) fn answer_others<J: Naming, R: Wait, G: Gate>(
         → IsAdminBehind J.shapes J.opening before admin.old
         → IsAdminAmid J.shapes J.opening before (said items.now) admin.new) }
 {
-    let mut printed = String::new(alloc);
     let mut kinds = Vec::new(alloc);
     let mut replies = WaitingAnswers::new(alloc);
     let mut left = items.again();
     while let Some(built) = left.next_built(alloc)? {
         let asks = is_built_asked(&built);
-        answer_built(rt, alloc, built, gate, admin, &mut printed, &mut replies)?;
+        answer_built(rt, alloc, built, gate, admin, &mut replies)?;
         kinds.push(asks)?;
     }
     Ok(OthersDone { replies, kinds })
@@ -63,7 +61,6 @@ fn answer_built<J: Naming, R: Wait, G: Gate>(
     built: BuiltItem<'_>,
     gate: &G,
     admin: &mut Admin<J>,
-    printed: &mut String,
     replies: &mut WaitingAnswers,
 ) -> Result<(), NoMemory>
     requires kind { (item : Said) × IsBuiltAs built item }
@@ -75,7 +72,7 @@ fn answer_built<J: Naming, R: Wait, G: Gate>(
     let BuiltItem::Other(item) = built else {
         return Ok(());
     };
-    let done = answer_item(rt, alloc, &item, gate, admin, printed, replies);
+    let done = answer_item(rt, alloc, &item, gate, admin, replies);
     drop(item);
     done
 }
@@ -87,7 +84,6 @@ fn answer_item<J: Naming, R: Wait, G: Gate>(
     item: &Item,
     gate: &G,
     admin: &mut Admin<J>,
-    printed: &mut String,
     replies: &mut WaitingAnswers,
 ) -> Result<(), NoMemory>
     requires other { is_request (seen item.now) ≡ false }
@@ -96,24 +92,19 @@ fn answer_item<J: Naming, R: Wait, G: Gate>(
     ensures stopped { OnErr result (IsTurnStopped (seen item.now) admin.old admin.new) }
 {
     let reply = answer_at(rt, alloc, admin, item, gate)?;
-    let told = push_told(alloc, printed, &reply, replies);
+    let told = push_told(&reply, replies);
     drop(reply);
     told
 }
 
 // Puts a reply in behind others. The items of a script that was read name tables that have names, so that all answers can be printed.
-fn push_told(
-    alloc: Global,
-    printed: &mut String,
-    reply: &Answer,
-    replies: &mut WaitingAnswers,
-) -> Result<(), NoMemory>
+fn push_told(reply: &Answer, replies: &mut WaitingAnswers) -> Result<(), NoMemory>
     ensures pushed { OnOk result (replies.new ≡ replies.old ++ printed_answer reply.now ∷ []) }
 {
     if !reply.is_printable() {
         return Err(NoMemory);
     }
-    push_reply(alloc, printed, reply, replies)
+    replies.push_answer(reply)
 }
 
 // Answers an item that is no request, and does what it says.

@@ -3,7 +3,7 @@ ghost use Rattle.std.specs.List.{AllByRecursion, AllZip};
 ghost use mathlib.Core.List.{IsPrefix};
 ghost use Rattle.answer_lines.specs.Printed.{printed_line};
 ghost use Rattle.answer_lines.specs.declared.answer.Line as line;
-ghost use Rattle.answer_lines.specs.declared.printed.PrintedAnswer as printed;
+ghost use Rattle.answer_lines.specs.Printed as printed;
 ghost use Rattle.live_pair.specs.Admins.{AdminSeen};
 ghost use Rattle.live_pair.specs.Seats.{SeatSeen, version_of};
 ghost use Rattle.live_rounds.specs.Administrators.{AreDoneBeside, AreReplies};

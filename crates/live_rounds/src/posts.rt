@@ -108,19 +108,8 @@ fn serve<J: Naming, P: Finder, G: Gate>(
         return;
     };
     let worker = u32::try_from(worker).unwrap_or(u32::MAX);
-    let items = part.items.again();
-    let before = part.before;
     let finder = &mut post.finder;
-    let Ok(replies) = answer_part(
-        alloc,
-        &mut post.seat,
-        program,
-        items,
-        finder,
-        worker,
-        before,
-        gate,
-    ) else {
+    let Ok(replies) = answer_part(alloc, &mut post.seat, program, part, finder, worker, gate) else {
         post.ran_out = true;
         return;
     };

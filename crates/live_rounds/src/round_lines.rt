@@ -1,9 +1,10 @@
-ghost use Rattle.std.specs.Prelude.{◌≡◌, [], IfOk, OnOk};
-ghost use Rattle.answer_lines.specs.Printed.{ArePrinted, IsTakenOut};
-ghost use Rattle.live_rounds.specs.Helps.MergedItems.{FillsWith, GoesOn, IsNextPrinted, IsOnePrinted, TakesSome, merged_kinds};
+ghost use Rattle.std.specs.Prelude.{◌≡◌, ◌<◌, [], IfOk, OnOk};
+ghost use Rattle.answer_lines.specs.Printed.{ArePrinted};
+ghost use Rattle.live_rounds.specs.Helps.MergedItems.{AreSomePrinted, FillsWith, GoesOn, IsRunPrinted, TakesReplies, TakesSome, merged_kinds};
 ghost use Rattle.live_rounds.specs.Shares.{in_turn};
 
 use crate::beside::OthersDone;
+use crate::kinds::{Kinds, Run};
 use answer_lines::{PrintedLines, WaitingAnswers};
 use outside::NoMemory;
 use std::alloc::Global;
@@ -17,7 +18,7 @@ const AT_ONCE: usize = 1_024;
 /// the list of them.
 #[derive(Drop)]
 pub struct RoundLines {
-    kinds: IntoIter<bool>,
+    kinds: Kinds,
     number: u32,
     asked: Replies,
     others: WaitingAnswers,
@@ -30,7 +31,7 @@ impl Model for RoundLines {
 
     ghost Value = { List line.PrintedLine };
 
-    ghost view = { λ l. merged_kinds l.number l.kinds.rest.items l.asked l.others };
+    ghost view = { λ l. merged_kinds l.number l.kinds l.asked l.others };
 }
 
 // The replies to requests that are left: of the part that they stand in, and of the parts behind it. Contracts see the list of them.
@@ -42,7 +43,7 @@ struct Replies {
 
 impl Model for Replies {
     ghost use Rattle.std.specs.Prelude.{◌++◌, List};
-    ghost use Rattle.answer_lines.specs.declared.printed.PrintedAnswer as answer;
+    ghost use Rattle.answer_lines.specs.Printed as answer;
     ghost use Rattle.live_rounds.specs.Shares.{in_turn};
 
     ghost Value = { List answer.PrintedAnswer };
@@ -51,15 +52,22 @@ impl Model for Replies {
 }
 
 impl Replies {
-    // Takes the first one out, and puts its line with this number behind others; it says whether there was one.
-    fn print_first(&mut self, number: u32, lines: &mut PrintedLines) -> Result<bool, NoMemory>
-        ensures { IfOk result (λ some. IsTakenOut some number
+    // Takes the first ones out, at most so many, and puts their lines, with this number and those behind it, behind others; it says
+    // how many.
+    fn print_some(
+        &mut self,
+        number: u32,
+        most: usize,
+        lines: &mut PrintedLines,
+    ) -> Result<usize, NoMemory>
+        requires { 0 < most }
+        ensures { IfOk result (λ count. TakesReplies count most number
             self.old self.new lines.old lines.new) }
     {
         if !go_on(&mut self.current, &mut self.lists) {
-            return Ok(false);
+            return Ok(0);
         }
-        self.current.print_first(number, lines)
+        self.current.print_some(number, most, lines)
     }
 }
 
@@ -90,7 +98,7 @@ impl RoundLines {
     {
         let OthersDone { replies, kinds } = others;
         RoundLines {
-            kinds: kinds.into_iter(),
+            kinds: Kinds::new(kinds),
             number: before,
             asked: Replies {
                 current: WaitingAnswers::new(alloc),
@@ -114,51 +122,46 @@ impl RoundLines {
         requires none { ArePrinted [] lines.old }
         ensures { OnOk result (FillsWith self.old self.new lines.new) }
     {
-        for _at in 0..AT_ONCE {
-            if !self.take_first(lines)? {
+        while lines.shown.len() < AT_ONCE {
+            if !self.take_run(AT_ONCE - lines.shown.len(), lines)? {
                 return Ok(());
             }
         }
         Ok(())
     }
 
-    // Takes the first line, which is printed behind others; it says whether there was one.
-    fn take_first(&mut self, lines: &mut PrintedLines) -> Result<bool, NoMemory>
-        ensures { IfOk result (λ some. IsOnePrinted some self.old self.new lines.old lines.new) }
+    // Takes the first lines of the run that stands first, at most so many, which are printed behind others; it says whether there were
+    // some.
+    fn take_run(&mut self, most: usize, lines: &mut PrintedLines) -> Result<bool, NoMemory>
+        requires { 0 < most }
+        ensures { IfOk result (λ some. AreSomePrinted some
+            self.old self.new lines.old lines.new) }
     {
-        let Some(asks) = self.kinds.next() else {
+        let Some(run) = self.kinds.first_run(most) else {
             return Ok(false);
         };
         let number = self.number.saturating_add(1);
-        if !print_next(asks, number, &mut self.asked, &mut self.others, lines)? {
-            pass_all(&mut self.kinds);
-            return Ok(false);
-        }
-        self.number = number;
-        Ok(true)
+        let count = print_run(run, number, &mut self.asked, &mut self.others, lines)?;
+        self.kinds.pass(count);
+        self.number = self.number.saturating_add(count as u32);
+        Ok(0 < count)
     }
 }
 
-// Prints the next reply to a request, or the next one to another item, behind others.
-fn print_next(
-    asks: bool,
+// Prints the next replies to the requests of a run, or the next ones to its other items, behind others; it says how many.
+fn print_run(
+    run: Run,
     number: u32,
     asked: &mut Replies,
     others: &mut WaitingAnswers,
     lines: &mut PrintedLines,
-) -> Result<bool, NoMemory>
-    ensures { IfOk result (λ some. IsNextPrinted some asks number asked.old asked.new
-        others.old others.new lines.old lines.new) }
+) -> Result<usize, NoMemory>
+    requires { 0 < run.count }
+    ensures { IfOk result (λ count. IsRunPrinted count run.count run.asks number
+        asked.old asked.new others.old others.new lines.old lines.new) }
 {
-    if asks {
-        return asked.print_first(number, lines);
+    if run.asks {
+        return asked.print_some(number, run.count, lines);
     }
-    others.print_first(number, lines)
-}
-
-// Passes over all that are left.
-fn pass_all(kinds: &mut IntoIter<bool>)
-    ensures { kinds.new.rest.items ≡ [] }
-{
-    while let Some(_kind) = kinds.next() {}
+    others.print_some(number, run.count, lines)
 }

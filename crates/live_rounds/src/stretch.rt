@@ -61,8 +61,8 @@ pub fn next_round<'a>(
 fn pass_round(rest: &mut ItemLines<'_>) -> Result<(usize, usize), NoMemory>
     ensures { IfOk result (λ counts. IsPassed counts.0 counts.1 (said rest.old) (said rest.new)) }
 {
-    let mut count: usize = 0;
-    let mut requests: usize = 0;
+    let mut requests = rest.pass_asked(usize::MAX);
+    let mut count = requests;
     while let Some(first) = rest.next_told() {
         let Some(more) = count.checked_add(1) else {
             return Err(NoMemory);
@@ -72,6 +72,9 @@ fn pass_round(rest: &mut ItemLines<'_>) -> Result<(usize, usize), NoMemory>
             return Ok((count, requests));
         }
         requests += usize::from(is_asked(&first));
+        let asked = rest.pass_asked(usize::MAX - count);
+        requests += asked;
+        count += asked;
     }
     Ok((count, requests))
 }

@@ -1,8 +1,7 @@
 -- What is judged over a state that stands for the edits of publishes, is judged over the tables behind them.
-use Rattle.std.proofs.Common.{◌≡◌, ℕ, List, Option, refl, sym, subst, ◌∙◌}
-use Rattle.answer_lines.specs.Printed.{printed_answer}
+use Rattle.std.proofs.Common.{◌≡◌, ℕ, List, [], ◌∷◌, ◌++◌, Option, refl, sym, subst, ◌∙◌}
+use Rattle.answer_lines.specs.Printed.{PrintedAnswer, printed_answer}
 use Rattle.answer_lines.specs.declared.answer.Answer.TheVariants.{Decided}
-use Rattle.answer_lines.specs.declared.printed.PrintedAnswer.{PrintedAnswer}
 use Rattle.decision.specs.Decisions.{IsJudgedWith, RefusedIn}
 use Rattle.effect_fold.specs.declared.verdict.Verdict.{Verdict}
 use Rattle.live_pair.specs.Seats.{IsEntered, SeatSeen, version_of}
@@ -47,12 +46,12 @@ module _ (model : ModelParts) (shapes : Shapes) (opening : Policy) (values : Lis
         (at_front shapes opening inside.front state shapes-is stands (λ (s : Shapes) (policy : Policy). rule ≡ rule_of policy verdict) rule-is);
   }
 
-  -- as it is printed
-  pub printed_at : (version : ℕ) (verdict : Verdict) (printed : PrintedAnswer) → version ≡ version_of inside.front → IsJudged model state.shapes (tables state) values (IsRefused before now) verdict
-      → IsJudgedWith model state.shapes (tables state) values (RefusedIn model.effect before now) verdict → printed ≡ printed_answer (Decided version verdict (rule_of (tables state) verdict))
-      → IsPrintedAt model shapes opening values before now old new printed
-  printed_at version verdict printed version-is judged refused printed-is = record {
+  -- as it is printed behind replies
+  pub printed_at : (version : ℕ) (verdict : Verdict) (replies all : List PrintedAnswer) → version ≡ version_of inside.front → IsJudged model state.shapes (tables state) values (IsRefused before now) verdict
+      → IsJudgedWith model state.shapes (tables state) values (RefusedIn model.effect before now) verdict → all ≡ replies ++ printed_answer (Decided version verdict (rule_of (tables state) verdict)) ∷ []
+      → IsPrintedAt model shapes opening values before now old new replies all
+  printed_at version verdict replies all version-is judged refused added-is = record {
     told = (record { version = version; verdict = verdict }, rule_of (tables state) verdict);
     explained = explained_at version verdict (rule_of (tables state) verdict) version-is judged refused refl;
-    printed_is = printed-is;
+    added = added-is;
   }

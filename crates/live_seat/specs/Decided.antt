@@ -1,8 +1,7 @@
 -- What a request is answered by an entry of a seat, and what the seat is afterwards (Casbin, enforce).
-use Rattle.std.specs.Prelude.{◌≡◌, List, Option}
-use Rattle.answer_lines.specs.Printed.{printed_answer}
+use Rattle.std.specs.Prelude.{◌≡◌, List, [], ◌∷◌, ◌++◌, Option}
+use Rattle.answer_lines.specs.Printed.{PrintedAnswer, printed_answer}
 use Rattle.answer_lines.specs.declared.answer.Answer.TheVariants.{Decided}
-use Rattle.answer_lines.specs.declared.printed.PrintedAnswer.{PrintedAnswer}
 use Rattle.decision.specs.Decisions.{IsJudgedWith, RefusedIn}
 use Rattle.live_pair.specs.Seats.{IsEntered, IsShut, SeatSeen}
 use Rattle.live_pair.specs.Story.{edits_in}
@@ -36,11 +35,11 @@ pub record IsExplainedAt (model : ModelParts) (shapes : Shapes) (opening : Polic
   pub decided : IsDecidedAt model shapes opening values before now old new told.0
   pub rule_is : told.1 ≡ rule_of (tables_behind opening new.front) told.0.verdict
 
--- the same as it is printed
-pub record IsPrintedAt (model : ModelParts) (shapes : Shapes) (opening : Policy) (values : List Datum) (before now : Refusals) (old new : SeatSeen) (printed : PrintedAnswer) : Type 0 where
+-- the same as it is printed behind these replies
+pub record IsPrintedAt (model : ModelParts) (shapes : Shapes) (opening : Policy) (values : List Datum) (before now : Refusals) (old new : SeatSeen) (replies all : List PrintedAnswer) : Type 0 where
   pub told : Answered × Option Fields
   pub explained : IsExplainedAt model shapes opening values before now old new told
-  pub printed_is : printed ≡ printed_answer (Decided told.0.version told.0.verdict told.1)
+  pub added : all ≡ replies ++ printed_answer (Decided told.0.version told.0.verdict told.1) ∷ []
 
 -- nothing is answered: the entry was refused and counted, and the finder was not asked; or memory ran out behind one entry
 abbrev pub IsStoppedAt : (before now : Refusals) (old new : SeatSeen) → SeatStop → Type 0

@@ -76,7 +76,7 @@ fn lines_of<R: Threads + Wait + Sync, G: Gate, H: Places>(
     gate: &G,
     places: &mut H,
 ) -> Result<Answers, NoMemory> {
-    let Ok(()) = check_script(alloc, TURNS.as_bytes(), false) else {
+    let Ok(()) = check_script(alloc, TURNS, false) else {
         return Err(NoMemory);
     };
     lines_by(rt, alloc, TURNS, gate, places)

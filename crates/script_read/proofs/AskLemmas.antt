@@ -1,14 +1,16 @@
 -- The line of a request that is told by its first bytes.
-use Rattle.std.proofs.Common.{◌≡◌, ℕ, ◌+◌, Bool, true, false, List, ◌∷◌, ◌++◌, drop, length, refl, sym, ap, subst, ◌∙◌, arith, eqb}
+use Rattle.std.proofs.Common.{◌≡◌, ℕ, ◌+◌, ◌&&◌, Bool, true, false, List, [], ◌∷◌, ◌++◌, append_assoc, drop, length, map, refl, sym, ap, subst, ◌∙◌, arith, eqb}
 use Rattle.std.specs.Prelude.{bytes_eq, codes}
-use Rattle.std.specs.List.{starts_with}
+use Rattle.std.specs.List.{onto_first, starts_with}
 use Rattle.std.specs.Str.{IsCharBoundary}
 use Rattle.std.proofs.lemmas.Bool.Decides.{Decides-eqb}
+use Rattle.std.proofs.lemmas.List.Folds.{list_all-append}
 use Rattle.std.proofs.lemmas.Slice.Eq.{starts_is}
 use Rattle.std.proofs.lemmas.Str.{IsCharBoundary-before_ascii}
-use Rattle.script_read.specs.Helps.Asks.{BeginsAsk, IsAskedLine}
+use Rattle.script_read.specs.Helps.Asks.{AreBehindAsked, BeginsAsk, IsAskedLine, is_asked}
 use Rattle.script_read.specs.Lines.{behind_word, word_of}
 use Rattle.text_parts.specs.Full.{full_lines}
+use Rattle.text_parts.specs.Lines.{lines_of, without_cr}
 use Rattle.text_parts.specs.Numbered as numbered
 use Rattle.text_parts.specs.Numbered.{text_lines}
 use Rattle.text_parts.specs.Passed.{is_passed}
@@ -19,6 +21,20 @@ asked_front bytes needle line test value same is holds = record {
   rest = drop (length needle) bytes;
   is = sym same ∙ (starts_is Decides-eqb bytes needle test value).0 holds ∙ ap (λ (n : List ℕ). n ++ drop (length needle) bytes) is;
 }
+
+-- the first line of a text that begins so does
+abbrev first_of : List (List ℕ) → List ℕ
+first_of [] = []
+first_of (line ∷ lines) = line
+
+first_begins : (lines : List (List ℕ)) (line : List ℕ) (others : List (List ℕ)) → map without_cr (onto_first 97 (onto_first 115 (onto_first 107 (onto_first 32 lines)))) ≡ line ∷ others → BeginsAsk line
+first_begins [] line others is = record { rest = []; is = sym (ap first_of is) }
+first_begins ([] ∷ lines) line others is = record { rest = []; is = sym (ap first_of is) }
+first_begins ((byte ∷ bytes) ∷ lines) line others is = record { rest = without_cr (byte ∷ bytes); is = sym (ap first_of is) }
+
+pub line_begins : (text line : List ℕ) (others : List (List ℕ)) → BeginsAsk text → text_lines text ≡ line ∷ others → BeginsAsk line
+unfolding text_lines lines_of
+line_begins text line others begins is = first_begins (lines_of begins.rest) line others (sym (ap text_lines begins.is) ∙ is)
 
 -- its word, and what stands behind it
 pub asked_word : (line : List ℕ) → BeginsAsk line → word_of line ≡ codes "ask"
@@ -40,3 +56,11 @@ full_first number text line after lines counts = rw (lines, counts) refl
 
 pub asked_first : (number : ℕ) (text line after : List ℕ) → IsAskedLine text line after → full_lines number text ≡ numbered.line number line ∷ full_lines (number + 1) after
 asked_first number text line after is = full_first number text line after is.lines (ap is_passed is.begins.is)
+
+-- one more line of a request in front
+pub one_asked : (lines others left : List numbered.Line) (line : numbered.Line) → AreBehindAsked lines others → others ≡ line ∷ left → is_asked line ≡ true → AreBehindAsked lines left
+one_asked lines others left line so first is = record {
+  asked = so.asked ++ line ∷ [];
+  parts = so.parts ∙ ap (λ (l : List numbered.Line). so.asked ++ l) first ∙ sym (append_assoc so.asked (line ∷ []) left);
+  are_asked = list_all-append is_asked so.asked (line ∷ []) ∙ (λ j. so.are_asked j && (is j && true));
+}

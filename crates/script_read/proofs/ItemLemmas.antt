@@ -1,22 +1,25 @@
 -- The first item of a text that was checked, and what is told of it.
-use Rattle.std.proofs.Common.{◌≡◌, ℕ, zero, suc, ◌+◌, ◌-◌, ◌≤◌, leb, min, Bool, true, false, List, [], ◌∷◌, length, take, Option, Some, None, Result, Ok, Err, refl, sym, ap, subst, ◌∙◌, arith}
+use Rattle.std.proofs.Common.{◌≡◌, ℕ, zero, suc, ◌+◌, ◌-◌, ◌≤◌, ◌&&◌, leb, min, Bool, true, false, List, [], ◌∷◌, ◌++◌, append_assoc, length, length-append, take, Option, Some, None, Result, Ok, Err, refl, sym, ap, subst, ◌∙◌, arith}
 use Rattle.std.specs.Prelude.{bytes_eq, codes, find, if◌then◌else◌}
 use Rattle.std.proofs.lemmas.Bool.{eqb-true, leb-false, leb-true}
+use Rattle.std.proofs.lemmas.List.Folds.{list_all-append}
 use Rattle.std.proofs.lemmas.Slice.Eq.{bytes_eq-Decides}
 use Rattle.policy_table.specs.Tables.{Fields}
 use Rattle.edit_calls.specs.declared.call.Call.{Call}
 use Rattle.perm_base.proofs.CallerLemmas.{take_take}
 use Rattle.perm_base.specs.declared.shapes.TableId.{TableId}
+use Rattle.script_read.proofs.AskLemmas.{asked_first, asked_test}
 use Rattle.script_read.proofs.EndLemmas.{parts_first}
 use Rattle.script_read.proofs.NamedLemmas.{Gives, ItemNamed, alone_gives, anything, choice_gives, line_gives, map_gives, part_named, step_gives}
 use Rattle.script_read.proofs.ReadLemmas.{the_reader}
 use Rattle.script_read.proofs.ScriptLemmas.{item_of, part_same}
-use Rattle.script_read.proofs.WalkLemmas.{asked_is}
+use Rattle.script_read.proofs.WalkLemmas.{asked_goes, asked_is}
 use Rattle.script_read.specs.Blocks.{Part, block, block_call, parts, single}
+use Rattle.script_read.specs.Helps.Asks.{IsAskedLine}
 use Rattle.script_read.specs.Helps.Ends.{before_end, behind_part, end_number, first_part}
 use Rattle.script_read.specs.Helps.Given.{fields_read}
 use Rattle.script_read.specs.Helps.Checked.{AreChecked, is_spent, one_less}
-use Rattle.script_read.specs.ItemLines.{IsBuiltAs, IsTakenOff, IsToldAs, ScriptLines, items_from, items_in, onto_items, said, up_to}
+use Rattle.script_read.specs.ItemLines.{ArePassed, IsBuiltAs, IsTakenOff, IsToldAs, ScriptLines, items_from, items_in, onto_items, said, up_to}
 use Rattle.script_read.specs.Items.{alone, count_of, line_item, names_of, rows_of, rule_of, verb_call, verb_item, verbs, word_item, word_of_verb, worded}
 use Rattle.script_read.specs.Lines.{arguments_of, begins_block, word_of}
 use Rattle.script_read.specs.Reads.{Reader}
@@ -245,7 +248,7 @@ module _ (json : Bool) (number at : ℕ) (text rest after : List ℕ) (next : �
 
   -- what is told of it
   pub told_request : bytes_eq (word_of rest) (codes "ask") ≡ true → IsTakenOff (λ (item : Said). item ≡ said.asks (request_read json (arguments_of rest))) (items_from json number text) (items_from json next behind)
-  told_request ask = off (λ (item : Said). item ≡ said.asks (request_read json (arguments_of rest))) (said.asks (request_read json (arguments_of rest))) (asked_is json at rest (full_lines (at + 1) after) ask) refl
+  told_request ask = off (λ (item : Said). item ≡ said.asks (request_read json (arguments_of rest))) (said.asks (request_read json (arguments_of rest))) (asked_is json (numbered.line at rest) (full_lines (at + 1) after) ask) refl
 
   pub told_sync : AreChecked json number text → bytes_eq (word_of rest) (codes "sync") ≡ true → IsTakenOff (IsToldAs first.Sync) (items_from json number text) (items_from json next behind)
   told_sync all sync =
@@ -262,3 +265,32 @@ module _ (json : Bool) (number at : ℕ) (text rest after : List ℕ) (next : �
   built_other it ask says =
       off (IsBuiltAs (built.Other it)) (seen it) says
       (refl, given (λ (item : Said). is_request item ≡ false) (item_of json the_part) (seen it) says (other_part json (numbered.line at rest) (full_lines (at + 1) after) ask), given ItemNamed (item_of json the_part) (seen it) says (named_here json the_part))
+
+-- ---- requests in front
+
+-- the line of a request that is told by its first bytes
+module _ (json : Bool) (number : ℕ) (text line after : List ℕ) (is : IsAskedLine text line after) where
+  goes_on : behind_part line (full_lines (number + 1) after) ≡ full_lines (number + 1) after
+  goes_on = asked_goes line (full_lines (number + 1) after) (sym (asked_test line is.begins))
+
+  pub asked_told : (arguments : List ℕ) → arguments ≡ arguments_of line → IsTakenOff (λ (item : Said). item ≡ said.asks (request_read json arguments)) (items_from json number text) (items_from json (number + 1) after)
+  asked_told arguments same =
+      subst (λ (l : List ℕ). IsTakenOff (λ (item : Said). item ≡ said.asks (request_read json l)) (items_from json number text) (items_from json (number + 1) after)) (sym same)
+      (told_request json number number text line after (number + 1) after (asked_first number text line after is) goes_on (sym (asked_test line is.begins)))
+
+  pub asked_off : IsTakenOff (λ (item : Said). is_request item ≡ true) (items_from json number text) (items_from json (number + 1) after)
+  asked_off = let off = asked_told (arguments_of line) refl in record { item = off.item; parts = off.parts; holds = ap is_request off.holds }
+
+  pub asked_checked : AreChecked json number text → AreChecked json (number + 1) after
+  asked_checked all = rest_checked json number number text line after (number + 1) after (asked_first number text line after is) goes_on all (omega (arith, is.shorter))
+
+pub passed_none : (old : List Said) → ArePassed 0 old old
+passed_none old = record { passed = []; parts = refl; asked = refl; long = refl }
+
+pub passed_more : (count : ℕ) (old mid new : List Said) → ArePassed count old mid → IsTakenOff (λ (item : Said). is_request item ≡ true) mid new → ArePassed (count + 1) old new
+passed_more count old mid new so off = record {
+  passed = so.passed ++ off.item ∷ [];
+  parts = so.parts ∙ ap (λ (l : List Said). so.passed ++ l) off.parts ∙ sym (append_assoc so.passed (off.item ∷ []) new);
+  asked = list_all-append is_request so.passed (off.item ∷ []) ∙ (λ j. so.asked j && (off.holds j && true));
+  long = omega (arith, so.long, length-append so.passed (off.item ∷ []));
+}

@@ -1,5 +1,5 @@
 -- A text of bytes is a script or has a first fault, as reading its parts comes to.
-use Rattle.std.proofs.Common.{◌≡◌, ◌≢◌, ◌⊎◌, inl, inr, ℕ, ◌+◌, Bool, true, false, List, [], ◌∷◌, ◌++◌, map, append_assoc, append-nil, Result, Ok, Err, refl, sym, ap, subst, ◌∙◌, true≢false}
+use Rattle.std.proofs.Common.{◌≡◌, ◌≢◌, ◌⊎◌, inl, inr, ℕ, Bool, true, false, List, [], ◌∷◌, ◌++◌, map, append_assoc, append-nil, Result, Ok, Err, refl, sym, ap, subst, ◌∙◌, true≢false}
 use Rattle.std.specs.Prelude.{IsUtf8}
 use Rattle.std.specs.Str.{is_utf8}
 use Rattle.std.proofs.lemmas.Str.{IsUtf8-from_is_utf8, is_utf8-from_IsUtf8}
@@ -119,21 +119,20 @@ reading_ends json (part ∷ others) = ends_at json part others (item_of json par
 
 -- ---- the loop
 
-module _ (json : Bool) (number at : ℕ) (text rest after : List ℕ) (next : ℕ) (behind : List ℕ) (first : full_lines number text ≡ numbered.line at rest ∷ full_lines (at + 1) after)
-    (goes : behind_part rest (full_lines (at + 1) after) ≡ full_lines next behind) (taken : List Said) (all : Result (List Said) ScriptFault) (reads : mapped (behind_items taken) (reading json (parts (full_lines number text))) ≡ all) where
+module _ (json : Bool) (lines : List numbered.Line) (line : numbered.Line) (after behind : List numbered.Line) (first : lines ≡ line ∷ after) (goes : behind_part line.text after ≡ behind) (taken : List Said) (all : Result (List Said) ScriptFault)
+    (reads : mapped (behind_items taken) (reading json (parts lines)) ≡ all) where
   abbrev the_part : Part
-  the_part = first_part (numbered.line at rest) (full_lines (at + 1) after)
+  the_part = first_part line after
 
-  stepped : all ≡ mapped (behind_items taken) (followed (item_of json the_part) (λ (item : Said). mapped (behind_items (item ∷ [])) (reading json (parts (full_lines next behind)))))
+  stepped : all ≡ mapped (behind_items taken) (followed (item_of json the_part) (λ (item : Said). mapped (behind_items (item ∷ [])) (reading json (parts behind))))
   stepped =
       sym reads ∙ ap (λ (l : List numbered.Line). mapped (behind_items taken) (reading json (parts l))) first
-      ∙ ap (λ (l : List Part). mapped (behind_items taken) (reading json l)) (parts_first (numbered.line at rest) (full_lines (at + 1) after) ∙ ap (λ (l : List numbered.Line). the_part ∷ parts l) goes)
-      ∙ ap (mapped (behind_items taken)) (reading_some json the_part (parts (full_lines next behind)))
+      ∙ ap (λ (l : List Part). mapped (behind_items taken) (reading json l)) (parts_first line after ∙ ap (λ (l : List numbered.Line). the_part ∷ parts l) goes) ∙ ap (mapped (behind_items taken)) (reading_some json the_part (parts behind))
 
   -- the first part says an item
-  pub part_read : (item : Said) → item_of json the_part ≡ Ok item → mapped (behind_items (taken ++ item ∷ [])) (reading json (parts (full_lines next behind))) ≡ all
+  pub part_read : (item : Said) → item_of json the_part ≡ Ok item → mapped (behind_items (taken ++ item ∷ [])) (reading json (parts behind)) ≡ all
   part_read item says =
-      sym (stepped ∙ ap (λ (r : Result Said ScriptFault). mapped (behind_items taken) (followed r (λ (i : Said). mapped (behind_items (i ∷ [])) (reading json (parts (full_lines next behind)))))) says ∙ by (reading json (parts (full_lines next behind))))
+      sym (stepped ∙ ap (λ (r : Result Said ScriptFault). mapped (behind_items taken) (followed r (λ (i : Said). mapped (behind_items (i ∷ [])) (reading json (parts behind))))) says ∙ by (reading json (parts behind)))
     where
       by : (read : Result (List Said) ScriptFault) → mapped (behind_items taken) (mapped (behind_items (item ∷ [])) read) ≡ mapped (behind_items (taken ++ item ∷ [])) read
       by (Ok others) = ap (λ (l : List Said). Ok l) (sym (append_assoc taken (item ∷ []) others))
@@ -143,14 +142,14 @@ module _ (json : Bool) (number at : ℕ) (text rest after : List ℕ) (next : �
   pub part_fails : (fault : ScriptFault) → Fails fault (item_of json the_part) → Fails fault all
   part_fails fault bad =
       subst (λ (r : Result (List Said) ScriptFault). Fails fault r) (sym stepped)
-      (mapped_fails (behind_items taken) fault (followed (item_of json the_part) (λ (item : Said). mapped (behind_items (item ∷ [])) (reading json (parts (full_lines next behind)))))
-      (step_fails fault (item_of json the_part) (λ (item : Said). mapped (behind_items (item ∷ [])) (reading json (parts (full_lines next behind)))) bad))
+      (mapped_fails (behind_items taken) fault (followed (item_of json the_part) (λ (item : Said). mapped (behind_items (item ∷ [])) (reading json (parts behind))))
+      (step_fails fault (item_of json the_part) (λ (item : Said). mapped (behind_items (item ∷ [])) (reading json (parts behind))) bad))
 
 pub parts_begin : (json : Bool) (text bytes : List ℕ) → text ≡ bytes → mapped (behind_items []) (reading json (parts (full_lines 1 text))) ≡ whole json bytes
 parts_begin json text bytes e = none_before (reading json (parts (full_lines 1 text))) ∙ ap (λ (t : List ℕ). whole json t) e
 
-pub parts_end : (json : Bool) (number : ℕ) (text : List ℕ) (taken : List Said) (all : Result (List Said) ScriptFault) → full_lines number text ≡ [] → mapped (behind_items taken) (reading json (parts (full_lines number text))) ≡ all → all ≡ Ok taken
-parts_end json number text taken all none reads =
+pub parts_end : (json : Bool) (lines : List numbered.Line) (taken : List Said) (all : Result (List Said) ScriptFault) → lines ≡ [] → mapped (behind_items taken) (reading json (parts lines)) ≡ all → all ≡ Ok taken
+parts_end json lines taken all none reads =
     sym reads ∙ ap (λ (l : List numbered.Line). mapped (behind_items taken) (reading json (parts l))) none ∙ ap (mapped (behind_items taken)) (reading_none json) ∙ ap (λ (l : List Said). Ok l) (append-nil taken)
 
 -- ---- what the text says is what reading gives, and the other way

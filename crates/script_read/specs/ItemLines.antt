@@ -1,5 +1,6 @@
 -- Items of a script as they stand in its text, and the first of them as it is taken off.
-use Rattle.std.specs.Prelude.{◌≡◌, ℕ, Bool, true, false, List, [], ◌∷◌, take, Option, Some, None, Result, Ok, Err}
+use Rattle.std.specs.Prelude.{◌≡◌, ℕ, Bool, true, false, List, [], ◌∷◌, ◌++◌, length, take, Option, Some, None, Result, Ok, Err}
+use Rattle.std.specs.List.{list_all}
 use Rattle.script_read.specs.Blocks.{Part, part_item, parts}
 use Rattle.script_read.specs.Helps.Given.{fields_read}
 use Rattle.script_read.specs.Named.{is_named}
@@ -62,3 +63,10 @@ pub record IsTakenOff (Holds : Said → Type 0) (old new : List Said) : Type 0 w
   pub item : Said
   pub parts : old ≡ item ∷ new
   pub holds : Holds item
+
+-- so many requests that stand in front of others are taken off
+pub record ArePassed (count : ℕ) (old new : List Said) : Type 0 where
+  pub passed : List Said
+  pub parts : old ≡ passed ++ new
+  pub asked : list_all is_request passed ≡ true
+  pub long : length passed ≡ count

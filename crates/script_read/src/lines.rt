@@ -1,6 +1,6 @@
 ghost use Rattle.std.specs.Prelude.{◌≡◌, ◌+◌, ◌<◌, ◌≤◌, ◌^◌, [], ◌∷◌};
 ghost use Rattle.std.specs.Prelude.{IfNone, IfSome, length, option_map};
-ghost use Rattle.script_read.specs.Helps.Asks.{IsAskedLine};
+ghost use Rattle.script_read.specs.Helps.Asks.{AreBehindAsked, IsAskedLine};
 ghost use Rattle.script_read.specs.Helps.Ends.{behind_end, end_number};
 ghost use Rattle.text_parts.specs.Full.{full_lines};
 ghost use Rattle.text_parts.specs.Numbered.{line as line_at};
@@ -32,35 +32,34 @@ pub(crate) fn block_end(text: &str, number: u64) -> Option<(u64, &str)>
     None
 }
 
-/// The first line of a text that counts, as `next_full_line` gives it. The line of a request is told by its first bytes alone, where it
-/// stands as most do.
-pub(crate) fn next_item_line(text: &str, number: u64) -> Option<(u64, &str, &str)>
+/// The first line of a text that counts, as `next_full_line` gives it, behind lines of requests that are told by their first bytes
+/// alone, as most are.
+pub(crate) fn next_other_line(text: &str, number: u64) -> Option<(u64, &str, &str)>
     requires { number + length text.now < 2 ^ 64 }
-    ensures none { IfNone result (full_lines number text.now ≡ []) }
-    ensures first { IfSome result (λ found. full_lines number text.now
-        ≡ line_at found.0 found.1.now ∷ full_lines (found.0 + 1) found.2.now) }
+    ensures none { IfNone result (AreBehindAsked (full_lines number text.now) []) }
+    ensures first { IfSome result (λ found. AreBehindAsked (full_lines number text.now)
+        (line_at found.0 found.1.now ∷ full_lines (found.0 + 1) found.2.now)) }
     ensures within { IfSome result (λ found.
         found.0 + 1 + length found.2.now ≤ number + length text.now) }
     ensures shorter { IfSome result (λ found. length found.2.now < length text.now) }
 {
-    if let Some((line, after)) = asked_line(text) {
-        return Some((number, line, after));
+    let mut rest = text;
+    let mut at = number;
+    while let Some((_line, after)) = asked_line(rest) {
+        at += 1;
+        rest = after;
     }
-    next_full_line(text, number)
+    let (at, line, after) = next_full_line(rest, at)?;
+    Some((at, line, after))
 }
 
-// The first line of a text where it begins with `ask` and a blank, and what stands behind it.
-fn asked_line(text: &str) -> Option<(&str, &str)>
+/// The first line of a text where it begins with `ask` and a blank, and what stands behind it.
+pub(crate) fn asked_line(text: &str) -> Option<(&str, &str)>
     ensures { IfSome result (λ found. IsAskedLine text.now found.0.now found.1.now) }
 {
     if !begins_ask(text) {
         return None;
     }
-    let Some((line, after)) = next_text_line(text) else {
-        return None;
-    };
-    if !begins_ask(line) {
-        return None;
-    }
+    let (line, after) = next_text_line(text)?;
     Some((line, after))
 }

@@ -1,16 +1,18 @@
-ghost use Rattle.std.specs.Prelude.{◌≡◌, ◌+◌, ◌<◌, ◌^◌, [], IfNone, IfOk, IfSome, List, OnErr, length, take};
+ghost use Rattle.std.specs.Prelude.{◌≡◌, ◌+◌, ◌<◌, ◌≤◌, ◌^◌, [], IfNone, IfOk, IfSome, List, OnErr, length, take};
+ghost use Rattle.script_read.specs.Helps.Asks.{IsFirstPassed};
 ghost use Rattle.script_read.specs.Helps.Checked.{AreChecked, is_spent, one_less};
-ghost use Rattle.script_read.specs.ItemLines.{IsBuiltAs, IsTakenOff, IsToldAs, items_from, said};
+ghost use Rattle.script_read.specs.ItemLines.{ArePassed, IsBuiltAs, IsTakenOff, IsToldAs, items_from, said};
 ghost use Rattle.script_read.specs.Said.{Said};
 ghost use Rattle.script_read.specs.Script.{SaysFrom};
 
 use crate::item::Item;
-use crate::lines::next_item_line;
+use crate::lines::asked_line;
 use crate::reader::{part_end, read_part};
-use crate::word::word_and_arguments;
+use crate::word::{behind_ask, word_and_arguments};
 use outside::NoMemory;
 use std::alloc::Global;
 use std::marker::Model;
+use text_parts::next_full_line;
 
 /// The line of a request as it stands in a script, behind its word. `read_line_over` reads it.
 #[derive(Clone, Copy)]
@@ -125,6 +127,41 @@ impl<'a> ItemLines<'a> {
         Some(first)
     }
 
+    /// Takes off requests that stand in front, at most so many, and says how many. A request whose line does not begin with `ask` and
+    /// a blank ends them.
+    pub fn pass_asked(&mut self, most: usize) -> usize
+        ensures passed { ArePassed result (said self.old) (said self.new) }
+        ensures few { result ≤ most }
+    {
+        let mut count = 0;
+        while count < most {
+            if !self.pass_first() {
+                return count;
+            }
+            count += 1;
+        }
+        count
+    }
+
+    // Takes off the first item where its line begins with `ask` and a blank; it says whether it did.
+    fn pass_first(&mut self) -> bool
+        ensures { IsFirstPassed result (said self.old) (said self.new) }
+    {
+        if is_spent(self.most) {
+            return false;
+        }
+        let Some((_line, text)) = asked_line(self.text) else {
+            return false;
+        };
+        *self = ItemLines {
+            json: self.json,
+            text,
+            number: self.number + 1,
+            most: one_less(self.most),
+        };
+        true
+    }
+
     /// Takes off the first item, and builds it where it is no request. Refused is want of memory alone, and all items are left then.
     pub fn next_built(&mut self, alloc: Global) -> Result<Option<BuiltItem<'a>>, NoMemory>
         ensures none { IfOk result (λ next. IfNone next ((said self.old ≡ []) × (said self.new ≡ []))) }
@@ -169,6 +206,25 @@ fn one_less(most: Option<usize>) -> Option<usize>
     }
 }
 
+// The first item of a text where its line begins with `ask` and a blank, the number of the line behind it, and what stands from there
+// on.
+fn first_asked(json: bool, text: &str, number: u64) -> Option<(AskedLine<'_>, u64, &str)>
+    requires checked { AreChecked json number text.now }
+    ensures some { IfSome result (λ found. IsTakenOff (IsToldAs (FirstItem.Request found.0))
+        (items_from json number text.now) (items_from json found.1 found.2.now)) }
+    ensures rest { IfSome result (λ found. AreChecked json found.1 found.2.now) }
+{
+    let Some((line, after)) = asked_line(text) else {
+        return None;
+    };
+    let arguments = behind_ask(line);
+    let asked = AskedLine {
+        json,
+        line: arguments,
+    };
+    Some((asked, number + 1, after))
+}
+
 // What the first item of a text is, the number of the line behind it, and what stands from there on.
 fn first_told(json: bool, text: &str, number: u64) -> Option<(FirstItem<'_>, u64, &str)>
     requires checked { AreChecked json number text.now }
@@ -177,7 +233,10 @@ fn first_told(json: bool, text: &str, number: u64) -> Option<(FirstItem<'_>, u64
         (items_from json number text.now) (items_from json found.1 found.2.now)) }
     ensures rest { IfSome result (λ found. AreChecked json found.1 found.2.now) }
 {
-    let Some((at, line, after)) = next_item_line(text, number) else {
+    if let Some((asked, next, behind)) = first_asked(json, text, number) {
+        return Some((FirstItem::Request(asked), next, behind));
+    }
+    let Some((at, line, after)) = next_full_line(text, number) else {
         return None;
     };
     let (word, arguments) = word_and_arguments(line);
@@ -209,7 +268,10 @@ fn first_built(
     ensures rest { IfOk result (λ next. IfSome next (λ found.
         AreChecked json found.1 found.2.now)) }
 {
-    let Some((at, line, after)) = next_item_line(text, number) else {
+    if let Some((asked, next, behind)) = first_asked(json, text, number) {
+        return Ok(Some((BuiltItem::Request(asked), next, behind)));
+    }
+    let Some((at, line, after)) = next_full_line(text, number) else {
         return Ok(None);
     };
     let (word, arguments) = word_and_arguments(line);

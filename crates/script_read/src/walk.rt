@@ -12,24 +12,21 @@ ghost use Rattle.text_parts.specs.Full.{full_lines};
 ghost use Rattle.text_parts.specs.Numbered.{line as line_at};
 
 use crate::fault::ScriptFault;
-use crate::lines::next_item_line;
+use crate::lines::next_other_line;
 use crate::reader::{part_end, read_part};
 use crate::word::{begins_ask, word_in};
 use std::alloc::Global;
 
-/// Whether bytes are a script, or else their first fault, as `read_script` tells it. No item is kept,
+/// Whether a text is a script, or else its first fault, as `read_script` tells it. No item is kept,
 /// and the requests are not read: none of them is a fault.
-pub fn check_script(alloc: Global, bytes: &[u8], json: bool) -> Result<(), ScriptFault>
-    ensures found { OnOk result ((items : List Said) × IsScript json bytes.now items) }
+pub fn check_script(alloc: Global, text: &str, json: bool) -> Result<(), ScriptFault>
+    ensures found { OnOk result ((items : List Said) × IsScript json text.now items) }
     ensures fault { IfErr result (λ fault.
-        fault ≢ ScriptFault.NoMemory → IsScriptFault json bytes.now fault) }
+        fault ≢ ScriptFault.NoMemory → IsScriptFault json text.now fault) }
 {
-    let Ok(text) = str::from_utf8(bytes) else {
-        return Err(ScriptFault::NotUtf8);
-    };
     let mut number = 1;
     let mut rest = text;
-    while let Some((at, line, after)) = next_item_line(rest, number) {
+    while let Some((at, line, after)) = next_other_line(rest, number) {
         let (next, behind, end) = part_end(line, after, at + 1);
         check_part(alloc, json, at, line, after, end)?;
         number = next;

@@ -77,8 +77,8 @@ pub(crate) fn begins_ask(line: &str) -> bool
     line.as_bytes().starts_with("ask ".as_bytes())
 }
 
-// The arguments of such a line.
-fn behind_ask(line: &str) -> &str
+/// The arguments of such a line.
+pub(crate) fn behind_ask(line: &str) -> &str
     requires { BeginsAsk line.now }
     ensures { result.now ≡ arguments_of line.now }
 {

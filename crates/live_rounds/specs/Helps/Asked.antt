@@ -1,9 +1,6 @@
 -- Requests that are answered over one policy.
 use Rattle.std.specs.Prelude.{◌≡◌, ℕ, ⊤, false, List, [], ◌∷◌, ◌++◌, drop, length}
-use Rattle.answer_lines.specs.Printed.{printed_answer}
-use Rattle.answer_lines.specs.declared.answer.Answer.{Answer}
-use Rattle.answer_lines.specs.declared.printed.PrintedAnswer.{PrintedAnswer}
-use Rattle.desk_session.specs.Requests.{IsAnsweredBy}
+use Rattle.answer_lines.specs.Printed.{PrintedAnswer}
 use Rattle.model_conf.specs.ModelText.{ModelParts}
 use Rattle.perm_base.specs.declared.shapes.Shapes.{Shapes}
 use Rattle.policy_state.specs.States.{State, tables}
@@ -35,12 +32,6 @@ pub record AddsAnswered (model : ModelParts) (state : State) (before now : Refus
   pub added : new ≡ old ++ replies
   pub logged : now ≡ after_refusals before (all_refused refused)
   pub answered : AreAnsweredOver model state.shapes (versions state.log) (tables state) refused replies readings
-
--- one of them, whose reply stands behind others
-pub record IsAnsweredBehind (model : ModelParts) (state : State) (before now : Refusals) (reading : Reading) (old new : List PrintedAnswer) : Type 0 where
-  pub answer : Answer
-  pub answered : IsAnsweredBy model state before now reading answer
-  pub added : new ≡ old ++ printed_answer answer ∷ []
 
 -- ---- parts one after the other
 

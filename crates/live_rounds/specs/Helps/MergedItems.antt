@@ -1,7 +1,8 @@
--- Lines of a round that are put together one after the other.
-use Rattle.std.specs.Prelude.{◌≡◌, ◌<◌, ℕ, suc, Bool, true, false, List, [], ◌∷◌, ◌++◌, length}
-use Rattle.answer_lines.specs.Printed.{AddsLine, ArePrinted, IsTakenOut, PrintedLine}
-use Rattle.answer_lines.specs.declared.printed.PrintedAnswer.{PrintedAnswer}
+-- Lines of a round that are put together in runs.
+use Rattle.std.specs.Prelude.{◌≡◌, ◌+◌, ◌<◌, ◌≤◌, ◌^◌, ℕ, suc, Bool, true, false, List, [], ◌∷◌, ◌++◌, length}
+use Rattle.std.specs.Bool.{beq}
+use Rattle.std.specs.List.{prefix_len}
+use Rattle.answer_lines.specs.Printed.{AddsLines, ArePrinted, AreTakenOut, PrintedAnswer, PrintedLine}
 use Rattle.answer_lines.specs.declared.printed_lines.PrintedLines.{PrintedLines}
 use Rattle.live_rounds.specs.Merged.{line_behind}
 use Rattle.live_rounds.specs.Shares.{in_turn}
@@ -14,15 +15,30 @@ merged_kinds count (true ∷ kinds) (reply ∷ asked) others = line_behind count
 merged_kinds count (false ∷ kinds) asked [] = []
 merged_kinds count (false ∷ kinds) asked (reply ∷ others) = line_behind count reply ∷ merged_kinds (suc count) kinds asked others
 
--- the next reply to an item that is a request or not, if there is one, is printed behind other lines
-abbrev pub IsNextPrinted : (some asks : Bool) (number : ℕ) (asked left_asked others left_others : List PrintedAnswer) → (before after : PrintedLines) → Type 0
-IsNextPrinted some true number asked left_asked others left_others before after = IsTakenOut some number asked left_asked before after × (left_others ≡ others)
-IsNextPrinted some false number asked left_asked others left_others before after = IsTakenOut some number others left_others before after × (left_asked ≡ asked)
+-- so many of the first kinds are this one, and there is one
+pub record BeginsWith (asks : Bool) (count : ℕ) (kinds : List Bool) : Type 0 where
+  pub alike : count ≤ prefix_len (λ kind. beq kind asks) kinds
+  pub some : 0 < count
 
--- the first of some lines, if there is one, is printed behind others
-abbrev pub IsOnePrinted : (some : Bool) → (old new : List PrintedLine) → (before after : PrintedLines) → Type 0
-IsOnePrinted true old new before after = (line : PrintedLine) × (old ≡ line ∷ new) × AddsLine line.number line.answer.text line.answer.shown before after
-IsOnePrinted false old new before after = (old ≡ []) × (new ≡ []) × (after ≡ before)
+-- so many of the first replies are taken out, unless none is left, and their lines stand behind others
+pub record TakesReplies (count most number : ℕ) (old new : List PrintedAnswer) (before after : PrintedLines) : Type 0 where
+  pub taken : AreTakenOut count number old new before after
+  pub long : count ≤ most
+  pub ends : count ≡ 0 → old ≡ []
+  pub numbers : number + count ≤ 2 ^ 32
+
+-- the next replies to requests, or those to other items, are taken out as lines
+abbrev pub IsRunPrinted : (count most : ℕ) (asks : Bool) (number : ℕ) (asked left_asked others left_others : List PrintedAnswer) → (before after : PrintedLines) → Type 0
+IsRunPrinted count most true number asked left_asked others left_others before after = TakesReplies count most number asked left_asked before after × (left_others ≡ others)
+IsRunPrinted count most false number asked left_asked others left_others before after = TakesReplies count most number others left_others before after × (left_asked ≡ asked)
+
+-- some of the first lines are taken, and printed behind others
+pub record AreSomePrinted (some : Bool) (old new : List PrintedLine) (before after : PrintedLines) : Type 0 where
+  pub lines : List PrintedLine
+  pub parts : old ≡ lines ++ new
+  pub added : AddsLines lines before after
+  pub some_are : some ≡ true → 0 < length lines
+  pub ends : some ≡ false → old ≡ []
 
 -- some of the first lines are taken and printed, unless none is left
 pub record FillsWith (old new : List PrintedLine) (printed : PrintedLines) : Type 0 where

@@ -1,6 +1,6 @@
 -- The posts of a round: where they stand, and what is kept of what was answered at them.
 use Rattle.std.specs.Prelude.{◌≡◌, ◌⊎◌, ◌<◌, ℕ, false, List, [], ◌∷◌, if◌then◌else◌, length, nat_le, slice_index_or}
-use Rattle.answer_lines.specs.declared.printed.PrintedAnswer.{PrintedAnswer}
+use Rattle.answer_lines.specs.Printed.{PrintedAnswer}
 use Rattle.live_pair.specs.Seats.{SeatSeen, version_of}
 use Rattle.live_rounds.specs.Served.{IsPartKept, IsPartServed}
 use Rattle.model_conf.specs.ModelText.{ModelParts}

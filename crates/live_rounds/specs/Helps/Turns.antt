@@ -1,8 +1,7 @@
 -- The items of a round at the administrator.
 use Rattle.std.specs.Prelude.{◌≡◌, Bool, true, false, List, [], ◌∷◌, ◌++◌, map}
-use Rattle.answer_lines.specs.Printed.{printed_answer}
+use Rattle.answer_lines.specs.Printed.{PrintedAnswer, printed_answer}
 use Rattle.answer_lines.specs.declared.answer.Answer.{Answer}
-use Rattle.answer_lines.specs.declared.printed.PrintedAnswer.{PrintedAnswer}
 use Rattle.desk_session.specs.Steps.{is_request}
 use Rattle.live_pair.specs.Admins.{AdminSeen}
 use Rattle.live_rounds.specs.Administrators.{AreDoneBeside, IsAdminBehind, IsAdminStep, IsAdminStopped}

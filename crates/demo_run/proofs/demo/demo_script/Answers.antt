@@ -6,4 +6,4 @@ use Rattle.demo_run.proofs.demo.demo_script.Goals as goal
 pub returns-clause-checked : goal.returns-clause-checked
 returns-clause-checked c =
     let found = c.in-Ok.ensures.found in
-    (found.0, subst (λ (text : List ℕ). IsScript false text found.0) c.as_bytes.ensures.value found.1)
+    (found.0, subst (λ (text : List ℕ). IsScript false text found.0) c.as_str.ensures.value found.1)

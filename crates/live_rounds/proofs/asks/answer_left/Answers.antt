@@ -31,11 +31,11 @@ pub loop-first-preserved : goal.loop-first-preserved
 loop-first-preserved g c =
     let off = c.in-Some.ensures.some in
     let asked : off.item ≡ asks (request_read c.in-Request.request.json c.in-Request.request.line.now) = rw c.in-Request.is at off.holds in
-    let told = c.in_ok-answer_behind.ensures.answered in
+    let told = c.in_ok-print_asked.ensures.added in
     asking_next c.args.program.now c.args.state.now (items_of c.args.part.now) (g.P.Finder.refusals c.args.finder.now) c.args.skipped c.args.asked.now (said c.loop-first.rest) (said c.next_told.new.self) off.item (g.P.Finder.refusals c.loop-first.finder) c.loop-first.left c.loop-first.asked
-    off.parts c.loop-first.invariant _ (g.P.Finder.refusals c.answer_behind.new.finder) c.answer_behind.new.asked told.answer _ asked (omega (arith, c.if-left-gt0.false)) told.answered refl told.added
+    off.parts c.loop-first.invariant _ (g.P.Finder.refusals c.print_asked.new.finder) c.print_asked.new.replies told.reply _ asked (omega (arith, c.if-left-gt0.false)) told.answered refl told.added
 
-pub returns-in_err-answer_behind-clause-used : goal.returns-in_err-answer_behind-clause-used
-returns-in_err-answer_behind-clause-used g c =
-    used_then (g.P.Finder.refusals c.args.finder.now) (g.P.Finder.refusals c.loop-first.finder) (g.P.Finder.refusals c.answer_behind.new.finder)
-    (asking_uses c.args.program.now c.args.state.now (items_of c.args.part.now) (g.P.Finder.refusals c.args.finder.now) c.args.skipped c.args.asked.now (said c.loop-first.rest) (g.P.Finder.refusals c.loop-first.finder) c.loop-first.left c.loop-first.asked c.loop-first.invariant) c.answer_behind.ensures.used
+pub returns-in_err-print_asked-clause-used : goal.returns-in_err-print_asked-clause-used
+returns-in_err-print_asked-clause-used g c =
+    used_then (g.P.Finder.refusals c.args.finder.now) (g.P.Finder.refusals c.loop-first.finder) (g.P.Finder.refusals c.print_asked.new.finder)
+    (asking_uses c.args.program.now c.args.state.now (items_of c.args.part.now) (g.P.Finder.refusals c.args.finder.now) c.args.skipped c.args.asked.now (said c.loop-first.rest) (g.P.Finder.refusals c.loop-first.finder) c.loop-first.left c.loop-first.asked c.loop-first.invariant) c.print_asked.ensures.used

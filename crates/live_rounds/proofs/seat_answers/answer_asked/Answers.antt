@@ -6,4 +6,4 @@ pub returns-in_default-clause-used : goal.returns-in_default-clause-used
 returns-in_default-clause-used g c = used_none _
 
 pub returns-clause-served : goal.returns-clause-served
-returns-clause-served g c = rw (sym c.in-Ok.ensures.read) c.answer_read-reply.ensures.served
+returns-clause-served g c = rw (sym c.in-Ok.ensures.read) c.answer_read-told.ensures.served

@@ -4,10 +4,11 @@ use Rattle.script_read.specs.Readings.{request_read}
 use Rattle.script_read.specs.Lines.{arguments_of}
 use Rattle.script_read.specs.Said.{asks, seen}
 use Rattle.text_parts.specs.Full.{full_lines}
+use Rattle.text_parts.specs.Numbered.{line}
 use Rattle.script_read.proofs.walk.check_part.Goals as goal
 
 pub returns-then-is_ask : goal.returns-then-is_ask
-returns-then-is_ask c = (asks (request_read c.args.json (arguments_of c.args.line.now)), asked_is c.args.json c.args.number c.args.line.now (full_lines (c.args.number + 1) c.args.after.now) (sym c.is_ask.ensures ∙ c.if-is_ask.true))
+returns-then-is_ask c = (asks (request_read c.args.json (arguments_of c.args.line.now)), asked_is c.args.json (line c.args.number c.args.line.now) (full_lines (c.args.number + 1) c.args.after.now) (sym c.is_ask.ensures ∙ c.if-is_ask.true))
 
 pub returns-in_err-item : goal.returns-in_err-item
 returns-in_err-item c =

@@ -1,16 +1,14 @@
-use Rattle.std.proofs.Common.{◌≡◌, ◌+◌, ◌≤◌, List, length}
+use Rattle.std.proofs.Common.{◌+◌, ◌≤◌, length}
 use Rattle.std.specs.Str.{IsUtf8}
-use Rattle.script_read.proofs.ScriptLemmas.{behind_items, reading, whole}
-use Rattle.script_read.specs.Blocks.{parts}
+use Rattle.script_read.proofs.ScriptLemmas.{whole}
+use Rattle.script_read.proofs.WalkLemmas.{GoesOn}
 use Rattle.text_parts.specs.Full.{full_lines}
-use Rattle.script_read.specs.Results.{mapped}
-use Rattle.script_read.specs.Said.{Said}
 use Rattle.script_read.proofs.walk.check_script.Given as goal
 
 abbrev pub invariant-loop-at : goal.invariant-loop-at
 invariant-loop-at l = record {
-  reads : (taken : List Said) × (mapped (behind_items taken) (reading l.json (parts (full_lines l.number l.rest))) ≡ whole l.json l.bytes);
-  within : l.number + length l.rest ≤ 1 + length l.bytes;
+  reads : GoesOn l.json (full_lines l.number l.rest) (whole l.json l.text);
+  within : l.number + length l.rest ≤ 1 + length l.text;
   utf8 : IsUtf8 l.rest;
 }
 
