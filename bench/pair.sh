@@ -36,19 +36,22 @@ def files(name, matcher, rows):
         file.writelines(row + "\n" for row in rows)
 
 
-# The least seconds of three runs over these lines, and what the last one answered.
-def took(name, command, options, lines):
+# The seconds of a run over these lines, and what it answered.
+def once(name, command, options, lines):
     with open(f"{work}/input", "w") as file:
         file.writelines(line + "\n" for line in lines)
-    least = None
-    for _ in range(3):
-        start = time.monotonic()
-        with open(f"{work}/input") as given, open(f"{work}/answers", "w") as answers:
-            subprocess.run([program, command, f"{work}/{name}.conf", f"{work}/{name}.csv", *options], stdin=given, stdout=answers, check=True)
-        spent = time.monotonic() - start
-        least = spent if least is None else min(least, spent)
+    start = time.monotonic()
+    with open(f"{work}/input") as given, open(f"{work}/answers", "w") as answers:
+        subprocess.run([program, command, f"{work}/{name}.conf", f"{work}/{name}.csv", *options], stdin=given, stdout=answers, check=True)
+    spent = time.monotonic() - start
     with open(f"{work}/answers") as answers:
-        return least, answers.read().split("\n")
+        return spent, answers.read().split("\n")
+
+
+# The least seconds of ten runs over these lines, and what the last one answered.
+def took(name, command, options, lines):
+    runs = [once(name, command, options, lines) for _ in range(10)]
+    return min(seconds for seconds, _ in runs), runs[-1][1]
 
 
 # A round of these requests beside so many edits, each published. The log keeps none, so that each publish costs the same.
@@ -59,27 +62,29 @@ def script(requests, publishes):
     return lines
 
 
-# The seconds of a round with so many workers, its publishes, and the greatest version that a request shows: near the last one, so
-# that the administrator published as long as the workers read, and not longer. What is published behind the last request is counted
-# into the time of the requests, so it may be a twentieth at most. The time to load the policy, and to read as many other lines and
-# to print theirs, is taken out.
+# Rounds with so many workers: of each its seconds, its publishes, the greatest version that a request shows, and the seconds of a run of
+# `enforce` right behind it, since a machine that is shared is now faster and now slower. A round counts where this version is near the
+# last one, so that the administrator published as long as the workers read, and not much longer: what is published behind the last
+# request is counted into the time of the requests. Where too few rounds come near it, those that came nearest count.
 def beside(name, requests, workers):
-    wanted = len(requests) // 10
-    for _ in range(20):
-        publishes = wanted
-        seconds, answers = took(name, "session", ["--workers", str(workers)], script(requests, publishes))
+    publishes, rounds = len(requests) // 10, []
+    for _ in range(60):
+        seconds, answers = once(name, "session", ["--workers", str(workers)], script(requests, publishes))
         asked = answers[1 : len(requests) + 1]
         if not all(line.split(" ")[1] in ("allow", "deny") for line in asked):
             sys.exit(f"{name}: a request is not judged")
         shown = max(int(line.split(" ")[2].removeprefix("@")) for line in asked)
+        if shown < publishes:
+            rounds.append((seconds, publishes, shown, once(name, "enforce", [], requests)[0]))
         if shown >= publishes:
-            wanted = publishes * 3
-        elif shown < publishes * 0.95:
-            wanted = max(shown * 103 // 100 + 1, 10)
-        else:
+            publishes = publishes * 10 // 9 + 1
+        elif shown < publishes * 0.9:
+            publishes = max(shown * 106 // 100 + 1, 10)
+        if sum(shown >= publishes * 0.9 for _, publishes, shown, _ in rounds) == 9:
             break
-    others, _ = took(name, "session", [], ["sync"] * (2 * publishes))
-    return seconds - others, publishes, shown
+    if not rounds:
+        sys.exit(f"{name}: in each round the publishes end before the requests")
+    return sorted(rounds, key=lambda round: round[2] / round[1])[-9:]
 
 
 # The seconds in which so many lines of as many bytes are read, handed to workers, refused for their fields, and answered.
@@ -91,19 +96,24 @@ def passed_on(name, requests, workers):
     return seconds - idle
 
 
+# What is printed is of the round whose ratio to `enforce` is the median of all. The time to load the policy is taken out, and of the
+# round also the time to read as many other lines and to print theirs.
 def compare(what, name, requests):
     idle, _ = took(name, "enforce", [], [])
-    whole, answers = took(name, "enforce", [], requests)
+    _, answers = took(name, "enforce", [], requests)
     if sum(" allow " in line for line in answers) != len(requests) // 2:
         sys.exit(f"{what}: not every other request is allowed")
-    alone = (whole - idle) / len(requests)
     one = None
     for workers in (1, 2, 4):
-        seconds, publishes, shown = beside(name, requests, workers)
-        each = seconds / len(requests)
-        decided = (seconds - passed_on(name, requests, workers)) / len(requests)
+        rounds = beside(name, requests, workers)
+        others, _ = took(name, "session", [], ["sync"] * (2 * max(publishes for _, publishes, _, _ in rounds)))
+        compared = sorted(((seconds - others) / (whole - idle), seconds, publishes, shown, whole) for seconds, publishes, shown, whole in rounds)
+        _, seconds, publishes, shown, whole = compared[len(compared) // 2]
+        each = (seconds - others) / len(requests)
+        alone = (whole - idle) / len(requests)
+        decided = (seconds - others - passed_on(name, requests, workers)) / len(requests)
         one = one or each
-        print(f"{what}, {workers} workers: {1 / each:.0f} requests a second, as a ratio to one worker {one / each:.2f}, beside {publishes} publishes, version {shown} is shown; a request of a worker {workers * each * 1e6:.2f} us, of enforce {alone * 1e6:.2f} us, ratio {workers * each / alone:.2f}; without the reading and writing of its line that one thread does {workers * decided * 1e6:.2f} us, ratio {workers * decided / alone:.2f}", flush=True)
+        print(f"{what}, {workers} workers: {1 / each:.0f} requests a second, as a ratio to one worker {one / each:.2f}, beside {publishes} publishes, version {shown} is shown; a request of a worker {workers * each * 1e6:.2f} us, of enforce {alone * 1e6:.2f} us, ratio {workers * each / alone:.2f}, the median of {len(rounds)} from {workers * compared[0][0]:.2f} to {workers * compared[-1][0]:.2f}; without the reading and writing of its line that one thread does {workers * decided * 1e6:.2f} us, ratio {workers * decided / alone:.2f}", flush=True)
 
 
 files("equal", "r.sub == p.sub && r.obj == p.obj && r.act == p.act", (f"p, user{i}, data{i}, read" for i in range(RULES)))

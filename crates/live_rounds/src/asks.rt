@@ -122,7 +122,9 @@ fn answer_left<P: Finder>(
     let mut values = Vec::new(alloc);
     let mut rest = part.items.again();
     let mut left = skipped;
+    let mut number = part.before;
     while let Some(first) = rest.next_told() {
+        number = number.saturating_add(1);
         let FirstItem::Request(request) = first else {
             continue;
         };
@@ -130,6 +132,7 @@ fn answer_left<P: Finder>(
             left -= 1;
             continue;
         }
+        asked.expect(number);
         print_asked(
             alloc,
             asked,

@@ -22,11 +22,13 @@ pub(crate) struct OthersDone {
     pub kinds: Vec<bool>,
 }
 
-/// Answers and does those items of a round that are no requests, in their order, at the pair's administrator.
+/// Answers and does those items of a round that are no requests, in their order, at the pair's administrator. So many items stand
+/// before the round, by which the numbers of its lines are expected.
 pub(crate) fn answer_others<J: Naming, R: Wait, G: Gate>(
     rt: &R,
     alloc: Global,
     items: &ItemLines<'_>,
+    before: u32,
     gate: &G,
     admin: &mut Admin<J>,
 ) -> Result<OthersDone, NoMemory>
@@ -41,10 +43,17 @@ pub(crate) fn answer_others<J: Naming, R: Wait, G: Gate>(
     let mut left = items.again();
     while let Some(built) = left.next_built(alloc)? {
         let asks = is_built_asked(&built);
-        answer_built(rt, alloc, built, gate, admin, &mut replies)?;
+        let number = number_behind(before, kinds.len());
+        answer_built(rt, alloc, built, number, gate, admin, &mut replies)?;
         kinds.push(asks)?;
     }
     Ok(OthersDone { replies, kinds })
+}
+
+// The number of the item behind so many of the script and so many of the round, as far as numbers go.
+fn number_behind(before: u32, count: usize) -> u32 {
+    let count = u32::try_from(count).unwrap_or(u32::MAX);
+    before.saturating_add(count).saturating_add(1)
 }
 
 // Whether an item is a request.
@@ -54,11 +63,13 @@ fn is_built_asked(built: &BuiltItem<'_>) -> bool
     matches!(built, BuiltItem::Request(_))
 }
 
-// Answers and does an item that is no request, and puts its reply in behind others; nothing for one that is.
+// Answers and does an item that is no request, and puts its reply in behind others, whose line has most likely this number; nothing for
+// one that is.
 fn answer_built<J: Naming, R: Wait, G: Gate>(
     rt: &R,
     alloc: Global,
     built: BuiltItem<'_>,
+    number: u32,
     gate: &G,
     admin: &mut Admin<J>,
     replies: &mut WaitingAnswers,
@@ -72,6 +83,7 @@ fn answer_built<J: Naming, R: Wait, G: Gate>(
     let BuiltItem::Other(item) = built else {
         return Ok(());
     };
+    replies.expect(number);
     let done = answer_item(rt, alloc, &item, gate, admin, replies);
     drop(item);
     done

@@ -41,7 +41,8 @@ pub(crate) fn work_together<J: Naming + Send + Sync, R: Threads + Wait + Sync, P
         parts.now posts.old.items posts.new.items }
 {
     let items = &round.items;
-    let mut beside = || answer_others(rt, alloc, items, gate, admin);
+    let before = round.before;
+    let mut beside = || answer_others(rt, alloc, items, before, gate, admin);
     if round.requests == 0 {
         return in_turn(rt, alloc, program, gate, parts, posts, &mut beside);
     }

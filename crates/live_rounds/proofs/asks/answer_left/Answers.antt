@@ -1,4 +1,5 @@
-use Rattle.std.proofs.Common.{◌≡◌, ap, arith, refl}
+use Rattle.std.proofs.Common.{◌≡◌, ◌++◌, ◌∷◌, [], List, ap, arith, refl, ◌∙◌}
+use Rattle.answer_lines.specs.Printed.{PrintedAnswer, printed_answer}
 use Rattle.regex_gate.proofs.CallerLemmas.{used_then}
 use Rattle.live_rounds.proofs.AskedLemmas.{asking_first, asking_next, asking_past, asking_skip, asking_uses}
 use Rattle.live_rounds.proofs.ItemLemmas.{told_other}
@@ -33,7 +34,7 @@ loop-first-preserved g c =
     let asked : off.item ≡ asks (request_read c.in-Request.request.json c.in-Request.request.line.now) = rw c.in-Request.is at off.holds in
     let told = c.in_ok-print_asked.ensures.added in
     asking_next c.args.program.now c.args.state.now (items_of c.args.part.now) (g.P.Finder.refusals c.args.finder.now) c.args.skipped c.args.asked.now (said c.loop-first.rest) (said c.next_told.new.self) off.item (g.P.Finder.refusals c.loop-first.finder) c.loop-first.left c.loop-first.asked
-    off.parts c.loop-first.invariant _ (g.P.Finder.refusals c.print_asked.new.finder) c.print_asked.new.replies told.reply _ asked (omega (arith, c.if-left-gt0.false)) told.answered refl told.added
+    off.parts c.loop-first.invariant _ (g.P.Finder.refusals c.print_asked.new.finder) c.print_asked.new.replies told.reply _ asked (omega (arith, c.if-left-gt0.false)) told.answered refl (told.added ∙ ap (λ (l : List PrintedAnswer). l ++ printed_answer told.reply ∷ []) c.expect.ensures)
 
 pub returns-in_err-print_asked-clause-used : goal.returns-in_err-print_asked-clause-used
 returns-in_err-print_asked-clause-used g c =
