@@ -1,2 +1,3 @@
 mod PushLemmas
+mod WholeLemmas
 pub mod MarkLemmas

@@ -80,10 +80,9 @@ module _ (from taken : ℕ) (texts line new_texts : List ℕ) (marks new_marks :
       (λ j. marked (left_marks j) (left_texts j)) ∙ marked_more (drop taken marks) mark (drop from texts) line are.lines is
       ∙ (λ j. marked (drop taken marks) (drop from texts) ++ answer_of (told_in (number-is j) line) (shown-is j) ∷ [])
 
--- an answer whose line was printed alone is put in behind those that are kept
-pub answer_kept : (inside old new : List PrintedAnswer) (number : ℕ) (line : List ℕ) (shown : Shown) (answer : PrintedAnswer) → inside ≡ old → line ≡ numbered number answer.text → shown ≡ answer.shown → new ≡ inside ++ answer_of (told_in number line) shown ∷ []
-    → new ≡ old ++ answer ∷ []
-answer_kept inside old new number line shown answer view-is line-is shown-is pushed = pushed ∙ (λ j. view-is j ++ answer_of (told_line number answer.text line line-is j) (shown-is j) ∷ [])
+  -- the answer of the line
+  pub answer_more : (number : ℕ) (answer : PrintedAnswer) (old : List PrintedAnswer) → line ≡ numbered number answer.text → mark.number ≡ number → mark.shown ≡ answer.shown → marked (drop taken marks) (drop from texts) ≡ old → marked (drop taken new_marks) (drop from new_texts) ≡ old ++ answer ∷ []
+  answer_more number answer old line-is number-is shown-is view-is = pushed_answer number answer.shown number-is shown-is ∙ (λ j. view-is j ++ answer_of (told_line number answer.text line line-is j) answer.shown ∷ [])
 
 -- ---- how many there are
 

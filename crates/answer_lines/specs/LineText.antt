@@ -13,6 +13,7 @@ use Rattle.effect_fold.specs.declared.fault.Fault.{Fault}
 use Rattle.effect_fold.specs.declared.verdict.Verdict.{Verdict}
 use Rattle.effect_fold.specs.declared.verdict.Verdict.TheVariants as verdict
 use Rattle.perm_base.specs.FieldLine.{printed}
+use Rattle.perm_base.specs.Fields.{IsBehind}
 use Rattle.perm_base.specs.TableNames.{name_of}
 use Rattle.perm_base.specs.declared.shapes.TableId.{TableId}
 use Rattle.perm_value.specs.declared.request.RequestFault.{RequestFault}
@@ -28,6 +29,10 @@ use Rattle.version_log.specs.EditText.{change_items, item_lines}
 -- these bytes were put behind the text
 abbrev pub Appends : String Global → String Global → List ℕ → Type 0
 Appends old new more = string_bytes new ≡ string_bytes old ++ more
+
+-- what stood in the text stands there still, and more may stand behind it
+abbrev pub IsKept : String Global → String Global → Type 0
+IsKept old new = IsBehind (string_bytes old) (string_bytes new)
 
 -- ---- verdicts
 

@@ -1,11 +1,17 @@
-ghost use Rattle.std.specs.Prelude.{◌≡◌, ◌+◌, ◌<◌, ◌≤◌, ◌∷◌, ◌++◌, ◌^◌, [], IfOk, IfSome, OnErr, OnOk, decimal, length, map, take, true};
-ghost use Rattle.answer_lines.specs.Helps.Marked.{IsRun, TellsLine, answer_of, shown_by_mark, size_of, told_in};
-ghost use Rattle.answer_lines.specs.Printed.{AreTakenOut};
+ghost use Rattle.std.specs.Prelude.{◌≡◌, ◌+◌, ◌<◌, ◌≤◌, ◌∷◌, ◌++◌, ◌^◌, [], IfOk, OnErr, OnOk, decimal, length, map, option_copied, take, true};
+ghost use Rattle.answer_lines.specs.Helps.Marked.{IsRun, TellsLine, shown_by_mark, size_of, told_in};
+ghost use Rattle.answer_lines.specs.Printed.{AreTakenOut, printed_answer};
+ghost use Rattle.answer_lines.specs.Told.{comes_with_rule, is_printable};
+ghost use Rattle.answer_lines.specs.declared.answer.Answer.TheVariants.{Decided};
 
-use crate::printed::Shown;
+use crate::answer::Answer;
+use crate::printed::{Shown, shown_by, shown_by_verdict};
 use crate::printed_lines::{PrintedLines, push_line_of};
+use crate::whole_lines::{push_whole, push_whole_verdict};
+use effect_fold::Verdict;
 use itoa::Buffer;
 use outside::NoMemory;
+use perm_base::Rule;
 use std::alloc::Global;
 use std::marker::Model;
 
@@ -13,7 +19,7 @@ use std::marker::Model;
 /// with what each shows. Contracts see the list of the answers that were not taken out.
 #[derive(Drop)]
 pub(crate) struct KeptAnswers {
-    texts: Vec<u8>,
+    texts: String,
     marks: Vec<Mark>,
     // How many bytes and how many answers were taken out.
     from: usize,
@@ -37,15 +43,15 @@ struct Run {
 }
 
 impl Model for KeptAnswers {
-    ghost use Rattle.std.specs.Prelude.{List, drop};
+    ghost use Rattle.std.specs.Prelude.{List, drop, string_bytes};
     ghost use Rattle.answer_lines.specs.Helps.Marked.{AreMarked, marked};
     ghost use Rattle.answer_lines.specs.Printed as answer;
 
     ghost Value = { List answer.PrintedAnswer };
 
-    ghost view = { λ w. marked (drop w.taken w.marks.items) (drop w.from w.texts.items) };
+    ghost view = { λ w. marked (drop w.taken w.marks.items) (drop w.from (string_bytes w.texts)) };
 
-    ghost invariant = { λ w. AreMarked w.from w.taken w.texts.items w.marks.items };
+    ghost invariant = { λ w. AreMarked w.from w.taken (string_bytes w.texts) w.marks.items };
 }
 
 impl KeptAnswers {
@@ -54,7 +60,7 @@ impl KeptAnswers {
         ensures { result ≡ [] }
     {
         KeptAnswers {
-            texts: Vec::new(alloc),
+            texts: String::new(alloc),
             marks: Vec::new(alloc),
             from: 0,
             taken: 0,
@@ -69,7 +75,7 @@ impl KeptAnswers {
     ) -> Result<KeptAnswers, NoMemory>
         ensures none { IfOk result (λ kept. kept ≡ []) }
     {
-        let texts = Vec::with_capacity(alloc, bytes)?;
+        let texts = String::with_capacity(alloc, bytes)?;
         let marks = Vec::with_capacity(alloc, answers)?;
         Ok(KeptAnswers {
             texts,
@@ -86,20 +92,45 @@ impl KeptAnswers {
         self.marks.len() - self.taken
     }
 
-    /// Puts the answer of a line, which has this number, in behind the others. Where memory runs out all are as they were; a line of more
-    /// than 2^32 - 1 bytes is for want of memory.
-    pub(crate) fn push(&mut self, number: u32, line: &[u8], shown: Shown) -> Result<(), NoMemory>
-        requires { TellsLine number line.now }
-        ensures pushed { OnOk result (self.new
-            ≡ self.old ++ answer_of (told_in number line.now) shown ∷ []) }
+    /// Prints the line of an answer with this number behind the others. Where memory runs out all are as they were; a line of more than
+    /// 2^32 - 1 bytes is for want of memory.
+    pub(crate) fn push_answer(&mut self, number: u32, answer: &Answer) -> Result<(), NoMemory>
+        requires printable { is_printable answer.now ≡ true }
+        ensures pushed { OnOk result (self.new ≡ self.old ++ printed_answer answer.now ∷ []) }
         ensures same { OnErr result (self.new ≡ self.old) }
     {
-        let Some(mark) = mark_of(line.len(), number, shown) else {
-            return Err(NoMemory);
-        };
         self.marks.reserve(1)?;
-        self.texts.extend_from_slice(line)?;
-        self.marks.push_reserved(mark);
+        let size = push_whole(&mut self.texts, number, answer)?;
+        let shown = shown_by(answer);
+        self.marks.push_reserved(Mark {
+            size,
+            number,
+            shown,
+        });
+        Ok(())
+    }
+
+    /// Prints a verdict as `push_answer` prints `Answer::Decided`, with a rule that is not copied.
+    pub(crate) fn push_verdict(
+        &mut self,
+        number: u32,
+        version: u32,
+        verdict: Verdict,
+        rule: Option<&Rule>,
+    ) -> Result<(), NoMemory>
+        requires printable { comes_with_rule verdict (option_copied rule) ≡ true }
+        ensures pushed { OnOk result (self.new ≡ self.old
+            ++ printed_answer (Decided version verdict (option_copied rule.entry)) ∷ []) }
+        ensures same { OnErr result (self.new ≡ self.old) }
+    {
+        self.marks.reserve(1)?;
+        let size = push_whole_verdict(&mut self.texts, number, version, verdict, rule)?;
+        let shown = shown_by_verdict(version, verdict);
+        self.marks.push_reserved(Mark {
+            size,
+            number,
+            shown,
+        });
         Ok(())
     }
 
@@ -129,7 +160,9 @@ impl KeptAnswers {
         let taken = self.taken + run.count;
         let until = self.from + run.size;
         push_shown(&mut lines.shown, &self.marks[self.taken..taken])?;
-        lines.text.extend_from_slice(&self.texts[self.from..until])?;
+        lines
+            .text
+            .extend_from_slice(&self.texts.as_bytes()[self.from..until])?;
         self.from = until;
         self.taken = taken;
         Ok(run.count)
@@ -148,27 +181,12 @@ impl KeptAnswers {
         };
         let mark = *mark;
         let until = self.from + mark.size as usize;
-        let told = told_in(mark.number, &self.texts[self.from..until]);
+        let told = told_in(mark.number, &self.texts.as_bytes()[self.from..until]);
         push_line_of(lines, number, told, mark.shown)?;
         self.from = until;
         self.taken += 1;
         Ok(1)
     }
-}
-
-// The mark of a line of so many bytes; none where a mark cannot say how many.
-fn mark_of(size: usize, number: u32, shown: Shown) -> Option<Mark>
-    ensures { IfSome result (λ mark. (mark.size ≡ size) × (mark.number ≡ number)
-        × (mark.shown ≡ shown)) }
-{
-    let Ok(size) = u32::try_from(size) else {
-        return None;
-    };
-    Some(Mark {
-        size,
-        number,
-        shown,
-    })
 }
 
 // How many of the first marks have this number and those behind it, at most so many, and how many bytes their lines have.

@@ -15,6 +15,7 @@ mod refusals;
 mod rows;
 mod verdicts;
 mod waiting;
+mod whole_lines;
 
 pub use answer::{Answer, Line};
 pub use laws::edits_are_told_line_by_line;

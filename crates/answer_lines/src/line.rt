@@ -1,5 +1,5 @@
-ghost use Rattle.std.specs.Prelude.{◌≡◌, ◌≤◌, ◌++◌, [], IfOk, OnOk, codes, decimal, length, option_copied, true};
-ghost use Rattle.answer_lines.specs.LineText.{Appends, answer_text, decided_text, line_text, numbered};
+ghost use Rattle.std.specs.Prelude.{◌≡◌, ◌≤◌, ◌++◌, [], IfOk, OnErr, OnOk, codes, decimal, length, option_copied, true};
+ghost use Rattle.answer_lines.specs.LineText.{Appends, IsKept, answer_text, decided_text, line_text, numbered};
 ghost use Rattle.answer_lines.specs.Told.{comes_with_rule, is_printable};
 
 use crate::answer::{Answer, Line};
@@ -25,10 +25,11 @@ pub fn print_line(alloc: Global, line: &Line) -> Result<Text, NoMemory>
 }
 
 /// Appends the line that tells an answer, as `print_line` prints it. It takes memory for the text alone, and refused is want
-/// of it alone.
+/// of it alone: then a part of the line may stand behind what the text held.
 pub fn push_line(text: &mut String, line: &Line) -> Result<(), NoMemory>
     requires printable { is_printable line.now.answer ≡ true }
     ensures appended { OnOk result (Appends text.old text.new (line_text line.now)) }
+    ensures kept { OnErr result (IsKept text.old text.new) }
 {
     push_numbered(text, line.number, &line.answer)
 }
@@ -38,6 +39,7 @@ pub(crate) fn push_numbered(text: &mut String, number: u32, answer: &Answer) -> 
     requires printable { is_printable answer.now ≡ true }
     ensures appended { OnOk result (Appends text.old text.new
         (numbered number (answer_text answer.now))) }
+    ensures kept { OnErr result (IsKept text.old text.new) }
 {
     push_front(text, number)?;
     push_answer(text, answer)?;
@@ -46,7 +48,7 @@ pub(crate) fn push_numbered(text: &mut String, number: u32, answer: &Answer) -> 
 }
 
 /// Appends the line that tells a verdict, as `push_line` appends that of `Answer::Decided`, with a rule that is not copied. It
-/// takes memory for the text alone, and refused is want of it alone.
+/// takes memory for the text alone, and refused is want of it alone: then a part of the line may stand behind what the text held.
 pub fn push_decided(
     text: &mut String,
     number: u32,
@@ -57,6 +59,7 @@ pub fn push_decided(
     requires printable { comes_with_rule verdict (option_copied rule) ≡ true }
     ensures appended { OnOk result (Appends text.old text.new
         (decided_text number version verdict (option_copied rule.entry))) }
+    ensures kept { OnErr result (IsKept text.old text.new) }
 {
     let mut front = Front::new();
     push_start(&mut front, number);
@@ -78,7 +81,8 @@ fn push_start(front: &mut Front, number: u32)
 
 // Appends the number by which a line begins.
 fn push_front(text: &mut String, number: u32) -> Result<(), NoMemory>
-    ensures { OnOk result (Appends text.old text.new (decimal number ++ codes " ")) }
+    ensures appended { OnOk result (Appends text.old text.new (decimal number ++ codes " ")) }
+    ensures kept { OnErr result (IsKept text.old text.new) }
 {
     push_number(text, number)?;
     text.push_str(" ")?;

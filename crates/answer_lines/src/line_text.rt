@@ -1,5 +1,5 @@
-ghost use Rattle.std.specs.Prelude.{◌≡◌, ◌++◌, OnOk, codes, decimal, true};
-ghost use Rattle.answer_lines.specs.LineText.{Appends, answer_text, truth_text};
+ghost use Rattle.std.specs.Prelude.{◌≡◌, ◌++◌, OnErr, OnOk, codes, decimal, true};
+ghost use Rattle.answer_lines.specs.LineText.{Appends, IsKept, answer_text, truth_text};
 ghost use Rattle.answer_lines.specs.Told.{is_printable};
 
 use crate::answer::Answer;
@@ -12,7 +12,8 @@ use outside::NoMemory;
 /// Appends what is answered, without the LF at its end.
 pub(crate) fn push_answer(text: &mut String, answer: &Answer) -> Result<(), NoMemory>
     requires { is_printable answer.now ≡ true }
-    ensures { OnOk result (Appends text.old text.new (answer_text answer.now)) }
+    ensures appended { OnOk result (Appends text.old text.new (answer_text answer.now)) }
+    ensures kept { OnErr result (IsKept text.old text.new) }
 {
     match answer {
         Answer::Decided {
@@ -46,8 +47,9 @@ pub(crate) fn push_answer(text: &mut String, answer: &Answer) -> Result<(), NoMe
 
 // Appends whether a rule stands.
 fn push_has(text: &mut String, version: u32, stands: bool) -> Result<(), NoMemory>
-    ensures { OnOk result (Appends text.old text.new
+    ensures appended { OnOk result (Appends text.old text.new
         (codes "has @" ++ decimal version ++ codes " " ++ truth_text stands)) }
+    ensures kept { OnErr result (IsKept text.old text.new) }
 {
     push_at(text, "has @", version)?;
     text.push_str(" ")?;
@@ -56,7 +58,8 @@ fn push_has(text: &mut String, version: u32, stands: bool) -> Result<(), NoMemor
 
 // Appends true or false.
 fn push_truth(text: &mut String, truth: bool) -> Result<(), NoMemory>
-    ensures { OnOk result (Appends text.old text.new (truth_text truth)) }
+    ensures appended { OnOk result (Appends text.old text.new (truth_text truth)) }
+    ensures kept { OnErr result (IsKept text.old text.new) }
 {
     push_text(text, if truth { "true" } else { "false" })
 }

@@ -1,12 +1,13 @@
-ghost use Rattle.std.specs.Prelude.{◌++◌, OnOk, decimal};
-ghost use Rattle.answer_lines.specs.LineText.{Appends, counted_text};
+ghost use Rattle.std.specs.Prelude.{◌++◌, OnErr, OnOk, decimal};
+ghost use Rattle.answer_lines.specs.LineText.{Appends, IsKept, counted_text};
 
 use itoa::Buffer;
 use outside::NoMemory;
 
 /// Appends a text.
 pub(crate) fn push_text(text: &mut String, more: &str) -> Result<(), NoMemory>
-    ensures { OnOk result (Appends text.old text.new more.now) }
+    ensures appended { OnOk result (Appends text.old text.new more.now) }
+    ensures kept { OnErr result (IsKept text.old text.new) }
 {
     text.push_str(more)?;
     Ok(())
@@ -14,7 +15,8 @@ pub(crate) fn push_text(text: &mut String, more: &str) -> Result<(), NoMemory>
 
 /// Appends a number in decimal digits.
 pub(crate) fn push_number(text: &mut String, number: u32) -> Result<(), NoMemory>
-    ensures { OnOk result (Appends text.old text.new (decimal number)) }
+    ensures appended { OnOk result (Appends text.old text.new (decimal number)) }
+    ensures kept { OnErr result (IsKept text.old text.new) }
 {
     let mut digits = Buffer::new();
     text.push_str(digits.format(number))?;
@@ -23,7 +25,8 @@ pub(crate) fn push_number(text: &mut String, number: u32) -> Result<(), NoMemory
 
 /// Appends a text and a number.
 pub(crate) fn push_at(text: &mut String, more: &str, number: u32) -> Result<(), NoMemory>
-    ensures { OnOk result (Appends text.old text.new (more.now ++ decimal number)) }
+    ensures appended { OnOk result (Appends text.old text.new (more.now ++ decimal number)) }
+    ensures kept { OnErr result (IsKept text.old text.new) }
 {
     text.push_str(more)?;
     push_number(text, number)
@@ -36,7 +39,8 @@ pub(crate) fn push_counted(
     version: u32,
     count: u32,
 ) -> Result<(), NoMemory>
-    ensures { OnOk result (Appends text.old text.new (counted_text word.now version count)) }
+    ensures appended { OnOk result (Appends text.old text.new (counted_text word.now version count)) }
+    ensures kept { OnErr result (IsKept text.old text.new) }
 {
     text.push_str(word)?;
     push_at(text, " @", version)?;

@@ -1,5 +1,5 @@
-ghost use Rattle.std.specs.Prelude.{◌≡◌, ◌++◌, OnOk, codes, true};
-ghost use Rattle.answer_lines.specs.LineText.{Appends, call_text, most, name_text, query_text, request_text, wanted_text};
+ghost use Rattle.std.specs.Prelude.{◌≡◌, ◌++◌, OnErr, OnOk, codes, true};
+ghost use Rattle.answer_lines.specs.LineText.{Appends, IsKept, call_text, most, name_text, query_text, request_text, wanted_text};
 ghost use Rattle.answer_lines.specs.Told.{has_name, is_call_told, is_query_told, is_request_told};
 
 use crate::pieces::{push_at, push_number, push_text};
@@ -12,8 +12,9 @@ use policy_table::Limit;
 
 /// Appends that a request has another number of fields than is wanted.
 pub(crate) fn push_arity(text: &mut String, got: u32, want: u32) -> Result<(), NoMemory>
-    ensures { OnOk result (Appends text.old text.new
+    ensures appended { OnOk result (Appends text.old text.new
         (codes "refused: " ++ wanted_text got (codes "fields") want)) }
+    ensures kept { OnErr result (IsKept text.old text.new) }
 {
     text.push_str("refused: ")?;
     push_wanted(text, got, "fields", want)
@@ -22,7 +23,8 @@ pub(crate) fn push_arity(text: &mut String, got: u32, want: u32) -> Result<(), N
 /// Appends why a line is no request.
 pub(crate) fn push_fault(text: &mut String, fault: RequestFault) -> Result<(), NoMemory>
     requires { is_request_told fault ≡ true }
-    ensures { OnOk result (Appends text.old text.new (codes "refused: " ++ request_text fault)) }
+    ensures appended { OnOk result (Appends text.old text.new (codes "refused: " ++ request_text fault)) }
+    ensures kept { OnErr result (IsKept text.old text.new) }
 {
     text.push_str("refused: ")?;
     match fault {
@@ -39,7 +41,8 @@ pub(crate) fn push_fault(text: &mut String, fault: RequestFault) -> Result<(), N
 /// Appends why a call is refused.
 pub(crate) fn push_call(text: &mut String, refused: CallRefused) -> Result<(), NoMemory>
     requires { is_call_told refused ≡ true }
-    ensures { OnOk result (Appends text.old text.new (codes "refused: " ++ call_text refused)) }
+    ensures appended { OnOk result (Appends text.old text.new (codes "refused: " ++ call_text refused)) }
+    ensures kept { OnErr result (IsKept text.old text.new) }
 {
     text.push_str("refused: ")?;
     match refused {
@@ -56,7 +59,8 @@ pub(crate) fn push_call(text: &mut String, refused: CallRefused) -> Result<(), N
 /// Appends why a query is refused.
 pub(crate) fn push_query(text: &mut String, refused: QueryRefused) -> Result<(), NoMemory>
     requires { is_query_told refused ≡ true }
-    ensures { OnOk result (Appends text.old text.new (codes "refused: " ++ query_text refused)) }
+    ensures appended { OnOk result (Appends text.old text.new (codes "refused: " ++ query_text refused)) }
+    ensures kept { OnErr result (IsKept text.old text.new) }
 {
     text.push_str("refused: ")?;
     match refused {
@@ -71,7 +75,8 @@ pub(crate) fn push_query(text: &mut String, refused: QueryRefused) -> Result<(),
 
 // Appends that there is another number than is wanted, of what `these` says.
 fn push_wanted(text: &mut String, got: u32, these: &str, want: u32) -> Result<(), NoMemory>
-    ensures { OnOk result (Appends text.old text.new (wanted_text got these.now want)) }
+    ensures appended { OnOk result (Appends text.old text.new (wanted_text got these.now want)) }
+    ensures kept { OnErr result (IsKept text.old text.new) }
 {
     push_number(text, got)?;
     text.push_str(" ")?;
@@ -83,7 +88,8 @@ fn push_wanted(text: &mut String, got: u32, these: &str, want: u32) -> Result<()
 // Appends that there is no such table.
 fn push_no_table(text: &mut String, table: TableId) -> Result<(), NoMemory>
     requires { has_name table ≡ true }
-    ensures { OnOk result (Appends text.old text.new (codes "no table " ++ name_text table)) }
+    ensures appended { OnOk result (Appends text.old text.new (codes "no table " ++ name_text table)) }
+    ensures kept { OnErr result (IsKept text.old text.new) }
 {
     let Some(name) = table.name() else {
         unreachable!()

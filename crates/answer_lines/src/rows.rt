@@ -1,6 +1,6 @@
-ghost use Rattle.std.specs.Prelude.{◌≡◌, ◌++◌, ◌∷◌, OnOk, codes, flat_map, length, true};
+ghost use Rattle.std.specs.Prelude.{◌≡◌, ◌++◌, ◌∷◌, OnErr, OnOk, codes, flat_map, length, true};
 ghost use Rattle.perm_base.specs.FieldLine as field;
-ghost use Rattle.answer_lines.specs.LineText.{Appends, change_lines, counted_text, further, name_text, names_text, rule_lines};
+ghost use Rattle.answer_lines.specs.LineText.{Appends, IsKept, change_lines, counted_text, further, name_text, names_text, rule_lines};
 ghost use Rattle.answer_lines.specs.Helps.Signs.{further_line, signed_lines};
 ghost use Rattle.answer_lines.specs.Told.{has_name};
 ghost use Rattle.version_log.specs.EditText.{change_items, item_lines};
@@ -17,8 +17,9 @@ pub(crate) fn push_names(
     version: u32,
     names: &Rule,
 ) -> Result<(), NoMemory>
-    ensures { OnOk result (Appends text.old text.new
+    ensures appended { OnOk result (Appends text.old text.new
         (counted_text word.now version (length names.now) ++ names_text names.now)) }
+    ensures kept { OnErr result (IsKept text.old text.new) }
 {
     push_counted(text, word, version, names.len())?;
     if names.fields().is_empty() {
@@ -36,9 +37,10 @@ pub(crate) fn push_rules(
     rules: &Rules,
 ) -> Result<(), NoMemory>
     requires { has_name table ≡ true }
-    ensures { OnOk result (Appends text.old text.new
+    ensures appended { OnOk result (Appends text.old text.new
         (counted_text (codes "rows") version (length rules.now)
         ++ further (rule_lines (name_text table) rules.now))) }
+    ensures kept { OnErr result (IsKept text.old text.new) }
 {
     let Some(name) = table.name() else {
         unreachable!()
@@ -54,8 +56,9 @@ pub(crate) fn push_recorded(
     number: u32,
     edit: &Edit,
 ) -> Result<(), NoMemory>
-    ensures { OnOk result (Appends text.old text.new
+    ensures appended { OnOk result (Appends text.old text.new
         (counted_text (codes "edit") version number ++ further (change_lines edit.now))) }
+    ensures kept { OnErr result (IsKept text.old text.new) }
 {
     push_counted(text, "edit", version, number)?;
     push_changes(text, edit.as_slice())
@@ -64,7 +67,8 @@ pub(crate) fn push_recorded(
 // Appends the lines of rules of the table with this name.
 fn push_rows(text: &mut String, name: &str, rules: &[Rule]) -> Result<(), NoMemory>
     requires { field.printed_field name.now ≡ name.now }
-    ensures { OnOk result (Appends text.old text.new (further (rule_lines name.now rules.now))) }
+    ensures appended { OnOk result (Appends text.old text.new (further (rule_lines name.now rules.now))) }
+    ensures kept { OnErr result (IsKept text.old text.new) }
 {
     for rule in rules {
         push_row(text, "", name, rule)?;
@@ -74,7 +78,8 @@ fn push_rows(text: &mut String, name: &str, rules: &[Rule]) -> Result<(), NoMemo
 
 // Appends the lines of changes.
 fn push_changes(text: &mut String, changes: &[Change]) -> Result<(), NoMemory>
-    ensures { OnOk result (Appends text.old text.new (further (change_lines changes.now))) }
+    ensures appended { OnOk result (Appends text.old text.new (further (change_lines changes.now))) }
+    ensures kept { OnErr result (IsKept text.old text.new) }
 {
     for change in changes {
         push_change(text, change)?;
@@ -84,8 +89,9 @@ fn push_changes(text: &mut String, changes: &[Change]) -> Result<(), NoMemory>
 
 // Appends the lines of a change.
 fn push_change(text: &mut String, change: &Change) -> Result<(), NoMemory>
-    ensures { OnOk result (Appends text.old text.new
+    ensures appended { OnOk result (Appends text.old text.new
         (further (flat_map item_lines (change_items change.now)))) }
+    ensures kept { OnErr result (IsKept text.old text.new) }
 {
     match change {
         Change::Insert { table, rule } => push_signed(text, "+ ", *table, rule),
@@ -99,8 +105,9 @@ fn push_change(text: &mut String, change: &Change) -> Result<(), NoMemory>
 
 // Appends the line of a rule of a table behind a sign, if its table has a name.
 fn push_signed(text: &mut String, sign: &str, table: TableId, rule: &Rule) -> Result<(), NoMemory>
-    ensures { OnOk result (Appends text.old text.new
+    ensures appended { OnOk result (Appends text.old text.new
         (further (signed_lines sign.now table rule.now))) }
+    ensures kept { OnErr result (IsKept text.old text.new) }
 {
     match table.name() {
         Some(name) => push_row(text, sign, name, rule),
@@ -111,8 +118,9 @@ fn push_signed(text: &mut String, sign: &str, table: TableId, rule: &Rule) -> Re
 // Appends a further line: a sign, the name of a table and the fields of a rule.
 fn push_row(text: &mut String, sign: &str, name: &str, rule: &Rule) -> Result<(), NoMemory>
     requires { field.printed_field name.now ≡ name.now }
-    ensures { OnOk result (Appends text.old text.new
+    ensures appended { OnOk result (Appends text.old text.new
         (further_line (sign.now ++ field.printed (name.now ∷ rule.now)))) }
+    ensures kept { OnErr result (IsKept text.old text.new) }
 {
     text.push_str("\n  ")?;
     text.push_str(sign)?;

@@ -1,5 +1,5 @@
-ghost use Rattle.std.specs.Prelude.{◌≡◌, ◌+◌, ◌≤◌, ◌++◌, OnOk, length, option_copied, true};
-ghost use Rattle.answer_lines.specs.LineText.{Appends, cause_text, fault_text, place_text, verdict_text};
+ghost use Rattle.std.specs.Prelude.{◌≡◌, ◌+◌, ◌≤◌, ◌++◌, OnErr, OnOk, length, option_copied, true};
+ghost use Rattle.answer_lines.specs.LineText.{Appends, IsKept, cause_text, fault_text, place_text, verdict_text};
 ghost use Rattle.answer_lines.specs.Helps.Heads.{failed_text, head_text, judged_text};
 ghost use Rattle.answer_lines.specs.Told.{comes_with_rule, row_has_rule};
 
@@ -20,8 +20,9 @@ pub(crate) fn push_verdict(
 ) -> Result<(), NoMemory>
     requires front { length front.old ≤ 11 }
     requires rule { comes_with_rule verdict (option_copied rule) ≡ true }
-    ensures { OnOk result (Appends text.old text.new
+    ensures appended { OnOk result (Appends text.old text.new
         (front.old ++ verdict_text version verdict (option_copied rule.entry))) }
+    ensures kept { OnErr result (IsKept text.old text.new) }
 {
     match verdict {
         Verdict::Allow(row) => push_judged(text, front, "allow @", version, row, rule),
@@ -38,8 +39,9 @@ pub(crate) fn push_verdict_alone(
     rule: Option<&Rule>,
 ) -> Result<(), NoMemory>
     requires { comes_with_rule verdict (option_copied rule) ≡ true }
-    ensures { OnOk result (Appends text.old text.new
+    ensures appended { OnOk result (Appends text.old text.new
         (verdict_text version verdict (option_copied rule.entry))) }
+    ensures kept { OnErr result (IsKept text.old text.new) }
 {
     let mut front = Front::new();
     push_verdict(text, &mut front, version, verdict, rule)
@@ -58,8 +60,9 @@ fn push_judged(
     requires front { length front.old ≤ 11 }
     requires word { length word.now ≤ 8 }
     requires rule { row_has_rule row (option_copied rule) ≡ true }
-    ensures { OnOk result (Appends text.old text.new
+    ensures appended { OnOk result (Appends text.old text.new
         (front.old ++ judged_text word.now version row (option_copied rule.entry))) }
+    ensures kept { OnErr result (IsKept text.old text.new) }
 {
     push_head(front, word, version, row);
     if row.is_none() {
@@ -80,8 +83,9 @@ fn push_failed(
     fault: Fault,
 ) -> Result<(), NoMemory>
     requires { length front.old ≤ 11 }
-    ensures { OnOk result (Appends text.old text.new
+    ensures appended { OnOk result (Appends text.old text.new
         (front.old ++ failed_text version row fault)) }
+    ensures kept { OnErr result (IsKept text.old text.new) }
 {
     push_head(front, "fault @", version, row);
     front.push(" ");
@@ -119,7 +123,8 @@ fn push_place(head: &mut Front, row: Option<u32>)
 
 // Appends a fault and where it stands.
 fn push_fault(text: &mut String, fault: Fault) -> Result<(), NoMemory>
-    ensures { OnOk result (Appends text.old text.new (fault_text fault)) }
+    ensures appended { OnOk result (Appends text.old text.new (fault_text fault)) }
+    ensures kept { OnErr result (IsKept text.old text.new) }
 {
     text.push_str(cause_text(fault.cause))?;
     push_at(text, " at ", fault.at)

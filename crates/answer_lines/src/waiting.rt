@@ -5,8 +5,6 @@ ghost use Rattle.answer_lines.specs.declared.answer.Answer.TheVariants.{Decided}
 
 use crate::answer::Answer;
 use crate::kept::KeptAnswers;
-use crate::line::{push_decided, push_numbered};
-use crate::printed::{shown_by, shown_by_verdict};
 use crate::printed_lines::PrintedLines;
 use effect_fold::Verdict;
 use outside::NoMemory;
@@ -19,8 +17,6 @@ use std::marker::Model;
 #[derive(Drop)]
 pub struct WaitingAnswers {
     kept: KeptAnswers,
-    // What a line is printed into: where memory runs out in its middle, those that are kept have nothing of it.
-    text: String,
     // The number that the line of the next one has most likely.
     number: u32,
 }
@@ -41,7 +37,6 @@ impl WaitingAnswers {
     {
         WaitingAnswers {
             kept: KeptAnswers::new(alloc),
-            text: String::new(alloc),
             number: 1,
         }
     }
@@ -55,11 +50,7 @@ impl WaitingAnswers {
         ensures none { IfOk result (λ waiting. waiting ≡ []) }
     {
         let kept = KeptAnswers::with_room(alloc, answers, bytes)?;
-        Ok(WaitingAnswers {
-            kept,
-            text: String::new(alloc),
-            number: 1,
-        })
+        Ok(WaitingAnswers { kept, number: 1 })
     }
 
     /// How many are left.
@@ -85,10 +76,7 @@ impl WaitingAnswers {
         ensures same { OnErr result (self.new ≡ self.old) }
     {
         let number = self.number;
-        self.text.clear();
-        push_numbered(&mut self.text, number, answer)?;
-        self.kept
-            .push(number, self.text.as_bytes(), shown_by(answer))?;
+        self.kept.push_answer(number, answer)?;
         self.number = number.saturating_add(1);
         Ok(())
     }
@@ -106,10 +94,7 @@ impl WaitingAnswers {
         ensures same { OnErr result (self.new ≡ self.old) }
     {
         let number = self.number;
-        self.text.clear();
-        push_decided(&mut self.text, number, version, verdict, rule)?;
-        let shown = shown_by_verdict(version, verdict);
-        self.kept.push(number, self.text.as_bytes(), shown)?;
+        self.kept.push_verdict(number, version, verdict, rule)?;
         self.number = number.saturating_add(1);
         Ok(())
     }

@@ -1,5 +1,6 @@
 -- Items that are no requests, done one after the other.
-use Rattle.std.proofs.Common.{◌≡◌, Bool, true, false, List, [], ◌∷◌, ◌++◌, map, refl, sym, ap, subst, ◌∙◌}
+use Rattle.std.proofs.Common.{◌≡◌, ℕ, Bool, true, false, List, [], ◌∷◌, ◌++◌, append-nil, append_assoc, length, map, replicate, refl, sym, ap, subst, ◌∙◌}
+use Rattle.std.specs.List.{list_all}
 use Rattle.std.proofs.lemmas.List.{map-append}
 use Rattle.answer_lines.specs.Printed.{PrintedAnswer, printed_answer}
 use Rattle.answer_lines.specs.declared.answer.Answer.{Answer}
@@ -8,7 +9,7 @@ use Rattle.live_pair.specs.Story.{edits_in}
 use Rattle.live_rounds.proofs.AdminLemmas.{beside_asked, beside_more, beside_none}
 use Rattle.live_rounds.proofs.ItemLemmas.{parts_all, parts_more}
 use Rattle.live_rounds.specs.Administrators.{AreDoneBeside, IsAdminAmid, IsAdminBehind, IsAdminStep, IsAdminStopped}
-use Rattle.live_rounds.specs.Helps.Turns.{IsTurnDone, IsTurnStopped, is_built_asked}
+use Rattle.live_rounds.specs.Helps.Turns.{ArePassedOver, IsTurnDone, IsTurnStopped, is_built_asked}
 use Rattle.live_rounds.specs.Helps.Turns.IsTurnDone.{made, passed}
 use Rattle.live_rounds.specs.Helps.Turns.IsTurnStopped.{undone, unsaid}
 use Rattle.desk_session.specs.Steps.{is_request}
@@ -16,6 +17,7 @@ use Rattle.perm_base.specs.declared.shapes.Shapes.{Shapes}
 use Rattle.policy_table.specs.Tables.{Policy}
 use Rattle.script_read.specs.ItemLines.{IsBuiltAs}
 use Rattle.script_read.specs.Said.{Said}
+use Rattle.script_read.specs.Said as said
 use Rattle.script_read.specs.declared.said_lines.BuiltItem.{BuiltItem}
 use Rattle.script_read.specs.declared.said_lines.BuiltItem.TheVariants as built
 
@@ -60,6 +62,20 @@ module _ (shapes : Shapes) (opening : Policy) (items : List Said) (old : AdminSe
       beside = λ before stands. beside_more shapes opening before old so.done item mid new replies more reply printed other (so.beside before stands) step told more-is;
       kinds_are = kinds_more kinds more_kinds so.done item so.kinds_are more-kinds-are;
     }
+
+  -- requests that are passed over
+  passes : (front left next : List Said) (admin : AdminSeen) (replies : List PrintedAnswer) (kinds more : List Bool) → left ≡ front ++ next → list_all is_request front ≡ true → more ≡ kinds ++ replicate (length front) true → AreDoneUpTo left admin replies kinds → AreDoneUpTo next admin replies more
+  passes [] left next admin replies kinds more parts asked more-is so =
+      let same : more ≡ kinds = more-is ∙ append-nil kinds in
+      subst (λ (l : List Bool). AreDoneUpTo next admin replies l) (sym same) (subst (λ (l : List Said). AreDoneUpTo l admin replies kinds) parts so)
+  passes (said.asks reading ∷ front) left next admin replies kinds more parts asked more-is so =
+      let all : more ≡ (kinds ++ true ∷ []) ++ replicate (length front) true = more-is ∙ sym (append_assoc kinds (true ∷ []) (replicate (length front) true)) in
+      passes front (front ++ next) next admin replies (kinds ++ true ∷ []) more refl asked all (done_asked left (front ++ next) (said.asks reading) admin replies kinds (kinds ++ true ∷ []) parts so refl refl)
+  passes (item ∷ front) left next admin replies kinds more parts asked more-is so = absurd cc
+
+  pub done_passed : (left next : List Said) (admin : AdminSeen) (replies : List PrintedAnswer) (kinds more : List Bool) → AreDoneUpTo left admin replies kinds → ArePassedOver left next kinds more → AreDoneUpTo next admin replies more
+  done_passed left next admin replies kinds more so over =
+      passes over.passed.passed left next admin replies kinds more over.passed.parts over.passed.asked (over.kinds_are ∙ ap (λ (n : ℕ). kinds ++ replicate n true) (sym over.passed.long)) so
 
   -- nothing more was done
   pub done_stopped : (left : List Said) (mid new : AdminSeen) (replies : List PrintedAnswer) (kinds : List Bool) → AreDoneUpTo left mid replies kinds → IsAdminStopped mid new → (before : List Said) → IsAdminBehind shapes opening before old → IsAdminAmid shapes opening before items new

@@ -164,6 +164,18 @@ gone_more count found more all left next item so first_is more-is = record {
     by true is = let one : more ≡ found + 1 = more-is ∙ ap (λ (test : Bool). found + cond test 1 0) is in omega (arith, one, so.found_is, asked_more so.front item is)
     by false is = let none : more ≡ found + 0 = more-is ∙ ap (λ (test : Bool). found + cond test 1 0) is in omega (arith, none, so.found_is, ap (λ (l : List Reading). length l) (other_more so.front item is))
 
+-- requests that are passed at once
+pub gone_first : (count : ℕ) (all next : List Said) → ArePassed count all next → IsGoneTo count count all next
+gone_first count all next is = record { front = is.passed; parts = is.parts; count_is = sym is.long; found_is = omega (arith, is.long, passed_asked is.passed is.asked) }
+
+pub gone_many : (count found more : ℕ) (all left next : List Said) → IsGoneTo count found all left → ArePassed more left next → IsGoneTo (count + more) (found + more) all next
+gone_many count found more all left next so is = record {
+  front = so.front ++ is.passed;
+  parts = so.parts ∙ ap (λ (l : List Said). so.front ++ l) is.parts ∙ sym (append_assoc so.front is.passed next);
+  count_is = omega (arith, so.count_is, is.long, length-append so.front is.passed);
+  found_is = omega (arith, so.found_is, is.long, passed_asked is.passed is.asked, ap (λ (l : List Reading). length l) (requests_both so.front is.passed), length-append (requests so.front) (requests is.passed));
+}
+
 -- it is within all items
 pub gone_within : (count found : ℕ) (all left next : List Said) (item : Said) → IsGoneTo count found all left → left ≡ item ∷ next → count + 1 ≤ length all
 gone_within count found all left next item so first_is =

@@ -2,7 +2,7 @@ ghost use Rattle.std.specs.Prelude.{◌≡◌, ◌++◌, ◌∷◌, [], IfOk, Li
 ghost use Rattle.answer_lines.specs.Printed.{printed_answer};
 ghost use Rattle.live_rounds.specs.Administrators.{IsAdminAmid, IsAdminBehind, IsAdminStep, IsAdminStopped};
 ghost use Rattle.desk_session.specs.Steps.{is_request};
-ghost use Rattle.live_rounds.specs.Helps.Turns.{AreOthersDone, IsTurnDone, IsTurnStopped, is_built_asked};
+ghost use Rattle.live_rounds.specs.Helps.Turns.{AreOthersDone, ArePassedOver, IsTurnDone, IsTurnStopped, is_built_asked};
 ghost use Rattle.script_read.specs.ItemLines.{IsBuiltAs, said};
 ghost use Rattle.script_read.specs.Said.{Said, seen};
 
@@ -41,13 +41,26 @@ pub(crate) fn answer_others<J: Naming, R: Wait, G: Gate>(
     let mut kinds = Vec::new(alloc);
     let mut replies = WaitingAnswers::new(alloc);
     let mut left = items.again();
+    pass_requests(&mut left, &mut kinds)?;
     while let Some(built) = left.next_built(alloc)? {
         let asks = is_built_asked(&built);
         let number = number_behind(before, kinds.len());
         answer_built(rt, alloc, built, number, gate, admin, &mut replies)?;
         kinds.push(asks)?;
+        pass_requests(&mut left, &mut kinds)?;
     }
     Ok(OthersDone { replies, kinds })
+}
+
+// Passes over the requests that stand first, as far as they are told by how their lines begin, and puts their kinds behind others.
+fn pass_requests(left: &mut ItemLines<'_>, kinds: &mut Vec<bool>) -> Result<(), NoMemory>
+    ensures { OnOk result (ArePassedOver (said left.old) (said left.new)
+        kinds.old.items kinds.new.items) }
+{
+    let before = kinds.len();
+    let count = left.pass_asked(usize::MAX - before);
+    kinds.resize(before + count, true)?;
+    Ok(())
 }
 
 // The number of the item behind so many of the script and so many of the round, as far as numbers go.

@@ -59,14 +59,17 @@ fn behind<'a>(items: &Stretch<'a>, share: usize) -> (ItemLines<'a>, usize)
     ensures { IsBehindRequests share (items_of items.now) (said result.0) result.1 }
 {
     let mut rest = items.items.again();
-    let mut count: usize = 0;
-    let mut found: usize = 0;
+    let mut found = rest.pass_asked(share);
+    let mut count = found;
     while found < share {
         let Some(first) = rest.next_told() else {
             return (rest, count);
         };
         count += 1;
         found += usize::from(is_asked(&first));
+        let asked = rest.pass_asked(share - found);
+        count += asked;
+        found += asked;
     }
     (rest, count)
 }

@@ -1,4 +1,5 @@
 -- What callers cite.
+pub use Rattle.perm_base.proofs.BehindLemmas.{behind_both, behind_more}
 pub use Rattle.perm_base.proofs.FieldLineLemmas.{LineIs, fields_of-fault, fields_of-is, line_is}
 pub use Rattle.perm_base.proofs.LastLemmas.{front_of, last_before, last_here}
 pub use Rattle.perm_base.proofs.PlainLemmas.{take_take}

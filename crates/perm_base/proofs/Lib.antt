@@ -1,3 +1,4 @@
+pub mod BehindLemmas
 pub mod FieldLemmas
 pub mod QuotedLemmas
 mod PlainLemmas

@@ -1,5 +1,6 @@
-ghost use Rattle.std.specs.Prelude.{◌≡◌, ◌<◌, ◌≤◌, ◌++◌, ◌∷◌, ℕ, List, IfOk, IsUtf8, Ok, OnOk, length, string_bytes, true};
+ghost use Rattle.std.specs.Prelude.{◌≡◌, ◌<◌, ◌≤◌, ◌++◌, ◌∷◌, ℕ, List, IfOk, IsUtf8, Ok, OnErr, OnOk, length, string_bytes, true};
 ghost use Rattle.text_parts.specs.Blanks.{is_blank};
+ghost use Rattle.perm_base.specs.Fields.{IsBehind};
 ghost use Rattle.perm_base.specs.LineEnds.{AreFields};
 ghost use Rattle.perm_base.specs.FieldLine.{IsFields, doubled, has_odd_ends, needs_quotes, printed, printed_field};
 
@@ -19,9 +20,12 @@ pub fn print_fields(alloc: Global, rule: &Rule) -> Result<Text, NoMemory>
     Ok(Text::from_string(text))
 }
 
-/// Appends the fields of a rule as `print_fields` prints them.
+/// Appends the fields of a rule as `print_fields` prints them. Where memory runs out, a part of them may stand behind what the
+/// text held.
 pub fn push_fields(text: &mut String, rule: &Rule) -> Result<(), NoMemory>
-    ensures { OnOk result (string_bytes text.new ≡ string_bytes text.old ++ printed rule.now) }
+    ensures printed { OnOk result (string_bytes text.new
+        ≡ string_bytes text.old ++ printed rule.now) }
+    ensures kept { OnErr result (IsBehind (string_bytes text.old) (string_bytes text.new)) }
 {
     for (at, field) in rule.fields().iter().enumerate() {
         if at > 0 {
@@ -32,12 +36,14 @@ pub fn push_fields(text: &mut String, rule: &Rule) -> Result<(), NoMemory>
     Ok(())
 }
 
-/// Appends a name that needs no quotes and the fields of a rule, as `print_fields` prints them as fields of one line.
+/// Appends a name that needs no quotes and the fields of a rule, as `print_fields` prints them as fields of one line. Where
+/// memory runs out, a part of them may stand behind what the text held.
 pub fn push_named(text: &mut String, name: &str, rule: &Rule) -> Result<(), NoMemory>
     requires { printed_field name.now ≡ name.now }
     ensures line { OnOk result (string_bytes text.new
         ≡ string_bytes text.old ++ printed (name.now ∷ rule.now)) }
     ensures fields { OnOk result (AreFields rule.now) }
+    ensures kept { OnErr result (IsBehind (string_bytes text.old) (string_bytes text.new)) }
 {
     text.push_str(name)?;
     if rule.fields().is_empty() {
@@ -56,8 +62,9 @@ pub fn printed_fields_are_read()
 
 // Appends a field as it is printed.
 fn push_field(text: &mut String, field: &str) -> Result<(), NoMemory>
-    ensures { OnOk result
+    ensures printed { OnOk result
         (string_bytes text.new ≡ string_bytes text.old ++ printed_field field.now) }
+    ensures kept { OnErr result (IsBehind (string_bytes text.old) (string_bytes text.new)) }
 {
     if !needs_quotes(field) {
         text.push_str(field)?;
@@ -70,8 +77,9 @@ fn push_field(text: &mut String, field: &str) -> Result<(), NoMemory>
 #[inline(never)]
 fn push_quoted(text: &mut String, field: &str) -> Result<(), NoMemory>
     requires { needs_quotes field.now ≡ true }
-    ensures { OnOk result
+    ensures printed { OnOk result
         (string_bytes text.new ≡ string_bytes text.old ++ printed_field field.now) }
+    ensures kept { OnErr result (IsBehind (string_bytes text.old) (string_bytes text.new)) }
 {
     text.push_str("\"")?;
     push_doubled(text, field)?;
@@ -81,7 +89,9 @@ fn push_quoted(text: &mut String, field: &str) -> Result<(), NoMemory>
 
 // Appends a text with each double quote doubled.
 fn push_doubled(text: &mut String, field: &str) -> Result<(), NoMemory>
-    ensures { OnOk result (string_bytes text.new ≡ string_bytes text.old ++ doubled field.now) }
+    ensures doubled { OnOk result (string_bytes text.new
+        ≡ string_bytes text.old ++ doubled field.now) }
+    ensures kept { OnErr result (IsBehind (string_bytes text.old) (string_bytes text.new)) }
 {
     let mut rest = field;
     while let Some((before, after)) = cut_at(rest, b'"') {

@@ -1,5 +1,5 @@
 -- The counts of domains beside the rules that have them.
-use Rattle.std.proofs.Common.{◌≡◌, ℕ, ◌+◌, ◌<◌, ◌^◌, Bool, true, false, not, cond, if◌then◌else◌, List, [], ◌∷◌, ◌++◌, length, drop, get_or, refl, sym, ap, subst, ◌∙◌, arith}
+use Rattle.std.proofs.Common.{◌≡◌, ℕ, ◌+◌, ◌<◌, ◌^◌, Bool, true, cond, if◌then◌else◌, List, [], ◌∷◌, ◌++◌, length, drop, get_or, refl, sym, ap, subst, ◌∙◌, arith}
 use Rattle.std.specs.List.{IsDistinct, count_by, sum_by}
 use Rattle.std.proofs.lemmas.List.{drop_more, length-map}
 use Rattle.std.proofs.lemmas.List.Sums.{count_by-le-length, sum_by-append, sum_by-cons}
@@ -37,18 +37,6 @@ pub counted_inserted : (ranked : Bool) (rule : Fields) (rules : List Fields) (co
 counted_inserted ranked rule rules counted are =
     recounted _ _ counted are
     (λ q. omega (arith, domains_sum q (inserted ranked rule rules), sum_inserted (one q) ranked rule rules, domains_sum q rules, count_cons q (domain_of rule) (domains_of rules)))
-
--- where it is new
-pub counted_unless : (ranked new : Bool) (rule : Fields) (rules after : List Fields) (counted : Counted) → new ≡ not (stands rule rules)
-    → after ≡ (if stands rule rules then rules else inserted ranked rule rules) → AreCounted (if new then domain_of rule ∷ domains_of rules else domains_of rules) counted → AreCounted (domains_of after) counted
-counted_unless ranked new rule rules after counted told made are = by (stands rule rules) told made
-  where
-    by : (b : Bool) → new ≡ not b → after ≡ (if b then rules else inserted ranked rule rules) → AreCounted (domains_of after) counted
-    by true t m =
-        subst (λ (l : List Fields). AreCounted (domains_of l) counted) (sym m) (subst (λ (b : Bool). AreCounted (if b then domain_of rule ∷ domains_of rules else domains_of rules) counted) t are)
-    by false t m =
-        subst (λ (l : List Fields). AreCounted (domains_of l) counted) (sym m)
-        (counted_inserted ranked rule rules counted (subst (λ (b : Bool). AreCounted (if b then domain_of rule ∷ domains_of rules else domains_of rules) counted) t are))
 
 -- a rule that is to go is counted beside those that stay
 pub counted_part : (rule : Fields) (rules : List Fields) (counted : Counted) → IsDistinct same rules → stands rule rules ≡ true → AreCounted (domains_of rules) counted

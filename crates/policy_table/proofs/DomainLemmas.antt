@@ -1,5 +1,5 @@
 -- Domains that are counted: one more, one less, and what their number says.
-use Rattle.std.proofs.Common.{◌≡◌, ℕ, zero, suc, ◌+◌, ◌<◌, ◌^◌, Bool, true, false, cond, if◌then◌else◌, not, ◌||◌, nat_lt, List, [], ◌∷◌, ◌++◌, length, take, drop, get_or, slice_get, Option, Some, None, Result, Ok, Err, OnErr, refl, sym, ap, subst, ◌∙◌, arith}
+use Rattle.std.proofs.Common.{◌≡◌, ℕ, zero, suc, ◌+◌, ◌<◌, ◌≤◌, ◌^◌, Bool, true, false, cond, if◌then◌else◌, not, ◌||◌, nat_lt, List, [], ◌∷◌, ◌++◌, length, take, drop, get_or, slice_get, Option, Some, None, Result, Ok, Err, OnErr, refl, sym, ap, subst, ◌∙◌, arith}
 use mir.Val.{bool_byte}
 use Rattle.std.specs.Prelude.{unwrap_or}
 use Rattle.std.specs.List.{AllByRecursion, IsDistinct, count_by, list_any}
@@ -50,6 +50,50 @@ added texts domain count old new are more updates seen is patterns = record {
         let here : count_of new text ≡ count_of old text = ap (λ o. unwrap_or o 0) (updates text ∙ ap (λ (b : Bool). cond b (Some count) (lookup (bytes_eq text) old.entries)) e) in
         let none : cond {A = ℕ} (bytes_eq text domain) 1 0 ≡ 0 = ap (λ (b : Bool). cond {A = ℕ} b 1 0) (flipped text domain ∙ e) in
         omega (arith, here, none, are.each text, count_cons (bytes_eq text) domain texts)
+
+-- a text that passes a test is counted no oftener than those that pass
+fewer_same : (p : List ℕ → Bool) (domain : List ℕ) (texts : List (List ℕ)) → p domain ≡ true → count_by (bytes_eq domain) texts ≤ count_by p texts
+fewer_same p domain [] is = omega arith
+fewer_same p domain (x ∷ texts) is = by (bytes_eq domain x) refl (fewer_same p domain texts is)
+  where
+    by : (b : Bool) → bytes_eq domain x ≡ b → count_by (bytes_eq domain) texts ≤ count_by p texts → count_by (bytes_eq domain) (x ∷ texts) ≤ count_by p (x ∷ texts)
+    by true e rest =
+        let one : cond {A = ℕ} (p x) 1 0 ≡ 1 = ap (λ (b : Bool). cond {A = ℕ} b 1 0) (ap p (sym ((bytes_eq-Decides domain x).0 e)) ∙ is) in
+        omega (arith, rest, one, ap (λ (b : Bool). cond {A = ℕ} b 1 0) e, count_cons p x texts, count_cons (bytes_eq domain) x texts)
+    by false e rest = omega (arith, rest, ap (λ (b : Bool). cond {A = ℕ} b 1 0) e, count_cons p x texts, count_cons (bytes_eq domain) x texts)
+
+-- a number that is not 0
+above_zero : (n : ℕ) → (Some n ≡ Some 0 → ⊥) → 0 < n
+above_zero zero never = absurd (never refl)
+above_zero (suc n) never = omega arith
+
+-- a test that does not hold
+not_so : (b : Bool) → (b ≡ true → ⊥) → b ≡ false
+not_so true never = absurd (never refl)
+not_so false never = refl
+
+-- a domain that is counted is no pattern where none is counted
+none_again : (texts : List (List ℕ)) (domain : List ℕ) (count : ℕ) (old : Counted) → AreCounted texts old → lookup (bytes_eq domain) old.entries ≡ Some count → HasNoZero old.entries
+    → (fit : Fit) → pattern_count old.patterns fit ≡ 0 → is_pattern fit domain ≡ false
+none_again texts domain count old are there some fit none = not_so (is_pattern fit domain) (λ yes.
+    absurd (omega (
+      arith,
+      none,
+      are.patterns fit,
+      are.each domain,
+      ap (λ (o : Option ℕ). unwrap_or o 0) there,
+      above_zero count (λ same. some domain (there ∙ same)),
+      fewer_same (is_pattern fit) domain texts yes,
+    )))
+
+-- one more of a domain that is counted
+pub added_again : (texts : List (List ℕ)) (domain : List ℕ) (count : ℕ) (old new : Counted) → AreCounted texts old → lookup (bytes_eq domain) old.entries ≡ Some count → HasNoZero old.entries
+    → ((q : List ℕ) → lookup (bytes_eq q) new.entries ≡ cond (bytes_eq domain q) (Some (count + 1)) (lookup (bytes_eq q) old.entries)) → (seen : List ℕ) → seen ≡ domain
+    → (((fit : Fit) → pattern_count old.patterns fit ≡ 0 → is_pattern fit seen ≡ false) → (fit : Fit) → pattern_count new.patterns fit ≡ pattern_count old.patterns fit + (if is_pattern fit seen then 1 else 0))
+    → AreCounted (domain ∷ texts) new
+added_again texts domain count old new are there some updates seen is patterns =
+    added texts domain (count + 1) old new are (ap (λ (o : Option ℕ). unwrap_or o 0 + 1) (sym there)) updates seen is
+    (patterns (λ fit none. ap (is_pattern fit) is ∙ none_again texts domain count old are there some fit none))
 
 -- one domain less is counted
 pub taken : (texts : List (List ℕ)) (domain : List ℕ) (left : Option ℕ) (old new : Counted) → AreCounted (domain ∷ texts) old → count_of old domain ≡ unwrap_or left 0 + 1

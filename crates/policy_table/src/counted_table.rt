@@ -12,7 +12,7 @@ ghost use Rattle.policy_table.specs.Slots.{AreSlots, slots_after};
 ghost use Rattle.policy_table.specs.Tables.{same, stands};
 
 use crate::change::Change;
-use crate::domains::{Domains, domain_text};
+use crate::domains::{Domains, domain_or};
 use crate::prepared::TableStep;
 use crate::rows::Rows;
 use crate::table::Table;
@@ -165,12 +165,15 @@ impl CountedTable {
         if !self.counted {
             return self.table.insert(ranked, rule);
         }
-        let domain = domain_text(self.domains.allocator(), &rule)?;
-        self.domains.reserve_if(true, 1)?;
+        if self.table.has(&rule) {
+            return Ok(false);
+        }
+        let blank = Text::from_string(String::new(self.domains.allocator()));
         let _few = self.table.len();
-        let new = self.table.insert(ranked, rule)?;
-        self.domains.add_if(new, domain);
-        Ok(new)
+        self.table.reserve(1)?;
+        self.domains.add(domain_or(&rule, &blank))?;
+        self.table.push(ranked, rule);
+        Ok(true)
     }
 
     // Puts an absent rule in, whose domain is this.

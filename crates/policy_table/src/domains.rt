@@ -1,4 +1,4 @@
-ghost use Rattle.std.specs.Prelude.{◌≡◌, ◌+◌, ◌<◌, ◌≤◌, [], ◌∷◌, ◌++◌, List, ℕ, true, IfOk, IsOk, OnErr, OnOk, Some, if◌then◌else◌, length, slice_get};
+ghost use Rattle.std.specs.Prelude.{◌≡◌, ◌+◌, ◌<◌, ◌≤◌, [], ◌∷◌, ◌++◌, List, ℕ, false, true, IfOk, IsOk, OnErr, OnOk, Some, if◌then◌else◌, length, slice_get};
 ghost use Rattle.std.specs.List.{IsDistinct};
 ghost use Rattle.std.specs.Map.{keys_of};
 ghost use Rattle.std.specs.Str.{bytes_eq};
@@ -108,9 +108,42 @@ impl Domains {
         Ok(self.counts.reserve(count)?)
     }
 
-    /// Counts a domain once more.
-    pub(crate) fn add(&mut self, domain: Text) -> Result<(), NoMemory>
+    /// Counts a domain once more; a new one is copied.
+    pub(crate) fn add(&mut self, domain: &Text) -> Result<(), NoMemory>
+        requires { CanCount self.old }
+        ensures counted { OnOk result ((texts : List (List ℕ))
+            → AreCounted texts self.old → AreCounted (domain.now ∷ texts) self.new) }
+        ensures refused { OnErr result ((texts : List (List ℕ))
+            → AreCounted texts self.old → AreCounted texts self.new) }
+    {
+        if self.add_again(domain) {
+            return Ok(());
+        }
+        let copy = Text::from_str(self.allocator(), domain.as_str())?;
+        self.add_first(copy)
+    }
+
+    // Counts a domain once more, where it is counted; whether it is.
+    fn add_again(&mut self, domain: &Text) -> bool
+        requires { CanCount self.old }
+        ensures counted { result ≡ true → (texts : List (List ℕ))
+            → AreCounted texts self.old → AreCounted (domain.now ∷ texts) self.new }
+        ensures new { result ≡ false → count_of self.old domain.now ≡ 0 }
+        ensures same { result ≡ false → self.new ≡ self.old }
+        ensures spare { self.old.spare ≤ self.new.spare }
+    {
+        if let Some(count) = self.counts.get_mut(domain) {
+            *count += 1;
+            self.patterns = self.patterns.with_again(domain.bytes());
+            return true;
+        }
+        false
+    }
+
+    // Counts a domain that is not counted yet.
+    fn add_first(&mut self, domain: Text) -> Result<(), NoMemory>
         requires few { CanCount self.old }
+        requires new { count_of self.old domain ≡ 0 }
         ensures counted { OnOk result ((texts : List (List ℕ))
             → AreCounted texts self.old → AreCounted (domain ∷ texts) self.new) }
         ensures refused { OnErr result ((texts : List (List ℕ))
@@ -118,9 +151,8 @@ impl Domains {
         ensures room { 0 < self.old.spare → IsOk result }
         ensures spare { self.old.spare ≤ self.new.spare + 1 }
     {
-        let count = self.count(&domain) + 1;
         let patterns = self.patterns.with(domain.bytes());
-        let _before = self.counts.insert(domain, count)?;
+        let _none = self.counts.insert(domain, 1)?;
         self.patterns = patterns;
         Ok(())
     }
@@ -149,9 +181,13 @@ impl Domains {
             → AreCounted (if wanted then domain ∷ texts else texts) self.new }
         ensures spare { self.old.spare ≤ self.new.spare + 1 }
     {
-        if wanted {
-            self.add(domain).unwrap();
+        if !wanted {
+            return;
         }
+        if self.add_again(&domain) {
+            return;
+        }
+        self.add_first(domain).unwrap();
     }
 
     /// Counts the domains of rules once less, where that is wanted.

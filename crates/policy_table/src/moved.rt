@@ -4,8 +4,8 @@ ghost use Rattle.policy_table.specs.Helps.Moves.{moved, moved_domains};
 ghost use Rattle.policy_table.specs.Limits.{domains_of};
 
 use crate::change::Change;
-use crate::domains::{Domains, domain_text};
-use outside::{NoMemory, Share};
+use crate::domains::{Domains, domain_or};
+use outside::{NoMemory, Share, Text};
 use perm_base::{Rule, TableId};
 use std::alloc::Global;
 
@@ -28,26 +28,28 @@ pub(crate) fn moved_domains(
     ensures { IfOk result (AreCounted (moved_domains way table changes.now)) }
 {
     let mut domains = Domains::new(alloc);
+    let blank = Text::from_string(String::new(alloc));
     for change in changes {
-        add_moved(alloc, &mut domains, change, way, table)?;
+        add_moved(&mut domains, change, way, table, &blank)?;
     }
     Ok(domains)
 }
 
-// Counts the domain of the rule that a change puts into a table, or takes out of it.
+// Counts the domain of the rule that a change puts into a table, or takes out of it, where a text without bytes is at hand.
 fn add_moved(
-    alloc: Global,
     domains: &mut Domains,
     change: &Change,
     way: Way,
     table: TableId,
+    blank: &Text,
 ) -> Result<(), NoMemory>
-    requires { CanCount domains.old }
+    requires few { CanCount domains.old }
+    requires blank { blank.now ≡ [] }
     ensures { OnOk result ((texts : List (List ℕ)) → AreCounted texts domains.old
         → AreCounted (domains_of (moved way table change.now) ++ texts) domains.new) }
 {
     match moved_rule(change, way, table) {
-        Some(rule) => domains.add(domain_text(alloc, rule)?),
+        Some(rule) => domains.add(domain_or(rule, blank)),
         None => Ok(()),
     }
 }

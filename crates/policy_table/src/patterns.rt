@@ -1,4 +1,4 @@
-ghost use Rattle.std.specs.Prelude.{◌≡◌, ◌+◌, ◌<◌, ◌≤◌, ◌^◌, if◌then◌else◌};
+ghost use Rattle.std.specs.Prelude.{◌≡◌, ◌+◌, ◌<◌, ◌≤◌, ◌^◌, false, if◌then◌else◌, true};
 ghost use Rattle.perm_base.specs.Patterns.{is_pattern};
 ghost use Rattle.perm_base.specs.declared.shapes.Fit as declared;
 ghost use Rattle.policy_table.specs.Helps.Domains.{pattern_count};
@@ -52,6 +52,26 @@ impl Patterns {
             key_match3: self.key_match3 + u64::from(is_pattern(Fit::KeyMatch3, text)),
             glob: self.glob + u64::from(is_pattern(Fit::Glob, text)),
         }
+    }
+
+    /// With one text more that is counted already: where none is a pattern it is none.
+    pub(crate) fn with_again(self, text: &[u8]) -> Patterns
+        requires { (fit : declared.Fit) → pattern_count self fit + 1 < 2 ^ 64 }
+        ensures { ((fit : declared.Fit) → pattern_count self fit ≡ 0
+            → is_pattern fit text.now ≡ false) → (fit : declared.Fit) → pattern_count result fit
+            ≡ pattern_count self fit + (if is_pattern fit text.now then 1 else 0) }
+    {
+        if self.is_empty() {
+            return self;
+        }
+        self.with(text)
+    }
+
+    // Whether no text is a pattern.
+    fn is_empty(self) -> bool
+        ensures { result ≡ true → (fit : declared.Fit) → pattern_count self fit ≡ 0 }
+    {
+        self.key_match == 0 && self.key_match2 == 0 && self.key_match3 == 0 && self.glob == 0
     }
 
     /// With one of them less.

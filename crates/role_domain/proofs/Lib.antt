@@ -18,3 +18,4 @@ mod Marks
 mod ClimbLemmas
 mod CopyLemmas
 mod AskLemmas
+mod ExactLemmas

@@ -15,6 +15,9 @@ use role_graph::NameHash;
 use std::alloc::Global;
 use std::marker::Model;
 
+// For how many rows a domain has room at first.
+const FIRST_ROWS: usize = 16;
+
 /// Rows as they stand in their table, by the texts of their domains. A row is read where it stands, and not looked up by its
 /// place a second time.
 pub(crate) struct OwnRows<'a> {
@@ -63,7 +66,7 @@ impl<'a> OwnRows<'a> {
             own.push(row)?;
             return Ok(());
         }
-        let mut first = Vec::new(alloc);
+        let mut first = Vec::with_capacity(alloc, FIRST_ROWS)?;
         first.push(row)?;
         let _none = self.entries.insert(Vec::from_slice(alloc, text)?, first)?;
         Ok(())

@@ -37,11 +37,14 @@ pub(crate) fn fitting(
     Ok(pairs)
 }
 
-/// The rows with a pattern as their domain.
+/// The rows with a pattern as their domain. Where domains are compared as they stand there is none, and no row is looked at.
 pub(crate) fn patterns_of(alloc: Global, fit: Fit, rows: Rows<'_>) -> Result<Vec<Rule>, NoMemory>
     ensures { IfOk result (λ found. found.items ≡ filter (has_pattern fit) rows.entry) }
 {
     let mut found = Vec::new(alloc);
+    if let Fit::Exact = fit {
+        return Ok(found);
+    }
     for row in rows {
         if is_pattern(fit, domain_of(row)) {
             found.push(row.copy(alloc)?)?;

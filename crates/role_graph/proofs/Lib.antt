@@ -38,4 +38,5 @@ mod Tallies
 mod TextLemmas
 mod UserLemmas
 mod WalkLemmas
+mod ExactLemmas
 pub mod CallerLemmas

@@ -2,6 +2,7 @@
 
 ghost use Rattle.std.specs.Prelude.{◌≡◌, ◌+◌, ◌<◌, ◌≤◌, ◌⊎◌, ◌++◌, ◌↔◌, ℕ, List, [], OnOk, IfNone, IfOk, IfSome, IsTrue, Some, get_or, if◌then◌else◌, length, true};
 ghost use Rattle.std.specs.List.{Contains};
+ghost use Rattle.perm_base.specs.Patterns.{is_pattern};
 ghost use Rattle.policy_table.specs.Tables.{Fields, same};
 ghost use Rattle.role_graph.specs.Groups.{after, row, rows_of, times};
 ghost use Rattle.role_graph.specs.Helps.Kept.{AreApart, AreLinks, HasRoom, linked_of, roles_in};
@@ -114,7 +115,7 @@ impl LinkGroups {
         ensures names { self.new.names ≡ self.old.names }
     {
         let text = Text::from_str(alloc, role)?;
-        if is_pattern(self.names, user) {
+        if is_patterned(self.names, user) {
             self.patterned.add(alloc, user, text)
         } else {
             self.plain.add(alloc, user, text)
@@ -326,6 +327,18 @@ impl LinkGroups {
         false
     }
 
+    /// With which bytes the users begin, each as a bit of its remainder by 64: all bits where some user is a pattern.
+    pub(crate) fn initials(&self) -> u64 {
+        if self.patterned.len() > 0 {
+            return u64::MAX;
+        }
+        let mut bits = 0;
+        for at in 0..self.plain.len() {
+            bits |= initial(self.plain.user_at(at));
+        }
+        bits
+    }
+
     // Marks the group whose user is a name, unless it is marked.
     fn mark_text(&self, name: &[u8], reached: &mut Marks, fresh: &mut Marks)
         ensures marked { (at : ℕ) → at < length self.now.plain.groups
@@ -355,3 +368,18 @@ impl LinkGroups {
 }
 
 impl Share for LinkGroups {}
+
+/// With which byte a name begins, as a bit.
+pub(crate) fn initial(name: &[u8]) -> u64 {
+    1 << (name.first().copied().unwrap_or(0) % 64)
+}
+
+// Whether a user is a pattern. Where names are compared as they stand none is, and no byte is looked at.
+fn is_patterned(names: Fit, user: &[u8]) -> bool
+    ensures { result ≡ is_pattern names user.now }
+{
+    if let Fit::Exact = names {
+        return false;
+    }
+    is_pattern(names, user)
+}

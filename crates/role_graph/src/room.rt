@@ -3,7 +3,7 @@
 ghost use Rattle.std.specs.Prelude.{◌≡◌, ◌<◌, ◌^◌, IfOk};
 
 use crate::edits::Edits;
-use crate::link_groups::LinkGroups;
+use crate::link_groups::{LinkGroups, initial};
 use crate::names::Names;
 use crate::roles::Roles;
 use crate::touched::MOST_NODES;
@@ -54,13 +54,24 @@ fn are_wanted(links: &LinkGroups, roles: &Roles, edits: &Edits, added: &Names) -
 
 /// How many of the roles have links of their own, of the first that may be nodes.
 pub(crate) fn count_linked(links: &LinkGroups, roles: &Roles) -> usize {
+    let initials = initials_beside(links, roles);
     let mut count = 0usize;
     for node in 0..roles.len().min(MOST_NODES) {
-        if links.has_fitting(roles.name_at(node)) {
+        let name = roles.name_at(node);
+        if initial(name) & initials != 0 && links.has_fitting(name) {
             count = count.saturating_add(1);
         }
     }
     count
+}
+
+// With which bytes users begin, so that most roles need no look-up. Where users are many more than roles to look at all of them costs
+// more than that: then all bits.
+fn initials_beside(links: &LinkGroups, roles: &Roles) -> u64 {
+    if links.len() / 4 > roles.len() {
+        return u64::MAX;
+    }
+    links.initials()
 }
 
 // How many users whose rows change are roles. A pattern may be many.

@@ -1,11 +1,9 @@
 -- The line of a request that is told by its first bytes.
-use Rattle.std.proofs.Common.{◌≡◌, ℕ, ◌+◌, ◌&&◌, Bool, true, false, List, [], ◌∷◌, ◌++◌, append_assoc, drop, length, map, refl, sym, ap, subst, ◌∙◌, arith, eqb}
+use Rattle.std.proofs.Common.{◌≡◌, ℕ, ◌+◌, ◌≤◌, ◌&&◌, true, false, List, [], ◌∷◌, ◌++◌, append_assoc, drop, get_or, length, map, refl, sym, ap, subst, ◌∙◌, arith}
 use Rattle.std.specs.Prelude.{bytes_eq, codes}
-use Rattle.std.specs.List.{onto_first, starts_with}
+use Rattle.std.specs.List.{onto_first}
 use Rattle.std.specs.Str.{IsCharBoundary}
-use Rattle.std.proofs.lemmas.Bool.Decides.{Decides-eqb}
 use Rattle.std.proofs.lemmas.List.Folds.{list_all-append}
-use Rattle.std.proofs.lemmas.Slice.Eq.{starts_is}
 use Rattle.std.proofs.lemmas.Str.{IsCharBoundary-before_ascii}
 use Rattle.script_read.specs.Helps.Asks.{AreBehindAsked, BeginsAsk, IsAskedLine, is_asked}
 use Rattle.script_read.specs.Lines.{behind_word, word_of}
@@ -15,12 +13,13 @@ use Rattle.text_parts.specs.Numbered as numbered
 use Rattle.text_parts.specs.Numbered.{text_lines}
 use Rattle.text_parts.specs.Passed.{is_passed}
 
--- by the test of its bytes
-pub asked_front : (bytes needle line : List ℕ) (test : Bool) → test ≡ starts_with eqb bytes needle → bytes ≡ line → needle ≡ codes "ask " → test ≡ true → BeginsAsk line
-asked_front bytes needle line test value same is holds = record {
-  rest = drop (length needle) bytes;
-  is = sym same ∙ (starts_is Decides-eqb bytes needle test value).0 holds ∙ ap (λ (n : List ℕ). n ++ drop (length needle) bytes) is;
-}
+-- by its first bytes
+pub asked_front : (bytes line : List ℕ) → bytes ≡ line → 4 ≤ length bytes → get_or bytes 0 0 ≡ 97 → get_or bytes 1 0 ≡ 115 → get_or bytes 2 0 ≡ 107 → get_or bytes 3 0 ≡ 32 → BeginsAsk line
+asked_front (a ∷ s ∷ k ∷ blank ∷ rest) line same long one two three four = record { rest = rest; is = sym same ∙ (λ j. one j ∷ two j ∷ three j ∷ four j ∷ rest) }
+asked_front [] line same long one two three four = absurd (omega (arith, long))
+asked_front (a ∷ []) line same long one two three four = absurd (omega (arith, long))
+asked_front (a ∷ s ∷ []) line same long one two three four = absurd (omega (arith, long))
+asked_front (a ∷ s ∷ k ∷ []) line same long one two three four = absurd (omega (arith, long))
 
 -- the first line of a text that begins so does
 abbrev first_of : List (List ℕ) → List ℕ
@@ -35,6 +34,11 @@ first_begins ((byte ∷ bytes) ∷ lines) line others is = record { rest = witho
 pub line_begins : (text line : List ℕ) (others : List (List ℕ)) → BeginsAsk text → text_lines text ≡ line ∷ others → BeginsAsk line
 unfolding text_lines lines_of
 line_begins text line others begins is = first_begins (lines_of begins.rest) line others (sym (ap text_lines begins.is) ∙ is)
+
+-- the first line, cut off with its CR, and then without
+pub cut_first : (text whole line after : List ℕ) → lines_of text ≡ whole ∷ lines_of after → line ≡ without_cr whole → text_lines text ≡ line ∷ text_lines after
+unfolding text_lines
+cut_first text whole line after first is = ap (map without_cr) first ∙ ap (λ (l : List ℕ). l ∷ text_lines after) (sym is)
 
 -- its word, and what stands behind it
 pub asked_word : (line : List ℕ) → BeginsAsk line → word_of line ≡ codes "ask"

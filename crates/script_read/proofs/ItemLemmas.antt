@@ -1,6 +1,8 @@
 -- The first item of a text that was checked, and what is told of it.
 use Rattle.std.proofs.Common.{◌≡◌, ℕ, zero, suc, ◌+◌, ◌-◌, ◌≤◌, ◌&&◌, leb, min, Bool, true, false, List, [], ◌∷◌, ◌++◌, append_assoc, length, length-append, take, Option, Some, None, Result, Ok, Err, refl, sym, ap, subst, ◌∙◌, arith}
 use Rattle.std.specs.Prelude.{bytes_eq, codes, find, if◌then◌else◌}
+use Rattle.std.proofs.Math.Nat.{min-le_left, min-le_right}
+use Rattle.std.proofs.Math.Seq.{take-append-add}
 use Rattle.std.proofs.lemmas.Bool.{eqb-true, leb-false, leb-true}
 use Rattle.std.proofs.lemmas.List.Folds.{list_all-append}
 use Rattle.std.proofs.lemmas.Slice.Eq.{bytes_eq-Decides}
@@ -15,10 +17,10 @@ use Rattle.script_read.proofs.ReadLemmas.{the_reader}
 use Rattle.script_read.proofs.ScriptLemmas.{item_of, part_same}
 use Rattle.script_read.proofs.WalkLemmas.{asked_goes, asked_is}
 use Rattle.script_read.specs.Blocks.{Part, block, block_call, parts, single}
-use Rattle.script_read.specs.Helps.Asks.{IsAskedLine}
+use Rattle.script_read.specs.Helps.Asks.{AreAskedBefore, IsAskedLine}
 use Rattle.script_read.specs.Helps.Ends.{before_end, behind_part, end_number, first_part}
 use Rattle.script_read.specs.Helps.Given.{fields_read}
-use Rattle.script_read.specs.Helps.Checked.{AreChecked, is_spent, one_less}
+use Rattle.script_read.specs.Helps.Checked.{AreChecked, is_spent, less_by, limited, lines_behind}
 use Rattle.script_read.specs.ItemLines.{ArePassed, IsBuiltAs, IsTakenOff, IsToldAs, ScriptLines, items_from, items_in, onto_items, said, up_to}
 use Rattle.script_read.specs.Items.{alone, count_of, line_item, names_of, rows_of, rule_of, verb_call, verb_item, verbs, word_item, word_of_verb, worded}
 use Rattle.script_read.specs.Lines.{arguments_of, begins_block, word_of}
@@ -75,19 +77,19 @@ up_to_none None = refl
 up_to_none (Some zero) = refl
 up_to_none (Some (suc count)) = refl
 
-up_to_more : (most : Option ℕ) (item : Said) (items : List Said) → is_spent most ≡ false → up_to most (item ∷ items) ≡ item ∷ up_to (one_less most) items
+up_to_more : (most : Option ℕ) (item : Said) (items : List Said) → is_spent most ≡ false → up_to most (item ∷ items) ≡ item ∷ up_to (less_by 1 most) items
 up_to_more None item items left = refl
 up_to_more (Some zero) item items left = absurd cc
 up_to_more (Some (suc count)) item items left = let less : count ≡ suc count - 1 = omega arith in ap (λ (k : ℕ). item ∷ take k items) less
 
 -- the first is taken off
-pub taken_off : (Holds : Said → Type 0) (old new : ScriptLines) → is_spent old.most ≡ false → new.most ≡ one_less old.most → IsTakenOff Holds (items_from old.json old.number old.text) (items_from new.json new.number new.text) → IsTakenOff Holds (said old) (said new)
+pub taken_off : (Holds : Said → Type 0) (old new : ScriptLines) (number : ℕ) (text : List ℕ) → is_spent old.most ≡ false → new ≡ lines_behind 1 number text old → IsTakenOff Holds (items_from old.json old.number old.text) (items_from old.json number text) → IsTakenOff Holds (said old) (said new)
 unfolding said
-taken_off Holds old new some most is = record {
+taken_off Holds old new number text some goes is = record {
   item = is.item;
   parts =
-      ap (up_to old.most) is.parts ∙ up_to_more old.most is.item (items_from new.json new.number new.text) some
-      ∙ ap (λ (m : Option ℕ). is.item ∷ up_to m (items_from new.json new.number new.text)) (sym most);
+      ap (up_to old.most) is.parts ∙ up_to_more old.most is.item (items_from old.json number text) some
+      ∙ ap (λ (l : ScriptLines). is.item ∷ up_to l.most (items_from l.json l.number l.text)) (sym goes);
   holds = is.holds;
 }
 
@@ -116,15 +118,13 @@ take_min n m xs = by (leb n m) refl
     by false is = let above = leb-false n m is in let same : min n m ≡ m = omega (arith, above) in take_less n m xs (omega (arith, above)) ∙ ap (λ (k : ℕ). take k xs) (sym same)
 
 -- a front of them
-pub front_all : (lines front : ScriptLines) (count : ℕ) → lines.most ≡ None → front ≡ record lines { most = Some count } → said front ≡ take count (said lines)
-unfolding said
-front_all lines front count none is = ap (λ (l : ScriptLines). up_to l.most (items_from l.json l.number l.text)) is ∙ ap (λ (m : Option ℕ). take count (up_to m (items_from lines.json lines.number lines.text))) (sym none)
+take_limited : (most : Option ℕ) (count : ℕ) (items : List Said) → take (limited most count) items ≡ take count (up_to most items)
+take_limited None count items = refl
+take_limited (Some most) count items = sym (take_min count most items)
 
-pub front_some : (lines front : ScriptLines) (limit count : ℕ) → lines.most ≡ Some limit → front ≡ record lines { most = Some (min count limit) } → said front ≡ take count (said lines)
+pub front_is : (lines front : ScriptLines) (count : ℕ) → front ≡ record lines { most = Some (limited lines.most count) } → said front ≡ take count (said lines)
 unfolding said
-front_some lines front limit count some is =
-    ap (λ (l : ScriptLines). up_to l.most (items_from l.json l.number l.text)) is ∙ sym (take_min count limit (items_from lines.json lines.number lines.text))
-    ∙ ap (λ (m : Option ℕ). take count (up_to m (items_from lines.json lines.number lines.text))) (sym some)
+front_is lines front count is = ap (λ (l : ScriptLines). up_to l.most (items_from l.json l.number l.text)) is ∙ take_limited lines.most count (items_from lines.json lines.number lines.text)
 
 -- all of a text
 pub said_all : (lines : ScriptLines) (items : List Said) → lines.most ≡ None → SaysFrom lines.json lines.number lines.text items → said lines ≡ items
@@ -294,3 +294,50 @@ passed_more count old mid new so off = record {
   asked = list_all-append is_request so.passed (off.item ∷ []) ∙ (λ j. so.asked j && (off.holds j && true));
   long = omega (arith, so.long, length-append so.passed (off.item ∷ []));
 }
+
+-- so many lines of requests, and one more
+pub asked_none : (json : Bool) (number : ℕ) (text : List ℕ) → AreChecked json number text → AreAskedBefore json number 0 text text
+asked_none json number text all =
+    let same : number ≡ number + 0 = omega arith in
+    record {
+      passed = subst (λ (n : ℕ). ArePassed 0 (items_from json number text) (items_from json n text)) same (passed_none (items_from json number text));
+      checked = subst (λ (n : ℕ). AreChecked json n text) same all;
+    }
+
+pub asked_more : (json : Bool) (number count : ℕ) (text rest line after : List ℕ) → AreAskedBefore json number count text rest → IsAskedLine rest line after → AreAskedBefore json number (count + 1) text after
+asked_more json number count text rest line after so is =
+    let same : number + count + 1 ≡ number + (count + 1) = omega arith in
+    record {
+      passed = subst (λ (n : ℕ). ArePassed (count + 1) (items_from json number text) (items_from json n after)) same
+          (passed_more count (items_from json number text) (items_from json (number + count) rest) (items_from json (number + count + 1) after) so.passed (asked_off json (number + count) rest line after is));
+      checked = subst (λ (n : ℕ). AreChecked json n after) same (asked_checked json (number + count) rest line after is so.checked);
+    }
+
+-- of the items that are meant
+pub limited_few : (most : Option ℕ) (count limit : ℕ) → count ≤ limited most limit → count ≤ limit
+limited_few None count limit within = within
+limited_few (Some most) count limit within = omega (arith, within, min-le_left limit most)
+
+passed_up_to : (most : Option ℕ) (count limit : ℕ) (old new : List Said) → count ≤ limited most limit → ArePassed count old new → ArePassed count (up_to most old) (up_to (less_by count most) new)
+passed_up_to None count limit old new within so = so
+passed_up_to (Some most) count limit old new within so =
+    let all : most ≡ length so.passed + (most - count) = omega (arith, so.long, within, min-le_right limit most) in
+    record {
+      passed = so.passed;
+      parts = ap (take most) so.parts ∙ ap (λ (n : ℕ). take n (so.passed ++ new)) all ∙ take-append-add so.passed new (most - count);
+      asked = so.asked;
+      long = so.long;
+    }
+
+pub passed_off : (count limit : ℕ) (old new : ScriptLines) (number : ℕ) (text : List ℕ) → count ≤ limited old.most limit → new ≡ lines_behind count number text old → ArePassed count (items_from old.json old.number old.text) (items_from old.json number text) → ArePassed count (said old) (said new)
+unfolding said
+passed_off count limit old new number text within goes so =
+    subst (λ (l : ScriptLines). ArePassed count (up_to old.most (items_from old.json old.number old.text)) (up_to l.most (items_from l.json l.number l.text))) (sym goes)
+    (passed_up_to old.most count limit (items_from old.json old.number old.text) (items_from old.json number text) within so)
+
+-- the first of the items that are meant is taken off, which begins with `ask` and a blank
+pub asked_taken : (inside now new : ScriptLines) (line after arguments : List ℕ) → inside ≡ now → is_spent inside.most ≡ false → new ≡ lines_behind 1 (inside.number + 1) after now → IsAskedLine inside.text line after → arguments ≡ arguments_of line → IsTakenOff (λ (item : Said). item ≡ said.asks (request_read inside.json arguments)) (said now) (said new)
+asked_taken inside now new line after arguments view left goes is same =
+    subst (λ (l : ScriptLines). IsTakenOff (λ (item : Said). item ≡ said.asks (request_read inside.json arguments)) (said l) (said new)) view
+    (taken_off (λ (item : Said). item ≡ said.asks (request_read inside.json arguments)) inside new (inside.number + 1) after left (goes ∙ ap (λ (l : ScriptLines). lines_behind 1 (inside.number + 1) after l) (sym view))
+    (asked_told inside.json inside.number inside.text line after is arguments same))

@@ -6,7 +6,7 @@ ghost use Rattle.text_parts.specs.Full.{full_lines};
 ghost use Rattle.text_parts.specs.Numbered.{line as line_at};
 
 use crate::word::{begins_ask, ends_block};
-use text_parts::{next_full_line, next_text_line};
+use text_parts::{next_full_line, next_line, without_cr};
 
 /// The first line of a text that ends a block: its number, and what stands behind it. The first line
 /// of the text has the given number.
@@ -53,13 +53,15 @@ pub(crate) fn next_other_line(text: &str, number: u64) -> Option<(u64, &str, &st
     Some((at, line, after))
 }
 
-/// The first line of a text where it begins with `ask` and a blank, and what stands behind it.
+/// The first line of a text where it begins with `ask` and a blank, and what stands behind it. Its CR is cut off last, so that a
+/// loop that does not look at the line does without.
+#[inline(always)]
 pub(crate) fn asked_line(text: &str) -> Option<(&str, &str)>
     ensures { IfSome result (λ found. IsAskedLine text.now found.0.now found.1.now) }
 {
     if !begins_ask(text) {
         return None;
     }
-    let (line, after) = next_text_line(text)?;
-    Some((line, after))
+    let (line, after) = next_line(text)?;
+    Some((without_cr(line), after))
 }

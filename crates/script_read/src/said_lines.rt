@@ -1,6 +1,6 @@
-ghost use Rattle.std.specs.Prelude.{◌≡◌, ◌+◌, ◌<◌, ◌≤◌, ◌^◌, [], IfNone, IfOk, IfSome, List, OnErr, length, take};
-ghost use Rattle.script_read.specs.Helps.Asks.{IsFirstPassed};
-ghost use Rattle.script_read.specs.Helps.Checked.{AreChecked, is_spent, one_less};
+ghost use Rattle.std.specs.Prelude.{◌≡◌, ◌+◌, ◌<◌, ◌≤◌, ◌^◌, ℕ, Bool, [], IfNone, IfOk, IfSome, List, OnErr, length, take};
+ghost use Rattle.script_read.specs.Helps.Asks.{AreAskedBefore};
+ghost use Rattle.script_read.specs.Helps.Checked.{AreChecked, is_spent, less_by, limited, lines_behind};
 ghost use Rattle.script_read.specs.ItemLines.{ArePassed, IsBuiltAs, IsTakenOff, IsToldAs, items_from, said};
 ghost use Rattle.script_read.specs.Said.{Said};
 ghost use Rattle.script_read.specs.Script.{SaysFrom};
@@ -82,15 +82,11 @@ impl<'a> ItemLines<'a> {
     pub fn front(&self, count: usize) -> ItemLines<'a>
         ensures { said result ≡ take count (said self.now) }
     {
-        let most = match self.most {
-            Some(most) => count.min(most),
-            None => count,
-        };
         ItemLines {
             json: self.json,
             text: self.text,
             number: self.number,
-            most: Some(most),
+            most: Some(limited(self.most, count)),
         }
     }
 
@@ -115,15 +111,16 @@ impl<'a> ItemLines<'a> {
         if is_spent(self.most) {
             return None;
         }
+        if let Some((line, text)) = asked_line(self.text) {
+            let (json, line) = (self.json, behind_ask(line));
+            let number = self.number + 1;
+            self.go_on(1, number, text);
+            return Some(FirstItem::Request(AskedLine { json, line }));
+        }
         let Some((first, number, text)) = first_told(self.json, self.text, self.number) else {
             return None;
         };
-        *self = ItemLines {
-            json: self.json,
-            text,
-            number,
-            most: one_less(self.most),
-        };
+        self.go_on(1, number, text);
         Some(first)
     }
 
@@ -133,33 +130,21 @@ impl<'a> ItemLines<'a> {
         ensures passed { ArePassed result (said self.old) (said self.new) }
         ensures few { result ≤ most }
     {
-        let mut count = 0;
-        while count < most {
-            if !self.pass_first() {
-                return count;
-            }
-            count += 1;
-        }
+        let (count, text) = asked_before(self.text, limited(self.most, most));
+        let number = self.number + count as u64;
+        self.go_on(count, number, text);
         count
     }
 
-    // Takes off the first item where its line begins with `ask` and a blank; it says whether it did.
-    fn pass_first(&mut self) -> bool
-        ensures { IsFirstPassed result (said self.old) (said self.new) }
+    // Goes on at a later line, where so many items less are left. No field is written that stays the same.
+    #[inline(always)]
+    fn go_on(&mut self, count: usize, number: u64, text: &'a str)
+        requires { AreChecked self.now.json number text.now }
+        ensures { self.new ≡ lines_behind count number text.now self.old }
     {
-        if is_spent(self.most) {
-            return false;
-        }
-        let Some((_line, text)) = asked_line(self.text) else {
-            return false;
-        };
-        *self = ItemLines {
-            json: self.json,
-            text,
-            number: self.number + 1,
-            most: one_less(self.most),
-        };
-        true
+        self.text = text;
+        self.number = number;
+        self.most = less_by(self.most, count);
     }
 
     /// Takes off the first item, and builds it where it is no request. Refused is want of memory alone, and all items are left then.
@@ -172,16 +157,17 @@ impl<'a> ItemLines<'a> {
         if is_spent(self.most) {
             return Ok(None);
         }
+        if let Some((line, text)) = asked_line(self.text) {
+            let (json, line) = (self.json, behind_ask(line));
+            let number = self.number + 1;
+            self.go_on(1, number, text);
+            return Ok(Some(BuiltItem::Request(AskedLine { json, line })));
+        }
         let Some((built, number, text)) = first_built(alloc, self.json, self.text, self.number)?
         else {
             return Ok(None);
         };
-        *self = ItemLines {
-            json: self.json,
-            text,
-            number,
-            most: one_less(self.most),
-        };
+        self.go_on(1, number, text);
         Ok(Some(built))
     }
 }
@@ -196,36 +182,48 @@ fn is_spent(most: Option<usize>) -> bool
     }
 }
 
-// One less than so many, where it is told how many.
-fn one_less(most: Option<usize>) -> Option<usize>
-    ensures { result ≡ one_less most }
+// So many less, where it is told how many.
+fn less_by(most: Option<usize>, count: usize) -> Option<usize>
+    ensures { result ≡ less_by count most }
 {
     match most {
-        Some(count) => Some(count.saturating_sub(1)),
+        Some(most) => Some(most.saturating_sub(count)),
         None => None,
     }
 }
 
-// The first item of a text where its line begins with `ask` and a blank, the number of the line behind it, and what stands from there
-// on.
-fn first_asked(json: bool, text: &str, number: u64) -> Option<(AskedLine<'_>, u64, &str)>
-    requires checked { AreChecked json number text.now }
-    ensures some { IfSome result (λ found. IsTakenOff (IsToldAs (FirstItem.Request found.0))
-        (items_from json number text.now) (items_from json found.1 found.2.now)) }
-    ensures rest { IfSome result (λ found. AreChecked json found.1 found.2.now) }
+// So many, or as many as are left where these are fewer.
+fn limited(most: Option<usize>, count: usize) -> usize
+    ensures { result ≡ limited most count }
 {
-    let Some((line, after)) = asked_line(text) else {
-        return None;
-    };
-    let arguments = behind_ask(line);
-    let asked = AskedLine {
-        json,
-        line: arguments,
-    };
-    Some((asked, number + 1, after))
+    match most {
+        Some(most) => count.min(most),
+        None => count,
+    }
 }
 
-// What the first item of a text is, the number of the line behind it, and what stands from there on.
+// How many lines of requests stand in front of a text, at most so many, that begin with `ask` and a blank, and what stands behind
+// them.
+fn asked_before(text: &str, most: usize) -> (usize, &str)
+    ensures passed { (json : Bool) (number : ℕ) → AreChecked json number text.now
+        → AreAskedBefore json number result.0 text.now result.1.now }
+    ensures few { result.0 ≤ most }
+{
+    let mut count = 0;
+    let mut rest = text;
+    while count < most {
+        let Some((_line, after)) = asked_line(rest) else {
+            return (count, rest);
+        };
+        count += 1;
+        rest = after;
+    }
+    (count, rest)
+}
+
+// What the first item of a text is, the number of the line behind it, and what stands from there on. It is kept apart, so that the
+// lines of most requests are taken off without its frame.
+#[inline(never)]
 fn first_told(json: bool, text: &str, number: u64) -> Option<(FirstItem<'_>, u64, &str)>
     requires checked { AreChecked json number text.now }
     ensures none { IfNone result (items_from json number text.now ≡ []) }
@@ -233,9 +231,6 @@ fn first_told(json: bool, text: &str, number: u64) -> Option<(FirstItem<'_>, u64
         (items_from json number text.now) (items_from json found.1 found.2.now)) }
     ensures rest { IfSome result (λ found. AreChecked json found.1 found.2.now) }
 {
-    if let Some((asked, next, behind)) = first_asked(json, text, number) {
-        return Some((FirstItem::Request(asked), next, behind));
-    }
     let Some((at, line, after)) = next_full_line(text, number) else {
         return None;
     };
@@ -255,6 +250,8 @@ fn first_told(json: bool, text: &str, number: u64) -> Option<(FirstItem<'_>, u64
 }
 
 // The first item of a text, which is built where it is no request, the number of the line behind it, and what stands from there on.
+// It is kept apart as `first_told` is.
+#[inline(never)]
 fn first_built(
     alloc: Global,
     json: bool,
@@ -268,9 +265,6 @@ fn first_built(
     ensures rest { IfOk result (λ next. IfSome next (λ found.
         AreChecked json found.1 found.2.now)) }
 {
-    if let Some((asked, next, behind)) = first_asked(json, text, number) {
-        return Ok(Some((BuiltItem::Request(asked), next, behind)));
-    }
     let Some((at, line, after)) = next_full_line(text, number) else {
         return Ok(None);
     };

@@ -71,13 +71,15 @@ pub(crate) fn word_and_arguments(line: &str) -> (&str, &str)
 }
 
 /// Whether a line begins with `ask` and a blank, by which most lines of requests are told.
+#[inline(always)]
 pub(crate) fn begins_ask(line: &str) -> bool
     ensures { result ≡ true → BeginsAsk line.now }
 {
-    line.as_bytes().starts_with("ask ".as_bytes())
+    matches!(line.as_bytes(), [b'a', b's', b'k', b' ', ..])
 }
 
 /// The arguments of such a line.
+#[inline(always)]
 pub(crate) fn behind_ask(line: &str) -> &str
     requires { BeginsAsk line.now }
     ensures { result.now ≡ arguments_of line.now }

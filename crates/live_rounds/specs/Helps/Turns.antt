@@ -1,5 +1,5 @@
 -- The items of a round at the administrator.
-use Rattle.std.specs.Prelude.{◌≡◌, Bool, true, false, List, [], ◌∷◌, ◌++◌, map}
+use Rattle.std.specs.Prelude.{◌≡◌, ℕ, Bool, true, false, List, [], ◌∷◌, ◌++◌, map, replicate}
 use Rattle.answer_lines.specs.Printed.{PrintedAnswer, printed_answer}
 use Rattle.answer_lines.specs.declared.answer.Answer.{Answer}
 use Rattle.desk_session.specs.Steps.{is_request}
@@ -8,6 +8,7 @@ use Rattle.live_rounds.specs.Administrators.{AreDoneBeside, IsAdminBehind, IsAdm
 use Rattle.live_rounds.specs.declared.beside.OthersDone.{OthersDone}
 use Rattle.perm_base.specs.declared.shapes.Shapes.{Shapes}
 use Rattle.policy_table.specs.Tables.{Policy}
+use Rattle.script_read.specs.ItemLines.{ArePassed}
 use Rattle.script_read.specs.Said.{Said}
 use Rattle.script_read.specs.declared.said_lines.BuiltItem.{BuiltItem}
 use Rattle.script_read.specs.declared.said_lines.BuiltItem.TheVariants as built
@@ -21,6 +22,12 @@ pub data IsTurnDone (item : Said) (old new : AdminSeen) (before after : List Pri
 pub data IsTurnStopped (item : Said) (old new : AdminSeen) : Type 0 where
   undone : IsAdminStopped old new → IsTurnStopped item old new
   unsaid : is_request item ≡ false → (reply : Answer) → IsAdminStep item old new reply → IsTurnStopped item old new
+
+-- requests that stand first are passed over, and their kinds stand behind others
+pub record ArePassedOver (old new : List Said) (kinds more : List Bool) : Type 0 where
+  pub count : ℕ
+  pub passed : ArePassed count old new
+  pub kinds_are : more ≡ kinds ++ replicate count true
 
 -- ---- all of them
 

@@ -1,10 +1,10 @@
 -- The line of a request as it mostly stands: it begins with its word and a blank.
-use Rattle.std.specs.Prelude.{◌≡◌, ◌<◌, ℕ, Bool, true, false, List, ◌∷◌, ◌++◌, codes, length}
+use Rattle.std.specs.Prelude.{◌≡◌, ◌<◌, ◌+◌, ℕ, Bool, true, List, ◌∷◌, ◌++◌, codes, length}
 use Rattle.std.specs.List.{list_all}
 use Rattle.std.specs.Str.{bytes_eq}
-use Rattle.script_read.specs.ItemLines.{IsTakenOff}
+use Rattle.script_read.specs.Helps.Checked.{AreChecked}
+use Rattle.script_read.specs.ItemLines.{ArePassed, items_from}
 use Rattle.script_read.specs.Lines.{word_of}
-use Rattle.script_read.specs.Said.{Said, is_request}
 use Rattle.text_parts.specs.Numbered.{Line, text_lines}
 
 -- a line begins with `ask` and a blank
@@ -28,7 +28,7 @@ pub record AreBehindAsked (lines others : List Line) : Type 0 where
   pub parts : lines ≡ asked ++ others
   pub are_asked : list_all is_asked asked ≡ true
 
--- the first of some items, a request, is taken off, or none is
-abbrev pub IsFirstPassed : (some : Bool) (old new : List Said) → Type 0
-IsFirstPassed true old new = IsTakenOff (λ (item : Said). is_request item ≡ true) old new
-IsFirstPassed false old new = new ≡ old
+-- so many requests stand in front of a text that was checked, and this stands behind them
+pub record AreAskedBefore (json : Bool) (number count : ℕ) (text after : List ℕ) : Type 0 where
+  pub passed : ArePassed count (items_from json number text) (items_from json (number + count) after)
+  pub checked : AreChecked json (number + count) after

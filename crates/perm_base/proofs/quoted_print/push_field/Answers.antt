@@ -4,8 +4,8 @@ use Rattle.perm_base.specs.FieldLine.{needs_quotes}
 use Rattle.perm_base.proofs.QuotedLemmas.{printed_plain}
 use Rattle.perm_base.proofs.quoted_print.push_field.Goals as goal
 
-pub returns-then-not-needs_quotes : goal.returns-then-not-needs_quotes
-returns-then-not-needs_quotes c =
+pub returns-then-not-needs_quotes-clause-printed : goal.returns-then-not-needs_quotes-clause-printed
+returns-then-not-needs_quotes-clause-printed c =
     let none : needs_quotes c.args.field.now ≡ false = sym c.needs_quotes.ensures ∙ c.if-not-needs_quotes.true in
     c.in_ok-push_str.ensures.bytes ∙ ap (λ (t : List ℕ). string_bytes c.args.text.now ++ t) (sym (printed_plain c.args.field.now none))
 

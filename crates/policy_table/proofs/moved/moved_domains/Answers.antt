@@ -6,8 +6,8 @@ use Rattle.policy_table.proofs.CountedLemmas.{can_count}
 use Rattle.policy_table.proofs.MovedLemmas.{moved_few, moved_more}
 use Rattle.policy_table.proofs.moved.moved_domains.Goals as goal
 
-pub add_moved-requires : goal.add_moved-requires
-add_moved-requires c =
+pub add_moved-requires-clause-few : goal.add_moved-requires-clause-few
+add_moved-requires-clause-few c =
     let front = take c.loop-change.change-index c.args.changes.now in
     can_count (flat_map (moved c.args.way c.args.table) front) c.loop-change.domains c.loop-change.invariant
     (omega (arith, moved_few c.args.way c.args.table front, length-take c.loop-change.change-index c.args.changes.now, c.loop-change-test.true))

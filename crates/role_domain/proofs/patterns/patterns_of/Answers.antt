@@ -4,7 +4,11 @@ use Rattle.std.proofs.lemmas.List.{take_all}
 use Rattle.std.proofs.lemmas.List.Elements.{filter_more}
 use Rattle.policy_table.proofs.CallerLemmas.{next_row, no_more_rows}
 use Rattle.role_domain.specs.Relations.{has_pattern}
+use Rattle.role_domain.proofs.ExactLemmas.{no_patterns}
 use Rattle.role_domain.proofs.patterns.patterns_of.Goals as goal
+
+pub returns-in-Exact : goal.returns-in-Exact
+returns-in-Exact c = no_patterns c.args.fit c.args.rows c.new-found.result.items c.in-Exact.is c.new-found.ensures.items
 
 pub loop-row-init : goal.loop-row-init
 loop-row-init c = (0, search rules, search rules)

@@ -1,24 +1,24 @@
-use Rattle.std.proofs.Common.{arith, subst, sym, if◌then◌else◌, List, ℕ, ◌∷◌}
-use Rattle.policy_table.specs.Helps.Domains.{AreCounted}
+use Rattle.std.proofs.Common.{arith, ap, refl, ◌∙◌, subst, sym, true, List}
+use Rattle.policy_table.specs.Changes.{inserted}
 use Rattle.policy_table.specs.Helps.Rows.{RiseWhere, Rows}
 use Rattle.policy_table.specs.Limits.{domains_of}
-use Rattle.policy_table.proofs.CountedLemmas.{can_count, counted_unless}
+use Rattle.policy_table.specs.Tables.{Fields}
+use Rattle.policy_table.proofs.CountedLemmas.{can_count, counted_pushed}
 use Rattle.policy_table.proofs.counted_table.CountedTable.insert.Goals as goal
 
 pub insert-requires : goal.insert-requires
 insert-requires c = subst (λ (r : Rows). RiseWhere c.args.ranked r.rules) (sym c.self.view_is) c.requires
 
-pub insert-requires-2 : goal.insert-requires-2
-insert-requires-2 c = subst (λ (r : Rows). RiseWhere c.args.ranked r.rules) (sym c.self.view_is) c.requires
+pub add-requires : goal.add-requires
+add-requires c = can_count c.self.inside.table.rules _ (c.self.invariant c.if-not-self.false) (omega (arith, c.len-few.ensures.value, c.len-few.ensures.few))
 
-pub add_if-requires-clause-few : goal.add_if-requires-clause-few
-add_if-requires-clause-few c =
-    let rules = c.self.inside.table.rules in
-    λ new. can_count rules _ (c.reserve_if.ensures.counted (domains_of rules) (c.self.invariant c.if-not-self.false)) (omega (arith, c.len-few.ensures.value, c.len-few.ensures.few))
+pub push-requires-clause-rising : goal.push-requires-clause-rising
+push-requires-clause-rising c =
+    subst (λ (rules : List Fields). RiseWhere c.args.ranked rules) (sym c.reserve.ensures.rules)
+    (subst (λ (r : Rows). RiseWhere c.args.ranked r.rules) (sym c.self.view_is) c.requires)
 
 pub invariant_of-self-2 : goal.invariant_of-self-2
 invariant_of-self-2 c =
     let rules = c.self.inside.table.rules in
-    let are = c.add_if.ensures.counted (domains_of rules) (c.reserve_if.ensures.counted (domains_of rules) (c.self.invariant c.if-not-self.false)) in
-    λ counted. counted_unless c.args.ranked c.in_ok-new.new c.args.rule rules _ _ c.in_ok-new.ensures.inserted c.in_ok-new.ensures.rules
-    (subst (λ (t : List ℕ). AreCounted (if c.in_ok-new.new then t ∷ domains_of rules else domains_of rules) c.add_if.new.self) c.in_ok-domain.ensures are)
+    λ counted. counted_pushed c.args.ranked true c.args.rule c.domain_or.result.now rules _ _ refl c.domain_or.ensures (c.push.ensures.rules ∙ ap (inserted c.args.ranked c.args.rule) c.reserve.ensures.rules)
+    (c.in_ok-add.ensures.counted (domains_of rules) (c.self.invariant counted))

@@ -26,6 +26,6 @@ returns c = λ all rest have.
     rows_next all rest row c.args.self.now (by_text c.insert.new.self.entries) [] c.push-2.new.self
     (rows_nowhere all (row.now ∷ rest) c.domain_of-text.result.now (domain_of row.now) c.args.self.now c.domain_of-text.ensures
     (seen_at c.domain_of-text.result.now c.self.inside.entries.entries c.args.self.now _ c.self.view_is c.in_default.ensures.value) have)
-    (c.in_ok-push-2.ensures.items ∙ ap (λ (l : List (Bor Fields)). l ++ row ∷ []) c.new-first.ensures.items)
+    (c.in_ok-push-2.ensures.items ∙ ap (λ (l : List (Bor Fields)). l ++ row ∷ []) c.in_ok-first.ensures.items)
     (λ name. seen_after (domain_of row.now) c.in_ok-from_slice.field-0.items name c.get_mut.follows.lender-at-none.entries c.insert.new.self.entries c.args.self.now (Some c.push-2.new.self) (ap (λ m. by_text m.entries) c.get_mut.follows.holds-at-none ∙ c.self.view_is) (c.in_ok-from_slice.ensures.items ∙ c.domain_of-text.ensures) c.in_ok-_none.ensures.updates.3 c.in_ok-_none.ensures.updates.1)
     have

@@ -1,7 +1,7 @@
-use Rattle.std.proofs.Common.{ap, sym, subst, ◌∙◌}
-use Rattle.script_read.proofs.ItemLemmas.{said_none, said_spent, taken_off}
-use Rattle.script_read.specs.Helps.Checked.{is_spent}
-use Rattle.script_read.specs.ItemLines.{IsTakenOff, IsBuiltAs, ScriptLines, items_from, said}
+use Rattle.std.proofs.Common.{◌≡◌, ◌+◌, false, ap, sym, subst, ◌∙◌, arith}
+use Rattle.script_read.proofs.ItemLemmas.{asked_checked, asked_taken, said_none, said_spent, taken_off}
+use Rattle.script_read.specs.Helps.Checked.{AreChecked, is_spent}
+use Rattle.script_read.specs.ItemLines.{IsTakenOff, IsBuiltAs, ScriptLines, items_from}
 use Rattle.script_read.proofs.said_lines.ItemLines.next_built.Goals as goal
 
 pub returns-then-is_spent-clause-none : goal.returns-then-is_spent-clause-none
@@ -9,14 +9,31 @@ returns-then-is_spent-clause-none c =
     let none = said_spent c.args.self.now (sym (ap (λ (l : ScriptLines). is_spent l.most) c.self.view_is) ∙ sym c.is_spent.ensures ∙ c.if-is_spent.true) in
     (none, none)
 
-pub returns-in_default-clause-none : goal.returns-in_default-clause-none
-returns-in_default-clause-none c =
-    let none = said_none c.args.self.now (sym (ap (λ (l : ScriptLines). items_from l.json l.number l.text) c.self.view_is) ∙ (rw c.in_default.is at c.in_ok-built.ensures.none)) in
+-- a line that begins with `ask` and a blank
+pub overflow_add-number : goal.overflow_add-number
+overflow_add-number c = omega (arith, c.self.invariant.few, c.in-Some.ensures.shorter)
+
+pub go_on-requires : goal.go_on-requires
+go_on-requires c =
+    subst (λ (l : ScriptLines). AreChecked l.json (c.self.inside.number + 1) c.in-Some.text.now) c.self.view_is (asked_checked c.self.inside.json c.self.inside.number c.self.inside.text.now c.in-Some.line.now c.in-Some.text.now c.in-Some.ensures c.self.invariant)
+
+pub returns-in-Some-clause-some : goal.returns-in-Some-clause-some
+returns-in-Some-clause-some c =
+    let inside : ScriptLines = record { json = c.self.inside.json; number = c.self.inside.number; text = c.self.inside.text.now; most = c.self.inside.most } in
+    asked_taken inside c.args.self.now c.go_on.new.self c.in-Some.line.now c.in-Some.text.now c.behind_ask-line.result.now c.self.view_is (sym c.is_spent.ensures ∙ c.if-is_spent.false) c.go_on.ensures c.in-Some.ensures c.behind_ask-line.ensures
+
+-- another one
+pub returns-in_default-2-clause-none : goal.returns-in_default-2-clause-none
+returns-in_default-2-clause-none c =
+    let none = said_none c.args.self.now (sym (ap (λ (l : ScriptLines). items_from l.json l.number l.text) c.self.view_is) ∙ (rw c.in_default-2.is at c.in_ok-built.ensures.none)) in
     (none, none)
+
+pub go_on-requires-2 : goal.go_on-requires-2
+go_on-requires-2 c = subst (λ (l : ScriptLines). AreChecked l.json c.in-Some-2.number c.in-Some-2.text.now) c.self.view_is (rw c.in-Some-2.is at c.in_ok-built.ensures.rest)
 
 pub returns-clause-some : goal.returns-clause-some
 returns-clause-some c =
-    let old : ScriptLines = record { json = c.self.inside.json; number = c.self.inside.number; text = c.self.inside.text.now; most = c.self.inside.most } in
-    let new : ScriptLines = record { json = c.self.inside.json; number = c.in-Some.number; text = c.in-Some.text.now; most = c.one_less.result } in
-    subst (λ (l : ScriptLines). IsTakenOff (IsBuiltAs c.in-Some.built) (said l) (said new)) c.self.view_is
-    (taken_off (IsBuiltAs c.in-Some.built) old new (sym c.is_spent.ensures ∙ c.if-is_spent.false) c.one_less.ensures (rw c.in-Some.is at c.in_ok-built.ensures.some))
+    taken_off (IsBuiltAs c.in-Some-2.built) c.args.self.now c.go_on-2.new.self c.in-Some-2.number c.in-Some-2.text.now
+    (subst (λ (l : ScriptLines). is_spent l.most ≡ false) c.self.view_is (sym c.is_spent.ensures ∙ c.if-is_spent.false))
+    c.go_on-2.ensures
+    (subst (λ (l : ScriptLines). IsTakenOff (IsBuiltAs c.in-Some-2.built) (items_from l.json l.number l.text) (items_from l.json c.in-Some-2.number c.in-Some-2.text.now)) c.self.view_is (rw c.in-Some-2.is at c.in_ok-built.ensures.some))
