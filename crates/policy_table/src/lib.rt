@@ -14,6 +14,7 @@ mod passed;
 mod patterns;
 mod prepared;
 mod rank;
+mod rank_hints;
 mod ranked_rows;
 mod rows;
 mod rows_after;
