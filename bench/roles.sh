@@ -3,7 +3,7 @@
 # of 1,100, which is walked; what adding and removing a user's row costs with 10 roles and with 1,000 standing; what the roles of a
 # user cost among 1,000 rows and 200,000, and the users of a role, behind the first question; what a request costs over one rule and
 # over 140 that ask about a name with 1,260 roles; and what 200,000 rows of roles take in 1, 100 and 10,000 domains, in time to load
-# and in memory, beside as many rules without roles. Each is a ratio of one run. Usage: bench/roles.sh [QUESTIONS [EDITS]].
+# and in memory, beside as many rules without roles, loaded by turns. Each is a ratio of one run. Usage: bench/roles.sh [QUESTIONS [EDITS]].
 source "$(dirname "${BASH_SOURCE[0]}")/timing.sh"
 questions="${1:-200000}"
 edits="${2:-20000}"
@@ -112,12 +112,44 @@ for rules in 1 140; do
     printf "a request over %3d rules that ask about one name %7.0f us  ratio %.2f\n", rules, ms * 1e3 / 200, ms / first }'
 done
 
-awk 'BEGIN { for (i = 0; i < 200000; i++) printf "p, user%d, dom%d\n", i, i % 100 }' >"$work/policy.csv"
-read -r plain_ms plain_kib <<<"$(measure "$work/empty" enforce "$work/asked.conf" "$work/policy.csv")"
-echo "200000 rules without roles load in $plain_ms ms and $((plain_kib / 1024)) MiB, ratio 1"
+# Loads one policy and another by turns: the milliseconds and the KiB of the other, and how many times those of the first, the medians
+# of eleven turns, so that a host whose speed changes slows both.
+by_turns() {
+  python3 - "$program" "$work/asked.conf" "$@" <<'PYTHON'
+import resource, statistics, subprocess, sys
+program, model, *policies = sys.argv[1:]
+
+
+# The seconds of processor time that a policy takes to load.
+def seconds(policy):
+    before = resource.getrusage(resource.RUSAGE_CHILDREN)
+    subprocess.run([program, "enforce", model, policy], stdin=subprocess.DEVNULL, stdout=subprocess.DEVNULL, check=True)
+    after = resource.getrusage(resource.RUSAGE_CHILDREN)
+    return after.ru_utime + after.ru_stime - before.ru_utime - before.ru_stime
+
+
+# The most memory that any policy loaded so far took, in KiB: the smaller one goes first.
+def kib():
+    return resource.getrusage(resource.RUSAGE_CHILDREN).ru_maxrss
+
+
+first, other = policies
+seconds(first)
+first_kib = kib()
+seconds(other)
+other_kib = kib()
+turns = [(seconds(first), seconds(other)) for _ in range(11)]
+took = statistics.median(turn[1] for turn in turns)
+ratio = statistics.median(turn[1] / turn[0] for turn in turns)
+print(int(took * 1000), other_kib, f"{ratio:.2f} {other_kib / first_kib:.2f}")
+PYTHON
+}
+
+awk 'BEGIN { for (i = 0; i < 200000; i++) printf "p, user%d, dom%d\n", i, i % 100 }' >"$work/plain.csv"
+read -r plain_ms plain_kib <<<"$(measure "$work/empty" enforce "$work/asked.conf" "$work/plain.csv")"
+echo "200000 rules without roles load in $plain_ms ms and $((plain_kib / 1024)) MiB"
 for domains in 1 100 10000; do
   awk -v d="$domains" 'BEGIN { for (i = 0; i < 200000; i++) printf "g, user%d, role%d, dom%d\n", i, int(i / d) % 1000, i % d }' >"$work/policy.csv"
-  read -r ms kib <<<"$(measure "$work/empty" enforce "$work/asked.conf" "$work/policy.csv")"
-  awk -v d="$domains" -v ms="$ms" -v kib="$kib" -v pm="$plain_ms" -v pk="$plain_kib" 'BEGIN {
-    printf "200000 rows of roles in %5d domains load in %6d ms and %5d MiB, ratios %.1f and %.1f\n", d, ms, kib / 1024, ms / pm, kib / pk }'
+  read -r ms kib ratio more <<<"$(by_turns "$work/plain.csv" "$work/policy.csv")"
+  printf '200000 rows of roles in %5d domains load in %6d ms and %5d MiB, ratios %s and %s, by turns\n' "$domains" "$ms" "$((kib / 1024))" "$ratio" "$more"
 done
