@@ -71,13 +71,13 @@ def handed_back():
     """How many lines a second `cat` hands back to a client that waits for each."""
     with subprocess.Popen(["cat"], stdin=subprocess.PIPE, stdout=subprocess.PIPE) as echo:
         write, read = echo.stdin.raw.write, echo.stdout.readline
-        line = b"ask alice, data1, read\n"
+        line, lines = b"ask alice, data1, read\n", max(count // 4, 1)
         begin = time.perf_counter()
-        for _ in range(count // 4):
+        for _ in range(lines):
             write(line)
             if read() != line:
                 sys.exit("cat hands back another line")
-        rate = count // 4 / (time.perf_counter() - begin)
+        rate = lines / (time.perf_counter() - begin)
         echo.stdin.close()
     return rate
 
