@@ -1,7 +1,6 @@
 -- Domains and sections that are copied.
 use Rattle.std.proofs.Common.{◌≡◌, ◌<◌, ◌≤◌, ◌+◌, ℕ, zero, suc, List, [], ◌∷◌, Option, None, Some, length, slice_get, take, refl, sym, ap, subst, ◌∙◌, arith}
 use Rattle.std.specs.List.{IsDistinct}
-use Rattle.std.specs.Global.{Vec}
 use Rattle.std.specs.Map.{keys_of, lookup}
 use Rattle.std.specs.Option.{option_map}
 use Rattle.std.specs.Str.{bytes_eq}
@@ -13,7 +12,7 @@ use Rattle.perm_base.specs.declared.shapes.RoleShape.{RoleShape}
 use Rattle.policy_table.specs.Tables.{Fields}
 use Rattle.role_graph.specs.Groups.{times}
 use Rattle.role_graph.proofs.CopyLemmas.{copied_all, copied_next, key_text, seen}
-use Rattle.role_domain.specs.Domains.{AreDomains, Domains, IsDomain, IsRight, by_text, found}
+use Rattle.role_domain.specs.Domains.{AreDomains, Domains, IsDomain, IsRight, found}
 use Rattle.role_domain.specs.Helps.Copies.{Content, content_of, contents_of}
 use Rattle.role_domain.specs.Relations.{Relation}
 use Rattle.role_domain.specs.Sections.{IsSectionOf, Section, relation_of}
@@ -30,18 +29,18 @@ contents_keys : (entries : List (List ℕ × Domain)) → keys_of (contents_of e
 contents_keys [] = refl
 contents_keys (entry ∷ entries) = ap (λ (l : List (List ℕ)). entry.0 ∷ l) (contents_keys entries)
 
-pub domain_next : (entries : List (List ℕ × Domain)) (old new : List (Vec ℕ × Domain)) (at : ℕ) (key : Vec ℕ) (text : List ℕ) (domain copy : Domain) → IsDistinct bytes_eq (keys_of entries) → at < length entries
-    → slice_get entries at ≡ Some (text, domain) → key.items ≡ text → content_of copy ≡ content_of domain → seen key_text content_of old ≡ take at (contents_of entries)
-    → new ≡ insert_entry (λ (a b : Vec ℕ). bytes_eq a.items b.items) old key copy → seen key_text content_of new ≡ take (at + 1) (contents_of entries)
+pub domain_next : (entries : List (List ℕ × Domain)) (old new : List (List ℕ × Domain)) (at : ℕ) (key : List ℕ) (text : List ℕ) (domain copy : Domain) → IsDistinct bytes_eq (keys_of entries) → at < length entries
+    → slice_get entries at ≡ Some (text, domain) → key ≡ text → content_of copy ≡ content_of domain → seen key_text content_of old ≡ take at (contents_of entries)
+    → new ≡ insert_entry (λ (a b : List ℕ). bytes_eq a b) old key copy → seen key_text content_of new ≡ take (at + 1) (contents_of entries)
 domain_next entries old new at key text domain copy distinct within here named same so_far inserted =
     copied_next key_text content_of (contents_of entries) old new at key copy text (content_of domain) (subst (IsDistinct bytes_eq) (sym (contents_keys entries)) distinct)
     (omega (arith, within, length-map {B = List ℕ × Content} entries (λ (e : List ℕ × Domain). (e.0, content_of e.1)))) (contents_there entries at text domain here) named same so_far inserted
 
-seen_contents : (entries : List (Vec ℕ × Domain)) → contents_of (by_text entries) ≡ seen key_text content_of entries
+seen_contents : (entries : List (List ℕ × Domain)) → contents_of entries ≡ seen key_text content_of entries
 seen_contents [] = refl
-seen_contents (entry ∷ entries) = ap (λ (l : List (List ℕ × Content)). (entry.0.items, content_of entry.1) ∷ l) (seen_contents entries)
+seen_contents (entry ∷ entries) = ap (λ (l : List (List ℕ × Content)). (entry.0, content_of entry.1) ∷ l) (seen_contents entries)
 
-pub domains_all : (entries : List (List ℕ × Domain)) (new : List (Vec ℕ × Domain)) (at : ℕ) → length entries ≤ at → seen key_text content_of new ≡ take at (contents_of entries) → contents_of (by_text new) ≡ contents_of entries
+pub domains_all : (entries : List (List ℕ × Domain)) (new : List (List ℕ × Domain)) (at : ℕ) → length entries ≤ at → seen key_text content_of new ≡ take at (contents_of entries) → contents_of new ≡ contents_of entries
 domains_all entries new at few so_far =
     seen_contents new ∙ copied_all (contents_of entries) (seen key_text content_of new) at (omega (arith, few, length-map {B = List ℕ × Content} entries (λ (e : List ℕ × Domain). (e.0, content_of e.1)))) so_far
 

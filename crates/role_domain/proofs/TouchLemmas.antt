@@ -1,7 +1,6 @@
 -- Touched domains, one after the other: what is to become of them is told, and then made.
 use Rattle.std.proofs.Common.{◌≡◌, ◌<◌, ◌≤◌, ◌+◌, ◌||◌, ℕ, zero, suc, Bool, true, false, List, [], ◌∷◌, ◌++◌, Option, Some, length, take, get_or, refl, sym, ap, subst, ◌∙◌, arith, length-append}
 use Rattle.std.specs.Prelude.{All}
-use Rattle.std.specs.Global.{Vec}
 use Rattle.std.specs.List.{AllByRecursion, IsDistinct, list_any}
 use Rattle.std.specs.Map.{keys_of}
 use Rattle.std.specs.Str.{bytes_eq}
@@ -11,7 +10,7 @@ use Rattle.std.proofs.lemmas.List.{map-append, take_more}
 use Rattle.std.proofs.lemmas.List.Elements.{All-cons, All-head, All-nil, All-push, All-tail}
 use Rattle.std.proofs.lemmas.List.Folds.{list_any_at, list_any_more}
 use Rattle.std.proofs.lemmas.Map.Made.{is_some-lookup}
-use Rattle.role_domain.specs.Domains.{Domains, IsRight, by_text, found}
+use Rattle.role_domain.specs.Domains.{Domains, IsRight, found}
 use Rattle.role_domain.specs.Helps.Tallies.{Tallies, has_text}
 use Rattle.role_domain.specs.Relations.{Relation}
 use Rattle.role_domain.specs.Steps.{AreReady, IsChanged, IsReady, Touched, is_touched}
@@ -26,9 +25,6 @@ abbrev pub Entries : Type 0
 Entries = List (List ℕ × Domain)
 
 -- one text more behind the others
-pub texts_push : {X : Type 0} (entries : List (Vec ℕ × X)) (key : Vec ℕ) (value : X) → by_text (entries ++ (key, value) ∷ []) ≡ by_text entries ++ (key.items, value) ∷ []
-texts_push {X} entries key value = map-append (λ (entry : Vec ℕ × X). (entry.0.items, entry.1)) entries ((key, value) ∷ [])
-
 pub keys_push : {X : Type 0} (entries : List (List ℕ × X)) (text : List ℕ) (value : X) → keys_of (entries ++ (text, value) ∷ []) ≡ keys_of entries ++ text ∷ []
 keys_push {X} entries text value = map-append (λ (entry : List ℕ × X). entry.0) entries ((text, value) ∷ [])
 
@@ -80,19 +76,17 @@ all_ready relation text touched old new none others ready = λ k d within. by (g
     by one differ is = subst (λ (o : Option Domain). IsReady relation one.0 o one.1) (sym (others one.0 differ)) is
 
 -- one more is ready
-pub ready_push : (relation : Relation) (touched : List (Vec ℕ × DomainStep)) (key : Vec ℕ) (text : List ℕ) (step : DomainStep) (entries : Entries) → key.items ≡ text → IsReady relation text (found entries text) step
-    → All (λ (one : List ℕ × DomainStep). IsReady relation one.0 (found entries one.0) one.1) (by_text touched) → All (λ (one : List ℕ × DomainStep). IsReady relation one.0 (found entries one.0) one.1) (by_text (touched ++ (key, step) ∷ []))
+pub ready_push : (relation : Relation) (touched : List (List ℕ × DomainStep)) (key : List ℕ) (text : List ℕ) (step : DomainStep) (entries : Entries) → key ≡ text → IsReady relation text (found entries text) step
+    → All (λ (one : List ℕ × DomainStep). IsReady relation one.0 (found entries one.0) one.1) touched → All (λ (one : List ℕ × DomainStep). IsReady relation one.0 (found entries one.0) one.1) (touched ++ (key, step) ∷ [])
 ready_push relation touched key text step entries same ready all =
-    subst (All (λ (one : List ℕ × DomainStep). IsReady relation one.0 (found entries one.0) one.1)) (sym (texts_push touched key step))
-    (All-push (λ (one : List ℕ × DomainStep). IsReady relation one.0 (found entries one.0) one.1) (by_text touched) (key.items, step) all
-    (subst (λ (t : List ℕ). IsReady relation t (found entries t) step) (sym same) ready))
+    All-push (λ (one : List ℕ × DomainStep). IsReady relation one.0 (found entries one.0) one.1) touched (key, step) all
+    (subst (λ (t : List ℕ). IsReady relation t (found entries t) step) (sym same) ready)
 
 -- the texts up to a place, and one more
-pub texts_next : (touched : List (Vec ℕ × DomainStep)) (key : Vec ℕ) (step : DomainStep) (keys : List (List ℕ)) (at : ℕ) (text : List ℕ) → at < length keys → get_or keys at [] ≡ text → key.items ≡ text → keys_of (by_text touched) ≡ take at keys → keys_of (by_text (touched ++ (key, step) ∷ [])) ≡ take (at + 1) keys
+pub texts_next : (touched : List (List ℕ × DomainStep)) (key : List ℕ) (step : DomainStep) (keys : List (List ℕ)) (at : ℕ) (text : List ℕ) → at < length keys → get_or keys at [] ≡ text → key ≡ text → keys_of touched ≡ take at keys → keys_of (touched ++ (key, step) ∷ []) ≡ take (at + 1) keys
 texts_next touched key step keys at text within is same so_far =
-    ap (λ (l : Touched). keys_of l) (texts_push touched key step)
-    ∙ keys_push (by_text touched) key.items step
-    ∙ ap (λ (l : List (List ℕ)). l ++ key.items ∷ []) so_far
+    keys_push touched key step
+    ∙ ap (λ (l : List (List ℕ)). l ++ key ∷ []) so_far
     ∙ ap (λ (t : List ℕ). take at keys ++ t ∷ []) (same ∙ sym is)
     ∙ sym (take_more keys at [] within)
 

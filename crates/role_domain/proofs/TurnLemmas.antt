@@ -1,21 +1,19 @@
 -- All domains while rows come and go.
 use Rattle.std.proofs.Common.{◌≡◌, ◌≤◌, ℕ, Bool, false, List, [], Option, None, Some, length, refl, sym, ap, subst, ◌∙◌, arith}
 use Rattle.std.specs.Prelude.{All, is_some}
-use Rattle.std.specs.Global.{Vec}
 use Rattle.std.specs.List.{IsDistinct, list_any}
 use Rattle.std.specs.Map.{keys_of}
 use Rattle.std.specs.Option.{option_map_or}
 use Rattle.std.specs.Str.{bytes_eq}
 use Rattle.std.proofs.lemmas.Map.Made.{is_some-lookup}
 use Rattle.policy_table.specs.Tables.{Fields}
-use Rattle.role_domain.specs.Domains.{AreDomains, Domains, IsRight, by_text, found}
+use Rattle.role_domain.specs.Domains.{AreDomains, Domains, IsRight, found}
 use Rattle.role_domain.specs.Helps.Tallies.{Brings, Tallies, has_text, own_at, rows_at}
 use Rattle.role_domain.specs.Helps.Turns.{CanStep, CanTurn, IsTurnOf, Turn, after_of}
 use Rattle.role_domain.specs.Relations.{Relation}
 use Rattle.role_domain.specs.Steps.{AreReady, IsReady}
 use Rattle.role_domain.specs.declared.prepared.DomainStep.{DomainStep}
 use Rattle.role_domain.specs.declared.terms.Terms.{Terms}
-use Rattle.role_domain.proofs.Keyed.{as_many}
 use Rattle.role_domain.proofs.StepLemmas.{untouched}
 use Rattle.role_domain.proofs.TouchLemmas.{Entries}
 use Rattle.role_graph.specs.Groups.{times}
@@ -58,18 +56,18 @@ nothing_there f None d none = refl
 nothing_there f (Some x) d none = absurd cc
 
 -- what is told of the touched domains makes all domains ready
-pub turn_ready : (turn : Turn) (patterns : List Fields) (old between new : Domains) (coming going : Tallies) (touched : List (Vec ℕ × DomainStep)) (count : ℕ)
+pub turn_ready : (turn : Turn) (patterns : List Fields) (old between new : Domains) (coming going : Tallies) (touched : List (List ℕ × DomainStep)) (count : ℕ)
     → ((text : List ℕ) → CanStep turn text (found old.entries text) coming going patterns)
-    → keys_of (by_text touched) ≡ keys_of coming → IsDistinct bytes_eq (keys_of coming)
-    → All (λ (one : List ℕ × DomainStep). IsReady (after_of turn) one.0 (found between.entries one.0) one.1) (by_text touched)
+    → keys_of touched ≡ keys_of coming → IsDistinct bytes_eq (keys_of coming)
+    → All (λ (one : List ℕ × DomainStep). IsReady (after_of turn) one.0 (found between.entries one.0) one.1) touched
     → ((text : List ℕ) → has_text coming text ≡ false → found between.entries text ≡ found old.entries text)
     → ((text : List ℕ) → has_text coming text ≡ false → has_text going text ≡ false)
     → new.entries ≡ between.entries → count ≡ length touched → count ≤ new.spare
-    → AreReady (after_of turn) (by_text touched) new
+    → AreReady (after_of turn) touched new
 turn_ready turn patterns old between new coming going touched count can texts once each others theirs same long room = record {
   once = subst (IsDistinct bytes_eq) (sym texts) once;
-  room = omega (arith, as_many touched, long, room);
-  each = subst (λ (entries : Entries). All (λ (one : List ℕ × DomainStep). IsReady (after_of turn) one.0 (found entries one.0) one.1) (by_text touched)) (sym same) each;
+  room = omega (arith, long, room);
+  each = subst (λ (entries : Entries). All (λ (one : List ℕ × DomainStep). IsReady (after_of turn) one.0 (found entries one.0) one.1) touched) (sym same) each;
   others = λ text none. by text (is_some-lookup (bytes_eq text) coming ∙ ap (list_any (bytes_eq text)) (sym texts) ∙ none);
 }
   where

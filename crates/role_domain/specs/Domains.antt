@@ -5,7 +5,7 @@ use Rattle.policy_table.specs.Tables.{Fields}
 use Rattle.role_domain.specs.Relations.{Relation, Tells, counted, has_pattern, named}
 use Rattle.role_domain.specs.declared.domain.Domain.{Domain}
 use Rattle.role_graph.specs.Groups.{times}
-pub use Rattle.role_graph.specs.Keyed.{by_text, found}
+pub use Rattle.role_graph.specs.Keyed.{found}
 
 -- the domains by their texts, and for how many further ones there is room
 pub record Domains : Type 0 where

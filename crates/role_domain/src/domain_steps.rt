@@ -6,7 +6,7 @@ ghost use Rattle.std.specs.Map.{keys_of};
 ghost use Rattle.std.specs.Str.{bytes_eq};
 ghost use Rattle.policy_table.specs.Tables.{Fields, rows};
 ghost use Rattle.role_meaning.specs.Links.{domain_of};
-ghost use Rattle.role_domain.specs.Domains.{AreDomains, IsDomain, IsRight, by_text, found};
+ghost use Rattle.role_domain.specs.Domains.{AreDomains, IsDomain, IsRight, found};
 ghost use Rattle.role_domain.specs.Helps.Tallies.{Brings, Tallies, has_text, own_at, rows_at};
 ghost use Rattle.role_domain.specs.Helps.Turns.{CanStep, CanTurn, IsTurnOf, Turn, after_of, first_turn};
 ghost use Rattle.role_domain.specs.Relations.{Relation, Tells, pair_of};
@@ -17,12 +17,13 @@ use crate::domains::Domains;
 use crate::own_rows::rows_by_domain;
 use crate::patterns::fitting;
 use crate::prepared::DomainStep;
-use crate::rows::domain_of;
+use crate::rows::{domain_of, domain_text};
 use crate::tallies::Tallies;
 use crate::terms::Terms;
 use outside::NoMemory;
 use perm_base::{Fit, Rule, TableId, is_pattern};
 use policy_table::Tables;
+use role_graph::Name;
 use role_meaning::{fits, links_are_decided};
 use std::alloc::Global;
 
@@ -45,7 +46,7 @@ impl Domains {
         let mut owned = rows_by_domain(alloc, tables.rows(table))?;
         self.reserve(owned.len())?;
         while let Some((text, own)) = owned.pop() {
-            let domain = domain_with(alloc, terms, text.as_slice(), &own, patterns)?;
+            let domain = domain_with(alloc, terms, text.bytes(), &own, patterns)?;
             self.put(text, domain);
         }
         Ok(())
@@ -60,12 +61,12 @@ impl Domains {
         come: &[Rule],
         go: &[Rule],
         patterns: &[Rule],
-    ) -> Result<Vec<(Vec<u8>, DomainStep)>, NoMemory>
+    ) -> Result<Vec<(Name, DomainStep)>, NoMemory>
         requires { (turn : Turn) × IsTurnOf turn terms come.now go.now
             × CanTurn turn self.old patterns.now }
         ensures ready { IfOk result (λ touched. (turn : Turn) → IsTurnOf turn terms come.now go.now
             → CanTurn turn self.old patterns.now
-            → AreReady (after_of turn) (by_text touched.items) self.new) }
+            → AreReady (after_of turn) touched.items self.new) }
         ensures kept { (relation : Relation) → AreDomains relation self.old.entries
             → AreDomains relation self.new.entries }
     {
@@ -85,17 +86,17 @@ impl Domains {
         coming: &Tallies,
         going: &Tallies,
         patterns: &[Rule],
-    ) -> Result<Vec<(Vec<u8>, DomainStep)>, NoMemory>
+    ) -> Result<Vec<(Name, DomainStep)>, NoMemory>
         requires { (turn : Turn) × (turn.terms ≡ terms) × ((text : List ℕ)
             → CanStep turn text (found self.old.entries text) coming.now going.now patterns.now) }
         ensures texts { IfOk result (λ touched.
-            keys_of (by_text touched.items) ≡ keys_of coming.now) }
+            keys_of touched.items ≡ keys_of coming.now) }
         ensures once { IsDistinct bytes_eq (keys_of coming.now) }
         ensures ready { IfOk result (λ touched. (turn : Turn) → turn.terms ≡ terms
             → ((text : List ℕ) → CanStep turn text (found self.old.entries text) coming.now
             going.now patterns.now)
             → All (λ one. IsReady (after_of turn) one.0 (found self.new.entries one.0) one.1)
-            (by_text touched.items)) }
+            touched.items) }
         ensures others { (text : List ℕ) → has_text coming.now text ≡ false
             → found self.new.entries text ≡ found self.old.entries text }
         ensures right { (relation : Relation) (text : List ℕ)
@@ -106,7 +107,7 @@ impl Domains {
         for at in 0..coming.len() {
             let text = coming.text_at(at);
             let step = self.step(alloc, terms, text, coming, going, patterns)?;
-            touched.push((Vec::from_slice(alloc, text)?, step))?;
+            touched.push((coming.name_at(at).copy(alloc)?, step))?;
         }
         Ok(touched)
     }
@@ -228,9 +229,9 @@ fn add(
         tallies.new) }
 {
     links_are_decided();
-    let text = domain_of(row);
+    let text = domain_text(row);
     tallies.count(alloc, text)?;
-    if is_pattern(fit, text) {
+    if is_pattern(fit, domain_of(row)) {
         push_fitting(alloc, tallies, fit, domains, row)?;
         return Ok(());
     }
@@ -259,7 +260,7 @@ fn push_fitting(
         if !fits(fit, text, domain_of(row)) {
             continue;
         }
-        tallies.push(alloc, text, row)?;
+        tallies.push(alloc, domains.name_at(at).as_str(), row)?;
     }
     Ok(())
 }

@@ -5,7 +5,7 @@ ghost use Rattle.std.specs.List.{IsDistinct};
 ghost use Rattle.std.specs.Map.{keys_of};
 ghost use Rattle.std.specs.Option.{option_copied};
 ghost use Rattle.std.specs.Str.{bytes_eq};
-ghost use Rattle.role_domain.specs.Domains.{AreDomains, Domains, IsRight, by_text, found};
+ghost use Rattle.role_domain.specs.Domains.{AreDomains, Domains, IsRight, found};
 ghost use Rattle.role_domain.specs.Helps.Copies.{contents_of};
 ghost use Rattle.role_domain.specs.Relations.{Relation};
 ghost use Rattle.role_domain.specs.Steps.{AreReady, IsReady};
@@ -17,13 +17,13 @@ use crate::domain::Domain;
 use crate::prepared::DomainStep;
 use indexmap::IndexMap;
 use outside::{NoMemory, Share};
-use role_graph::NameHash;
+use role_graph::{Name, NameHash};
 use std::alloc::Global;
 use std::marker::Model;
 
 /// The domains by their texts. Contracts see them, and for how many further ones there is room.
 pub(crate) struct Domains {
-    pub(crate) entries: IndexMap<Vec<u8>, Domain, NameHash>,
+    pub(crate) entries: IndexMap<Name, Domain, NameHash>,
 }
 
 // Written out, so that a caller's proof sees one call and not the drop of each field.
@@ -35,12 +35,12 @@ impl Drop for Domains {
 
 impl Model for Domains {
     ghost use Rattle.indexmap.specs.IndexMap.{spare};
-    ghost use Rattle.role_domain.specs.Domains.{Domains as ByText, by_text};
+    ghost use Rattle.role_domain.specs.Domains.{Domains as ByText};
 
     ghost Value = { ByText };
 
     ghost view = { λ d. record {
-      entries = by_text d.entries.entries;
+      entries = d.entries.entries;
       spare = spare d.entries;
     } };
 }
@@ -62,20 +62,20 @@ impl Domains {
         let mut entries = IndexMap::with_capacity_and_hasher(alloc, len, NameHash::new())?;
         for at in 0..len {
             let (text, domain) = self.entry(at);
-            let _none = entries.insert(Vec::from_slice(alloc, text)?, domain.copy(alloc)?)?;
+            let _none = entries.insert(text.copy(alloc)?, domain.copy(alloc)?)?;
         }
         Ok(Domains { entries })
     }
 
     // The text at a place, and its domain.
-    fn entry(&self, at: usize) -> (&[u8], &Domain)
+    fn entry(&self, at: usize) -> (&Name, &Domain)
         requires { at < length self.now.entries }
         ensures { slice_get self.now.entries at ≡ Some (result.0.now, result.1.now) }
     {
         let Some((text, domain)) = self.entries.get_index(at) else {
             unreachable!()
         };
-        (text.as_slice(), domain)
+        (text, domain)
     }
 
     /// The domain of a text. The first one, which is the only one where the relation has none, is found without a hash.
@@ -83,7 +83,7 @@ impl Domains {
         ensures { option_copied result ≡ found self.now.entries text.now }
     {
         if let Some((first, domain)) = self.entries.get_index(0) {
-            if text == first.as_slice() {
+            if text == first.bytes() {
                 return Some(domain);
             }
         }
@@ -103,10 +103,18 @@ impl Domains {
         requires { at < length self.now.entries }
         ensures { result.now ≡ get_or (keys_of self.now.entries) at [] }
     {
-        match self.entries.get_index(at) {
-            Some((text, _)) => text.as_slice(),
-            None => &[],
-        }
+        self.name_at(at).bytes()
+    }
+
+    /// The same as a name.
+    pub(crate) fn name_at(&self, at: usize) -> &Name
+        requires { at < length self.now.entries }
+        ensures { result.now ≡ get_or (keys_of self.now.entries) at [] }
+    {
+        let Some((text, _)) = self.entries.get_index(at) else {
+            unreachable!()
+        };
+        text
     }
 
     /// Makes room for so many further domains.
@@ -118,9 +126,9 @@ impl Domains {
     }
 
     /// Makes of touched domains what is to become of them.
-    pub(crate) fn make(&mut self, mut touched: Vec<(Vec<u8>, DomainStep)>)
-        requires { (relation : Relation) × AreReady relation (by_text touched.items) self.old }
-        ensures { (relation : Relation) → AreReady relation (by_text touched.items) self.old
+    pub(crate) fn make(&mut self, mut touched: Vec<(Name, DomainStep)>)
+        requires { (relation : Relation) × AreReady relation touched.items self.old }
+        ensures { (relation : Relation) → AreReady relation touched.items self.old
             → AreDomains relation self.new.entries }
     {
         while let Some((text, step)) = touched.pop() {
@@ -129,21 +137,21 @@ impl Domains {
     }
 
     // Makes of one domain what is to become of it.
-    fn make_one(&mut self, text: Vec<u8>, step: DomainStep)
+    fn make_one(&mut self, text: Name, step: DomainStep)
         requires ready { (relation : Relation)
-            × IsReady relation text.items (found self.old.entries text.items) step }
+            × IsReady relation text (found self.old.entries text) step }
         requires room { 0 < self.old.spare }
         ensures right { (relation : Relation)
-            → IsReady relation text.items (found self.old.entries text.items) step
-            → IsRight relation text.items (found self.new.entries text.items) }
-        ensures others { (other : List ℕ) → bytes_eq other text.items ≡ false
+            → IsReady relation text (found self.old.entries text) step
+            → IsRight relation text (found self.new.entries text) }
+        ensures others { (other : List ℕ) → bytes_eq other text ≡ false
             → found self.new.entries other ≡ found self.old.entries other }
         ensures spare { self.old.spare ≤ self.new.spare + 1 }
     {
         match step {
-            DomainStep::Gone => self.take(text.as_slice()),
+            DomainStep::Gone => self.take(text.bytes()),
             DomainStep::New(domain) => self.put(text, domain),
-            DomainStep::Changed { own, edit } => self.change(text.as_slice(), own, edit),
+            DomainStep::Changed { own, edit } => self.change(text.bytes(), own, edit),
         }
     }
 
@@ -158,10 +166,10 @@ impl Domains {
     }
 
     /// Gives a text a domain.
-    pub(crate) fn put(&mut self, text: Vec<u8>, domain: Domain)
+    pub(crate) fn put(&mut self, text: Name, domain: Domain)
         requires { 0 < self.old.spare }
-        ensures there { found self.new.entries text.items ≡ Some domain }
-        ensures others { (other : List ℕ) → bytes_eq other text.items ≡ false
+        ensures there { found self.new.entries text ≡ Some domain }
+        ensures others { (other : List ℕ) → bytes_eq other text ≡ false
             → found self.new.entries other ≡ found self.old.entries other }
         ensures spare { self.old.spare ≤ self.new.spare + 1 }
     {

@@ -6,12 +6,12 @@ ghost use Rattle.policy_table.specs.Tables.{Fields};
 ghost use Rattle.role_domain.specs.Domains.{found};
 ghost use Rattle.role_domain.specs.Helps.OwnRows.{HaveRows};
 
-use crate::rows::domain_of;
+use crate::rows::{domain_of, domain_text};
 use indexmap::IndexMap;
 use outside::NoMemory;
 use perm_base::Rule;
 use policy_table::Rows;
-use role_graph::NameHash;
+use role_graph::{Name, NameHash};
 use std::alloc::Global;
 use std::marker::Model;
 
@@ -21,7 +21,7 @@ const FIRST_ROWS: usize = 16;
 /// Rows as they stand in their table, by the texts of their domains. A row is read where it stands, and not looked up by its
 /// place a second time.
 pub(crate) struct OwnRows<'a> {
-    entries: IndexMap<Vec<u8>, Vec<&'a Rule>, NameHash>,
+    entries: IndexMap<Name, Vec<&'a Rule>, NameHash>,
 }
 
 // Written out, so that a caller's proof sees one call and not the drop of each field.
@@ -32,12 +32,11 @@ impl<'a> Drop for OwnRows<'a> {
 }
 
 impl<'a> Model for OwnRows<'a> {
-    ghost use Rattle.role_domain.specs.Domains.{by_text};
     ghost use Rattle.role_domain.specs.Helps.OwnRows.{Owned};
 
     ghost Value = { Owned };
 
-    ghost view = { λ o. by_text o.entries.entries };
+    ghost view = { λ o. o.entries.entries };
 }
 
 impl<'a> OwnRows<'a> {
@@ -68,17 +67,19 @@ impl<'a> OwnRows<'a> {
         }
         let mut first = Vec::with_capacity(alloc, FIRST_ROWS)?;
         first.push(row)?;
-        let _none = self.entries.insert(Vec::from_slice(alloc, text)?, first)?;
+        let _none = self
+            .entries
+            .insert(Name::from_str(alloc, domain_text(row))?, first)?;
         Ok(())
     }
 
     /// Takes one of the domains out.
-    pub(crate) fn pop(&mut self) -> Option<(Vec<u8>, Vec<&'a Rule>)>
+    pub(crate) fn pop(&mut self) -> Option<(Name, Vec<&'a Rule>)>
         ensures none { IfNone result (self.old ≡ []) }
-        ensures there { IfSome result (λ one. found self.old one.0.items ≡ Some one.1) }
-        ensures gone { IfSome result (λ one. found self.new one.0.items ≡ None) }
+        ensures there { IfSome result (λ one. found self.old one.0 ≡ Some one.1) }
+        ensures gone { IfSome result (λ one. found self.new one.0 ≡ None) }
         ensures others { IfSome result (λ one. (other : List ℕ)
-            → bytes_eq other one.0.items ≡ false → found self.new other ≡ found self.old other) }
+            → bytes_eq other one.0 ≡ false → found self.new other ≡ found self.old other) }
         ensures fewer { IfSome result (λ one. length self.old ≡ length self.new + 1) }
     {
         self.entries.pop()

@@ -1,10 +1,10 @@
 //! Edits of a section that are prepared.
 
 ghost use Rattle.std.specs.Prelude.{◌≡◌};
-ghost use Rattle.role_domain.specs.Domains.{by_text};
 
 use crate::domain::Domain;
 use perm_base::Rule;
+use role_graph::Name;
 use std::marker::Model;
 
 /// What becomes of a domain.
@@ -24,7 +24,7 @@ pub(crate) enum DomainStep {
 /// Edits that `RoleSection::commit` makes. Contracts see what becomes of each domain that they touch,
 /// and the rows with a pattern as their domain afterwards.
 pub struct PreparedSection {
-    touched: Vec<(Vec<u8>, DomainStep)>,
+    touched: Vec<(Name, DomainStep)>,
     patterns: Vec<Rule>,
 }
 
@@ -40,27 +40,26 @@ impl Drop for PreparedSection {
 
 impl Model for PreparedSection {
     ghost use Rattle.role_domain.specs.Sections.{Draft};
-    ghost use Rattle.role_domain.specs.Domains.{by_text};
 
     ghost Value = { Draft };
 
     ghost view = { λ p. record {
-      touched = by_text p.touched.items;
+      touched = p.touched.items;
       patterns = p.patterns.items;
     } };
 }
 
 impl PreparedSection {
-    pub(crate) fn new(touched: Vec<(Vec<u8>, DomainStep)>, patterns: Vec<Rule>) -> PreparedSection
-        ensures touched { result.touched ≡ by_text touched.items }
+    pub(crate) fn new(touched: Vec<(Name, DomainStep)>, patterns: Vec<Rule>) -> PreparedSection
+        ensures touched { result.touched ≡ touched.items }
         ensures patterns { result.patterns ≡ patterns.items }
     {
         PreparedSection { touched, patterns }
     }
 
     /// What becomes of the touched domains, and the rows with a pattern as their domain.
-    pub(crate) fn into_parts(self) -> (Vec<(Vec<u8>, DomainStep)>, Vec<Rule>)
-        ensures touched { by_text result.0.items ≡ self.touched }
+    pub(crate) fn into_parts(self) -> (Vec<(Name, DomainStep)>, Vec<Rule>)
+        ensures touched { result.0.items ≡ self.touched }
         ensures patterns { result.1.items ≡ self.patterns }
     {
         let PreparedSection { touched, patterns } = self;

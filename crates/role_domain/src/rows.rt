@@ -15,6 +15,13 @@ pub(crate) fn domain_of(row: &Rule) -> &[u8]
     if row.len() > 2 { row.field(2) } else { &[] }
 }
 
+/// The same as a text.
+pub(crate) fn domain_text(row: &Rule) -> &str
+    ensures { result.now ≡ domain_of row.now }
+{
+    if row.len() > 2 { row.text(2) } else { "" }
+}
+
 /// The user and the role of a row, as a row of two fields.
 pub(crate) fn pair_of(alloc: Global, row: &Rule) -> Result<Rule, NoMemory>
     requires { 2 ≤ length row.now }

@@ -13,12 +13,13 @@ use crate::tally::Tally;
 use indexmap::IndexMap;
 use outside::NoMemory;
 use perm_base::Rule;
+use role_graph::Name;
 use std::alloc::Global;
 use std::marker::Model;
 
 /// Tallies by the texts of their domains.
 pub(crate) struct Tallies {
-    entries: IndexMap<Vec<u8>, Tally>,
+    entries: IndexMap<Name, Tally>,
 }
 
 // Written out, so that a caller's proof sees one call and not the drop of each field.
@@ -29,12 +30,11 @@ impl Drop for Tallies {
 }
 
 impl Model for Tallies {
-    ghost use Rattle.role_domain.specs.Domains.{by_text};
     ghost use Rattle.role_domain.specs.Helps.Tallies.{Tallies};
 
     ghost Value = { Tallies };
 
-    ghost view = { λ t. by_text t.entries.entries };
+    ghost view = { λ t. t.entries.entries };
 }
 
 impl Tallies {
@@ -59,10 +59,18 @@ impl Tallies {
         requires { at < length self.now }
         ensures { result.now ≡ get_or (keys_of self.now) at [] }
     {
-        match self.entries.get_index(at) {
-            Some((text, _)) => text.as_slice(),
-            None => &[],
-        }
+        self.name_at(at).bytes()
+    }
+
+    /// The same as a name.
+    pub(crate) fn name_at(&self, at: usize) -> &Name
+        requires { at < length self.now }
+        ensures { result.now ≡ get_or (keys_of self.now) at [] }
+    {
+        let Some((text, _)) = self.entries.get_index(at) else {
+            unreachable!()
+        };
+        text
     }
 
     /// How many of the rows have a text as their domain.
@@ -86,32 +94,32 @@ impl Tallies {
     }
 
     /// Makes a text one of those that are touched.
-    pub(crate) fn touch(&mut self, alloc: Global, text: &[u8]) -> Result<(), NoMemory>
+    pub(crate) fn touch(&mut self, alloc: Global, text: &str) -> Result<(), NoMemory>
         ensures texts { OnOk result ((other : List ℕ) → has_text self.new other
             ≡ (bytes_eq other text.now || has_text self.old other)) }
         ensures own { (other : List ℕ) → own_at self.new other ≡ own_at self.old other }
         ensures rows { (other : List ℕ) → rows_at self.new other ≡ rows_at self.old other }
     {
-        if let Some(_there) = self.entries.get(text) {
+        if let Some(_there) = self.entries.get(text.as_bytes()) {
             return Ok(());
         }
         let tally = Tally {
             own: 0,
             rows: Vec::new(alloc),
         };
-        let _none = self.entries.insert(Vec::from_slice(alloc, text)?, tally)?;
+        let _none = self.entries.insert(Name::from_str(alloc, text)?, tally)?;
         Ok(())
     }
 
     /// Counts a row with a text as its domain.
-    pub(crate) fn count(&mut self, alloc: Global, text: &[u8]) -> Result<(), NoMemory>
+    pub(crate) fn count(&mut self, alloc: Global, text: &str) -> Result<(), NoMemory>
         requires { own_at self.old text.now + 1 < 2 ^ 64 }
         ensures own { OnOk result ((other : List ℕ) → own_at self.new other
             ≡ own_at self.old other + (if bytes_eq other text.now then 1 else 0)) }
         ensures rows { (other : List ℕ) → rows_at self.new other ≡ rows_at self.old other }
     {
         self.touch(alloc, text)?;
-        let Some(tally) = self.entries.get_mut(text) else {
+        let Some(tally) = self.entries.get_mut(text.as_bytes()) else {
             unreachable!()
         };
         tally.own += 1;
@@ -119,7 +127,7 @@ impl Tallies {
     }
 
     /// Brings the user and the role of a row to the domain of a text.
-    pub(crate) fn push(&mut self, alloc: Global, text: &[u8], row: &Rule) -> Result<(), NoMemory>
+    pub(crate) fn push(&mut self, alloc: Global, text: &str, row: &Rule) -> Result<(), NoMemory>
         requires { 2 ≤ length row.now }
         ensures own { OnOk result ((other : List ℕ) → own_at self.new other
             ≡ own_at self.old other) }
@@ -129,7 +137,7 @@ impl Tallies {
     {
         self.touch(alloc, text)?;
         let pair = pair_of(alloc, row)?;
-        let Some(tally) = self.entries.get_mut(text) else {
+        let Some(tally) = self.entries.get_mut(text.as_bytes()) else {
             unreachable!()
         };
         tally.rows.push(pair)?;
@@ -146,7 +154,7 @@ impl Tallies {
         ensures rows { (text : List ℕ) → rows_at self.new text ≡ rows_at self.old text }
     {
         for at in 0..others.len() {
-            self.touch(alloc, others.text_at(at))?;
+            self.touch(alloc, others.name_at(at).as_str())?;
         }
         Ok(())
     }

@@ -18,42 +18,42 @@ use Rattle.role_graph.specs.Helps.UserRoles.{Texts}
 use Rattle.role_graph.proofs.ChangeLemmas.{put_pattern, put_text}
 use Rattle.role_graph.proofs.CountLemmas.{rows_both, some_rows, times_linked_all}
 use Rattle.role_graph.proofs.EditLemmas.{count_more, no_other, once, this_role}
-use Rattle.role_graph.proofs.Entries.{Entry, is_user, lookup_roles}
-use Rattle.role_graph.proofs.PutLemmas.{apart_from, overlay_none, others_kept, same_key, same_text}
+use Rattle.role_graph.proofs.Entries.{Entry, lookup_roles}
+use Rattle.role_graph.proofs.PutLemmas.{apart_from, overlay_none, others_kept, same_text}
 
 -- ---- one list of roles is written in its place
 
-all_written : (P : Group → Type 0) (user : List ℕ) (roles : Texts) (entries : List Entry) → P (record { user = user; roles = roles.items }) → All P (map group_of entries) → All P (map group_of (set_value (is_user user) entries roles))
+all_written : (P : Group → Type 0) (user : List ℕ) (roles : Texts) (entries : List Entry) → P (record { user = user; roles = roles.items }) → All P (map group_of entries) → All P (map group_of (set_value (bytes_eq user) entries roles))
 all_written P user roles [] here all = all
 all_written P user roles (entry ∷ entries) here all =
-    by (bytes_eq user entry.0.items) refl (all_written P user roles entries here (All-tail P (group_of entry) (map group_of entries) all))
+    by (bytes_eq user entry.0) refl (all_written P user roles entries here (All-tail P (group_of entry) (map group_of entries) all))
   where
-    by : (test : Bool) → bytes_eq user entry.0.items ≡ test → All P (map group_of (set_value (is_user user) entries roles)) → All P (map group_of (cond test ((entry.0, roles) ∷ entries) (entry ∷ set_value (is_user user) entries roles)))
+    by : (test : Bool) → bytes_eq user entry.0 ≡ test → All P (map group_of (set_value (bytes_eq user) entries roles)) → All P (map group_of (cond test ((entry.0, roles) ∷ entries) (entry ∷ set_value (bytes_eq user) entries roles)))
     by true is rest =
         All-cons P (group_of (entry.0, roles)) (map group_of entries)
-        (subst (λ (name : List ℕ). P (record { user = name; roles = roles.items })) (same_text user entry.0.items is) here)
+        (subst (λ (name : List ℕ). P (record { user = name; roles = roles.items })) (same_text user entry.0 is) here)
         (All-tail P (group_of entry) (map group_of entries) all)
-    by false is rest = All-cons P (group_of entry) (map group_of (set_value (is_user user) entries roles)) (All-head P (group_of entry) (map group_of entries) all) rest
+    by false is rest = All-cons P (group_of entry) (map group_of (set_value (bytes_eq user) entries roles)) (All-head P (group_of entry) (map group_of entries) all) rest
 
 -- a group that is found has some role
-pub found_some : (user : List ℕ) (entries : List Entry) (roles : Texts) → All (λ (group : Group). 0 < length group.roles) (map group_of entries) → Some roles ≡ lookup (is_user user) entries → 0 < length roles.items
+pub found_some : (user : List ℕ) (entries : List Entry) (roles : Texts) → All (λ (group : Group). 0 < length group.roles) (map group_of entries) → Some roles ≡ lookup (bytes_eq user) entries → 0 < length roles.items
 found_some user [] roles all is = absurd cc
 found_some user (entry ∷ entries) roles all is =
-    by (bytes_eq user entry.0.items) is (found_some user entries roles (All-tail (λ (group : Group). 0 < length group.roles) (group_of entry) (map group_of entries) all))
+    by (bytes_eq user entry.0) is (found_some user entries roles (All-tail (λ (group : Group). 0 < length group.roles) (group_of entry) (map group_of entries) all))
   where
-    by : (test : Bool) → Some roles ≡ cond test (Some entry.1) (lookup (is_user user) entries) → (Some roles ≡ lookup (is_user user) entries → 0 < length roles.items) → 0 < length roles.items
+    by : (test : Bool) → Some roles ≡ cond test (Some entry.1) (lookup (bytes_eq user) entries) → (Some roles ≡ lookup (bytes_eq user) entries → 0 < length roles.items) → 0 < length roles.items
     by true here more =
         subst (λ (one : Texts). 0 < length one.items) (sym (same_Some roles entry.1 here)) (All-head (λ (group : Group). 0 < length group.roles) (group_of entry) (map group_of entries) all)
     by false rest more = more rest
 
-pub kept_written : (user : List ℕ) (roles : Texts) (old new : List Entry) → new ≡ set_value (is_user user) old roles → IsDistinct same_key (keys_of new) → 0 < length roles.items → AreKept (map group_of old) → AreKept (map group_of new)
+pub kept_written : (user : List ℕ) (roles : Texts) (old new : List Entry) → new ≡ set_value (bytes_eq user) old roles → IsDistinct bytes_eq (keys_of new) → 0 < length roles.items → AreKept (map group_of old) → AreKept (map group_of new)
 kept_written user roles old new is apart some kept = record {
   once = apart_from new apart;
   some = subst (λ (entries : List Entry). All (λ (group : Group). 0 < length group.roles) (map group_of entries)) (sym is)
       (all_written (λ (group : Group). 0 < length group.roles) user roles old some kept.some);
 }
 
-pub users_written : (P : Group → Type 0) (user : List ℕ) (roles : Texts) (old new : List Entry) (groups : List Group) → map group_of old ≡ groups → new ≡ set_value (is_user user) old roles → P (record { user = user; roles = roles.items }) → All P groups → All P (map group_of new)
+pub users_written : (P : Group → Type 0) (user : List ℕ) (roles : Texts) (old new : List Entry) (groups : List Group) → map group_of old ≡ groups → new ≡ set_value (bytes_eq user) old roles → P (record { user = user; roles = roles.items }) → All P groups → All P (map group_of new)
 users_written P user roles old new groups same_groups is here all =
     subst (λ (entries : List Entry). All P (map group_of entries)) (sym is) (all_written P user roles old here (subst (All P) (sym same_groups) all))
 
@@ -63,7 +63,7 @@ pushed_some before after role is = omega (arith, ap length is, length-append bef
 
 -- ---- the roles of each user afterwards
 
-pub roles_more : (name user role : List ℕ) (old new : List Entry) (after : Texts) (groups : List Group) → map group_of old ≡ groups → KeepsOthers same_key (is_user user) old new → lookup (is_user user) new ≡ Some after → after.items ≡ roles_under user groups ++ role ∷ []
+pub roles_more : (name user role : List ℕ) (old new : List Entry) (after : Texts) (groups : List Group) → map group_of old ≡ groups → KeepsOthers bytes_eq (bytes_eq user) old new → lookup (bytes_eq user) new ≡ Some after → after.items ≡ roles_under user groups ++ role ∷ []
     → roles_under name (map group_of new) ≡ cond (bytes_eq name user) (roles_under user groups ++ role ∷ []) (roles_under name groups)
 roles_more name user role old new after groups same_groups keeps there is = by (bytes_eq name user) refl
   where
@@ -76,7 +76,7 @@ roles_more name user role old new after groups same_groups keeps there is = by (
         ∙ ap (roles_under name) same_groups
 
 -- a user that is there gets a role behind its others
-pub roles_pushed : (user role : List ℕ) (entries : List Entry) (before after : Texts) (groups : List Group) → map group_of entries ≡ groups → Some before ≡ lookup (is_user user) entries → after.items ≡ before.items ++ role ∷ [] → after.items ≡ roles_under user groups ++ role ∷ []
+pub roles_pushed : (user role : List ℕ) (entries : List Entry) (before after : Texts) (groups : List Group) → map group_of entries ≡ groups → Some before ≡ lookup (bytes_eq user) entries → after.items ≡ before.items ++ role ∷ [] → after.items ≡ roles_under user groups ++ role ∷ []
 roles_pushed user role entries before after groups same_groups found is =
     is
     ∙ ap (λ (roles : List (List ℕ)). roles ++ role ∷ [])

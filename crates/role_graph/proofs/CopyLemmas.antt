@@ -1,7 +1,6 @@
 -- Maps by texts that are copied entry by entry, and a graph of copied parts.
 use Rattle.std.proofs.Common.{◌≡◌, ℕ, zero, suc, ◌+◌, ◌<◌, ◌≤◌, Bool, true, false, cond, List, [], ◌∷◌, ◌++◌, Some, None, length, map, take, drop, get_or, slice_get, refl, sym, ap, subst, ◌∙◌, arith}
 use Rattle.std.specs.Prelude.{if◌then◌else◌}
-use Rattle.std.specs.Global.{Vec}
 use Rattle.std.specs.List.{IsDistinct}
 use Rattle.std.specs.Map.{keys_of, lookup}
 use Rattle.std.specs.Str.{bytes_eq}
@@ -21,6 +20,11 @@ use Rattle.role_graph.proofs.Entries.{Entry}
 -- entries by the texts of their keys, each with what is copied of its value
 abbrev pub seen : {K X Y : Type 0} → (K → List ℕ) → (X → Y) → List (K × X) → List (List ℕ × Y)
 seen {K} {X} {Y} key value entries = map (λ (e : K × X). (key e.0, value e.1)) entries
+
+-- entries whose keys are texts, of which nothing is copied
+pub seen_self : {X : Type 0} (entries : List (List ℕ × X)) → seen (λ (k : List ℕ). k) (λ (x : X). x) entries ≡ entries
+seen_self [] = refl
+seen_self {X} (e ∷ entries) = ap (λ (l : List (List ℕ × X)). e ∷ l) (seen_self entries)
 
 -- a text that is not among them goes last
 insert_last : {K X Y : Type 0} (key : K → List ℕ) (value : X → Y) (entries : List (K × X)) (k : K) (x : X) → lookup (bytes_eq (key k)) (seen key value entries) ≡ None
@@ -61,8 +65,8 @@ copied_all all new at few so_far = so_far ∙ take_all at all few
 
 -- ---- groups
 
-abbrev pub key_text : Vec ℕ → List ℕ
-key_text key = key.items
+abbrev pub key_text : List ℕ → List ℕ
+key_text key = key
 
 abbrev pub roles_text : Texts → List (List ℕ)
 roles_text roles = roles.items
@@ -91,8 +95,8 @@ back_seen : (entries : List Entry) → map group_of entries ≡ map group_by (se
 back_seen [] = refl
 back_seen (entry ∷ entries) = ap (λ (l : List Group). group_of entry ∷ l) (back_seen entries)
 
-pub group_copied : (groups : List Group) (old new : List Entry) (at : ℕ) (user : Vec ℕ) (roles : Texts) → IsDistinct bytes_eq (users_of groups) → at < length groups → user.items ≡ (get_or groups at no_group).user
-    → roles.items ≡ (get_or groups at no_group).roles → seen key_text roles_text old ≡ take at (pairs_of groups) → new ≡ insert_entry (λ (a b : Vec ℕ). bytes_eq a.items b.items) old user roles
+pub group_copied : (groups : List Group) (old new : List Entry) (at : ℕ) (user : List ℕ) (roles : Texts) → IsDistinct bytes_eq (users_of groups) → at < length groups → user ≡ (get_or groups at no_group).user
+    → roles.items ≡ (get_or groups at no_group).roles → seen key_text roles_text old ≡ take at (pairs_of groups) → new ≡ insert_entry (λ (a b : List ℕ). bytes_eq a b) old user roles
     → seen key_text roles_text new ≡ take (at + 1) (pairs_of groups)
 group_copied groups old new at user roles distinct within named same so_far inserted =
     copied_next key_text roles_text (pairs_of groups) old new at user roles (get_or groups at no_group).user (get_or groups at no_group).roles (subst (IsDistinct bytes_eq) (sym (keys_pairs groups)) distinct)

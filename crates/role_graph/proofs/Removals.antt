@@ -67,10 +67,10 @@ counted_step rows at user role old new within is more one =
 
 -- a row of a user and a role
 pub user_and_role : (row : Fields) (user role : List ℕ) → length row ≡ 2 → user_of row ≡ user → role_of row ≡ role → row ≡ user ∷ role ∷ []
-user_and_role [] user role two is_user is_role = absurd (omega (arith, two))
-user_and_role (a ∷ []) user role two is_user is_role = absurd (omega (arith, two))
-user_and_role (a ∷ b ∷ []) user role two is_user is_role = ap (λ (u : List ℕ). u ∷ b ∷ []) is_user ∙ ap (λ (r : List ℕ). user ∷ r ∷ []) is_role
-user_and_role (a ∷ b ∷ c ∷ rest) user role two is_user is_role = absurd (omega (arith, two))
+user_and_role [] user role two bytes_eq is_role = absurd (omega (arith, two))
+user_and_role (a ∷ []) user role two bytes_eq is_role = absurd (omega (arith, two))
+user_and_role (a ∷ b ∷ []) user role two bytes_eq is_role = ap (λ (u : List ℕ). u ∷ b ∷ []) bytes_eq ∙ ap (λ (r : List ℕ). user ∷ r ∷ []) is_role
+user_and_role (a ∷ b ∷ c ∷ rest) user role two bytes_eq is_role = absurd (omega (arith, two))
 
 -- ---- runs
 

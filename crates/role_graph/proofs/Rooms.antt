@@ -1,18 +1,15 @@
 -- How many roles there can be after an edit.
-use Rattle.std.proofs.Common.{◌≡◌, ◌⊎◌, inl, inr, ◌≤◌, ◌+◌, ℕ, List, [], ◌∷◌, ◌++◌, length, map, sym, subst, ◌∙◌, arith, length-append}
-use Rattle.std.specs.Global.{Vec}
+use Rattle.std.proofs.Common.{◌≡◌, ◌⊎◌, inl, inr, ◌≤◌, ◌+◌, ℕ, List, [], ◌++◌, length, map, sym, ◌∙◌, arith, length-append}
 use Rattle.std.specs.List.{Contains, IsDistinct}
-use Rattle.std.specs.Str.{IsUtf8, bytes_eq}
+use Rattle.std.specs.Str.{bytes_eq}
 use Rattle.std.proofs.lemmas.Cmp.{nat_list_eq_equiv}
-use Rattle.std.proofs.lemmas.List.{map-append}
-use Rattle.std.proofs.lemmas.List.Elements.{All-append, All-cons, All-nil, Contains-append_left, Contains-append_right}
+use Rattle.std.proofs.lemmas.List.Elements.{Contains-append_left, Contains-append_right}
 use Rattle.std.proofs.lemmas.Map.Made.{length-le_from_is_member}
 use Rattle.policy_table.specs.Limits.{different}
 use Rattle.policy_table.proofs.CallerLemmas.{among_different, distinct_different}
 use Rattle.role_meaning.specs.Links.{role_of}
 use Rattle.role_graph.specs.Graph.{role_count}
 use Rattle.role_graph.specs.Groups.{rows_of}
-use Rattle.role_graph.specs.Helps.Names.{AreTexts, items_of}
 use Rattle.role_graph.specs.Helps.Squares.{AreNodes}
 use Rattle.role_graph.specs.Helps.Walks.{Linked}
 use Rattle.role_graph.proofs.GatherLemmas.{any_stands, stands_any}
@@ -38,16 +35,3 @@ nodes_many linked names nodes =
     let many : length (different roles) ≤ length names + 0 =
     no_longer (different roles) names [] (distinct_different roles) (λ role stands. inl (nodes.all role (stands_any role roles (sym (among_different role roles) ∙ any_stands role (different roles) stands)))) in
     omega (arith, few, many)
-
--- ---- names that are texts
-
-items_more : (keys : List (Vec ℕ)) (key : Vec ℕ) → items_of (keys ++ key ∷ []) ≡ items_of keys ++ key.items ∷ []
-items_more keys key = map-append (λ (one : Vec ℕ). one.items) keys (key ∷ [])
-
-pub texts_same : (old new : List (Vec ℕ)) → new ≡ old → AreTexts (items_of old) → AreTexts (items_of new)
-texts_same old new same are = subst (λ (l : List (Vec ℕ)). AreTexts (items_of l)) (sym same) are
-
-pub texts_more : (old new : List (Vec ℕ)) (key : Vec ℕ) (name : List ℕ) → new ≡ old ++ key ∷ [] → key.items ≡ name → IsUtf8 name → AreTexts (items_of old) → AreTexts (items_of new)
-texts_more old new key name is same utf8 are =
-    subst (λ (l : List (Vec ℕ)). AreTexts (items_of l)) (sym is)
-    (subst AreTexts (sym (items_more old key)) (All-append IsUtf8 (items_of old) (key.items ∷ []) are (subst (λ (n : List ℕ). AreTexts (n ∷ [])) (sym same) (All-cons IsUtf8 name [] utf8 (All-nil IsUtf8)))))

@@ -1,19 +1,17 @@
 -- How often roles are counted.
 use Rattle.std.proofs.Common.{◌≡◌, ◌⊎◌, inl, inr, ℕ, ◌+◌, ◌<◌, ◌≤◌, Bool, true, false, cond, List, [], ◌∷◌, ◌++◌, length, map, take, drop, get_or, Option, None, Some, append-nil, refl, sym, ap, subst, ◌∙◌, arith, take-append-drop}
 use Rattle.std.specs.Prelude.{is_some, unwrap_or}
-use Rattle.std.specs.Global.{Vec}
 use Rattle.std.specs.List.{count_by}
 use Rattle.std.specs.Map.{keys_of}
 use Rattle.std.specs.Str.{bytes_eq}
+use Rattle.perm_base.specs.LineEnds.{has_line_end}
 use Rattle.std.proofs.lemmas.List.{drop_more, length-map, map-append}
 use Rattle.std.proofs.lemmas.List.Sums.{sum_by-append, sum_by-cons}
 use Rattle.std.proofs.lemmas.Slice.Eq.{bytes_eq-Decides}
 use Rattle.indexmap.specs.IndexMap.{IndexMap, get, insert_entry}
 use Rattle.indexmap.proofs.CallerLemmas.{insert_entry-new, keys-insert_entry-present}
-use Rattle.role_graph.specs.Helps.Names.{items_of}
-use Rattle.role_graph.specs.Helps.Roles.{Counted, HasNames, HasNoZero, IsName, count_of, number_in}
-use Rattle.role_graph.specs.Keyed.{by_text, found}
-use Rattle.role_graph.proofs.PutLemmas.{same_key}
+use Rattle.role_graph.specs.Helps.Roles.{Counted, HasNames, HasNoZero, count_of, number_in}
+use Rattle.role_graph.specs.Keyed.{found}
 use Rattle.role_graph.proofs.EditLemmas.{once}
 
 -- one role more is counted
@@ -38,44 +36,24 @@ number_found entries role there is = ap (λ (o : Option ℕ). unwrap_or o 0) is
 
 -- ---- the places of roles
 
-keys_by_text : (entries : List (Vec ℕ × ℕ)) → keys_of (by_text entries) ≡ items_of (keys_of entries)
-keys_by_text [] = refl
-keys_by_text (entry ∷ entries) = ap (λ (l : List (List ℕ)). entry.0.items ∷ l) (keys_by_text entries)
-
--- the same keys in a map
-pub same_places : (old new : List (Vec ℕ × ℕ)) → keys_of new ≡ keys_of old → keys_of (by_text new) ≡ keys_of (by_text old)
-same_places old new same = keys_by_text new ∙ ap items_of same ∙ sym (keys_by_text old)
-
 -- a key that is put in keeps its place, or gets the last one
-pub more_places : {S : Type 0} (map : IndexMap (Vec ℕ) ℕ S) (role : Vec ℕ) (count : ℕ) (new : List (Vec ℕ × ℕ)) → new ≡ insert_entry same_key map.entries role count → (more : List (List ℕ)) × (keys_of (by_text new) ≡ keys_of (by_text map.entries) ++ more)
-more_places map role count new is = by (get same_key map role) refl
+pub more_places : {S : Type 0} (map : IndexMap (List ℕ) ℕ S) (role : List ℕ) (count : ℕ) (new : List (List ℕ × ℕ)) → new ≡ insert_entry bytes_eq map.entries role count → (more : List (List ℕ)) × (keys_of new ≡ keys_of map.entries ++ more)
+more_places map role count new is = by (get bytes_eq map role) refl
   where
-    by : (there : Option ℕ) → get same_key map role ≡ there → (more : List (List ℕ)) × (keys_of (by_text new) ≡ keys_of (by_text map.entries) ++ more)
+    by : (there : Option ℕ) → get bytes_eq map role ≡ there → (more : List (List ℕ)) × (keys_of new ≡ keys_of map.entries ++ more)
     by None none = (
-      role.items ∷ [],
-      ap (λ (l : List (Vec ℕ × ℕ)). keys_of (by_text l)) (is ∙ insert_entry-new same_key map role count none) ∙ keys_by_text (map.entries ++ (role, count) ∷ [])
-          ∙ ap items_of (map-append (λ (e : Vec ℕ × ℕ). e.0) map.entries ((role, count) ∷ [])) ∙ map-append (λ (k : Vec ℕ). k.items) (keys_of map.entries) (role ∷ [])
-          ∙ ap (λ (l : List (List ℕ)). l ++ role.items ∷ []) (sym (keys_by_text map.entries)),
+      role ∷ [],
+      ap (λ (l : List (List ℕ × ℕ)). keys_of l) (is ∙ insert_entry-new bytes_eq map role count none) ∙ map-append (λ (e : List ℕ × ℕ). e.0) map.entries ((role, count) ∷ []),
     )
     by (Some old) there = (
       [],
-      same_places map.entries new (ap keys_of is ∙ keys-insert_entry-present same_key map role count (ap (λ (o : Option ℕ). is_some o) there)) ∙ sym (append-nil (keys_of (by_text map.entries))),
+      ap keys_of is ∙ keys-insert_entry-present bytes_eq map role count (ap (λ (o : Option ℕ). is_some o) there) ∙ sym (append-nil (keys_of map.entries)),
     )
 
 -- one that is taken out leaves fewer
-pub fewer_places : (old new : List (Vec ℕ × ℕ)) (gone : Option ℕ) → unwrap_or gone 0 ≡ 1 → length new + cond (is_some gone) 1 0 ≡ length old → length (keys_of (by_text new)) < length (keys_of (by_text old))
+pub fewer_places : (old new : List (List ℕ × ℕ)) (gone : Option ℕ) → unwrap_or gone 0 ≡ 1 → length new + cond (is_some gone) 1 0 ≡ length old → length (keys_of new) < length (keys_of old)
 fewer_places old new None none less = absurd (omega (arith, none))
-fewer_places old new (Some count) one less =
-    omega (
-      arith,
-      less,
-      ap (λ (l : List (List ℕ)). length l) (keys_by_text new),
-      ap (λ (l : List (List ℕ)). length l) (keys_by_text old),
-      length-map (keys_of new) (λ (k : Vec ℕ). k.items),
-      length-map (keys_of old) (λ (k : Vec ℕ). k.items),
-      length-map new (λ (e : Vec ℕ × ℕ). e.0),
-      length-map old (λ (e : Vec ℕ × ℕ). e.0),
-    )
+fewer_places old new (Some count) one less = omega (arith, less, length-map new (λ (e : List ℕ × ℕ). e.0), length-map old (λ (e : List ℕ × ℕ). e.0))
 
 -- roles that were taken out one after the other
 pub places_on : (first mid last : List (List ℕ)) → (mid ≡ first) ⊎ (length mid < length first) → (last ≡ mid) ⊎ (length last < length mid) → (last ≡ first) ⊎ (length last < length first)
@@ -119,10 +97,10 @@ still_some role left start new some updates none = λ name zero. by name (sym (u
     by name zero false is = none name (sym (ap (λ (b : Bool). cond b left (found start name)) is) ∙ zero)
 
 -- one role more is a name
-pub more_names : (role : List ℕ) (count : ℕ) (start new : List (List ℕ × ℕ)) → IsName role → ((q : List ℕ) → found new q ≡ cond (bytes_eq q role) (Some count) (found start q)) → HasNames start → HasNames new
+pub more_names : (role : List ℕ) (count : ℕ) (start new : List (List ℕ × ℕ)) → has_line_end role ≡ false → ((q : List ℕ) → found new q ≡ cond (bytes_eq q role) (Some count) (found start q)) → HasNames start → HasNames new
 more_names role count start new is_name updates names = λ name some. by name some (bytes_eq name role) refl
   where
-    by : (name : List ℕ) → 1 ≤ number_in new name → (test : Bool) → bytes_eq name role ≡ test → IsName name
-    by name some true is = subst IsName (sym ((bytes_eq-Decides name role).0 is)) is_name
+    by : (name : List ℕ) → 1 ≤ number_in new name → (test : Bool) → bytes_eq name role ≡ test → has_line_end name ≡ false
+    by name some true is = subst (λ (n : List ℕ). has_line_end n ≡ false) (sym ((bytes_eq-Decides name role).0 is)) is_name
     by name some false is =
         names name (let here : number_in new name ≡ number_in start name = ap (λ (o : Option ℕ). unwrap_or o 0) (updates name ∙ ap (λ (b : Bool). cond b (Some count) (found start name)) is) in omega (arith, here))

@@ -114,8 +114,8 @@ impl GraphBuilder {
         ensures names { self.new.names ≡ self.old.names }
         ensures limit { self.new.limit ≡ self.old.limit }
     {
-        self.links.add(alloc, rule.field(0), rule.text(1))?;
-        self.roles.add_text(alloc, rule.field(1))?;
+        self.links.add(alloc, rule.text(0), rule.text(1))?;
+        self.roles.add_text(alloc, rule.text(1))?;
         self.count += 1;
         Ok(())
     }

@@ -10,6 +10,7 @@ ghost use Rattle.role_graph.specs.Helps.Roles.{count_of};
 ghost use Rattle.role_graph.specs.Helps.Walks.{no_group};
 
 use crate::link_groups::LinkGroups;
+use crate::name::Name;
 use crate::role_texts::RoleTexts;
 use crate::roles::Roles;
 use indexmap::IndexMap;
@@ -20,7 +21,7 @@ use std::marker::Model;
 
 /// The users whose rows change. Contracts see them, each with the roles that it has afterwards.
 pub(crate) struct Edits {
-    entries: IndexMap<Vec<u8>, RoleTexts>,
+    entries: IndexMap<Name, RoleTexts>,
 }
 
 // Written out, so that a caller's proof sees one call and not the drop of each field.
@@ -65,7 +66,7 @@ impl Edits {
         ensures { result.now ≡ (get_or self.now place no_group).user }
     {
         match self.entries.get_index(place) {
-            Some((user, _)) => user.as_slice(),
+            Some((user, _)) => user.bytes(),
             None => &[],
         }
     }
@@ -76,10 +77,10 @@ impl Edits {
     }
 
     /// The last user and its roles afterwards.
-    pub(crate) fn pop(&mut self) -> Option<(Vec<u8>, RoleTexts)>
+    pub(crate) fn pop(&mut self) -> Option<(Name, RoleTexts)>
         ensures none { IfNone result (self.old ≡ []) }
         ensures some { IfSome result (λ r. self.old
-            ≡ self.new ++ record { user = r.0.items; roles = r.1.items } ∷ []) }
+            ≡ self.new ++ record { user = r.0; roles = r.1.items } ∷ []) }
     {
         self.entries.pop()
     }
@@ -97,7 +98,7 @@ impl Edits {
     {
         let mut roles = self.take(links, alloc, rule.field(0))?;
         roles.push(Text::from_str(alloc, rule.text(1))?)?;
-        self.put(Vec::from_slice(alloc, rule.field(0))?, roles)
+        self.put(Name::from_str(alloc, rule.text(0))?, roles)
     }
 
     /// Takes rows of a user out that stand, given the graph that is edited: each as often as its role is counted. Its time is
@@ -106,7 +107,7 @@ impl Edits {
         &mut self,
         links: &LinkGroups,
         alloc: Global,
-        user: &[u8],
+        user: &str,
         gone: Roles,
     ) -> Result<(), NoMemory>
         requires { (role : List ℕ) → count_of gone role
@@ -114,9 +115,9 @@ impl Edits {
         ensures { OnOk result ((one : Fields) → standing links.now self.new one
             + counted_rows user.now gone one ≡ standing links.now self.old one) }
     {
-        let mut roles = self.take(links, alloc, user)?;
+        let mut roles = self.take(links, alloc, user.as_bytes())?;
         take_out(&mut roles, gone);
-        self.put(Vec::from_slice(alloc, user)?, roles)
+        self.put(Name::from_str(alloc, user)?, roles)
     }
 
     // Takes a user out, and gives the roles that it has so far.
@@ -139,9 +140,9 @@ impl Edits {
     }
 
     // Gives a user, which stands nowhere, these roles.
-    fn put(&mut self, user: Vec<u8>, roles: Vec<Text>) -> Result<(), NoMemory>
+    fn put(&mut self, user: Name, roles: Vec<Text>) -> Result<(), NoMemory>
         ensures { OnOk result ((name : List ℕ) (base : List (List ℕ)) → overlay self.new base name
-            ≡ (if bytes_eq name user.items then roles.items else overlay self.old base name)) }
+            ≡ (if bytes_eq name user then roles.items else overlay self.old base name)) }
     {
         self.entries.insert(user, RoleTexts::from_vec(roles))?;
         Ok(())

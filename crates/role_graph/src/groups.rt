@@ -7,6 +7,7 @@ ghost use Rattle.role_graph.specs.Groups.{Group};
 ghost use Rattle.role_graph.specs.Helps.Kept.{AreKept, roles_under};
 ghost use Rattle.role_graph.specs.Helps.Walks.{no_group};
 
+use crate::name::Name;
 use crate::name_hash::NameHash;
 use crate::role_texts::RoleTexts;
 use indexmap::IndexMap;
@@ -17,7 +18,7 @@ use std::marker::Model;
 /// Groups with different users, each with some role, in an order of their own. Contracts see the
 /// groups and the room.
 pub(crate) struct Groups {
-    entries: IndexMap<Vec<u8>, RoleTexts, NameHash>,
+    entries: IndexMap<Name, RoleTexts, NameHash>,
 }
 
 // Written out, so that a caller's proof sees one call and not the drop of each field.
@@ -77,10 +78,18 @@ impl Groups {
         requires { group < length self.now.groups }
         ensures { result.now ≡ (get_or self.now.groups group no_group).user }
     {
-        match self.entries.get_index(group) {
-            Some((user, _)) => user.as_slice(),
-            None => &[],
-        }
+        self.name_at(group).bytes()
+    }
+
+    // The same as a name.
+    fn name_at(&self, group: usize) -> &Name
+        requires { group < length self.now.groups }
+        ensures { result.now ≡ (get_or self.now.groups group no_group).user }
+    {
+        let Some((user, _)) = self.entries.get_index(group) else {
+            unreachable!()
+        };
+        user
     }
 
     /// The roles of a group.
@@ -111,7 +120,7 @@ impl Groups {
         let len = self.entries.len();
         let mut entries = IndexMap::with_capacity_and_hasher(alloc, len, NameHash::new())?;
         for at in 0..len {
-            let user = Vec::from_slice(alloc, self.user_at(at))?;
+            let user = self.name_at(at).copy(alloc)?;
             let roles = RoleTexts::copy_of(alloc, self.roles_at(at))?;
             let _none = entries.insert(user, roles)?;
         }
@@ -135,7 +144,7 @@ impl Groups {
     }
 
     /// Gives a user one role more.
-    pub(crate) fn add(&mut self, alloc: Global, user: &[u8], role: Text) -> Result<(), NoMemory>
+    pub(crate) fn add(&mut self, alloc: Global, user: &str, role: Text) -> Result<(), NoMemory>
         ensures roles { OnOk result ((name : List ℕ) → roles_under name self.new.groups
             ≡ (if bytes_eq name user.now then roles_under user.now self.old.groups ++ role ∷ []
             else roles_under name self.old.groups)) }
@@ -145,27 +154,27 @@ impl Groups {
             → All (λ group. test group.user ≡ true) self.new.groups }
         ensures few { length self.new.groups ≤ length self.old.groups + 1 }
     {
-        if let Some(roles) = self.entries.get_mut(user) {
+        if let Some(roles) = self.entries.get_mut(user.as_bytes()) {
             return roles.push(alloc, role);
         }
         let first = RoleTexts::one(role);
-        self.entries.insert(Vec::from_slice(alloc, user)?, first)?;
+        self.entries.insert(Name::from_str(alloc, user)?, first)?;
         Ok(())
     }
 
     /// Gives a user these roles in place of those that it had; a user without roles has no group.
-    pub(crate) fn put(&mut self, user: Vec<u8>, roles: RoleTexts)
+    pub(crate) fn put(&mut self, user: Name, roles: RoleTexts)
         requires { 0 < self.old.spare }
         ensures roles { (name : List ℕ) → roles_under name self.new.groups
-            ≡ (if bytes_eq name user.items then roles.items else roles_under name self.old.groups) }
+            ≡ (if bytes_eq name user then roles.items else roles_under name self.old.groups) }
         ensures kept { AreKept self.new.groups }
-        ensures users { (test : List ℕ → Bool) → test user.items ≡ true
+        ensures users { (test : List ℕ → Bool) → test user ≡ true
             → All (λ group. test group.user ≡ true) self.old.groups
             → All (λ group. test group.user ≡ true) self.new.groups }
         ensures spare { self.old.spare ≤ self.new.spare + 1 }
     {
         if roles.is_empty() {
-            let _gone = self.entries.swap_remove(user.as_slice());
+            let _gone = self.entries.swap_remove(user.bytes());
         } else {
             let _old = self.entries.insert(user, roles).unwrap();
         }

@@ -107,7 +107,7 @@ impl LinkGroups {
     }
 
     /// Adds a row of a user.
-    pub(crate) fn add(&mut self, alloc: Global, user: &[u8], role: &str) -> Result<(), NoMemory>
+    pub(crate) fn add(&mut self, alloc: Global, user: &str, role: &str) -> Result<(), NoMemory>
         requires { length (rows_of (linked_of self.old).groups) < 200000 }
         ensures rows { OnOk result ((one : Fields) → times one (rows_of (linked_of self.new).groups)
             ≡ times one (rows_of (linked_of self.old).groups)
@@ -166,7 +166,7 @@ impl LinkGroups {
         ensures sound { AreLinks self.new.names self.new.plain.groups self.new.patterned.groups }
     {
         while let Some((user, roles)) = edits.pop() {
-            if is_pattern(self.names, user.as_slice()) {
+            if is_pattern(self.names, user.bytes()) {
                 self.patterned.put(user, roles);
             } else {
                 self.plain.put(user, roles);
@@ -375,11 +375,11 @@ pub(crate) fn initial(name: &[u8]) -> u64 {
 }
 
 // Whether a user is a pattern. Where names are compared as they stand none is, and no byte is looked at.
-fn is_patterned(names: Fit, user: &[u8]) -> bool
+fn is_patterned(names: Fit, user: &str) -> bool
     ensures { result ≡ is_pattern names user.now }
 {
     if let Fit::Exact = names {
         return false;
     }
-    is_pattern(names, user)
+    is_pattern(names, user.as_bytes())
 }

@@ -1,15 +1,15 @@
-//! Names as bytes.
+//! Lists of names.
 
 ghost use Rattle.std.specs.Prelude.{◌≡◌, ◌<◌, ◌^◌, ◌++◌, ◌∷◌, [], get_or, IfSome, IfNone, OnOk, length};
-ghost use Rattle.std.specs.Str.{IsUtf8};
 
+use crate::name::Name;
 use outside::NoMemory;
 use std::alloc::Global;
 use std::marker::Model;
 
-/// A list of names, each of which is a text. Contracts see it as a list.
+/// A list of names. Contracts see it as a list.
 pub(crate) struct Names {
-    names: Vec<Vec<u8>>,
+    names: Vec<Name>,
 }
 
 // Written out, so that a caller's proof sees one call and not the drop of each field.
@@ -20,15 +20,11 @@ impl Drop for Names {
 }
 
 impl Model for Names {
-    ghost use Rattle.std.specs.Prelude.{List, ℕ, map};
-    ghost use Rattle.std.specs.Global.{Vec};
-    ghost use Rattle.role_graph.specs.Helps.Names.{AreTexts, items_of};
+    ghost use Rattle.std.specs.Prelude.{List, ℕ};
 
     ghost Value = { List (List ℕ) };
 
-    ghost view = { λ n. items_of n.names.items };
-
-    ghost invariant = { λ n. AreTexts (items_of n.names.items) };
+    ghost view = { λ n. n.names.items };
 }
 
 impl Names {
@@ -49,27 +45,25 @@ impl Names {
     }
 
     /// The name at a place.
-    pub(crate) fn at(&self, at: usize) -> &[u8]
+    pub(crate) fn at(&self, at: usize) -> &Name
         requires { at < length self.now }
         ensures { result.now ≡ get_or self.now at [] }
     {
-        self.names[at].as_slice()
+        &self.names[at]
     }
 
     /// Puts a copy of a text behind the others.
-    pub(crate) fn push(&mut self, alloc: Global, name: &[u8]) -> Result<(), NoMemory>
-        requires { IsUtf8 name.now }
+    pub(crate) fn push(&mut self, alloc: Global, name: &str) -> Result<(), NoMemory>
         ensures { OnOk result (self.new ≡ self.old ++ name.now ∷ []) }
     {
-        self.names.push(Vec::from_slice(alloc, name)?)?;
+        self.names.push(Name::from_str(alloc, name)?)?;
         Ok(())
     }
 
     /// Takes the last name out.
-    pub(crate) fn pop(&mut self) -> Option<Vec<u8>>
+    pub(crate) fn pop(&mut self) -> Option<Name>
         ensures none { IfNone result (self.old ≡ []) }
-        ensures some { IfSome result (λ name. self.old ≡ self.new ++ name.items ∷ []) }
-        ensures utf8 { IfSome result (λ name. IsUtf8 name.items) }
+        ensures some { IfSome result (λ name. self.old ≡ self.new ++ name ∷ []) }
     {
         self.names.pop()
     }

@@ -80,7 +80,7 @@ pub(crate) fn names_of(alloc: Global, rows: &[Rule]) -> Result<Names, NoMemory>
 {
     let mut names = Names::new(alloc);
     for row in rows {
-        names.push(alloc, row.field(1))?;
+        names.push(alloc, row.text(1))?;
     }
     Ok(names)
 }

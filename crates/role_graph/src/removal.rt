@@ -9,6 +9,7 @@ ghost use Rattle.role_meaning.specs.Links.{user_of};
 
 use crate::edits::Edits;
 use crate::link_groups::LinkGroups;
+use crate::name::Name;
 use crate::roles::Roles;
 use outside::NoMemory;
 use perm_base::Rule;
@@ -63,7 +64,7 @@ fn count_run(
     alloc: Global,
     rows: &[Rule],
     from: usize,
-    user: &[u8],
+    user: &str,
     gone: &mut Roles,
 ) -> Result<usize, NoMemory>
     requires from { from < length rows.now }
@@ -87,7 +88,7 @@ fn count_role(
     alloc: Global,
     rows: &[Rule],
     at: usize,
-    _user: &[u8],
+    _user: &str,
     gone: &mut Roles,
 ) -> Result<(), NoMemory>
     requires at { at < length rows.now }
@@ -98,26 +99,26 @@ fn count_role(
         + counted_rows _user.now gone.old one ≡ times one (take at rows.now)
         + counted_rows _user.now gone.new one) }
 {
-    let role = row_at(rows, at).field(1);
+    let role = row_at(rows, at).text(1);
     gone.reserve(1)?;
-    gone.add(Vec::from_slice(alloc, role)?);
+    gone.add(Name::from_str(alloc, role)?);
     Ok(())
 }
 
 // Whether the one text is the other.
-fn is_same(one: &[u8], other: &[u8]) -> bool
+fn is_same(one: &str, other: &str) -> bool
     ensures { result ≡ true → one.now ≡ other.now }
 {
     one == other
 }
 
 // The user of the row at a place.
-fn user_at(rows: &[Rule], at: usize) -> &[u8]
+fn user_at(rows: &[Rule], at: usize) -> &str
     requires at { at < length rows.now }
     requires two { All (λ row. length row ≡ 2) rows.now }
     ensures { result.now ≡ user_of (get_or rows.now at []) }
 {
-    row_at(rows, at).field(0)
+    row_at(rows, at).text(0)
 }
 
 // The row at a place.

@@ -2,21 +2,21 @@
 
 ghost use Rattle.std.specs.Prelude.{◌≡◌, false, true, ◌+◌, ◌++◌, ◌<◌, ◌≤◌, ◌⊎◌, ◌^◌, ◌↔◌, [], List, ℕ, IfNone, IfOk, IfSome, IsOk, IsTrue, OnOk, Some, get_or, if◌then◌else◌, length, slice_get};
 ghost use Rattle.std.specs.List.{Contains, IsDistinct, count_by, list_any};
-ghost use Rattle.std.specs.Str.{IsUtf8, bytes_eq};
+ghost use Rattle.std.specs.Str.{bytes_eq};
 ghost use Rattle.perm_base.specs.LineEnds.{has_line_end};
 ghost use Rattle.role_graph.specs.Helps.Roles.{HasNames, HasNoZero, count_of, nodes_of};
 
+use crate::name::Name;
 use crate::name_hash::NameHash;
 use crate::names::Names;
 use indexmap::IndexMap;
 use outside::{NoMemory, Share, Text};
 use std::alloc::Global;
 use std::marker::Model;
-use std::str;
 
 /// The different roles of rows, each with the number of its rows, at places of their own.
 pub(crate) struct Roles {
-    counts: IndexMap<Vec<u8>, u64, NameHash>,
+    counts: IndexMap<Name, u64, NameHash>,
 }
 
 // Written out, so that a caller's proof sees one call and not the drop of each field.
@@ -28,18 +28,17 @@ impl Drop for Roles {
 
 impl Model for Roles {
     ghost use Rattle.indexmap.specs.IndexMap.{spare};
-    ghost use Rattle.role_graph.specs.Keyed.{by_text};
     ghost use Rattle.role_graph.specs.Helps.Roles.{Counted, HasNames, HasNoZero};
 
     ghost Value = { Counted };
 
     ghost view = { λ r. record {
-      entries = by_text r.counts.entries;
+      entries = r.counts.entries;
       spare = spare r.counts;
     } };
 
-    ghost invariant = { λ r. HasNoZero (by_text r.counts.entries)
-        × HasNames (by_text r.counts.entries) };
+    ghost invariant = { λ r. HasNoZero r.counts.entries
+        × HasNames r.counts.entries };
 }
 
 impl Roles {
@@ -60,20 +59,20 @@ impl Roles {
         let mut counts = IndexMap::with_capacity_and_hasher(alloc, len, NameHash::new())?;
         for at in 0..len {
             let (role, count) = self.entry(at);
-            let _none = counts.insert(Vec::from_slice(alloc, role)?, count)?;
+            let _none = counts.insert(role.copy(alloc)?, count)?;
         }
         Ok(Roles { counts })
     }
 
     // The role at a place, and how often it is counted.
-    fn entry(&self, at: usize) -> (&[u8], u64)
+    fn entry(&self, at: usize) -> (&Name, u64)
         requires { at < length self.now.entries }
         ensures { slice_get self.now.entries at ≡ Some (result.0.now, result.1) }
     {
         let Some((role, count)) = self.counts.get_index(at) else {
             unreachable!()
         };
-        (role.as_slice(), *count)
+        (role, *count)
     }
 
     // How often a role is counted.
@@ -102,10 +101,7 @@ impl Roles {
         requires { node < length (nodes_of self.now) }
         ensures { result.now ≡ get_or (nodes_of self.now) node [] }
     {
-        match self.counts.get_index(node) {
-            Some((name, _)) => name.as_slice(),
-            None => &[],
-        }
+        self.key_at(node).bytes()
     }
 
     /// The role at a place, as a text.
@@ -113,11 +109,18 @@ impl Roles {
         requires { node < length (nodes_of self.now) }
         ensures { result.now ≡ get_or (nodes_of self.now) node [] }
     {
-        let _names = self.len();
-        let Ok(text) = str::from_utf8(self.name_at(node)) else {
+        self.key_at(node).as_str()
+    }
+
+    // The same as a name.
+    fn key_at(&self, node: usize) -> &Name
+        requires { node < length (nodes_of self.now) }
+        ensures { result.now ≡ get_or (nodes_of self.now) node [] }
+    {
+        let Some((name, _)) = self.counts.get_index(node) else {
             unreachable!()
         };
-        text
+        name
     }
 
     /// The place of a role.
@@ -147,36 +150,34 @@ impl Roles {
     }
 
     /// Counts a role once more; a new one gets the last place.
-    pub(crate) fn add(&mut self, role: Vec<u8>)
-        requires few { count_of self.old role.items + 1 < 2 ^ 64 }
-        requires whole_line { has_line_end role.items ≡ false }
-        requires utf8 { IsUtf8 role.items }
+    pub(crate) fn add(&mut self, role: Name)
+        requires few { count_of self.old role + 1 < 2 ^ 64 }
+        requires whole_line { has_line_end role ≡ false }
         requires room { 0 < self.old.spare }
         ensures counted { (name : List ℕ) → count_of self.new name
-            ≡ count_of self.old name + (if bytes_eq name role.items then 1 else 0) }
+            ≡ count_of self.old name + (if bytes_eq name role then 1 else 0) }
         ensures spare { self.old.spare ≤ self.new.spare + 1 }
         ensures places { (more : List (List ℕ))
             × (nodes_of self.new ≡ nodes_of self.old ++ more) }
     {
-        let count = self.count(role.as_slice()) + 1;
+        let count = self.count(role.bytes()) + 1;
         let Ok(_before) = self.counts.insert(role, count) else {
             unreachable!()
         };
     }
 
     /// Counts a role once more; a new one is copied.
-    pub(crate) fn add_text(&mut self, alloc: Global, role: &[u8]) -> Result<(), NoMemory>
+    pub(crate) fn add_text(&mut self, alloc: Global, role: &str) -> Result<(), NoMemory>
         requires few { count_of self.old role.now + 1 < 2 ^ 64 }
         requires whole_line { has_line_end role.now ≡ false }
-        requires utf8 { IsUtf8 role.now }
         ensures { OnOk result ((name : List ℕ) → count_of self.new name
             ≡ count_of self.old name + (if bytes_eq name role.now then 1 else 0)) }
     {
-        if let Some(count) = self.counts.get_mut(role) {
+        if let Some(count) = self.counts.get_mut(role.as_bytes()) {
             *count += 1;
             return Ok(());
         }
-        let _none = self.counts.insert(Vec::from_slice(alloc, role)?, 1)?;
+        let _none = self.counts.insert(Name::from_str(alloc, role)?, 1)?;
         Ok(())
     }
 

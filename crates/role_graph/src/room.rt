@@ -4,6 +4,7 @@ ghost use Rattle.std.specs.Prelude.{◌≡◌, ◌<◌, ◌^◌, IfOk};
 
 use crate::edits::Edits;
 use crate::link_groups::{LinkGroups, initial};
+use crate::name::Name;
 use crate::names::Names;
 use crate::roles::Roles;
 use crate::touched::MOST_NODES;
@@ -93,7 +94,7 @@ fn changed_roles(links: &LinkGroups, roles: &Roles, edits: &Edits) -> usize {
 fn added_users(links: &LinkGroups, edits: &Edits, added: &Names) -> usize {
     let mut count = 0usize;
     for at in 0..added.len() {
-        let name = added.at(at);
+        let name = added.at(at).bytes();
         if links.has_fitting(name) || edits.has_user(name) {
             count = count.saturating_add(1);
         }
@@ -116,12 +117,12 @@ fn count_new(alloc: Global, roles: &Roles, names: &Names) -> Result<usize, NoMem
 fn add_new(
     alloc: Global,
     roles: &Roles,
-    name: &[u8],
-    found: &mut IndexSet<Vec<u8>>,
+    name: &Name,
+    found: &mut IndexSet<Name>,
 ) -> Result<(), NoMemory> {
-    if let Some(_place) = roles.place_of(name) {
+    if let Some(_place) = roles.place_of(name.bytes()) {
         return Ok(());
     }
-    let _new = found.insert(Vec::from_slice(alloc, name)?)?;
+    let _new = found.insert(name.copy(alloc)?)?;
     Ok(())
 }

@@ -2,7 +2,6 @@
 use Rattle.std.specs.Prelude.{◌≡◌, ◌<◌, ◌≤◌, ◌+◌, true, false, ℕ, List, [], ◌∷◌, ◌++◌, map, length, All, if◌then◌else◌}
 use Rattle.std.specs.List.{IsDistinct}
 use Rattle.std.specs.Str.{bytes_eq}
-use Rattle.std.specs.Global.{Vec}
 use Rattle.perm_base.specs.Patterns.{is_pattern}
 use Rattle.perm_base.specs.declared.shapes.Fit.{Fit}
 use Rattle.role_graph.specs.Groups.{Group, rows_of, rows_with}
@@ -20,8 +19,8 @@ abbrev pub users_of : List Group → List (List ℕ)
 users_of groups = map (λ (group : Group). group.user) groups
 
 -- an entry of the map as a group
-abbrev pub group_of : Vec ℕ × Texts → Group
-group_of entry = record { user = entry.0.items; roles = entry.1.items }
+abbrev pub group_of : List ℕ × Texts → Group
+group_of entry = record { user = entry.0; roles = entry.1.items }
 
 -- the users differ
 abbrev pub AreApart : List Group → Type 0

@@ -1,20 +1,11 @@
 -- The roles that a walk gathers at a level.
-use Rattle.std.specs.Prelude.{◌≡◌, ◌≢◌, ◌⊎◌, ◌<◌, ◌++◌, ℕ, Bool, true, false, List, All, map}
+use Rattle.std.specs.Prelude.{◌≡◌, ◌≢◌, ◌⊎◌, ◌<◌, ◌++◌, ℕ, Bool, true, false, List}
 use Rattle.std.specs.Cmp.Lexicographic.{slice_cmp}
-use Rattle.std.specs.Global.{Vec}
 use Rattle.std.specs.List.{Contains, IsDistinct}
 use Rattle.std.specs.Ordering.{is_lt, nat_cmp}
-use Rattle.std.specs.Str.{IsUtf8, bytes_eq}
+use Rattle.std.specs.Str.{bytes_eq}
 use Rattle.role_graph.specs.Helps.Marks.{IsSet}
 use Rattle.role_graph.specs.Helps.Walks.{IsRoleAt, Linked}
-
--- vectors as the lists of their items
-abbrev pub items_of : List (Vec ℕ) → List (List ℕ)
-items_of vectors = map (λ (one : Vec ℕ). one.items) vectors
-
--- each name is a text
-abbrev pub AreTexts : List (List ℕ) → Type 0
-AreTexts names = All IsUtf8 names
 
 -- the one text comes before the other by bytes
 abbrev pub is_before : List ℕ → List ℕ → Bool

@@ -1,7 +1,7 @@
 -- What is kept of the roles of rows: how many rows have each.
 use Rattle.std.specs.Prelude.{◌≡◌, ◌≤◌, false, ℕ, List, Some, unwrap_or}
 use Rattle.std.specs.Map.{keys_of, lookup}
-use Rattle.std.specs.Str.{IsUtf8, bytes_eq}
+use Rattle.std.specs.Str.{bytes_eq}
 use Rattle.perm_base.specs.LineEnds.{has_line_end}
 
 -- each different role with its number, and the room
@@ -20,13 +20,9 @@ count_of counted role = number_in counted.entries role
 abbrev pub nodes_of : Counted → List (List ℕ)
 nodes_of counted = keys_of counted.entries
 
--- each role that is counted is a text without a line end
-pub record IsName (role : List ℕ) : Type 0 where
-  pub whole_line : has_line_end role ≡ false
-  pub utf8 : IsUtf8 role
-
+-- no role that is counted has a line end
 abbrev pub HasNames : List (List ℕ × ℕ) → Type 0
-HasNames entries = (role : List ℕ) → 1 ≤ number_in entries role → IsName role
+HasNames entries = (role : List ℕ) → 1 ≤ number_in entries role → has_line_end role ≡ false
 
 -- no entry stands for a role that is not counted
 abbrev pub HasNoZero : List (List ℕ × ℕ) → Type 0

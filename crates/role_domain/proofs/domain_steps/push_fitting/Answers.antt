@@ -37,7 +37,9 @@ loop-at-preserved c =
           (pair_of c.args.row.now) c.len-at-end.ensures.once within (sym c.text_at-text.ensures)
           (λ same. told_as c.args.fit text test c.domain_of.result.now (domain_of c.args.row.now) c.fits.result tells c.domain_of.ensures
           (subst (λ (t : List ℕ). IsTrue c.fits.result ↔ Fits c.args.fit t c.domain_of.result.now) (sym (same_text text c.text_at-text.result.now same)) c.fits.ensures) ∙ c.if-not-fits.false)
-          (c.in_ok-push.ensures.rows text) (c.loop-at.invariant.rows text test tells);
+          (c.in_ok-push.ensures.rows text
+          ∙ ap (λ (name : List ℕ). if bytes_eq text name then rows_at c.loop-at.tallies text ++ pair_of c.args.row.now ∷ [] else rows_at c.loop-at.tallies text) (c.as_str.ensures ∙ c.name_at.ensures ∙ sym c.text_at-text.ensures))
+          (c.loop-at.invariant.rows text test tells);
     }
 
 pub returns-clause-rows : goal.returns-clause-rows

@@ -21,24 +21,24 @@ loop-text-init c =
 pub domain_with-requires : goal.domain_with-requires
 domain_with-requires c =
     let all : List Fields = rows c.args.tables.now.policy c.args.table in
-    let has : HasRowsAt all [] c.in-Some.text.items (Some c.in-Some.own) =
-    subst (λ there. IsFilling (record { terms = c.args.terms; rows = all }) c.in-Some.text.items there (found c.loop-text.self.entries c.in-Some.text.items)) c.in-Some.ensures.there (c.loop-text.invariant.filling c.in-Some.text.items) in (
+    let has : HasRowsAt all [] c.in-Some.text (Some c.in-Some.own) =
+    subst (λ there. IsFilling (record { terms = c.args.terms; rows = all }) c.in-Some.text there (found c.loop-text.self.entries c.in-Some.text)) c.in-Some.ensures.there (c.loop-text.invariant.filling c.in-Some.text) in (
       all,
-      subst (λ text. CanMake c.args.terms text all (lent c.deref.result.now) c.args.patterns.now) (sym c.as_slice.ensures.value)
-          (subst (λ own. CanMake c.args.terms c.in-Some.text.items all (lent own) c.args.patterns.now) (sym c.deref.ensures.value) (can_make c.args.terms c.in-Some.text.items all c.args.patterns.now c.in-Some.own c.args.self.now has c.requires)),
+      subst (λ text. CanMake c.args.terms text all (lent c.deref.result.now) c.args.patterns.now) (sym c.bytes.ensures)
+          (subst (λ own. CanMake c.args.terms c.in-Some.text all (lent own) c.args.patterns.now) (sym c.deref.ensures.value) (can_make c.args.terms c.in-Some.text all c.args.patterns.now c.in-Some.own c.args.self.now has c.requires)),
     )
 
 pub loop-text-preserved : goal.loop-text-preserved
 loop-text-preserved c =
     let all : List Fields = rows c.args.tables.now.policy c.args.table in
     let relation : Relation = record { terms = c.args.terms; rows = all } in
-    let key : List ℕ = c.in-Some.text.items in
+    let key : List ℕ = c.in-Some.text in
     let has : HasRowsAt all [] key (Some c.in-Some.own) =
     subst (λ there. IsFilling relation key there (found c.loop-text.self.entries key)) c.in-Some.ensures.there (c.loop-text.invariant.filling key) in
-    let can : CanMake c.args.terms c.as_slice.result.now all (lent c.deref.result.now) c.args.patterns.now =
-    subst (λ text. CanMake c.args.terms text all (lent c.deref.result.now) c.args.patterns.now) (sym c.as_slice.ensures.value)
+    let can : CanMake c.args.terms c.bytes.result.now all (lent c.deref.result.now) c.args.patterns.now =
+    subst (λ text. CanMake c.args.terms text all (lent c.deref.result.now) c.args.patterns.now) (sym c.bytes.ensures)
     (subst (λ own. CanMake c.args.terms key all (lent own) c.args.patterns.now) (sym c.deref.ensures.value) (can_make c.args.terms key all c.args.patterns.now c.in-Some.own c.args.self.now has c.requires)) in
-    let right : IsDomain relation key c.in_ok-domain.domain = subst (λ text. IsDomain relation text c.in_ok-domain.domain) c.as_slice.ensures.value (c.in_ok-domain.ensures all can) in
+    let right : IsDomain relation key c.in_ok-domain.domain = subst (λ text. IsDomain relation text c.in_ok-domain.domain) c.bytes.ensures (c.in_ok-domain.ensures all can) in
     record {
       filling = λ text.
           filling_next relation key text (found c.loop-text.owned text) (found c.pop.new.self text) (found c.loop-text.self.entries text) (found c.put.new.self.entries text) c.in_ok-domain.domain right (c.loop-text.invariant.filling text)

@@ -6,7 +6,7 @@ use Rattle.role_domain.proofs.domains.Domains.get.Goals as goal
 
 pub returns-then-eq : goal.returns-then-eq
 returns-then-eq c =
-    first_found c.args.text.now c.self.inside.entries.entries c.args.self.now.entries c.in-Some.first.now c.in-Some.domain.now c.as_slice.result.now (ap (λ (d : Domains). d.entries) c.self.view_is) c.in-Some.ensures.entry c.as_slice.ensures.value (sym c.eq.ensures ∙ c.if-eq.true)
+    first_found c.args.text.now c.self.inside.entries.entries c.args.self.now.entries c.in-Some.first.now c.in-Some.domain.now c.bytes.result.now (ap (λ (d : Domains). d.entries) c.self.view_is) c.in-Some.ensures.entry c.bytes.ensures (sym c.eq.ensures ∙ c.if-eq.true)
 
 pub returns : goal.returns
 returns c = seen_at c.args.text.now c.self.inside.entries.entries c.args.self.now.entries _ (ap (λ (d : Domains). d.entries) c.self.view_is) c.get.ensures.value

@@ -3,8 +3,7 @@ use Rattle.std.specs.List.{IsDistinct}
 use Rattle.std.specs.Map.{keys_of}
 use Rattle.std.specs.Str.{bytes_eq}
 use Rattle.role_domain.specs.Domains.{Domains}
-use Rattle.role_domain.proofs.Keyed.{different_texts}
 use Rattle.role_domain.proofs.domains.Domains.len.Goals as goal
 
 pub returns-clause-once : goal.returns-clause-once
-returns-clause-once c = subst (λ (d : Domains). IsDistinct bytes_eq (keys_of d.entries)) c.self.view_is (different_texts c.self.inside.entries.entries c.len.ensures.unique)
+returns-clause-once c = subst (λ (d : Domains). IsDistinct bytes_eq (keys_of d.entries)) c.self.view_is c.len.ensures.unique

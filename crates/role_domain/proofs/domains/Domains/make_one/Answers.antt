@@ -9,9 +9,9 @@ use Rattle.role_domain.proofs.domains.Domains.make_one.Goals as goal
 
 pub returns-in-Changed-clause-right : goal.returns-in-Changed-clause-right
 returns-in-Changed-clause-right c = λ relation ready.
-    made_right relation c.args.text.items (found c.args.self.now.entries c.args.text.items) (found c.change.new.self.entries c.args.text.items) c.in-Changed.own c.in-Changed.edit
-    (subst (IsReady relation c.args.text.items (found c.args.self.now.entries c.args.text.items)) c.in-Changed.is ready)
+    made_right relation c.args.text (found c.args.self.now.entries c.args.text) (found c.change.new.self.entries c.args.text) c.in-Changed.own c.in-Changed.edit
+    (subst (IsReady relation c.args.text (found c.args.self.now.entries c.args.text)) c.in-Changed.is ready)
     (subst (λ (t : List ℕ). (domain : Domain) → found c.args.self.now.entries t ≡ Some domain
     → (new : Domain) × (found c.change.new.self.entries t ≡ Some new) × (new.own ≡ c.in-Changed.own) × (new.graph.names ≡ domain.graph.names) × (new.graph.limit ≡ domain.graph.limit)
     × ((row : Fields) → times row new.graph.rows ≡ times row (after c.in-Changed.edit.changed domain.graph.rows)))
-    c.as_slice-in-Changed.ensures.value c.change.ensures.there)
+    c.bytes-in-Changed.ensures c.change.ensures.there)

@@ -3,7 +3,6 @@ use Rattle.std.specs.Prelude.{IsSome}
 use Rattle.std.specs.Borrow.{Bor}
 use Rattle.std.specs.Global.{Vec}
 use Rattle.policy_table.specs.Tables.{Fields}
-use Rattle.role_domain.specs.Domains.{by_text}
 use Rattle.role_domain.proofs.Keyed.{seen_after, seen_at}
 use Rattle.role_domain.proofs.OwnLemmas.{rows_next, rows_nowhere, rows_there}
 use Rattle.role_meaning.specs.Links.{domain_of}
@@ -14,7 +13,7 @@ returns-in-Some c = λ all rest have.
     let row : Bor Fields = c.args.row in
     let after : Vec (Bor Fields) = c.push.new.self in
     let wrote = (c.get_mut.follows.holds after).3 (subst IsSome c.in-Some.ensures.value refl) in
-    rows_next all rest row c.args.self.now (by_text (c.get_mut.follows.lender after).entries) c.in-Some.own.now.items after
+    rows_next all rest row c.args.self.now (c.get_mut.follows.lender after).entries c.in-Some.own.now.items after
     (rows_there all (row.now ∷ rest) c.domain_of-text.result.now (domain_of row.now) c.args.self.now c.in-Some.own.now c.domain_of-text.ensures
     (seen_at c.domain_of-text.result.now c.self.inside.entries.entries c.args.self.now _ c.self.view_is c.in-Some.ensures.value) have)
     c.in_ok-push.ensures.items
@@ -23,9 +22,9 @@ returns-in-Some c = λ all rest have.
 pub returns : goal.returns
 returns c = λ all rest have.
     let row : Bor Fields = c.args.row in
-    rows_next all rest row c.args.self.now (by_text c.insert.new.self.entries) [] c.push-2.new.self
+    rows_next all rest row c.args.self.now c.insert.new.self.entries [] c.push-2.new.self
     (rows_nowhere all (row.now ∷ rest) c.domain_of-text.result.now (domain_of row.now) c.args.self.now c.domain_of-text.ensures
     (seen_at c.domain_of-text.result.now c.self.inside.entries.entries c.args.self.now _ c.self.view_is c.in_default.ensures.value) have)
     (c.in_ok-push-2.ensures.items ∙ ap (λ (l : List (Bor Fields)). l ++ row ∷ []) c.in_ok-first.ensures.items)
-    (λ name. seen_after (domain_of row.now) c.in_ok-from_slice.field-0.items name c.get_mut.follows.lender-at-none.entries c.insert.new.self.entries c.args.self.now (Some c.push-2.new.self) (ap (λ m. by_text m.entries) c.get_mut.follows.holds-at-none ∙ c.self.view_is) (c.in_ok-from_slice.ensures.items ∙ c.domain_of-text.ensures) c.in_ok-_none.ensures.updates.3 c.in_ok-_none.ensures.updates.1)
+    (λ name. seen_after (domain_of row.now) c.in_ok-from_str.field-0 name c.get_mut.follows.lender-at-none.entries c.insert.new.self.entries c.args.self.now (Some c.push-2.new.self) (ap (λ m. m.entries) c.get_mut.follows.holds-at-none ∙ c.self.view_is) (c.in_ok-from_str.ensures ∙ c.domain_text.ensures) c.in_ok-_none.ensures.updates.3 c.in_ok-_none.ensures.updates.1)
     have

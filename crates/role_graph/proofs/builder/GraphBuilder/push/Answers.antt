@@ -15,31 +15,31 @@ pub add-requires : goal.add-requires
 add-requires c = subst (λ (built : Built). length built.rows < 200000) (sym c.self.view_is) c.requires.few
 
 pub add_text-requires-clause-few : goal.add_text-requires-clause-few
-add_text-requires-clause-few c = can_count_more _ c.field-2.result.now (subst IsCounted (sym c.self.view_is) c.requires.counted)
+add_text-requires-clause-few c = can_count_more _ c.text-3.result.now (subst IsCounted (sym c.self.view_is) c.requires.counted)
 
 pub returns-clause-rows : goal.returns-clause-rows
 returns-clause-rows c = λ one.
     let rule : Fields = c.args.rule.now in
-    let user : user_of rule ≡ c.field.result.now = get_or_from_slice_get rule 0 c.field.result.now [] c.field.ensures.value in
-    let role : role_of rule ≡ c.text.result.now = get_or_from_slice_get rule 1 c.text.result.now [] c.text.ensures.value in
-    pushed_pair rule c.field.result.now c.text.result.now (rows_of (linked_of c.self.inside.links).groups) (rows_of (linked_of c.add.new.self).groups) user role c.in_ok-add.ensures.rows one
+    let user : user_of rule ≡ c.text.result.now = get_or_from_slice_get rule 0 c.text.result.now [] c.text.ensures.value in
+    let role : role_of rule ≡ c.text-2.result.now = get_or_from_slice_get rule 1 c.text-2.result.now [] c.text-2.ensures.value in
+    pushed_pair rule c.text.result.now c.text-2.result.now (rows_of (linked_of c.self.inside.links).groups) (rows_of (linked_of c.add.new.self).groups) user role c.in_ok-add.ensures.rows one
     ∙ ap (λ (built : Built). times one built.rows + once (same one (row (user_of rule) (role_of rule)))) c.self.view_is
 
 pub returns-clause-long : goal.returns-clause-long
 returns-clause-long c =
     let rule : Fields = c.args.rule.now in
-    let user : user_of rule ≡ c.field.result.now = get_or_from_slice_get rule 0 c.field.result.now [] c.field.ensures.value in
-    let role : role_of rule ≡ c.text.result.now = get_or_from_slice_get rule 1 c.text.result.now [] c.text.ensures.value in
+    let user : user_of rule ≡ c.text.result.now = get_or_from_slice_get rule 0 c.text.result.now [] c.text.ensures.value in
+    let role : role_of rule ≡ c.text-2.result.now = get_or_from_slice_get rule 1 c.text-2.result.now [] c.text-2.ensures.value in
     pushed_long _ _ (row (user_of rule) (role_of rule))
-    (pushed_pair rule c.field.result.now c.text.result.now (rows_of (linked_of c.self.inside.links).groups) (rows_of (linked_of c.add.new.self).groups) user role c.in_ok-add.ensures.rows)
+    (pushed_pair rule c.text.result.now c.text-2.result.now (rows_of (linked_of c.self.inside.links).groups) (rows_of (linked_of c.add.new.self).groups) user role c.in_ok-add.ensures.rows)
     ∙ ap (λ (built : Built). length built.rows + 1) c.self.view_is
 
 pub returns-clause-counted : goal.returns-clause-counted
 returns-clause-counted c =
     let rule : Fields = c.args.rule.now in
-    let user : user_of rule ≡ c.field.result.now = get_or_from_slice_get rule 0 c.field.result.now [] c.field.ensures.value in
-    let role : role_of rule ≡ c.text.result.now = get_or_from_slice_get rule 1 c.text.result.now [] c.text.ensures.value in
-    let counted : role_of rule ≡ c.field-2.result.now = get_or_from_slice_get rule 1 c.field-2.result.now [] c.field-2.ensures.value in
+    let user : user_of rule ≡ c.text.result.now = get_or_from_slice_get rule 0 c.text.result.now [] c.text.ensures.value in
+    let role : role_of rule ≡ c.text-2.result.now = get_or_from_slice_get rule 1 c.text-2.result.now [] c.text-2.ensures.value in
+    let counted : role_of rule ≡ c.text-3.result.now = get_or_from_slice_get rule 1 c.text-3.result.now [] c.text-3.ensures.value in
     let old : Built = record {
       rows = rows_of (linked_of c.self.inside.links).groups;
       names = c.self.inside.links.names;
@@ -48,5 +48,5 @@ returns-clause-counted c =
       count = c.self.inside.count;
     } in
     pushed_counted old _ (row (user_of rule) (role_of rule)) (subst IsCounted (sym c.self.view_is) c.requires.counted) (subst (λ (built : Built). length built.rows < 200000) (sym c.self.view_is) c.requires.few)
-    (pushed_pair rule c.field.result.now c.text.result.now (rows_of (linked_of c.self.inside.links).groups) (rows_of (linked_of c.add.new.self).groups) user role c.in_ok-add.ensures.rows)
+    (pushed_pair rule c.text.result.now c.text-2.result.now (rows_of (linked_of c.self.inside.links).groups) (rows_of (linked_of c.add.new.self).groups) user role c.in_ok-add.ensures.rows)
     (λ name. c.in_ok-add_text.ensures name ∙ ap (λ (text : List ℕ). count_of c.self.inside.roles name + once (bytes_eq name text)) (sym counted)) refl

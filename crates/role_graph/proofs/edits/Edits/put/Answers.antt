@@ -10,4 +10,4 @@ invariant_of-self-2 c = apart_from c.insert.new.self.entries c.in_ok-insert.ensu
 pub returns : goal.returns
 returns c = λ name base.
     overlay_given name base c.self.inside.entries.entries c.insert.new.self.entries c.args.user c.from_vec.result c.args.self.now c.self.view_is c.in_ok-insert.ensures.entries
-    ∙ ap (λ (roles : List (List ℕ)). cond (bytes_eq name c.args.user.items) roles (overlay c.args.self.now base name)) c.from_vec.ensures
+    ∙ ap (λ (roles : List (List ℕ)). cond (bytes_eq name c.args.user) roles (overlay c.args.self.now base name)) c.from_vec.ensures

@@ -13,7 +13,7 @@ from_vec-requires c =
     record {
       few = omega (arith, few, c.self.invariant.few, ap (λ (graph : Graph). length graph.rows) c.self.view_is);
       whole_lines = implied_whole (shape_of c.args.self.now.names) c.args.self.now.rows c.args.self.now.limit c.args.x.now c.in_ok-names.names.items
-          (λ y stands. (c.len-names.ensures.names y
-          (omega (arith, c.self.invariant.counted y, counted_some y (map role_of (rows_of (linked_of c.self.inside.links).groups)) (subst (λ (graph : Graph). Contains (map role_of graph.rows) y) (sym c.self.view_is) stands)))).whole_line)
+          (λ y stands. c.len-names.ensures.names y
+          (omega (arith, c.self.invariant.counted y, counted_some y (map role_of (rows_of (linked_of c.self.inside.links).groups)) (subst (λ (graph : Graph). Contains (map role_of graph.rows) y) (sym c.self.view_is) stands))))
           c.in_ok-names.ensures;
     }

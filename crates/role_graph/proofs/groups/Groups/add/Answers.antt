@@ -15,8 +15,8 @@ pub invariant_of-self : goal.invariant_of-self
 invariant_of-self c =
     let after : Texts = c.push.new.self in
     let wrote = c.get_mut.follows.holds after in
-    kept_written c.args.user.now after c.self.inside.entries.entries (c.get_mut.follows.lender after).entries wrote.0 wrote.4
-    (omega (arith, found_some c.args.user.now c.self.inside.entries.entries c.in-Some.roles.now c.self.invariant.some c.in-Some.ensures.value, c.push.ensures.longer)) c.self.invariant
+    kept_written c.as_bytes.result.now after c.self.inside.entries.entries (c.get_mut.follows.lender after).entries wrote.0 wrote.4
+    (omega (arith, found_some c.as_bytes.result.now c.self.inside.entries.entries c.in-Some.roles.now c.self.invariant.some c.in-Some.ensures.value, c.push.ensures.longer)) c.self.invariant
 
 pub returns-in-Some-clause-roles : goal.returns-in-Some-clause-roles
 returns-in-Some-clause-roles c =
@@ -25,21 +25,23 @@ returns-in-Some-clause-roles c =
     let groups = ap (λ (k : Kept). k.groups) c.self.view_is in
     on_ok_then c.push.result _ _
     (λ pushed name.
-    roles_more name c.args.user.now c.args.role c.self.inside.entries.entries (c.get_mut.follows.lender after).entries after c.args.self.now.groups groups updates.3 updates.1
-    (roles_pushed c.args.user.now c.args.role c.self.inside.entries.entries c.in-Some.roles.now after c.args.self.now.groups groups c.in-Some.ensures.value pushed))
+    subst (λ (user : List ℕ). roles_under name (map group_of (c.get_mut.follows.lender after).entries) ≡ cond (bytes_eq name user) (roles_under user c.args.self.now.groups ++ c.args.role ∷ []) (roles_under name c.args.self.now.groups)) c.as_bytes.ensures.value
+    (roles_more name c.as_bytes.result.now c.args.role c.self.inside.entries.entries (c.get_mut.follows.lender after).entries after c.args.self.now.groups groups updates.3 updates.1
+    (roles_pushed c.as_bytes.result.now c.args.role c.self.inside.entries.entries c.in-Some.roles.now after c.args.self.now.groups groups c.in-Some.ensures.value pushed)))
     c.push.ensures.pushed
 
 pub returns-in-Some-clause-kept : goal.returns-in-Some-clause-kept
 returns-in-Some-clause-kept c =
     let after : Texts = c.push.new.self in
     let wrote = c.get_mut.follows.holds after in
-    kept_written c.args.user.now after c.self.inside.entries.entries (c.get_mut.follows.lender after).entries wrote.0 wrote.4
-    (omega (arith, found_some c.args.user.now c.self.inside.entries.entries c.in-Some.roles.now c.self.invariant.some c.in-Some.ensures.value, c.push.ensures.longer)) c.self.invariant
+    kept_written c.as_bytes.result.now after c.self.inside.entries.entries (c.get_mut.follows.lender after).entries wrote.0 wrote.4
+    (omega (arith, found_some c.as_bytes.result.now c.self.inside.entries.entries c.in-Some.roles.now c.self.invariant.some c.in-Some.ensures.value, c.push.ensures.longer)) c.self.invariant
 
 pub returns-in-Some-clause-users : goal.returns-in-Some-clause-users
 returns-in-Some-clause-users c = λ test here all.
     let after : Texts = c.push.new.self in
-    users_written (λ (group : Group). test group.user ≡ true) c.args.user.now after c.self.inside.entries.entries (c.get_mut.follows.lender after).entries c.args.self.now.groups (ap (λ (k : Kept). k.groups) c.self.view_is) (c.get_mut.follows.holds after).0 here all
+    users_written (λ (group : Group). test group.user ≡ true) c.as_bytes.result.now after c.self.inside.entries.entries (c.get_mut.follows.lender after).entries c.args.self.now.groups (ap (λ (k : Kept). k.groups) c.self.view_is) (c.get_mut.follows.holds after).0
+    (subst (λ (user : List ℕ). test user ≡ true) (sym c.as_bytes.ensures.value) here) all
 
 pub returns-in-Some-clause-few : goal.returns-in-Some-clause-few
 returns-in-Some-clause-few c =
@@ -49,7 +51,7 @@ returns-in-Some-clause-few c =
 -- the user is new
 pub invariant_of-self-2 : goal.invariant_of-self-2
 invariant_of-self-2 c =
-    kept_inserted c.get_mut.follows.lender-at-none.entries c.insert.new.self.entries c.in_ok-from_slice.field-0 c.one-first.result c.in_ok-insert.ensures.unique c.in_ok-insert.ensures.entries
+    kept_inserted c.get_mut.follows.lender-at-none.entries c.insert.new.self.entries c.in_ok-from_str.field-0 c.one-first.result c.in_ok-insert.ensures.unique c.in_ok-insert.ensures.entries
     (pushed_some [] c.one-first.result.items c.args.role c.one-first.ensures)
     (subst AreKept (ap (λ m. map group_of m.entries) (sym c.get_mut.follows.holds-at-none)) c.self.invariant)
 
@@ -58,24 +60,24 @@ returns-clause-roles c = λ name.
     let old = c.get_mut.follows.lender-at-none.entries in
     let same = ap (λ m. map group_of m.entries) c.get_mut.follows.holds-at-none in
     let groups = same ∙ ap (λ (k : Kept). k.groups) c.self.view_is in
-    let key : c.in_ok-from_slice.field-0.items ≡ c.args.user.now = c.in_ok-from_slice.ensures.items in
+    let key : c.in_ok-from_str.field-0 ≡ c.args.user.now = c.in_ok-from_str.ensures in
     subst (λ (user : List ℕ). roles_under name (map group_of c.insert.new.self.entries) ≡ cond (bytes_eq name user) (roles_under user c.args.self.now.groups ++ c.args.role ∷ []) (roles_under name c.args.self.now.groups)) key
-    (roles_more name c.in_ok-from_slice.field-0.items c.args.role old c.insert.new.self.entries c.one-first.result c.args.self.now.groups groups c.in_ok-insert.ensures.updates.3 c.in_ok-insert.ensures.updates.1
-    (roles_first c.in_ok-from_slice.field-0.items c.args.role c.self.inside.entries.entries c.one-first.result.items c.args.self.now.groups (ap (λ (k : Kept). k.groups) c.self.view_is)
-    (subst (λ (user : List ℕ). [] ≡ roles_under user (map group_of c.self.inside.entries.entries)) (sym key) (roles_nowhere c.args.user.now c.self.inside.entries.entries (sym c.in_default.ensures.value)))
+    (roles_more name c.in_ok-from_str.field-0 c.args.role old c.insert.new.self.entries c.one-first.result c.args.self.now.groups groups c.in_ok-insert.ensures.updates.3 c.in_ok-insert.ensures.updates.1
+    (roles_first c.in_ok-from_str.field-0 c.args.role c.self.inside.entries.entries c.one-first.result.items c.args.self.now.groups (ap (λ (k : Kept). k.groups) c.self.view_is)
+    (subst (λ (user : List ℕ). [] ≡ roles_under user (map group_of c.self.inside.entries.entries)) (c.as_bytes.ensures.value ∙ sym key) (roles_nowhere c.as_bytes.result.now c.self.inside.entries.entries (sym c.in_default.ensures.value)))
     c.one-first.ensures))
 
 pub returns-clause-kept : goal.returns-clause-kept
 returns-clause-kept c =
-    kept_inserted c.get_mut.follows.lender-at-none.entries c.insert.new.self.entries c.in_ok-from_slice.field-0 c.one-first.result c.in_ok-insert.ensures.unique c.in_ok-insert.ensures.entries
+    kept_inserted c.get_mut.follows.lender-at-none.entries c.insert.new.self.entries c.in_ok-from_str.field-0 c.one-first.result c.in_ok-insert.ensures.unique c.in_ok-insert.ensures.entries
     (pushed_some [] c.one-first.result.items c.args.role c.one-first.ensures)
     (subst AreKept (ap (λ m. map group_of m.entries) (sym c.get_mut.follows.holds-at-none)) c.self.invariant)
 
 pub returns-clause-users : goal.returns-clause-users
 returns-clause-users c = λ test here all.
-    users_inserted (λ (group : Group). test group.user ≡ true) c.get_mut.follows.lender-at-none.entries c.insert.new.self.entries c.in_ok-from_slice.field-0 c.one-first.result c.args.self.now.groups
+    users_inserted (λ (group : Group). test group.user ≡ true) c.get_mut.follows.lender-at-none.entries c.insert.new.self.entries c.in_ok-from_str.field-0 c.one-first.result c.args.self.now.groups
     (ap (λ m. map group_of m.entries) c.get_mut.follows.holds-at-none ∙ ap (λ (k : Kept). k.groups) c.self.view_is) c.in_ok-insert.ensures.entries
-    (subst (λ (user : List ℕ). test user ≡ true) (sym c.in_ok-from_slice.ensures.items) here) all
+    (subst (λ (user : List ℕ). test user ≡ true) (sym c.in_ok-from_str.ensures) here) all
 
 pub returns-clause-few : goal.returns-clause-few
 returns-clause-few c =

@@ -8,7 +8,7 @@ pub loop-at-preserved : goal.loop-at-preserved
 loop-at-preserved c =
     group_copied c.args.self.now.groups c.loop-at.entries.entries c.insert.new.self.entries c.loop-at.at c.in_ok-user.user c.in_ok-roles.roles (subst (λ (k : Kept). AreKept k.groups) c.self.view_is c.self.invariant).once
     (omega (arith, c.loop-at-test.true, c.len-len.ensures.len, length-map c.self.inside.entries.entries group_of, ap (λ (k : Kept). length k.groups) c.self.view_is))
-    (c.in_ok-user.ensures.items ∙ c.user_at.ensures) (c.in_ok-roles.ensures ∙ c.roles_at.ensures) c.loop-at.invariant c.in_ok-_none.ensures.entries
+    (c.in_ok-user.ensures ∙ c.name_at.ensures) (c.in_ok-roles.ensures ∙ c.roles_at.ensures) c.loop-at.invariant c.in_ok-_none.ensures.entries
 
 pub returns : goal.returns
 returns c =

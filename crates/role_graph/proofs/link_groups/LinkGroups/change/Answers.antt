@@ -8,15 +8,15 @@ use Rattle.role_graph.proofs.link_groups.LinkGroups.change.Goals as goal
 pub loop-user-preserved-then-is_pattern : goal.loop-user-preserved-then-is_pattern
 loop-user-preserved-then-is_pattern c =
     changing_pattern c.args.self.now c.args.edits c.loop-user.edits c.pop.new.self c.loop-user.self-inside.names c.loop-user.self-inside.plain c.loop-user.self-inside.patterned c.put.new.self
-    (record { user = c.in-Some.user.items; roles = c.in-Some.roles.items }) c.in-Some.ensures.some
-    (sym (c.is_pattern.ensures ∙ ap (is_pattern c.loop-user.self-inside.names) c.as_slice.ensures.value) ∙ c.if-is_pattern.true)
+    (record { user = c.in-Some.user; roles = c.in-Some.roles.items }) c.in-Some.ensures.some
+    (sym (c.is_pattern.ensures ∙ ap (is_pattern c.loop-user.self-inside.names) c.bytes.ensures) ∙ c.if-is_pattern.true)
     c.put.ensures.roles c.put.ensures.users c.put.ensures.kept c.put.ensures.spare c.loop-user.invariant
 
 pub loop-user-preserved : goal.loop-user-preserved
 loop-user-preserved c =
     changing_text c.args.self.now c.args.edits c.loop-user.edits c.pop.new.self c.loop-user.self-inside.names c.loop-user.self-inside.plain c.put-else-is_pattern.new.self c.loop-user.self-inside.patterned
-    (record { user = c.in-Some.user.items; roles = c.in-Some.roles.items }) c.in-Some.ensures.some
-    (sym (c.is_pattern.ensures ∙ ap (is_pattern c.loop-user.self-inside.names) c.as_slice.ensures.value) ∙ c.if-is_pattern.false)
+    (record { user = c.in-Some.user; roles = c.in-Some.roles.items }) c.in-Some.ensures.some
+    (sym (c.is_pattern.ensures ∙ ap (is_pattern c.loop-user.self-inside.names) c.bytes.ensures) ∙ c.if-is_pattern.false)
     c.put-else-is_pattern.ensures.roles c.put-else-is_pattern.ensures.users c.put-else-is_pattern.ensures.kept c.put-else-is_pattern.ensures.spare c.loop-user.invariant
 
 pub invariant_of-self : goal.invariant_of-self

@@ -3,7 +3,7 @@ use Rattle.std.specs.Prelude.{IfNone, IfSome}
 use Rattle.std.specs.List.{Contains, IsDistinct}
 use Rattle.std.specs.Str.{bytes_eq}
 use Rattle.role_graph.specs.Helps.Roles.{Counted, nodes_of}
-use Rattle.role_graph.proofs.Keyed.{different_texts, place_nowhere, place_there}
+use Rattle.role_graph.proofs.Keyed.{place_nowhere, place_there}
 use Rattle.role_graph.proofs.roles.Roles.place_of.Goals as goal
 
 pub returns-clause-found : goal.returns-clause-found
@@ -17,4 +17,4 @@ returns-clause-none c =
     (place_nowhere c.args.name.now c.self.inside.counts.entries c.get_index_of.result c.get_index_of.ensures.found)
 
 pub returns-clause-once : goal.returns-clause-once
-returns-clause-once c = subst (λ (d : Counted). IsDistinct bytes_eq (nodes_of d)) c.self.view_is (different_texts c.self.inside.counts.entries c.get_index_of.ensures.unique)
+returns-clause-once c = subst (λ (d : Counted). IsDistinct bytes_eq (nodes_of d)) c.self.view_is c.get_index_of.ensures.unique
