@@ -83,7 +83,7 @@ awk 'BEGIN { for (i = 1; i <= 200000; i++) printf "p, user%06d, data%06d, read\n
 load="$(took "$work/empty" "$program" enforce "$work/basic.conf" "$work/policy.csv")"
 TIMEFORMAT='%U'
 cut="$({ time awk -F', ' '{ n += NF } END { exit n == 0 }' "$work/policy.csv"; } 2>&1 | awk '{ printf "%d", $1 * 1000 }')"
-echo "200000 rules loaded in $load ms, cut into fields by awk in $cut ms, ratio $((load / (cut > 0 ? cut : 1)))"
+echo "200000 rules loaded in $load ms, cut into fields by awk in $cut ms, ratio $(awk -v load="$load" -v cut="$cut" 'BEGIN { printf "%.1f", load / (cut > 0 ? cut : 1) }')"
 
 python3 - "$program" <<'PYTHON'
 import resource, subprocess, sys, time
